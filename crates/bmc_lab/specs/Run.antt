@@ -8,6 +8,7 @@ use Rattle.bmc_core.specs.declared.port.At.{At}
 use Rattle.bmc_core.specs.declared.port.Port.{Port}
 use Rattle.bmc_board.specs.State.{State, opened}
 use Rattle.bmc_core.specs.Outs.{sent}
+use Rattle.model_ports.specs.Places.{controller_wire, controller_eid}
 use Rattle.model_ports.specs.PortSteps.{quiet_port}
 use Rattle.bmc_core.specs.Port.{bus_of, Shows, Hears}
 use Rattle.text_board.specs.declared.fault.FileFault.{FileFault}
@@ -18,9 +19,9 @@ use Rattle.bmc_lab.specs.declared.status.Status.{Status}
 use Rattle.bmc_lab.specs.declared.status.Status.TheVariants.{RefusedFile}
 use Rattle.bmc_lab.specs.Report.{text_of, status_of, board_line}
 
--- the controller is at 20h, with EID 0Ah
+-- where the controller is
 abbrev pub controller : At
-controller = record { wire = 0x20; eid = 0x0A }
+controller = record { wire = controller_wire; eid = controller_eid }
 
 -- a controller's port on a bus, which has heard nothing yet
 pub record IsFresh (bus : Bus) (port : Port) : Type 0 where

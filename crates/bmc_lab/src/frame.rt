@@ -11,24 +11,19 @@ use crate::report::Report;
 use bmc_core::{At, Board, Out, Port};
 use cfg_records::{BoardFile, sample_board};
 use mctp_net::EndpointId;
+use model_ports::{CONTROLLER_EID, CONTROLLER_WIRE};
 use std::alloc::{AllocError, Global};
 use std::io;
 use text_board::{FileFault, read_board};
 use two_wire::{Address, Bus};
-
-/// The controller's two-wire address, on both buses.
-const WIRE: u8 = 0x20;
-
-/// The controller's EID.
-const EID: u8 = 0x0A;
 
 /// Where the controller is.
 pub fn controller_place() -> At
     ensures { result ≡ controller }
 {
     At {
-        wire: Address::new(WIRE).unwrap(),
-        eid: EndpointId::new(EID).unwrap(),
+        wire: Address::new(CONTROLLER_WIRE).unwrap(),
+        eid: EndpointId::new(CONTROLLER_EID).unwrap(),
     }
 }
 

@@ -1,5 +1,6 @@
 -- A manager that is called, and then driven over two links.
-use Rattle.std.specs.Prelude.{◌≡◌, ◌⊎◌, ◌+◌, ◌<◌, ◌%◌, ℕ, zero, suc, Bool, true, false, Option, Some, None}
+use Rattle.std.specs.Prelude.{◌≡◌, ◌⊎◌, ◌+◌, ◌<◌, ℕ, zero, suc, Bool, true, false, Option, Some, None}
+use Rattle.two_wire.specs.declared.Bus.TheVariants.{Ipmb, Smbus}
 use Rattle.undo_plans.specs.declared.plan.Plan.{Plan}
 use Rattle.undo_plans.specs.declared.undo_list.UndoList.{UndoList}
 use Rattle.mctp_net.specs.Assembly.{nothing}
@@ -7,6 +8,7 @@ use Rattle.model_undo.specs.declared.phase.Phase.{Phase}
 use Rattle.model_undo.specs.declared.phase.Phase.TheVariants.{Done, Halted, Unsettled}
 use Rattle.model_undo.specs.Machine.{opened, phase_of}
 use Rattle.model_undo.specs.Resume.{resumed}
+use Rattle.model_undo.specs.Wires.{number_of}
 use Rattle.model_lab.specs.Meaning.{lab_names}
 use Rattle.model_lab.specs.ManagerSteps.{ManagerState, ManagerDeed, board_plans, called}
 use Rattle.text_schedule.specs.declared.event.Call.{Call}
@@ -113,8 +115,8 @@ pub record Undoes (list : UndoList) (turns : ℕ) (m : Manager) (phase : Phase) 
 -- the list is the manager's: what undoes the steps that were done, the numbers of its next requests, and its names
 pub record IsListOf (list : UndoList) (s : State) : Type 0 where
   pub requests : backs lab_names list.requests ≡ s.machine.undo
-  pub sequence : list.next.ipmb ≡ s.machine.counts.ipmb % 64
-  pub instance : list.next.smbus ≡ s.machine.counts.smbus % 32
+  pub sequence : list.next.ipmb ≡ number_of Ipmb s.machine.counts.ipmb
+  pub instance : list.next.smbus ≡ number_of Smbus s.machine.counts.smbus
   pub names : list.names ≡ s.listed
 
 -- the plan ended or halted, so its list undoes what was done

@@ -48,7 +48,8 @@ impl<'a> Beside<'a> {
         list: &UndoList,
     ) -> Result<Result<(), Unwritten>, AllocError>
         ensures put { IfOk result
-            (λ answer. PutsBeside F.takes F.renames self.entry.now (text_of list.now) files.old answer files.new) }
+            (λ answer. PutsBeside F.takes F.renames self.entry.now
+            (text_of list.now) files.old answer files.new) }
         ensures memory { OnErr result (files.new ≡ files.old) }
     {
         let text = write_undo(alloc, list)?;
@@ -63,7 +64,8 @@ impl<'a> Beside<'a> {
         list: &UndoList,
     ) -> Result<Result<(), Unwritten>, AllocError>
         ensures put { IfOk result
-            (λ answer. ReplacesBeside F.takes F.renames self.entry.now (text_of list.now) files.old answer files.new) }
+            (λ answer. ReplacesBeside F.takes F.renames self.entry.now
+            (text_of list.now) files.old answer files.new) }
         ensures memory { OnErr result (files.new ≡ files.old) }
     {
         match self.put_list(alloc, files, list) {

@@ -6,9 +6,9 @@ ghost use Rattle.undo_core.specs.Shown.{AreOthers, Shows};
 ghost use Rattle.bmc_drive.specs.Driving.{both};
 ghost use Rattle.net_run.specs.Driven.{State, Goes, opened_with, resumed_from};
 
-use crate::names::lab_names;
 use bmc_drive::drive;
 use bmc_links::Link;
+use model_lab::lab_names;
 use std::alloc::{AllocError, Global};
 use undo_core::{Manager, OpenFault, Phase, ResumeFault, WrongPhase};
 use undo_plans::{Plan, UndoList};

@@ -7,7 +7,6 @@ pub mod driven;
 pub mod files;
 mod lines;
 mod links;
-mod names;
 pub mod progress;
 pub mod running;
 mod trying;

@@ -183,7 +183,8 @@ impl<P: io::Write> Progress<P> {
 
     /// Writes the line of this moment over the one that is there, where the two differ.
     pub(crate) fn show(&mut self, alloc: Global, course: Course, now: Moment)
-        ensures { MayTell P.contents course.entry.kinds.now course.entry.steps now self.old self.new }
+        ensures { MayTell P.contents course.entry.kinds.now course.entry.steps
+            now self.old self.new }
     {
         if !self.on {
             return;

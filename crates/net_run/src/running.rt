@@ -114,7 +114,8 @@ fn try_kept<F: WritesFiles, P: io::Write>(
         watch.old.second.course.steps manager.old
         watch.old.second.progress.now watch.new.second.progress.now }
     ensures same_files { watch.new.first.files.ghost_name ≡ watch.old.first.files.ghost_name }
-    ensures same_line { watch.new.second.progress.ghost_name ≡ watch.old.second.progress.ghost_name }
+    ensures same_line { watch.new.second.progress.ghost_name
+        ≡ watch.old.second.progress.ghost_name }
 {
     let Ends {
         mut ipmb,
@@ -262,7 +263,9 @@ fn tell_both<W: io::Write, E: io::Write>(
     requires line { (line.now.stream ≡ Output) × (line.now.status ≡ Success) }
     requires complaint { (complaint.now.stream ≡ Error) × (complaint.now.status ≡ RefusedFile) }
     ensures { RunEnds W.contents E.contents Nothing console.old console.new result
-        ⊎ TellsBoth W.contents E.contents (string_bytes line.now.text) (string_bytes complaint.now.text) console.old console.new result }
+        ⊎ TellsBoth W.contents E.contents
+        (string_bytes line.now.text) (string_bytes complaint.now.text)
+        console.old console.new result }
 {
     match Ending::of_report(line).write(console) {
         Status::Success => u8::from(Ending::of_report(complaint).write(console)),

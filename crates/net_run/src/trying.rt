@@ -114,7 +114,8 @@ fn drive_again<A: Link, B: Link, T: Watches>(
     watch: &mut T,
 ) -> Phase
     ensures drives { (s : State) → Shows the_names manager.old s
-        → DrivesAgain agains turns s manager.new result (both (A.counts_of ipmb.old) (B.counts_of smbus.old))
+        → DrivesAgain agains turns s manager.new result
+        (both (A.counts_of ipmb.old) (B.counts_of smbus.old))
         (both (A.counts_of ipmb.new) (B.counts_of smbus.new)) }
     ensures watched { Watched T.sees manager.old manager.new
         (both (A.counts_of ipmb.old) (B.counts_of smbus.old))

@@ -35,7 +35,8 @@ impl<F: WritesFiles> Watches for Keeper<'_, F> {
     ghost use Rattle.std.specs.Prelude.{◌≡◌};
     ghost use Rattle.net_run.specs.Moments.{LooksAt};
 
-    ghost sees = { λ old manager new. LooksAt F.takes F.renames old.beside.now manager old.seen new.seen old.files.now new.files.now
+    ghost sees = { λ old manager new. LooksAt F.takes F.renames old.beside.now manager
+        old.seen new.seen old.files.now new.files.now
         × (new.beside ≡ old.beside) × (new.files.ghost_name ≡ old.files.ghost_name) };
 
     fn look(&mut self, manager: &Manager) {
@@ -72,7 +73,8 @@ impl<P: io::Write> Watches for Teller<'_, P> {
     ghost use Rattle.std.specs.Prelude.{◌≡◌};
     ghost use Rattle.net_run.specs.Told.{LooksOn};
 
-    ghost sees = { λ old manager new. LooksOn P.contents old.course.kinds.now old.course.steps old.progress.now manager new.progress.now
+    ghost sees = { λ old manager new. LooksOn P.contents old.course.kinds.now old.course.steps
+        old.progress.now manager new.progress.now
         × (new.course ≡ old.course) × (new.progress.ghost_name ≡ old.progress.ghost_name) };
 
     fn look(&mut self, manager: &Manager) {
@@ -92,7 +94,8 @@ pub(crate) struct Both<A: Watches, B: Watches> {
 }
 
 impl<A: Watches, B: Watches> Watches for Both<A, B> {
-    ghost sees = { λ old manager new. A.sees old.first manager new.first × B.sees old.second manager new.second };
+    ghost sees = { λ old manager new. A.sees old.first manager new.first
+        × B.sees old.second manager new.second };
 
     fn look(&mut self, manager: &Manager) {
         self.first.look(manager);
