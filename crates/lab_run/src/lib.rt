@@ -20,7 +20,7 @@ pub use fault::Marks;
 pub use frames::{Frames, MOST_FRAMES, SentFrame};
 pub use lab_state::Lab;
 pub use marks::{Known, Mark, is_still_open};
-pub use model_lab::{Fault, Way};
+pub use model_lab::{Fault, Way, lab_names};
 pub use note::{Came, Note};
 pub use others::{idle_fault, message_fault, noise_fault, request_fault};
 pub use part::ManagerPart;
