@@ -1,17 +1,19 @@
 //! Clean schedules: each frame is delivered once, as soon as it was sent.
 ghost use Rattle.std.specs.Prelude.{◌≤◌, ◌<◌, ◌+◌, length, IfOk, OnOk};
+ghost use Rattle.model_lab.specs.Faults.{most_frames};
 ghost use Rattle.lab_schedule.specs.Drawn.{Carries, DeliversAll, HasFew};
 ghost use Rattle.lab_schedule.specs.Made.{IsMade};
 ghost use Rattle.lab_schedule.specs.declared.make.Links.TheVariants as links;
 
 use crate::drawing::{Drawing, Offer, delivery};
 use cfg_records::BoardFile;
+use lab_run::MOST_FRAMES;
 use std::alloc::{AllocError, Global};
 use text_schedule::{Call, Event};
 use undo_plans::Plan;
 
 /// No lab sends so many frames.
-const MOST_NUMBER: u32 = 65_536;
+const MOST_NUMBER: u32 = MOST_FRAMES as u32;
 
 impl Drawing {
     /// The frames from this number on are delivered, each once and in their order, until none is left.
@@ -20,7 +22,7 @@ impl Drawing {
         requires short { length self.old.events.items < 1000000 }
         ensures delivers { OnOk result (DeliversAll first self.old self.new) }
         ensures few { OnOk result (HasFew self.new) }
-        ensures short { OnOk result (length self.new.events.items ≤ length self.old.events.items + 65536) }
+        ensures short { OnOk result (length self.new.events.items ≤ length self.old.events.items + most_frames) }
     {
         for number in first..MOST_NUMBER {
             let Some(event) = delivery(self.lab.frames(), number) else {
@@ -42,7 +44,7 @@ impl Drawing {
         requires short { length self.old.events.items < 100000 }
         ensures carries { OnOk result (Carries call self.old self.new) }
         ensures few { OnOk result (HasFew self.new) }
-        ensures short { OnOk result (length self.new.events.items ≤ length self.old.events.items + 65537) }
+        ensures short { OnOk result (length self.new.events.items ≤ length self.old.events.items + most_frames + 1) }
     {
         // No lab sends so many frames.
         let Ok(first) = u32::try_from(self.lab.frames().len()) else {

@@ -1,8 +1,10 @@
 //! What others ask: nothing that sets the configuration.
 use crate::chance::Dice;
 use ipmb_frame::Party;
+use model_bus::SEQUENCE_NUMBERS;
 use std::alloc::{AllocError, Global};
 use text_schedule::{Event, Octets, OtherMessage, OtherRequest};
+use two_wire::size::MOST_IPMI_REQUEST_DATA;
 use two_wire::{Address, Below, Bytes, Lun, NetFn};
 
 /// A request on IPMB: its network function, its command and its data.
@@ -53,8 +55,8 @@ fn other_request(dice: &mut Dice) -> Option<OtherRequest> {
         2 => 0x44,
         _ => 0x46,
     };
-    let sequence = dice.below(64) as u8;
-    if body.len() > 25 {
+    let sequence = dice.below(u32::from(SEQUENCE_NUMBERS)) as u8;
+    if body.len() > MOST_IPMI_REQUEST_DATA {
         return None;
     }
     Some(OtherRequest {
