@@ -10,6 +10,7 @@ use bmc_board::Board;
 use bmc_core::{At, Out, Port};
 use cfg_records::{BoardFile, Store};
 use mctp_net::EndpointId;
+use model_ports::{CONTROLLER_EID, CONTROLLER_WIRE};
 use std::alloc::{AllocError, Global};
 use text_board::read_board;
 use two_wire::{Address, Bus};
@@ -79,8 +80,8 @@ pub fn serve<S: Store>(
     replies: &mut [Slot],
 ) -> Result<(), AllocError> {
     let at = At {
-        wire: Address::new(0x20).unwrap(),
-        eid: EndpointId::new(0x0A).unwrap(),
+        wire: Address::new(CONTROLLER_WIRE).unwrap(),
+        eid: EndpointId::new(CONTROLLER_EID).unwrap(),
     };
     let mut port = Port::new(alloc, bus_of(bus), at)?;
     let mut out = Out::new();
