@@ -70,7 +70,8 @@ fn open_sides<R: Net>(rt: &R, alloc: Global, plan: Plan) -> Result<(Controller, 
 
 /// How many of these records changed on a board that was served, if it was.
 fn changed_of(start: &[(Key, Value)], served: &Option<Served>) -> Option<usize>
-    ensures { (file : AnyFile) → start.now ≡ pairs_of file → IfSome served.now (IsServed file (opened file) most_events) → IsChanged file result }
+    ensures { (file : AnyFile) → start.now ≡ pairs_of file
+        → IfSome served.now (IsServed file (opened file) most_events) → IsChanged file result }
 {
     match served {
         Some(served) => Some(tally_of(start, served).changed),
@@ -86,7 +87,9 @@ fn count<R: Threads + Wait + Sync>(
     sides: (Controller, Driver),
     turns: u32,
 ) -> Result<Account, Untold>
-    ensures phases { (plan : AnyPlan) → IsReady plan sides.1 → IfOk result (λ account. RunsAndUndoes plan turns account.phases.run account.phases.undone) }
+    ensures phases { (plan : AnyPlan) → IsReady plan sides.1
+        → IfOk result (λ account.
+        RunsAndUndoes plan turns account.phases.run account.phases.undone) }
     ensures changed { IfOk result (λ account. IsChanged file account.changed) }
 {
     let (controller, driver) = sides;
@@ -126,7 +129,8 @@ fn push_changed(text: &mut String, changed: Option<usize>) -> Result<(), AllocEr
 /// The lines of the account.
 fn account_report(alloc: Global, account: Account) -> Result<Report, AllocError>
     ensures stream { IfOk result (λ report. report.stream ≡ Output) }
-    ensures text { IfOk result (λ report. string_bytes report.text ≡ text_of account.phases.run account.phases.undone account.changed) }
+    ensures text { IfOk result (λ report. string_bytes report.text
+        ≡ text_of account.phases.run account.phases.undone account.changed) }
     ensures status { IfOk result (λ report. report.status ≡ status_of account.changed) }
 {
     let Account { phases, changed } = account;
@@ -150,7 +154,8 @@ fn paired_report<R: Net + Threads + Wait + Sync>(
     turns: u32,
 ) -> Result<Report, Untold>
     ensures stream { IfOk result (λ report. report.stream ≡ Output) }
-    ensures told { IfOk result (λ report. TellsPair inputs.file inputs.plan turns (string_bytes report.text) report.status) }
+    ensures told { IfOk result (λ report. TellsPair inputs.file inputs.plan turns
+        (string_bytes report.text) report.status) }
 {
     let Inputs { file, plan } = inputs;
     match open_sides(rt, alloc, plan) {
@@ -188,7 +193,8 @@ fn pair_texts<W: io::Write, E: io::Write, R: Net + Threads + Wait + Sync>(
     turns: u32,
     console: &mut Console<W, E>,
 ) -> u8
-    ensures { RunEnds W.contents E.contents (Says board.now plan.now turns) console.old console.new result }
+    ensures { RunEnds W.contents E.contents (Says board.now plan.now turns)
+        console.old console.new result }
 {
     let report = texts_report(rt, alloc, board, plan, turns);
     end_run(&report, console)
@@ -196,8 +202,10 @@ fn pair_texts<W: io::Write, E: io::Write, R: Net + Threads + Wait + Sync>(
 
 /// The texts of the files, or the first that isn't read.
 fn texts_of<'a, F: TextFiles>(files: &F, words: &'a PairWords) -> Result<Texts, Unread<'a>>
-    ensures texts { IfOk result (λ texts. AreTexts (F.gives files.now) (words_of words.now) (string_bytes texts.board) (string_bytes texts.plan)) }
-    ensures unread { IfErr result (λ unread. FirstUnread (F.gives files.now) (words_of words.now) unread.word.now unread.why) }
+    ensures texts { IfOk result (λ texts. AreTexts (F.gives files.now) (words_of words.now)
+        (string_bytes texts.board) (string_bytes texts.plan)) }
+    ensures unread { IfErr result (λ unread. FirstUnread (F.gives files.now)
+        (words_of words.now) unread.word.now unread.why) }
 {
     let board = text_of(files, words.board.as_str())?;
     let plan = text_of(files, words.plan.as_str())?;
@@ -216,7 +224,9 @@ pub fn pair<F: TextFiles, W: io::Write, E: io::Write, R: Net + Threads + Wait + 
     words: &PairWords,
     console: &mut Console<W, E>,
 ) -> u8
-    ensures { RunEnds W.contents E.contents (SaysOfFiles (F.gives files.now) (words_of words.now) words.now.turns) console.old console.new result }
+    ensures { RunEnds W.contents E.contents
+        (SaysOfFiles (F.gives files.now) (words_of words.now) words.now.turns)
+        console.old console.new result }
 {
     match texts_of(files, words) {
         Ok(Texts { board, plan }) => pair_texts(

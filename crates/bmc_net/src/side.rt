@@ -51,7 +51,8 @@ pub(crate) struct Paired {
 
 /// Runs the manager's plan, and undoes it, with so many turns for each.
 fn run_and_undo(driver: Driver, turns: u32) -> Phases
-    ensures { (plan : Plan) → IsReady plan driver → RunsAndUndoes plan turns result.run result.undone }
+    ensures { (plan : Plan) → IsReady plan driver
+        → RunsAndUndoes plan turns result.run result.undone }
 {
     let Driver { mut manager, ends } = driver;
     let Ends {
@@ -95,13 +96,15 @@ fn side_by_side<J, R>(
 where
     J: Opening + Send + Sync,
     R: Threads + Wait + Sync,
-    ensures { (plan : Plan) → IsReady plan driver → IfSome result (λ both. RunsAndUndoes plan turns both.0.run both.0.undone) }
+    ensures { (plan : Plan) → IsReady plan driver
+        → IfSome result (λ both. RunsAndUndoes plan turns both.0.run both.0.undone) }
 {
     thread::scope(
         thread::scope_env(),
         rt,
         |scope| -> Option<(Phases, Result<Seats<J>, NoThread>)>
-            ensures { (plan : Plan) → IsReady plan driver → IfSome result (λ both. RunsAndUndoes plan turns both.0.run both.0.undone) }
+            ensures { (plan : Plan) → IsReady plan driver
+                → IfSome result (λ both. RunsAndUndoes plan turns both.0.run both.0.undone) }
         {
             let serving = scope
                 .spawn(move || -> Result<Seats<J>, NoThread> {
@@ -134,8 +137,10 @@ where
     requires setup { board.setup ≡ J.setup }
     requires opening { state_of own_records board ≡ J.opening }
     requires room { room ≡ J.room }
-    ensures phases { (plan : Plan) → IsReady plan driver → IfOk result (λ paired. RunsAndUndoes plan turns paired.phases.run paired.phases.undone) }
-    ensures served { IfOk result (λ paired. IfSome paired.served (IsServed J.setup J.opening J.room)) }
+    ensures phases { (plan : Plan) → IsReady plan driver
+        → IfOk result (λ paired. RunsAndUndoes plan turns paired.phases.run paired.phases.undone) }
+    ensures served { IfOk result (λ paired. IfSome paired.served
+        (IsServed J.setup J.opening J.room)) }
 {
     let Ok((shared, seats)) = Shared::<J, Records>::open(alloc, blank, board, room) else {
         return Err(Untold::Memory);
@@ -159,8 +164,10 @@ pub(crate) fn pair_over<R: Threads + Wait + Sync>(
     driver: Driver,
     turns: u32,
 ) -> Result<Paired, Untold>
-    ensures phases { (plan : Plan) → IsReady plan driver → IfOk result (λ paired. RunsAndUndoes plan turns paired.phases.run paired.phases.undone) }
-    ensures served { IfOk result (λ paired. IfSome paired.served (IsServed board.setup (state_of own_records board) most_events)) }
+    ensures phases { (plan : Plan) → IsReady plan driver
+        → IfOk result (λ paired. RunsAndUndoes plan turns paired.phases.run paired.phases.undone) }
+    ensures served { IfOk result (λ paired. IfSome paired.served
+        (IsServed board.setup (state_of own_records board) most_events)) }
 {
     pair_opened::<Brand, R>(
         rt,

@@ -56,7 +56,8 @@ impl Account<'_> {
     /// Adds the lines behind the frames.
     fn push_end(&self, text: &mut String, premises: bool) -> Result<(), AllocError>
         ensures { OnOk result (string_bytes text.new
-            ≡ string_bytes text.old ++ flat_map ended (premised premises self.now.broken self.now.stopped ++ ending self.now.stopped)) }
+            ≡ string_bytes text.old ++ flat_map ended
+            (premised premises self.now.broken self.now.stopped ++ ending self.now.stopped)) }
     {
         if premises {
             push_premise(text, self.broken, self.stopped)?;

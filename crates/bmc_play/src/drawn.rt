@@ -26,7 +26,8 @@ fn noted<'a>(
     notes: &mut Vec<Note<'a>>,
 ) -> Result<Option<Stopped>, AllocError>
     requires { notes.now.items ≡ [] }
-    ensures { IfOk result (λ stopped. NotesPlayOf file plan.steps plan.retries events.now stopped notes.new.items) }
+    ensures { IfOk result (λ stopped.
+        NotesPlayOf file plan.steps plan.retries events.now stopped notes.new.items) }
 {
     match parts_of(play_noted(alloc, file, plan, events, notes)) {
         Ok(ended) => Ok(ended.stopped),

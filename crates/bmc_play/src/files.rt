@@ -31,8 +31,10 @@ struct Texts {
 
 /// The texts of the files, or the first that isn't read.
 fn texts_of<'a, F: TextFiles>(files: &F, words: PlayFiles<'a>) -> Result<Texts, Unread<'a>>
-    ensures texts { IfOk result (λ texts. AreTexts (F.gives files.now) (words_of words.entry) (string_bytes texts.board) (string_bytes texts.plan) (string_bytes texts.schedule)) }
-    ensures unread { IfErr result (λ unread. FirstUnread (F.gives files.now) (words_of words.entry) unread.word.now unread.why) }
+    ensures texts { IfOk result (λ texts. AreTexts (F.gives files.now) (words_of words.entry)
+        (string_bytes texts.board) (string_bytes texts.plan) (string_bytes texts.schedule)) }
+    ensures unread { IfErr result (λ unread. FirstUnread (F.gives files.now)
+        (words_of words.entry) unread.word.now unread.why) }
 {
     let board = text_of(files, words.board)?;
     let plan = text_of(files, words.plan)?;
@@ -53,7 +55,9 @@ pub fn play_of_files<F: TextFiles, W: io::Write, E: io::Write>(
     words: PlayFiles,
     console: &mut Console<W, E>,
 ) -> u8
-    ensures { RunEnds W.contents E.contents (SaysOfFiles (F.gives files.now) (tells_of shown) (words_of words.entry)) console.old console.new result }
+    ensures { RunEnds W.contents E.contents
+        (SaysOfFiles (F.gives files.now) (tells_of shown) (words_of words.entry))
+        console.old console.new result }
 {
     match texts_of(files, words) {
         Ok(

@@ -23,7 +23,8 @@ pub fn one_text()
 /// Three texts determine what a run says of them, on which stream and with which status: the text of their play, or the line of the
 /// first that is refused.
 pub fn one_run()
-    ensures { (shown : Shown) (board plan schedule : List ℕ) → SaysOne (Says (tells_of shown) board plan schedule) }
+    ensures { (shown : Shown) (board plan schedule : List ℕ)
+        → SaysOne (Says (tells_of shown) board plan schedule) }
 {
     one_text();
     text_board::one_board();

@@ -37,7 +37,8 @@ fn push_frame(
     number: usize,
     frame: &SentFrame,
 ) -> Result<(), AllocError>
-    ensures { OnOk result (string_bytes text.new ≡ string_bytes text.old ++ ended (frame_line number frame.now)) }
+    ensures { OnOk result (string_bytes text.new
+        ≡ string_bytes text.old ++ ended (frame_line number frame.now)) }
 {
     let end = end_of(frame.way);
     let bus = name_of(frame.mark.on);
@@ -47,7 +48,8 @@ fn push_frame(
 
 /// Adds the lines of the frames, the first of which has number 0.
 pub fn push_frames(alloc: Global, text: &mut String, frames: &[SentFrame]) -> Result<(), AllocError>
-    ensures { OnOk result (string_bytes text.new ≡ string_bytes text.old ++ flat_map ended (frame_lines frames.now)) }
+    ensures { OnOk result (string_bytes text.new
+        ≡ string_bytes text.old ++ flat_map ended (frame_lines frames.now)) }
 {
     for (number, frame) in frames.iter().enumerate() {
         push_frame(alloc, text, number, frame)?;
@@ -57,14 +59,16 @@ pub fn push_frames(alloc: Global, text: &mut String, frames: &[SentFrame]) -> Re
 
 /// Adds the line of the event that broke the premise on packets first.
 fn push_broken(text: &mut String, place: usize) -> Result<(), AllocError>
-    ensures { OnOk result (string_bytes text.new ≡ string_bytes text.old ++ ended (said (codes "premise broken") (decimal place))) }
+    ensures { OnOk result (string_bytes text.new
+        ≡ string_bytes text.old ++ ended (said (codes "premise broken") (decimal place))) }
 {
     writeln!(text, "premise broken {place}")
 }
 
 /// Adds the line that says that each event kept the premise on packets.
 fn push_kept(text: &mut String) -> Result<(), AllocError>
-    ensures { OnOk result (string_bytes text.new ≡ string_bytes text.old ++ ended (codes "premises kept")) }
+    ensures { OnOk result (string_bytes text.new
+        ≡ string_bytes text.old ++ ended (codes "premises kept")) }
 {
     text.push_str("premises kept\n")
 }
@@ -76,7 +80,8 @@ pub fn push_premise(
     broken: Option<usize>,
     stopped: Option<Stopped>,
 ) -> Result<(), AllocError>
-    ensures { OnOk result (string_bytes text.new ≡ string_bytes text.old ++ flat_map ended (premise_lines broken stopped)) }
+    ensures { OnOk result (string_bytes text.new
+        ≡ string_bytes text.old ++ flat_map ended (premise_lines broken stopped)) }
 {
     let Some(place) = broken else {
         return match stopped {
@@ -89,7 +94,8 @@ pub fn push_premise(
 
 /// Adds the line of the event that wasn't taken.
 pub fn push_stopped(text: &mut String, stopped: Stopped) -> Result<(), AllocError>
-    ensures { OnOk result (string_bytes text.new ≡ string_bytes text.old ++ ended (stopped_line stopped)) }
+    ensures { OnOk result (string_bytes text.new
+        ≡ string_bytes text.old ++ ended (stopped_line stopped)) }
 {
     let Stopped { place, fault } = stopped;
     writeln!(text, "fault {place} {fault}")

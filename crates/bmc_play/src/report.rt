@@ -45,7 +45,8 @@ pub(crate) fn account_report(
     account: &Account,
 ) -> Result<Report, AllocError>
     ensures stream { IfOk result (λ report. report.stream ≡ Output) }
-    ensures text { IfOk result (λ report. string_bytes report.text ≡ text_of frames premises account.now) }
+    ensures text { IfOk result (λ report. string_bytes report.text
+        ≡ text_of frames premises account.now) }
     ensures status { IfOk result (λ report. report.status ≡ status_of account.now.stopped) }
 {
     let text = account.text(alloc, frames, premises)?;

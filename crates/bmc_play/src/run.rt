@@ -61,7 +61,8 @@ fn played_report(
     inputs: Inputs,
 ) -> Result<Report, AllocError>
     ensures stream { IfOk result (λ report. report.stream ≡ Output) }
-    ensures told { IfOk result (λ report. Recounts frames premises inputs (string_bytes report.text) report.status) }
+    ensures told { IfOk result (λ report. Recounts frames premises inputs
+        (string_bytes report.text) report.status) }
 {
     let Inputs { file, plan, events } = inputs;
     match parts_of(play(alloc, file, plan, events.as_slice())) {
@@ -76,7 +77,8 @@ fn played_report(
 /// What is said of the play that these inputs tell, as it is to be shown.
 fn shown_report(alloc: Global, shown: Shown, inputs: Inputs) -> Result<Report, AllocError>
     ensures stream { IfOk result (λ report. report.stream ≡ Output) }
-    ensures told { IfOk result (λ report. tells_of shown inputs (string_bytes report.text) report.status) }
+    ensures told { IfOk result (λ report. tells_of shown inputs
+        (string_bytes report.text) report.status) }
 {
     match shown {
         Shown::Lines { frames, premises } => played_report(alloc, frames, premises, inputs),
@@ -92,7 +94,8 @@ fn play_report(
     plan: &str,
     schedule: &str,
 ) -> Result<Report, AllocError>
-    ensures { IfOk result (λ report. Says (tells_of shown) board.now plan.now schedule.now report.stream (string_bytes report.text) report.status) }
+    ensures { IfOk result (λ report. Says (tells_of shown) board.now plan.now schedule.now
+        report.stream (string_bytes report.text) report.status) }
 {
     match read_inputs(alloc, board, plan, schedule) {
         Ok(inputs) => shown_report(alloc, shown, inputs),
@@ -111,7 +114,8 @@ pub fn show<W: io::Write, E: io::Write>(
     schedule: &str,
     console: &mut Console<W, E>,
 ) -> u8
-    ensures { RunEnds W.contents E.contents (Says (tells_of shown) board.now plan.now schedule.now) console.old console.new result }
+    ensures { RunEnds W.contents E.contents (Says (tells_of shown) board.now plan.now schedule.now)
+        console.old console.new result }
 {
     let report = play_report(alloc, shown, board, plan, schedule);
     u8::from(Ending::of(&report).write(console))
@@ -131,7 +135,9 @@ pub fn play_run<W: io::Write, E: io::Write>(
     schedule: &str,
     console: &mut Console<W, E>,
 ) -> u8
-    ensures { RunEnds W.contents E.contents (Says (Recounts frames premises) board.now plan.now schedule.now) console.old console.new result }
+    ensures { RunEnds W.contents E.contents
+        (Says (Recounts frames premises) board.now plan.now schedule.now)
+        console.old console.new result }
 {
     show(
         alloc,
@@ -152,7 +158,8 @@ pub fn chart_run<W: io::Write, E: io::Write>(
     schedule: &str,
     console: &mut Console<W, E>,
 ) -> u8
-    ensures { RunEnds W.contents E.contents (Says Draws board.now plan.now schedule.now) console.old console.new result }
+    ensures { RunEnds W.contents E.contents (Says Draws board.now plan.now schedule.now)
+        console.old console.new result }
 {
     show(alloc, Shown::Chart, board, plan, schedule, console)
 }
