@@ -1,57 +1,62 @@
 //! A link in memory.
 use bmc_ports::{Counts, Heard, Link, MOST_KEPT, MemFault, MemLink};
-use std::test::Fail;
+use std::alloc::Global;
+use std::process::Abort;
 use two_wire::Frame;
 
-#[test]
-fn a_link_hears_its_script_and_then_nothing(rt: HostRuntime) -> Result<(), Fail> {
-    let mut link = MemLink::new(rt.alloc(), &[&[0x20, 0x10], &[], &[7u8; 80]])
-        .ok()
-        .ok_or("memory")?;
-    assert_eq!(rt;
-        link.next(),
-        Ok(Heard::Frame(Frame::from_slice(&[0x20, 0x10])))
-    );
-    assert_eq!(rt; link.next(), Ok(Heard::Quiet));
-    assert_eq!(rt;
-        link.next(),
-        Ok(Heard::Frame(Frame::from_slice(&[7u8; 80])))
-    );
-    assert_eq!(rt; link.next(), Ok(Heard::Quiet));
-    assert_eq!(rt;
-        link.counts(),
-        Counts {
-            failures: 0,
-            calls: 4,
-            heard: 2
-        }
-    );
-    Ok(())
+/// A link that hears this script.
+pub(crate) fn link_of(rt: &impl Abort, alloc: Global, script: &[&[u8]]) -> MemLink {
+    MemLink::new(alloc, script).ok().expect(rt, "a link")
+}
+
+/// Whether the link hears this next: a frame of these bytes, or nothing.
+fn hears(link: &mut MemLink, wanted: Option<&[u8]>) -> bool {
+    match link.next() {
+        Ok(Heard::Frame(frame)) => wanted.is_some_and(|bytes| frame.is(bytes)),
+        Ok(Heard::Quiet) => wanted.is_none(),
+        Err(_) => false,
+    }
+}
+
+/// So many calls of the link were made, so many frames were heard, and no call failed.
+fn expect_counts(rt: &impl Abort, link: &MemLink, calls: u64, heard: u64) {
+    let wanted = Counts {
+        failures: 0,
+        calls,
+        heard,
+    };
+    assert_eq!(rt; link.counts(), wanted);
 }
 
 #[test]
-fn the_first_frames_that_a_link_sends_are_kept(rt: HostRuntime) -> Result<(), Fail> {
-    let mut link = MemLink::new(rt.alloc(), &[]).ok().ok_or("memory")?;
+fn a_link_hears_its_script_and_then_nothing(rt: HostRuntime) {
+    let mut link = link_of(&rt, rt.alloc(), &[&[0x20, 0x10], &[], &[7u8; 80]]);
+    assert!(rt; hears(&mut link, Some(&[0x20, 0x10])));
+    assert!(rt; hears(&mut link, None));
+    assert!(rt; hears(&mut link, Some(&[7u8; 80])));
+    assert!(rt; hears(&mut link, None));
+    expect_counts(&rt, &link, 4, 2);
+}
+
+/// The link sends each frame of one byte, in order.
+fn send_all(rt: &impl Abort, link: &mut MemLink) {
     for number in 0..=255u8 {
-        assert_eq!(rt; link.send(&Frame::from_slice(&[number])), Ok(()));
+        assert!(rt; link.send(&Frame::from_slice(&[number])).is_ok());
     }
-    assert_eq!(rt; link.send(&Frame::from_slice(&[1, 2])), Ok(()));
+}
+
+#[test]
+fn the_first_frames_that_a_link_sends_are_kept(rt: HostRuntime) {
+    let mut link = link_of(&rt, rt.alloc(), &[]);
+    send_all(&rt, &mut link);
+    assert!(rt; link.send(&Frame::from_slice(&[1, 2])).is_ok());
     assert_eq!(rt; link.sent().len(), MOST_KEPT);
     assert!(rt; link.sent()[255].is(&[255]));
-    assert_eq!(rt;
-        link.counts(),
-        Counts {
-            failures: 0,
-            calls: 0,
-            heard: 0
-        }
-    );
-    Ok(())
+    expect_counts(&rt, &link, 0, 0);
 }
 
 #[test]
-fn a_frame_of_81_bytes_is_too_long(rt: HostRuntime) -> Result<(), Fail> {
+fn a_frame_of_81_bytes_is_too_long(rt: HostRuntime) {
     let link = MemLink::new(rt.alloc(), &[&[0x20], &[7u8; 81]]);
     assert_eq!(rt; link.err(), Some(MemFault::TooLong));
-    Ok(())
 }

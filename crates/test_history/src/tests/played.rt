@@ -4,8 +4,8 @@ ghost use Rattle.bmc_board.specs.State.{state_of};
 ghost use Rattle.bmc_board.specs.OwnStore.{own_records};
 
 use super::gates::Open;
-use super::open_sample;
 use super::times::{LATER_TICK, READING, Slept, TICK, WARMS_UP, are_all};
+use super::{close, open_sample};
 use bmc_board::{Bench, Board, Records};
 use bmc_core::{At, Port};
 use bmc_ports::{
@@ -156,8 +156,7 @@ fn serve_opened<J: Opening + Send + Sync, R: Threads + Wait + Abort + Sync>(
         second_end: _,
         scanner_end: end,
     } = sliced.ok().expect(rt.rt, "three threads");
-    let closed = shared.close(seats).ok();
-    let (board, history) = closed.expect(rt.rt, "a board that is closed");
+    let (board, history) = close(rt.rt, shared, seats);
     Left {
         board,
         history,
@@ -183,46 +182,86 @@ fn serve<R: Threads + Wait + Abort + Sync>(
     serve_opened::<Brand, R>(rt, alloc, Blank::new(3), board, room, lanes, table)
 }
 
-/// These happened, this is next, and so the scanner ended.
-fn expect_left(rt: &impl Abort, left: &Left, list: &[Timed], next: usize, end: TimedEnd) {
-    assert!(rt; are_all(&left.history, list), "up to {next}");
-    assert_eq!(rt; (left.next, left.end), (next, end));
+/// The place of the list at which a history begins, what happens in it, the place that is next then, and why the
+/// scanner ended.
+#[derive(Drop)]
+struct Period<'a> {
+    from: usize,
+    list: &'a [Timed],
+    next: usize,
+    end: TimedEnd,
+}
+
+/// Serves a board with one history, in which this happens. The board.
+fn expect_served<R: Threads + Wait + Abort + Sync>(
+    rt: &Slept<'_, R>,
+    alloc: Global,
+    board: Board<Records>,
+    room: usize,
+    lanes: Lanes<Patient<'_>, Patient<'_>>,
+    period: &Period<'_>,
+) -> Board<Records> {
+    let Left {
+        board,
+        history,
+        next,
+        end,
+    } = serve(rt, alloc, board, room, lanes, period.from);
+    assert!(rt.rt; are_all(&history, period.list), "up to {next}");
+    assert_eq!(rt.rt; (next, end), (period.next, period.end));
+    board
 }
 
 #[test]
 fn what_comes_while_workers_serve_happens(rt: HostRuntime) {
     let clock = Slept::new(&rt, u64::MAX);
-    let board = open_sample(rt.alloc()).expect(&rt, "memory");
+    let board = open_sample(&rt, rt.alloc());
     let lanes = lanes(&clock, rt.alloc(), 1, LATER_MS);
-    let left = serve(&clock, rt.alloc(), board, 8, lanes, 0);
-    expect_left(&rt, &left, &WARMS_UP, 3, TimedEnd::Stopped);
+    let all = Period {
+        from: 0,
+        list: &WARMS_UP,
+        next: 3,
+        end: TimedEnd::Stopped,
+    };
+    let _ = expect_served(&clock, rt.alloc(), board, 8, lanes, &all);
 }
 
 #[test]
 fn what_finds_no_room_happens_in_the_next_history(rt: HostRuntime) {
     let clock = Slept::new(&rt, u64::MAX);
-    let board = open_sample(rt.alloc()).expect(&rt, "memory");
+    let board = open_sample(&rt, rt.alloc());
     let warms_up = &WARMS_UP[..];
+    let found_room = Period {
+        from: 0,
+        list: &warms_up[..2],
+        next: 2,
+        end: TimedEnd::Full,
+    };
     // Only the bell ends these workers.
     let many = lanes(&clock, rt.alloc(), u32::MAX, 0);
-    let left = serve(&clock, rt.alloc(), board, 2, many, 0);
-    expect_left(&rt, &left, &warms_up[..2], 2, TimedEnd::Full);
-    let one = lanes(
-        &clock,
-        rt.alloc(),
-        1,
-        clock.slept().saturating_add(LATER_MS),
-    );
-    let last = serve(&clock, rt.alloc(), left.board, 2, one, left.next);
-    expect_left(&rt, &last, &warms_up[2..], 3, TimedEnd::Stopped);
+    let board = expect_served(&clock, rt.alloc(), board, 2, many, &found_room);
+    let found_none = Period {
+        from: 2,
+        list: &warms_up[2..],
+        next: 3,
+        end: TimedEnd::Stopped,
+    };
+    let later = clock.slept().saturating_add(LATER_MS);
+    let one = lanes(&clock, rt.alloc(), 1, later);
+    let _ = expect_served(&clock, rt.alloc(), board, 2, one, &found_none);
 }
 
 #[test]
 fn nothing_happens_where_nothing_is_left(rt: HostRuntime) {
     let clock = Slept::new(&rt, u64::MAX);
-    let board = open_sample(rt.alloc()).expect(&rt, "memory");
+    let board = open_sample(&rt, rt.alloc());
     let lanes = lanes(&clock, rt.alloc(), 1, 0);
-    let left = serve(&clock, rt.alloc(), board, 8, lanes, 4);
-    expect_left(&rt, &left, &[], 4, TimedEnd::Over);
+    let none = Period {
+        from: 4,
+        list: &[],
+        next: 4,
+        end: TimedEnd::Over,
+    };
+    let _ = expect_served(&clock, rt.alloc(), board, 8, lanes, &none);
     assert_eq!(rt; clock.slept(), 0);
 }

@@ -3,15 +3,15 @@ ghost use Rattle.std.specs.Prelude.{◌≡◌};
 ghost use Rattle.bmc_board.specs.State.{state_of};
 ghost use Rattle.bmc_board.specs.OwnStore.{own_records};
 
-use super::open_sample;
+use super::{history_of, open_sample};
 use bmc_board::{Board, Records};
 use bmc_ports::{Call, History, Opening, Seat, Seats, Shared};
 use record_base::{Asked, net_fn};
 use std::alloc::Global;
 use std::marker::Brand;
+use std::process::Abort;
 use std::sync::Wait;
 use std::sync::ledger::Blank;
-use std::test::Fail;
 use std::thread;
 use std::thread::{Promise, Threads};
 use two_wire::NetFn;
@@ -45,12 +45,12 @@ fn ask_by<J: Opening, R: Wait>(
 }
 
 /// Each seat asks the board once, in a thread of its own.
-fn ask_each<J: Opening + Send + Sync, R: Threads + Wait + Sync>(
+fn ask_each<J: Opening + Send + Sync, R: Threads + Wait + Abort + Sync>(
     rt: &R,
     shared: &Shared<J, Records>,
     seats: Seats<J>,
     asked: &Asked,
-) -> Option<Seats<J>> {
+) -> Seats<J> {
     let Seats {
         first,
         second,
@@ -59,7 +59,7 @@ fn ask_each<J: Opening + Send + Sync, R: Threads + Wait + Sync>(
     thread::scope(
         thread::scope_env(),
         rt,
-        |scope| -> Option<Seats<J>>
+        |scope| -> Seats<J>
             requires { (first.number ≡ 0) × (second.number ≡ 1) × (scanner.number ≡ 2) }
         {
             let first = scope
@@ -70,7 +70,8 @@ fn ask_each<J: Opening + Send + Sync, R: Threads + Wait + Sync>(
                         ensures { result.number ≡ 0 }
                     { ask_by(rt, shared, first, asked) },
                 )
-                .ok()?;
+                .ok()
+                .expect(rt, "a thread");
             let second = scope
                 .spawn_with(
                     SeatOf(1),
@@ -79,7 +80,8 @@ fn ask_each<J: Opening + Send + Sync, R: Threads + Wait + Sync>(
                         ensures { result.number ≡ 1 }
                     { ask_by(rt, shared, second, asked) },
                 )
-                .ok()?;
+                .ok()
+                .expect(rt, "a thread");
             let scanner = scope
                 .spawn_with(
                     SeatOf(2),
@@ -88,24 +90,25 @@ fn ask_each<J: Opening + Send + Sync, R: Threads + Wait + Sync>(
                         ensures { result.number ≡ 2 }
                     { ask_by(rt, shared, scanner, asked) },
                 )
-                .ok()?;
-            Some(Seats {
+                .ok()
+                .expect(rt, "a thread");
+            Seats {
                 first: first.join(rt),
                 second: second.join(rt),
                 scanner: scanner.join(rt),
-            })
+            }
         },
     )
 }
 
 /// Three threads ask a board for its device's identifier.
-fn share<J: Opening + Send + Sync, R: Threads + Wait + Sync>(
+fn share<J: Opening + Send + Sync, R: Threads + Wait + Abort + Sync>(
     rt: &R,
     alloc: Global,
     blank: Blank,
     board: Board<Records>,
     room: usize,
-) -> Option<History>
+) -> History
     requires name { blank.name ≡ J.name }
     requires parts { blank.parts ≡ J.parts }
     requires three { blank.parts ≡ 3 }
@@ -113,42 +116,44 @@ fn share<J: Opening + Send + Sync, R: Threads + Wait + Sync>(
     requires opening { state_of own_records board ≡ J.opening }
     requires room { room ≡ J.room }
 {
-    let (shared, seats) = Shared::<J, Records>::open(alloc, blank, board, room).ok()?;
+    let opened = Shared::<J, Records>::open(alloc, blank, board, room);
+    let (shared, seats) = opened.ok().expect(rt, "a board that is shared");
     let asked = Asked::ipmi(NetFn::new(net_fn::APPLICATION), 0x01, &[]);
-    let seats = ask_each(rt, &shared, seats, &asked)?;
-    let (_, history) = shared.close(seats).ok()?;
-    Some(history)
+    let seats = ask_each(rt, &shared, seats, &asked);
+    history_of(rt, shared, seats)
 }
 
 /// The same, with a ledger of its own.
-fn share_at<R: Threads + Wait + Sync>(
+fn share_at<R: Threads + Wait + Abort + Sync>(
     rt: &R,
     alloc: Global,
     board: Board<Records>,
     room: usize,
-) -> Option<History> {
+) -> History {
     share::<Brand, R>(rt, alloc, Blank::new(3), board, room)
 }
 
-#[test]
-fn three_threads_ask_one_board(rt: HostRuntime) -> Result<(), Fail> {
-    let board = open_sample(rt.alloc())?;
-    let history = share_at(&rt, rt.alloc(), board, 8).ok_or("closed")?;
-    assert_eq!(rt; history.len(), 3);
-    for place in 0..3 {
-        let event = history.get(place).ok_or("an event")?;
-        let Call::Exchanged { asked: _, answered } = event.call else {
-            return Err("other than an exchange".into());
-        };
-        assert_eq!(rt; answered.code, 0x00);
+/// The code of the exchange at this place.
+pub(super) fn code_at(history: &History, place: usize) -> Option<u8> {
+    match &history.get(place)?.call {
+        Call::Exchanged { asked: _, answered } => Some(answered.code),
+        Call::Benched { .. } => None,
     }
-    Ok(())
 }
 
 #[test]
-fn a_full_history_refuses_two_of_three(rt: HostRuntime) -> Result<(), Fail> {
-    let board = open_sample(rt.alloc())?;
-    let history = share_at(&rt, rt.alloc(), board, 1).ok_or("closed")?;
+fn three_threads_ask_one_board(rt: HostRuntime) {
+    let board = open_sample(&rt, rt.alloc());
+    let history = share_at(&rt, rt.alloc(), board, 8);
+    assert_eq!(rt; history.len(), 3);
+    for place in 0..3 {
+        assert_eq!(rt; code_at(&history, place), Some(0x00));
+    }
+}
+
+#[test]
+fn a_full_history_refuses_two_of_three(rt: HostRuntime) {
+    let board = open_sample(&rt, rt.alloc());
+    let history = share_at(&rt, rt.alloc(), board, 1);
     assert_eq!(rt; history.len(), 1);
-    Ok(())
 }

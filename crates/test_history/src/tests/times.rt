@@ -3,18 +3,18 @@ ghost use Rattle.std.specs.Prelude.{◌≡◌};
 ghost use Rattle.bmc_board.specs.State.{state_of};
 ghost use Rattle.bmc_board.specs.OwnStore.{own_records};
 
-use super::open_sample;
+use super::{history_of, open_sample};
 use bmc_board::{Bench, Board, Records};
 use bmc_ports::{
-    Call, History, Opening, Seats, Shared, Stops, Timed, TimedEnd, Timetable, happen_in_time,
+    Call, History, Opening, Shared, Stops, Timed, TimedEnd, Timetable, happen_in_time,
 };
 use std::alloc::Global;
 use std::io;
 use std::marker::Brand;
+use std::process::Abort;
 use std::sync::Wait;
 use std::sync::atomic::{AtomicBool, AtomicU64, Ordering};
 use std::sync::ledger::Blank;
-use std::test::Fail;
 use std::thread::Threads;
 use std::time::{Clock, Duration, Instant};
 
@@ -116,14 +116,14 @@ struct Told {
 }
 
 /// Has the scanner of a board go through a timetable from one place on.
-fn scan<J: Opening, R: Wait>(
+fn scan<J: Opening, R: Wait + Abort>(
     rt: &Slept<'_, R>,
     alloc: Global,
     blank: Blank,
     board: Board<Records>,
     room: usize,
     table: Timetable<'_>,
-) -> Result<Told, Fail>
+) -> Told
     requires name { blank.name ≡ J.name }
     requires parts { blank.parts ≡ J.parts }
     requires three { blank.parts ≡ 3 }
@@ -131,53 +131,41 @@ fn scan<J: Opening, R: Wait>(
     requires opening { state_of own_records board ≡ J.opening }
     requires room { room ≡ J.room }
 {
-    let Ok((shared, seats)) = Shared::<J, Records>::open(alloc, blank, board, room) else {
-        return Err("not opened".into());
-    };
-    let Seats {
-        first,
-        second,
-        mut scanner,
-    } = seats;
+    let opened = Shared::<J, Records>::open(alloc, blank, board, room);
+    let (shared, mut seats) = opened.ok().expect(rt.rt, "a board that is shared");
     let mut table = table;
     let stops = Stops {
         bell: &rt.bell,
         over: &rt.over,
     };
-    let end = happen_in_time(rt, &shared, &mut scanner, &mut table, stops);
-    let seats = Seats {
-        first,
-        second,
-        scanner,
-    };
-    let (_, history) = shared.close(seats).ok().ok_or("not closed")?;
-    Ok(Told {
+    let end = happen_in_time(rt, &shared, &mut seats.scanner, &mut table, stops);
+    Told {
         end,
         next: table.next,
-        history,
-    })
+        history: history_of(rt.rt, shared, seats),
+    }
 }
 
 /// The same, with a ledger of its own.
-fn scan_at<R: Wait>(
+fn scan_at<R: Wait + Abort>(
     rt: &Slept<'_, R>,
     alloc: Global,
     board: Board<Records>,
     room: usize,
     table: Timetable<'_>,
-) -> Result<Told, Fail> {
+) -> Told {
     scan::<Brand, R>(rt, alloc, Blank::new(3), board, room, table)
 }
 
 /// The same, of the sample board and the list above, from one of its places on.
-fn scan_sample<R: Wait>(
+fn scan_sample<R: Wait + Abort>(
     rt: &Slept<'_, R>,
     alloc: Global,
     room: usize,
     next: usize,
     start: Option<Instant>,
-) -> Result<Told, Fail> {
-    let board = open_sample(alloc)?;
+) -> Told {
+    let board = open_sample(rt.rt, alloc);
     let table = Timetable {
         list: &WARMS_UP,
         next,
@@ -186,86 +174,121 @@ fn scan_sample<R: Wait>(
     scan_at(rt, alloc, board, room, table)
 }
 
+/// Whether this is a call that has this happen.
+fn has_happen(call: &Call, wanted: Bench) -> bool {
+    match call {
+        Call::Benched { bench, answered: _ } => *bench == wanted,
+        Call::Exchanged { .. } => false,
+    }
+}
+
+/// Whether this happened at the place.
+fn is_at(history: &History, place: usize, wanted: Bench) -> bool {
+    match history.get(place) {
+        Some(event) => has_happen(&event.call, wanted),
+        None => false,
+    }
+}
+
 /// Whether these happened, in their order, and nothing else.
 pub(super) fn are_all(history: &History, list: &[Timed]) -> bool {
     if history.len() != list.len() {
         return false;
     }
     for (place, timed) in list.iter().enumerate() {
-        match history.get(place).map(|event| event.call) {
-            Some(Call::Benched { bench, answered: _ }) if bench == timed.event => {}
-            _ => return false,
+        if !is_at(history, place, timed.event) {
+            return false;
         }
     }
     true
 }
 
+/// The scanner goes through the list above from this place on: these happen, this is next, and so it ends.
+fn expect_scanned<R: Wait + Abort>(
+    clock: &Slept<'_, R>,
+    alloc: Global,
+    room: usize,
+    from: (usize, Option<Instant>),
+    list: &[Timed],
+    next: usize,
+    end: TimedEnd,
+) {
+    let told = scan_sample(clock, alloc, room, from.0, from.1);
+    let rt = clock.rt;
+    assert!(rt; are_all(&told.history, list), "up to {next}");
+    assert_eq!(rt; (told.next, told.end), (next, end));
+}
+
+/// The same from now on.
+fn expect_scanned_now<R: Wait + Abort>(
+    clock: &Slept<'_, R>,
+    alloc: Global,
+    room: usize,
+    place: usize,
+    list: &[Timed],
+    next: usize,
+    end: TimedEnd,
+) {
+    let start = Instant::now(clock).ok();
+    expect_scanned(clock, alloc, room, (place, start), list, next, end);
+}
+
 #[test]
-fn each_happens_at_its_time_in_naps(rt: HostRuntime) -> Result<(), Fail> {
+fn each_happens_at_its_time_in_naps(rt: HostRuntime) {
     let clock = Slept::new(&rt, u64::MAX);
-    let start = Instant::now(&clock).ok();
-    let told = scan_sample(&clock, rt.alloc(), 8, 0, start)?;
-    assert_eq!(rt; (told.end, told.next), (TimedEnd::Over, 3));
-    assert!(rt; are_all(&told.history, &WARMS_UP));
+    expect_scanned_now(&clock, rt.alloc(), 8, 0, &WARMS_UP, 3, TimedEnd::Over);
     assert_eq!(rt; clock.slept(), 145);
     assert_eq!(rt; clock.longest_ms.load(Ordering::SeqCst), 20);
-    Ok(())
 }
 
 #[test]
-fn what_happened_before_does_not_happen_again(rt: HostRuntime) -> Result<(), Fail> {
-    for next in 1..5usize {
+fn what_happened_before_does_not_happen_again(rt: HostRuntime) {
+    for place in 1..5usize {
         let clock = Slept::new(&rt, u64::MAX);
-        let start = Instant::now(&clock).ok();
-        let told = scan_sample(&clock, rt.alloc(), 8, next, start)?;
-        assert_eq!(rt; (told.end, told.next), (TimedEnd::Over, next.max(3)));
-        assert!(rt;
-            are_all(&told.history, WARMS_UP.get(next..).unwrap_or(&[])),
-            "from {next}"
-        );
+        let list = WARMS_UP.get(place..).unwrap_or(&[]);
+        let next = place.max(3);
+        expect_scanned_now(&clock, rt.alloc(), 8, place, list, next, TimedEnd::Over);
     }
-    Ok(())
 }
 
 #[test]
-fn either_stop_ends_it(rt: HostRuntime) -> Result<(), Fail> {
+fn the_bell_ends_it(rt: HostRuntime) {
     let clock = Slept::new(&rt, 60);
-    let start = Instant::now(&clock).ok();
-    let told = scan_sample(&clock, rt.alloc(), 8, 0, start)?;
-    assert_eq!(rt; (told.end, told.next), (TimedEnd::Stopped, 1));
-    assert!(rt; are_all(&told.history, &WARMS_UP[..1]));
+    let list = &WARMS_UP[..1];
+    expect_scanned_now(&clock, rt.alloc(), 8, 0, list, 1, TimedEnd::Stopped);
     assert_eq!(rt; clock.slept(), 60);
+}
+
+#[test]
+fn nothing_happens_once_all_is_over(rt: HostRuntime) {
     let clock = Slept::new(&rt, u64::MAX);
     clock.over.store(true, Ordering::SeqCst);
-    let start = Instant::now(&clock).ok();
-    let told = scan_sample(&clock, rt.alloc(), 8, 0, start)?;
-    assert_eq!(rt; (told.end, told.next), (TimedEnd::Stopped, 0));
-    assert_eq!(rt; (told.history.len(), clock.slept()), (0, 0));
-    Ok(())
+    expect_scanned_now(&clock, rt.alloc(), 8, 0, &[], 0, TimedEnd::Stopped);
+    assert_eq!(rt; clock.slept(), 0);
 }
 
 #[test]
-fn a_full_history_keeps_the_place(rt: HostRuntime) -> Result<(), Fail> {
+fn a_full_history_keeps_the_place(rt: HostRuntime) {
     let clock = Slept::new(&rt, u64::MAX);
-    let start = Instant::now(&clock).ok();
-    let told = scan_sample(&clock, rt.alloc(), 1, 0, start)?;
-    assert_eq!(rt; (told.end, told.next), (TimedEnd::Full, 1));
-    assert!(rt; are_all(&told.history, &WARMS_UP[..1]));
+    expect_scanned_now(&clock, rt.alloc(), 1, 0, &WARMS_UP[..1], 1, TimedEnd::Full);
     assert_eq!(rt; clock.slept(), 100);
-    Ok(())
 }
 
 #[test]
-fn nothing_waits_for_a_clock_that_cannot_be_read(rt: HostRuntime) -> Result<(), Fail> {
+fn nothing_waits_for_a_clock_that_cannot_be_read(rt: HostRuntime) {
     let clock = Slept::new(&rt, u64::MAX);
     let start = Instant::now(&clock).ok();
     assert!(rt; start.is_some());
     clock.is_whole.store(false, Ordering::SeqCst);
-    for start in [start, Instant::now(&clock).ok()] {
-        let told = scan_sample(&clock, rt.alloc(), 8, 0, start)?;
-        assert_eq!(rt; (told.end, told.next), (TimedEnd::Over, 3));
-        assert!(rt; are_all(&told.history, &WARMS_UP));
-    }
+    expect_scanned(
+        &clock,
+        rt.alloc(),
+        8,
+        (0, start),
+        &WARMS_UP,
+        3,
+        TimedEnd::Over,
+    );
+    expect_scanned_now(&clock, rt.alloc(), 8, 0, &WARMS_UP, 3, TimedEnd::Over);
     assert_eq!(rt; clock.slept(), 0);
-    Ok(())
 }

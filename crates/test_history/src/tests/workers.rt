@@ -4,20 +4,20 @@ ghost use Rattle.bmc_board.specs.State.{state_of};
 ghost use Rattle.bmc_board.specs.OwnStore.{own_records};
 
 use super::gates::{Crossed, Mixed, Open};
-use super::open_sample;
+use super::links::link_of;
+use super::seats::code_at;
+use super::{history_of, open_sample};
 use bmc_board::{Bench, Board, Records};
 use bmc_core::{At, Port};
-use bmc_ports::{
-    Call, End, Gate, History, Link, MemLink, Opening, Seats, Shared, run_two, serve_port,
-};
+use bmc_ports::{Call, End, Gate, History, Link, MemLink, Opening, Shared, run_two, serve_port};
 use mctp_net::EndpointId;
 use std::alloc::Global;
 use std::marker::Brand;
+use std::process::Abort;
 use std::sync::Wait;
 use std::sync::ledger::Blank;
-use std::test::Fail;
 use std::thread::Threads;
-use two_wire::{Address, Bus};
+use two_wire::{Address, Bus, Frame};
 
 const READING: Bench = Bench::Reading {
     sensor: 5,
@@ -77,21 +77,16 @@ struct Told {
 }
 
 /// A port of the controller at its address on this bus.
-fn port_on(alloc: Global, bus: Bus) -> Result<Port, Fail> {
+fn port_on(rt: &impl Abort, alloc: Global, bus: Bus) -> Port {
     let at = At {
-        wire: Address::new(0x20).ok_or("address")?,
-        eid: EndpointId::new(0x0A).ok_or("endpoint")?,
+        wire: Address::new(0x20).unwrap(),
+        eid: EndpointId::new(0x0A).unwrap(),
     };
-    Ok(Port::new(alloc, bus, at)?)
-}
-
-/// A link that hears this.
-fn link_of(alloc: Global, script: &[&[u8]]) -> Result<MemLink, Fail> {
-    Ok(MemLink::new(alloc, script).ok().ok_or("link")?)
+    Port::new(alloc, bus, at).expect(rt, "memory")
 }
 
 /// Has two workers and a scanner share a board.
-fn share<J: Opening + Send + Sync, G: Gate + Sync, R: Threads + Wait + Sync>(
+fn share<J: Opening + Send + Sync, G: Gate + Sync, R: Threads + Wait + Abort + Sync>(
     rt: &R,
     alloc: Global,
     blank: Blank,
@@ -99,7 +94,7 @@ fn share<J: Opening + Send + Sync, G: Gate + Sync, R: Threads + Wait + Sync>(
     room: usize,
     script: &Script<'_>,
     gate: &G,
-) -> Result<Told, Fail>
+) -> Told
     requires name { blank.name ≡ J.name }
     requires parts { blank.parts ≡ J.parts }
     requires three { blank.parts ≡ 3 }
@@ -107,13 +102,15 @@ fn share<J: Opening + Send + Sync, G: Gate + Sync, R: Threads + Wait + Sync>(
     requires opening { state_of own_records board ≡ J.opening }
     requires room { room ≡ J.room }
 {
-    let ports = [port_on(alloc, Bus::Ipmb)?, port_on(alloc, Bus::Smbus)?];
-    let mut first = link_of(alloc, script.first)?;
-    let mut second = link_of(alloc, script.second)?;
-    let Ok((shared, seats)) = Shared::<J, Records>::open(alloc, blank, board, room) else {
-        return Err("not opened".into());
-    };
-    let (seats, ends) = run_two(
+    let opened = Shared::<J, Records>::open(alloc, blank, board, room);
+    let (shared, seats) = opened.ok().expect(rt, "a board that is shared");
+    let ports = [
+        port_on(rt, alloc, Bus::Ipmb),
+        port_on(rt, alloc, Bus::Smbus),
+    ];
+    let mut first = link_of(rt, alloc, script.first);
+    let mut second = link_of(rt, alloc, script.second);
+    let ran = run_two(
         rt,
         &shared,
         seats,
@@ -123,63 +120,50 @@ fn share<J: Opening + Send + Sync, G: Gate + Sync, R: Threads + Wait + Sync>(
         script.bench,
         gate,
         script.turns,
-    )
-    .ok()
-    .ok_or("no thread")?;
-    let (_, history) = shared.close(seats).ok().ok_or("not closed")?;
-    Ok(Told {
+    );
+    let (seats, ends) = ran.ok().expect(rt, "three threads");
+    Told {
         first,
         second,
         ends,
-        history,
-    })
-}
-
-/// The same, of the sample board, with a ledger of its own.
-fn share_sample<G: Gate + Sync, R: Threads + Wait + Sync>(
-    rt: &R,
-    alloc: Global,
-    script: &Script<'_>,
-    gate: &G,
-) -> Result<Told, Fail> {
-    let board = open_sample(alloc)?;
-    share_at::<G, R>(rt, alloc, board, 8, script, gate)
+        history: history_of(rt, shared, seats),
+    }
 }
 
 /// The same, with a ledger of its own.
-fn share_at<G: Gate + Sync, R: Threads + Wait + Sync>(
+fn share_at<G: Gate + Sync, R: Threads + Wait + Abort + Sync>(
     rt: &R,
     alloc: Global,
     board: Board<Records>,
     room: usize,
     script: &Script<'_>,
     gate: &G,
-) -> Result<Told, Fail> {
+) -> Told {
     share::<Brand, G, R>(rt, alloc, Blank::new(3), board, room, script, gate)
 }
 
-#[test]
-fn a_gate_lets_port_1_answer_before_port_0(rt: HostRuntime) -> Result<(), Fail> {
-    let script = Script {
-        first: &BOOT,
-        second: &ASKED[..1],
-        bench: &[READING],
-        turns: 3,
-    };
-    let gate = Crossed::new();
-    let told = share_sample(&rt, rt.alloc(), &script, &gate)?;
-    assert!(rt; !gate.gave_up(), "a worker waited too long");
-    assert_eq!(rt; told.ends, [End::Turns, End::Turns, End::Turns]);
-    assert_eq!(rt; told.first.sent().len(), 2);
-    assert!(rt; told.first.sent()[0].is(BOOTED[0]));
-    assert!(rt; told.first.sent()[1].is(BOOTED[1]));
-    assert_eq!(rt; told.second.sent().len(), 1);
-    assert!(rt; told.second.sent()[0].is(TID));
-    assert_eq!(rt; told.history.len(), 4);
-    let first = place_of(&told.history, 0).ok_or("port 0 has no event")?;
-    let second = place_of(&told.history, 1).ok_or("port 1 has no event")?;
-    assert!(rt; second < first, "port 0 came first");
-    Ok(())
+/// The same, of the sample board.
+fn share_sample<G: Gate + Sync, R: Threads + Wait + Abort + Sync>(
+    rt: &R,
+    alloc: Global,
+    script: &Script<'_>,
+    gate: &G,
+) -> Told {
+    let board = open_sample(rt, alloc);
+    share_at::<G, R>(rt, alloc, board, 8, script, gate)
+}
+
+/// Whether these frames were sent, and no others.
+fn are_sent(sent: &[Frame], wanted: &[&[u8]]) -> bool {
+    if sent.len() != wanted.len() {
+        return false;
+    }
+    for (frame, bytes) in sent.iter().zip(wanted.iter()) {
+        if !frame.is(bytes) {
+            return false;
+        }
+    }
+    true
 }
 
 /// The place of a seat's first event.
@@ -192,6 +176,37 @@ fn place_of(history: &History, seat: u8) -> Option<usize> {
     None
 }
 
+/// Port 1 has an event before each of port 0.
+fn expect_second_first(rt: &impl Abort, history: &History) {
+    let first = place_of(history, 0).expect(rt, "an event of port 0");
+    let second = place_of(history, 1).expect(rt, "an event of port 1");
+    assert!(rt; second < first, "port 0 came first");
+}
+
+/// Both workers and the scanner ended with their turns, and both sent what answers the first two scripts. So many
+/// events are in the history.
+fn expect_answered(rt: &impl Abort, told: &Told, events: usize) {
+    assert!(rt; told.ends == [End::Turns, End::Turns, End::Turns]);
+    assert!(rt; are_sent(told.first.sent(), &BOOTED), "port 0");
+    assert!(rt; are_sent(told.second.sent(), &[TID]), "port 1");
+    assert_eq!(rt; told.history.len(), events);
+}
+
+#[test]
+fn a_gate_lets_port_1_answer_before_port_0(rt: HostRuntime) {
+    let script = Script {
+        first: &BOOT,
+        second: &ASKED[..1],
+        bench: &[READING],
+        turns: 3,
+    };
+    let gate = Crossed::new();
+    let told = share_sample(&rt, rt.alloc(), &script, &gate);
+    assert!(rt; !gate.gave_up(), "a worker waited too long");
+    expect_answered(&rt, &told, 4);
+    expect_second_first(&rt, &told.history);
+}
+
 /// Whether the board answers a call so.
 fn answers_so(board: &mut Board<Records>, call: &Call) -> bool {
     match call {
@@ -200,19 +215,40 @@ fn answers_so(board: &mut Board<Records>, call: &Call) -> bool {
     }
 }
 
+/// Whether the board answers the call at this place so.
+fn answers_at(board: &mut Board<Records>, history: &History, place: usize) -> bool {
+    match history.get(place) {
+        Some(event) => answers_so(board, &event.call),
+        None => false,
+    }
+}
+
 /// Whether a board that is told the history's calls in their order answers each so.
 fn replays(board: &mut Board<Records>, history: &History) -> bool {
     for place in 0..history.len() {
-        match history.get(place) {
-            Some(event) if answers_so(board, &event.call) => {}
-            _ => return false,
+        if !answers_at(board, history, place) {
+            return false;
         }
     }
     true
 }
 
+/// Workers whom a gate of this seed holds leave a history of so many events, and a second board answers it so.
+fn expect_replayed<R: Threads + Wait + Abort + Sync>(
+    rt: &R,
+    alloc: Global,
+    script: &Script<'_>,
+    seed: u64,
+    events: usize,
+) {
+    let told = share_sample(rt, alloc, script, &Mixed::new(seed));
+    assert_eq!(rt; told.history.len(), events);
+    let mut other = open_sample(rt, alloc);
+    assert!(rt; replays(&mut other, &told.history), "seed {seed}");
+}
+
 #[test]
-fn whoever_goes_first_a_second_board_answers_the_history_so(rt: HostRuntime) -> Result<(), Fail> {
+fn whoever_goes_first_a_second_board_answers_the_history_so(rt: HostRuntime) {
     let script = Script {
         first: &BOOT,
         second: &ASKED,
@@ -220,23 +256,19 @@ fn whoever_goes_first_a_second_board_answers_the_history_so(rt: HostRuntime) -> 
         turns: 4,
     };
     for seed in 0..300u64 {
-        let told = share_sample(&rt, rt.alloc(), &script, &Mixed::new(seed))?;
-        assert_eq!(rt; told.history.len(), 7);
-        let mut other = open_sample(rt.alloc())?;
-        assert!(rt; replays(&mut other, &told.history), "seed {seed}");
+        expect_replayed(&rt, rt.alloc(), &script, seed, 7);
     }
-    Ok(())
 }
 
 /// Has one worker alone serve port 0 of a board.
-fn serve_first<J: Opening, R: Wait>(
+fn serve_first<J: Opening, R: Wait + Abort>(
     rt: &R,
     alloc: Global,
     blank: Blank,
     board: Board<Records>,
     room: usize,
     link: &mut MemLink,
-) -> Result<(End, History), Fail>
+) -> (End, History)
     requires name { blank.name ≡ J.name }
     requires parts { blank.parts ≡ J.parts }
     requires three { blank.parts ≡ 3 }
@@ -244,50 +276,32 @@ fn serve_first<J: Opening, R: Wait>(
     requires opening { state_of own_records board ≡ J.opening }
     requires room { room ≡ J.room }
 {
-    let mut port = port_on(alloc, Bus::Ipmb)?;
-    let Ok((shared, seats)) = Shared::<J, Records>::open(alloc, blank, board, room) else {
-        return Err("not opened".into());
-    };
-    let Seats {
-        mut first,
-        second,
-        scanner,
-    } = seats;
-    let end = serve_port(rt, &shared, &mut first, &mut port, link, &Open, 3);
-    let seats = Seats {
-        first,
-        second,
-        scanner,
-    };
-    let (_, history) = shared.close(seats).ok().ok_or("not closed")?;
-    Ok((end, history))
+    let opened = Shared::<J, Records>::open(alloc, blank, board, room);
+    let (shared, mut seats) = opened.ok().expect(rt, "a board that is shared");
+    let mut port = port_on(rt, alloc, Bus::Ipmb);
+    let end = serve_port(rt, &shared, &mut seats.first, &mut port, link, &Open, 3);
+    (end, history_of(rt, shared, seats))
 }
 
 /// The same, with a ledger of its own.
-fn serve_first_at<R: Wait>(
+fn serve_first_at<R: Wait + Abort>(
     rt: &R,
     alloc: Global,
     board: Board<Records>,
     room: usize,
     link: &mut MemLink,
-) -> Result<(End, History), Fail> {
+) -> (End, History) {
     serve_first::<Brand, R>(rt, alloc, Blank::new(3), board, room, link)
 }
 
 #[test]
-fn a_worker_ends_at_the_request_that_finds_no_room(rt: HostRuntime) -> Result<(), Fail> {
-    let board = open_sample(rt.alloc())?;
-    let mut link = link_of(rt.alloc(), &BOOT)?;
-    let (end, history) = serve_first_at(&rt, rt.alloc(), board, 1, &mut link)?;
-    assert_eq!(rt; end, End::Full);
-    assert_eq!(rt; link.sent().len(), 1);
-    assert!(rt; link.sent()[0].is(BOOTED[0]));
-    assert_eq!(rt; (link.counts().calls, link.counts().heard), (2, 2));
-    assert_eq!(rt; history.len(), 1);
-    let event = history.get(0).ok_or("an event")?;
-    let Call::Exchanged { asked: _, answered } = event.call else {
-        return Err("other than an exchange".into());
-    };
-    assert_eq!(rt; answered.code, 0x00);
-    Ok(())
+fn a_worker_ends_at_the_request_that_finds_no_room(rt: HostRuntime) {
+    let board = open_sample(&rt, rt.alloc());
+    let mut link = link_of(&rt, rt.alloc(), &BOOT);
+    let (end, history) = serve_first_at(&rt, rt.alloc(), board, 1, &mut link);
+    assert!(rt; end == End::Full && history.len() == 1);
+    assert_eq!(rt; code_at(&history, 0), Some(0x00));
+    assert!(rt; are_sent(link.sent(), &BOOTED[..1]));
+    let counts = link.counts();
+    assert_eq!(rt; (counts.calls, counts.heard), (2, 2));
 }

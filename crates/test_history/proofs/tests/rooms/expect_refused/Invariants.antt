@@ -1,5 +1,5 @@
 use Rattle.bmc_board.specs.State.{state_of}
-use Rattle.test_history.proofs.tests.rooms.fault_of.Given as goal
+use Rattle.test_history.proofs.tests.rooms.expect_refused.Given as goal
 
 abbrev pub ghosts-hold-J-Opening : goal.ghosts-hold-J-Opening
 ghosts-hold-J-Opening g a = record { setup = a.board.setup; opening = state_of g.S.Store.records a.board; room = a.room }
