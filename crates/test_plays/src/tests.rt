@@ -1,11 +1,11 @@
-//! What runs write and how they end: stories by theme, and calls one by one.
+//! What runs write and how they end: stories by theme, and what no story tells.
 mod ages;
 mod asked;
-mod calls;
 mod charts;
 mod drawn;
 mod faults;
 mod frames;
+mod host_files;
 mod lines;
 mod parts;
 mod parts_text;
@@ -27,10 +27,9 @@ use parts_text::SHARED;
 use player::otherwise;
 use std::alloc::Global;
 use std::process::Abort;
-use std::test::Fail;
 
 /// All of the stories comes as it is told.
-fn expect_told(rt: &impl Abort, alloc: Global, stories: &str) -> Result<(), Fail> {
-    assert_eq!(rt; otherwise(alloc, SHARED, stories)?.as_str(), "");
-    Ok(())
+fn expect_told(rt: &impl Abort, alloc: Global, stories: &str) {
+    let told = otherwise(alloc, SHARED, stories).expect(rt, "memory");
+    assert_eq!(rt; told.as_str(), "");
 }

@@ -1,42 +1,33 @@
 //! How long frames are live, worked by hand from the rule.
 
 use lab_run::{Known, Mark};
-use std::process::Abort;
-use std::test::Fail;
 use two_wire::Bus;
 
-/// The frame of request 3 is live until so many requests are begun, and no longer, and so is the reply to it.
-fn expect_last(rt: &impl Abort, on: Bus, last: usize, later: usize) -> Result<(), Fail> {
+/// Whether the frame of request 3 and the reply to it are live once so many requests are begun.
+fn is_live(on: Bus, begun: usize) -> (bool, bool) {
     let frame = Mark {
         on,
         request: 3,
         idles: 0,
     };
-    let last = Known {
-        begun: last,
-        idles: 0,
-    };
-    let later = Known {
-        begun: later,
-        idles: 0,
-    };
-    assert!(rt; frame.is_live(last) && frame.reply(0).is_live(last));
-    assert!(rt; !frame.is_live(later) && !frame.reply(0).is_live(later));
-    Ok(())
+    let now = Known { begun, idles: 0 };
+    (frame.is_live(now), frame.reply(0).is_live(now))
 }
 
 #[test]
-fn a_frame_is_live_for_eight_requests_on_smbus(rt: HostRuntime) -> Result<(), Fail> {
-    expect_last(&rt, Bus::Smbus, 11, 12)
+fn a_frame_is_live_for_eight_requests_on_smbus(rt: HostRuntime) {
+    assert_eq!(rt; is_live(Bus::Smbus, 11), (true, true));
+    assert_eq!(rt; is_live(Bus::Smbus, 12), (false, false));
 }
 
 #[test]
-fn a_frame_is_live_for_thirty_two_requests_on_ipmb(rt: HostRuntime) -> Result<(), Fail> {
-    expect_last(&rt, Bus::Ipmb, 35, 36)
+fn a_frame_is_live_for_thirty_two_requests_on_ipmb(rt: HostRuntime) {
+    assert_eq!(rt; is_live(Bus::Ipmb, 35), (true, true));
+    assert_eq!(rt; is_live(Bus::Ipmb, 36), (false, false));
 }
 
 #[test]
-fn no_frame_outlives_the_window(rt: HostRuntime) -> Result<(), Fail> {
+fn no_frame_outlives_the_window(rt: HostRuntime) {
     let frame = Mark {
         on: Bus::Ipmb,
         request: 0,
@@ -46,5 +37,4 @@ fn no_frame_outlives_the_window(rt: HostRuntime) -> Result<(), Fail> {
     let forgotten = Known { begun: 1, idles: 1 };
     assert!(rt; !frame.is_live(forgotten) && !frame.reply(0).is_live(forgotten));
     assert!(rt; again.is_live(forgotten) && again.reply(1).is_live(forgotten));
-    Ok(())
 }

@@ -1,6 +1,5 @@
 //! Charts of plays.
 use super::expect_told;
-use std::test::Fail;
 
 /// What is drawn besides the stories of `examples`.
 const CHARTS: &str = "story there is no such sensor
@@ -117,6 +116,6 @@ chart -> 3 err: schedule Line 2
 ";
 
 #[test]
-fn plays_are_drawn(rt: HostRuntime) -> Result<(), Fail> {
-    expect_told(&rt, rt.alloc(), CHARTS)
+fn plays_are_drawn(rt: HostRuntime) {
+    expect_told(&rt, rt.alloc(), CHARTS);
 }

@@ -1,28 +1,35 @@
 //! Schedules that are drawn on buses where packets may join late ones.
-use cfg_records::sample_board;
+use super::text::push_lines;
+use cfg_records::{BoardFile, sample_board};
 use lab_play::{Played, play};
 use lab_schedule::{Chances, Links, Wanted, make_schedule};
 use plan_file::read_plan;
 use std::alloc::Global;
-use std::test::Fail;
+use std::process::Abort;
 use two_wire::Below;
 use undo_core::Phase;
 use undo_plans::Plan;
 
 /// A plan that sets the label five times, to texts of four packets each.
-fn plan_of_texts(alloc: Global) -> Result<Plan, Fail> {
-    let mut file = String::new(alloc);
-    for letter in ["a", "b", "c", "d", "e"] {
-        let text = letter.repeat(alloc, 200)?;
-        let text = text.as_str();
-        writeln!(file, "[[step]]\nkind = \"bios-attribute\"\nhandle = 1")?;
-        writeln!(file, "text = \"{text}\"")?;
-    }
-    Ok(read_plan(alloc, file.as_str()).ok().ok_or("a plan")?)
+const PLAN: &str = "[[step]] / kind = \"bios-attribute\" / handle = 1 / text = \"{200*a}\"
+[[step]] / kind = \"bios-attribute\" / handle = 1 / text = \"{200*b}\"
+[[step]] / kind = \"bios-attribute\" / handle = 1 / text = \"{200*c}\"
+[[step]] / kind = \"bios-attribute\" / handle = 1 / text = \"{200*d}\"
+[[step]] / kind = \"bios-attribute\" / handle = 1 / text = \"{200*e}\"
+";
+
+fn plan(rt: &impl Abort, alloc: Global) -> Plan {
+    let mut text = String::new(alloc);
+    push_lines(&mut text, PLAN).expect(rt, "the lines of a plan");
+    read_plan(alloc, text.as_str()).ok().expect(rt, "a plan")
 }
 
-/// The play of a schedule that is drawn from the seed, and by which the plan is undone.
-fn play_drawn(alloc: Global, seed: u64, late_joins: bool) -> Result<Played, Fail> {
+fn board(rt: &impl Abort, alloc: Global) -> BoardFile {
+    sample_board(alloc).expect(rt, "memory")
+}
+
+/// The schedule that is drawn from the seed, and by which the plan is undone.
+fn wanted(seed: u64, late_joins: bool) -> Wanted {
     let chances = Chances {
         lose: Below::new(10),
         repeat: Below::new(30),
@@ -31,41 +38,55 @@ fn play_drawn(alloc: Global, seed: u64, late_joins: bool) -> Result<Played, Fail
         seed,
         late_joins,
     };
-    let wanted = Wanted {
+    Wanted {
         links: Links::Drawn(chances),
         undo: true,
-    };
-    let events = make_schedule(alloc, sample_board(alloc)?, plan_of_texts(alloc)?, wanted)?;
-    let played = play(
-        alloc,
-        sample_board(alloc)?,
-        plan_of_texts(alloc)?,
-        events.as_slice(),
-    );
-    Ok(played.ok().ok_or("a fault")?)
+    }
 }
 
-/// Whether the plan was undone, each record is as it was, and no packet joined one that waited too long.
-fn is_undone(played: &Played) -> bool {
-    played.phase() == Phase::Undone && played.changed() == 0 && played.premise_broken().is_none()
+/// How a play ends.
+#[derive(Clone, Copy, Debug, PartialEq, Eq)]
+enum End {
+    /// The plan was undone, each record is as it was, and no packet joined one that waited too long.
+    Undone,
+    /// A packet joined one that waited too long.
+    Joined,
+    /// None of these.
+    Other,
+}
+
+fn end_of(played: &Played) -> End {
+    if played.premise_broken().is_some() {
+        return End::Joined;
+    }
+    if played.phase() == Phase::Undone && played.changed() == 0 {
+        return End::Undone;
+    }
+    End::Other
+}
+
+/// How the play of the schedule ends.
+fn play_drawn(rt: &impl Abort, alloc: Global, wanted: Wanted) -> End {
+    let drawn = make_schedule(alloc, board(rt, alloc), plan(rt, alloc), wanted);
+    let events = drawn.expect(rt, "memory");
+    let played = play(alloc, board(rt, alloc), plan(rt, alloc), events.as_slice());
+    end_of(&played.ok().expect(rt, "a play without a fault"))
 }
 
 #[test]
-fn a_plan_is_undone_where_packets_may_join_late_and_none_does(rt: HostRuntime) -> Result<(), Fail> {
+fn a_plan_is_undone_where_packets_may_join_late_and_none_does(rt: HostRuntime) {
     for seed in [4, 5] {
-        let played = play_drawn(rt.alloc(), seed, true)?;
-        assert!(rt; is_undone(&played), "seed {seed}");
+        let end = play_drawn(&rt, rt.alloc(), wanted(seed, true));
+        assert_eq!(rt; end, End::Undone, "seed {seed}");
     }
-    Ok(())
 }
 
 #[test]
-fn packets_join_late_only_where_they_may(rt: HostRuntime) -> Result<(), Fail> {
+fn packets_join_late_only_where_they_may(rt: HostRuntime) {
     for seed in [24, 30] {
-        let played = play_drawn(rt.alloc(), seed, true)?;
-        assert!(rt; played.premise_broken().is_some(), "seed {seed}");
-        let kept = play_drawn(rt.alloc(), seed, false)?;
-        assert!(rt; is_undone(&kept), "seed {seed}");
+        let end = play_drawn(&rt, rt.alloc(), wanted(seed, true));
+        assert_eq!(rt; end, End::Joined, "seed {seed}");
+        let kept = play_drawn(&rt, rt.alloc(), wanted(seed, false));
+        assert_eq!(rt; kept, End::Undone, "seed {seed}");
     }
-    Ok(())
 }

@@ -1,6 +1,5 @@
 //! Events that a lab does not take, what others do, and texts that are refused.
 use super::expect_told;
-use std::test::Fail;
 
 /// Events that a lab does not take.
 const FAULTS: &str = "story the event that has a fault is told last
@@ -186,16 +185,16 @@ lines -> 0 out: phase Getting 0 / frames 1 / undo 0 / records same
 ";
 
 #[test]
-fn the_event_that_has_a_fault_is_told_last(rt: HostRuntime) -> Result<(), Fail> {
-    expect_told(&rt, rt.alloc(), FAULTS)
+fn the_event_that_has_a_fault_is_told_last(rt: HostRuntime) {
+    expect_told(&rt, rt.alloc(), FAULTS);
 }
 
 #[test]
-fn others_are_answered_and_noise_changes_nothing(rt: HostRuntime) -> Result<(), Fail> {
-    expect_told(&rt, rt.alloc(), OTHERS)
+fn others_are_answered_and_noise_changes_nothing(rt: HostRuntime) {
+    expect_told(&rt, rt.alloc(), OTHERS);
 }
 
 #[test]
-fn the_first_text_that_is_refused_is_named(rt: HostRuntime) -> Result<(), Fail> {
-    expect_told(&rt, rt.alloc(), REFUSED)
+fn the_first_text_that_is_refused_is_named(rt: HostRuntime) {
+    expect_told(&rt, rt.alloc(), REFUSED);
 }

@@ -1,13 +1,12 @@
 //! Worked frames to the two ports of a board, one after the other.
 use std::alloc::Global;
 use std::process::Abort;
-use std::test::Fail;
 use stories::play;
 
 /// Each line of the stories comes as it is told.
-fn expect_played(rt: &impl Abort, alloc: Global, stories: &str) -> Result<(), Fail> {
-    assert_eq!(rt; play(alloc, stories)?.as_str(), "");
-    Ok(())
+fn expect_played(rt: &impl Abort, alloc: Global, stories: &str) {
+    let told = play(alloc, stories).expect(rt, "memory");
+    assert_eq!(rt; told.as_str(), "");
 }
 
 /// Frames on IPMB.
@@ -183,8 +182,16 @@ pldm 02 31 040002E903 -> 02
 ";
 
 #[test]
-fn frames_come_to_the_ports_of_a_board(rt: HostRuntime) -> Result<(), Fail> {
-    expect_played(&rt, rt.alloc(), IPMB)?;
-    expect_played(&rt, rt.alloc(), SMBUS)?;
-    expect_played(&rt, rt.alloc(), EFFECTERS)
+fn frames_come_to_a_port_on_ipmb(rt: HostRuntime) {
+    expect_played(&rt, rt.alloc(), IPMB);
+}
+
+#[test]
+fn packets_come_to_a_port_on_smbus(rt: HostRuntime) {
+    expect_played(&rt, rt.alloc(), SMBUS);
+}
+
+#[test]
+fn effecters_of_a_file_are_set(rt: HostRuntime) {
+    expect_played(&rt, rt.alloc(), EFFECTERS);
 }

@@ -1,7 +1,6 @@
 //! Schedules that `bmclab schedule` writes, and their plays.
-use super::{SHARED, expect_told, otherwise};
-use std::alloc::Global;
-use std::test::Fail;
+use super::expect_told;
+use std::alloc::{AllocError, Global};
 
 /// Clean schedules, files that are refused, and where a schedule ends.
 const SCHEDULES: &str = "story a clean schedule delivers each frame as soon as it was sent
@@ -160,8 +159,8 @@ asks bmclab schedule --board a b -> refused
 const SEEDS: u32 = 20;
 
 /// The story of the schedule that is drawn from a seed: a play of it takes each event, keeps the premises, and ends where it began.
-fn seed_story(alloc: Global, seed: u32) -> Result<String, Fail> {
-    Ok(format!(in alloc;
+fn seed_story(alloc: Global, seed: u32) -> Result<String, AllocError> {
+    format!(in alloc;
         "story seed {seed}
 board sample
 plan
@@ -171,24 +170,23 @@ plan
 make --lose 20 --repeat 20 --delay 20 --others 20 --seed {seed} --undo board.toml plan.toml
 premises -> 0 out: phase Undone / ..records same / premises kept
 "
-    )?)
+    )
 }
 
 #[test]
-fn schedules_are_written_and_played(rt: HostRuntime) -> Result<(), Fail> {
-    expect_told(&rt, rt.alloc(), SCHEDULES)
+fn schedules_are_written_and_played(rt: HostRuntime) {
+    expect_told(&rt, rt.alloc(), SCHEDULES);
 }
 
 #[test]
-fn refused_words_say_why_there_is_no_schedule(rt: HostRuntime) -> Result<(), Fail> {
-    expect_told(&rt, rt.alloc(), REFUSED)
+fn refused_words_say_why_there_is_no_schedule(rt: HostRuntime) {
+    expect_told(&rt, rt.alloc(), REFUSED);
 }
 
 #[test]
-fn drawn_schedules_are_taken_and_undone(rt: HostRuntime) -> Result<(), Fail> {
+fn drawn_schedules_are_taken_and_undone(rt: HostRuntime) {
     for seed in 0..SEEDS {
-        let story = seed_story(rt.alloc(), seed)?;
-        assert_eq!(&rt; otherwise(rt.alloc(), SHARED, story.as_str())?.as_str(), "");
+        let story = seed_story(rt.alloc(), seed).expect(&rt, "memory");
+        expect_told(&rt, rt.alloc(), story.as_str());
     }
-    Ok(())
 }

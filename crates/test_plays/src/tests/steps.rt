@@ -1,6 +1,5 @@
 //! Plans by what their steps set: BIOS attributes, numeric effecters, users and channels, LAN parameters, and many steps.
 use super::expect_told;
-use std::test::Fail;
 
 /// BIOS attributes, of which some requests are of several packets.
 const ATTRIBUTES: &str = "story a plan of four steps over both buses is undone
@@ -416,26 +415,26 @@ lines -> 0 out
 ";
 
 #[test]
-fn plans_on_attributes_are_undone(rt: HostRuntime) -> Result<(), Fail> {
-    expect_told(&rt, rt.alloc(), ATTRIBUTES)
+fn plans_on_attributes_are_undone(rt: HostRuntime) {
+    expect_told(&rt, rt.alloc(), ATTRIBUTES);
 }
 
 #[test]
-fn plans_on_effecters_are_undone_or_halt(rt: HostRuntime) -> Result<(), Fail> {
-    expect_told(&rt, rt.alloc(), EFFECTERS)
+fn plans_on_effecters_are_undone_or_halt(rt: HostRuntime) {
+    expect_told(&rt, rt.alloc(), EFFECTERS);
 }
 
 #[test]
-fn plans_on_users_are_undone_or_halt(rt: HostRuntime) -> Result<(), Fail> {
-    expect_told(&rt, rt.alloc(), USERS)
+fn plans_on_users_are_undone_or_halt(rt: HostRuntime) {
+    expect_told(&rt, rt.alloc(), USERS);
 }
 
 #[test]
-fn plans_on_lan_parameters_are_undone_or_halt(rt: HostRuntime) -> Result<(), Fail> {
-    expect_told(&rt, rt.alloc(), LAN)
+fn plans_on_lan_parameters_are_undone_or_halt(rt: HostRuntime) {
+    expect_told(&rt, rt.alloc(), LAN);
 }
 
 #[test]
-fn long_plans_are_undone_and_late_copies_age(rt: HostRuntime) -> Result<(), Fail> {
-    expect_told(&rt, rt.alloc(), LATE)
+fn long_plans_are_undone_and_late_copies_age(rt: HostRuntime) {
+    expect_told(&rt, rt.alloc(), LATE);
 }

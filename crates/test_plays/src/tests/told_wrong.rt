@@ -1,7 +1,8 @@
 //! Stories that are told wrong: the player notices each kind of line.
 use super::parts_text::SHARED;
 use super::player::otherwise;
-use std::test::Fail;
+use std::alloc::Global;
+use std::process::Abort;
 
 /// Each kind of line, told wrong.
 const WRONG: &str = "story every run is told wrong
@@ -75,18 +76,18 @@ a story's texts are told wrong, line 35: can't be read
 nothing is played of this one, line 39: nothing was played
 ";
 
-#[test]
-fn stories_that_are_told_wrong_are_noticed(rt: HostRuntime) -> Result<(), Fail> {
-    let told = otherwise(rt.alloc(), SHARED, WRONG)?;
-    assert_eq!(rt; told.as_str(), NOTICED);
-    Ok(())
+/// So it is noticed that the stories are told wrong.
+fn expect_noticed(rt: &impl Abort, alloc: Global, stories: &str, noticed: &str) {
+    let told = otherwise(alloc, SHARED, stories).expect(rt, "memory");
+    assert_eq!(rt; told.as_str(), noticed);
 }
 
 #[test]
-fn a_text_without_a_story_is_noticed(rt: HostRuntime) -> Result<(), Fail> {
-    assert_eq!(rt;
-        otherwise(rt.alloc(), SHARED, "")?.as_str(),
-        ", line 1: nothing was played\n"
-    );
-    Ok(())
+fn stories_that_are_told_wrong_are_noticed(rt: HostRuntime) {
+    expect_noticed(&rt, rt.alloc(), WRONG, NOTICED);
+}
+
+#[test]
+fn a_text_without_a_story_is_noticed(rt: HostRuntime) {
+    expect_noticed(&rt, rt.alloc(), "", ", line 1: nothing was played\n");
 }

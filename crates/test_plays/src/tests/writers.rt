@@ -5,7 +5,6 @@ use host_base::{Refusal, refuse};
 use std::alloc::{AllocError, Global};
 use std::io;
 use std::process::Abort;
-use std::test::Fail;
 use two_wire::Bus;
 
 /// What a writer was given, and how many of its calls are left before the one that fails, if one is to fail.
@@ -35,14 +34,14 @@ impl io::Write for Paper {
 }
 
 /// Papers of which each fails behind so many calls, if it does.
-fn new_papers(alloc: Global, left: (Option<usize>, Option<usize>)) -> Console<Paper, Paper> {
+fn new_papers(alloc: Global, out: Option<usize>, err: Option<usize>) -> Console<Paper, Paper> {
     let out = Paper {
         text: Vec::new(alloc),
-        left: left.0,
+        left: out,
     };
     let err = Paper {
         text: Vec::new(alloc),
-        left: left.1,
+        left: err,
     };
     Console::new(out, err)
 }
@@ -52,22 +51,27 @@ const SET: [u8; 15] = [
     0x20, 0x10, 0xD0, 0x2C, 0x08, 0x26, 0x05, 0x10, 0x00, 0x00, 0x00, 0x00, 0x5A, 0x00, 0x37,
 ];
 
-/// A run whose output fails behind so many calls writes so many bytes of its line, and ends so.
-fn expect_cut(rt: &impl Abort, alloc: Global, left: usize, written: usize, status: u8) {
-    let mut papers = new_papers(alloc, (Some(left), None));
-    let ended = frame_run(alloc, Bus::Ipmb, None, SET.as_slice(), &mut papers);
-    let line = b"2C14C020082600B2\n".get(..written).expect(rt, "a line");
-    assert_eq!(rt; ended, status, "with {left} calls");
-    assert_eq!(rt; papers.out.text.as_slice(), line, "with {left} calls");
-    assert!(rt; papers.err.text.is_empty(), "with {left} calls");
+/// This was written to the papers.
+fn expect_papers(rt: &impl Abort, papers: &Console<Paper, Paper>, out: &[u8], err: &[u8]) {
+    assert_eq!(rt; papers.out.text.as_slice(), out);
+    assert_eq!(rt; papers.err.text.as_slice(), err);
 }
 
+/// A run whose output fails behind so many calls writes this, and ends so.
+fn expect_cut(rt: &impl Abort, alloc: Global, left: usize, written: &[u8], status: u8) {
+    let mut papers = new_papers(alloc, Some(left), None);
+    let ended = frame_run(alloc, Bus::Ipmb, None, SET.as_slice(), &mut papers);
+    assert_eq!(rt; ended, status, "with {left} calls");
+    expect_papers(rt, &papers, written, b"");
+}
+
+// The line of 17 bytes takes three calls of a writer that takes 7 at a time.
 #[test]
 fn a_write_that_fails_ends_a_run_with_6_and_is_not_repeated(rt: HostRuntime) {
-    // The line of 17 bytes takes three calls of a writer that takes 7 at a time.
-    for (left, written, status) in [(0, 0, 6), (1, 7, 6), (2, 14, 6), (3, 17, 0)] {
-        expect_cut(&rt, rt.alloc(), left, written, status);
-    }
+    expect_cut(&rt, rt.alloc(), 0, b"", 6);
+    expect_cut(&rt, rt.alloc(), 1, b"2C14C02", 6);
+    expect_cut(&rt, rt.alloc(), 2, b"2C14C020082600", 6);
+    expect_cut(&rt, rt.alloc(), 3, b"2C14C020082600B2\n", 0);
 }
 
 /// A board without users and sensors.
@@ -98,33 +102,28 @@ const PLAN: &str = "[[step]]\nkind = \"power-policy\"\npolicy = 2\n";
 fn expect_status(
     rt: &impl Abort,
     alloc: Global,
-    left: (Option<usize>, Option<usize>),
+    out: Option<usize>,
+    err: Option<usize>,
     schedule: &str,
     status: u8,
 ) {
-    let mut papers = new_papers(alloc, left);
+    let mut papers = new_papers(alloc, out, err);
     let ended = play_run(alloc, false, false, BOARD, PLAN, schedule, &mut papers);
     assert_eq!(rt; ended, status, "{schedule}");
 }
 
 #[test]
 fn a_write_that_fails_ends_a_play_with_6(rt: HostRuntime) {
-    for (out, err, schedule, status) in [
-        (Some(0), None, "start\n", 6),
-        (Some(0), None, "to-bmc 0\n", 6),
-        (None, Some(0), "begin\n", 6),
-        // Nothing is written to the stream that fails.
-        (None, Some(0), "start\n", 0),
-        (None, Some(0), "to-bmc 0\n", 4),
-        (Some(0), None, "begin\n", 3),
-    ] {
-        expect_status(&rt, rt.alloc(), (out, err), schedule, status);
-    }
+    expect_status(&rt, rt.alloc(), Some(0), None, "start\n", 6);
+    expect_status(&rt, rt.alloc(), Some(0), None, "to-bmc 0\n", 6);
+    expect_status(&rt, rt.alloc(), None, Some(0), "begin\n", 6);
 }
 
-/// The status of papers to which the ending was written.
-fn written(ending: &Ending, papers: &mut Console<Paper, Paper>) -> Status {
-    ending.write(papers)
+#[test]
+fn a_stream_to_which_nothing_is_written_may_fail(rt: HostRuntime) {
+    expect_status(&rt, rt.alloc(), None, Some(0), "start\n", 0);
+    expect_status(&rt, rt.alloc(), None, Some(0), "to-bmc 0\n", 4);
+    expect_status(&rt, rt.alloc(), Some(0), None, "begin\n", 3);
 }
 
 /// The ending of the report is written to standard error, whose writer fails behind so many calls, if it does: this text, and this
@@ -134,31 +133,31 @@ fn expect_ending(
     alloc: Global,
     report: &Result<Report, AllocError>,
     left: Option<usize>,
-    want: (&str, Status),
+    text: &str,
+    status: Status,
 ) {
-    let (text, status) = want;
     let ending = Ending::of(report);
     assert_eq!(rt; ending.stream, Stream::Error);
-    let mut papers = new_papers(alloc, (Some(0), left));
-    assert_eq!(rt; written(&ending, &mut papers), status);
-    assert!(rt; papers.out.text.is_empty());
-    assert_eq!(rt; papers.err.text.as_slice(), text.as_bytes());
+    let mut papers = new_papers(alloc, Some(0), left);
+    assert_eq!(rt; ending.write(&mut papers), status);
+    expect_papers(rt, &papers, b"", text.as_bytes());
 }
 
 #[test]
 fn a_run_that_is_refused_memory_or_a_file_says_so(rt: HostRuntime) {
-    let named = Report::of_file(rt.alloc(), "no.toml");
-    let line = ("file no.toml\n", Status::RefusedFile);
-    expect_ending(&rt, rt.alloc(), &named, None, line);
-    let refused = Err(AllocError);
+    let alloc = rt.alloc();
+    let named = Report::of_file(alloc, "no.toml");
     expect_ending(
         &rt,
-        rt.alloc(),
-        &refused,
+        alloc,
+        &named,
         None,
-        ("memory\n", Status::Memory),
+        "file no.toml\n",
+        Status::RefusedFile,
     );
-    expect_ending(&rt, rt.alloc(), &refused, Some(0), ("", Status::Output));
+    let refused = Err(AllocError);
+    expect_ending(&rt, alloc, &refused, None, "memory\n", Status::Memory);
+    expect_ending(&rt, alloc, &refused, Some(0), "", Status::Output);
 }
 
 /// The refusal ends so, and this is written to standard error, whose writer fails behind so many calls, if it does.
@@ -167,20 +166,20 @@ fn expect_refusal(
     alloc: Global,
     refusal: &Refusal,
     left: Option<usize>,
-    want: (&str, u8),
+    text: &str,
+    status: u8,
 ) {
-    let (text, status) = want;
-    let mut papers = new_papers(alloc, (Some(0), left));
+    let mut papers = new_papers(alloc, Some(0), left);
     assert_eq!(rt; refuse(refusal, &mut papers), status);
-    assert!(rt; papers.out.text.is_empty());
-    assert_eq!(rt; papers.err.text.as_slice(), text.as_bytes());
+    expect_papers(rt, &papers, b"", text.as_bytes());
 }
 
 #[test]
-fn words_are_refused_with_a_text_or_for_memory(rt: HostRuntime) -> Result<(), Fail> {
-    let why = Refusal::Words(String::from_str(rt.alloc(), "no\n")?);
-    expect_refusal(&rt, rt.alloc(), &why, None, ("no\n", 2));
-    expect_refusal(&rt, rt.alloc(), &why, Some(0), ("", 6));
-    expect_refusal(&rt, rt.alloc(), &Refusal::Memory, None, ("memory\n", 5));
-    Ok(())
+fn words_are_refused_with_a_text_or_for_memory(rt: HostRuntime) {
+    let alloc = rt.alloc();
+    let text = String::from_str(alloc, "no\n").expect(&rt, "memory");
+    let why = Refusal::Words(text);
+    expect_refusal(&rt, alloc, &why, None, "no\n", 2);
+    expect_refusal(&rt, alloc, &why, Some(0), "", 6);
+    expect_refusal(&rt, alloc, &Refusal::Memory, None, "memory\n", 5);
 }
