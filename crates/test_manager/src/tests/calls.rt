@@ -1,8 +1,9 @@
 //! Each call in each phase, and what phases are called.
 use super::scene::{expect_told, names, plan};
-use std::test::Fail;
+use std::alloc::Global;
+use std::process::Abort;
 use two_wire::{Bus, Code};
-use undo_core::{Manager, OpenFault, Phase, Why, WrongPhase};
+use undo_core::{Manager, Phase, Sent, Why};
 
 const CALLS: &str = "
 story calls of a fresh manager
@@ -105,6 +106,16 @@ stop -> refused Unsettled 0
 undo -> refused Unsettled 0
 again -> 2010D02C002705A8 Getting 0
 
+story a Get that was stopped is sent once more
+plan 1 -> Fresh
+undo -> refused Fresh
+start -> 2010D02C002705A8 Getting 0
+stop -> Getting 0
+shows -> open Ipmb undo 0 next 0 0
+quiet -> 2010D02C002705A8 Getting 0
+quiet -> Unsettled 0
+again -> 2010D02C002705A8 Getting 0
+
 story calls of a manager whose undo was refused
 plan 0 -> Fresh
 start -> 2010D02C002705A8 Getting 0
@@ -141,54 +152,63 @@ fn calls_lead_from_phase_to_phase(rt: HostRuntime) {
     expect_told(&rt, rt.alloc(), CALLS);
 }
 
+/// A manager of the plan.
+fn manager(rt: &impl Abort, alloc: Global) -> Manager {
+    let plan = plan(alloc).expect(rt, "memory");
+    Manager::open(alloc, plan, names(), 1).expect(rt, "a manager")
+}
+
+/// What is sent is the request of this number, on IPMB, and the manager began so many there.
+fn expect_request(rt: &impl Abort, manager: &Manager, sent: &Sent, request: u16) {
+    assert_eq!(rt; (sent.bus, sent.request), (Bus::Ipmb, request));
+    assert_eq!(rt; manager.begun(Bus::Ipmb), usize::from(request) + 1);
+}
+
+/// The reply to the Get of sensor 5's thresholds.
+const SHOWN: [u8; 15] = [
+    0x2C, 0x14, 0xC0, 0x20, 0x00, 0x27, 0x00, 0x3F, 0x14, 0x0A, 0x05, 0x50, 0x5F, 0x6E, 0x3A,
+];
+
 #[test]
-fn a_manager_is_opened_and_called(rt: HostRuntime) -> Result<(), Fail> {
-    let refused = Manager::open(rt.alloc(), plan(rt.alloc())?, names(), 16);
-    assert_eq!(rt; refused.err(), Some(OpenFault::Retries));
-    let mut manager = Manager::open(rt.alloc(), plan(rt.alloc())?, names(), 1)?;
-    assert_eq!(rt; manager.phase(), Phase::Fresh);
+fn a_manager_has_its_names_and_counts_its_requests(rt: HostRuntime) {
+    let mut manager = manager(&rt, rt.alloc());
     assert_eq!(rt; manager.undo_list().names, Some(names()));
-    assert_eq!(rt; manager.undo().err(), Some(WrongPhase));
-    let sent = manager.start()?.ok_or("a Get")?;
-    assert_eq!(rt; (sent.bus, sent.request), (Bus::Ipmb, 0));
-    assert_eq!(rt; manager.phase(), Phase::Getting(0));
-    assert!(rt; manager.stop()?.is_none());
-    assert_eq!(rt;
-        (manager.open_bus(), manager.begun(Bus::Ipmb)),
-        (Some(Bus::Ipmb), 1)
-    );
-    assert!(rt; manager.quiet()?.is_some());
-    assert!(rt; manager.quiet()?.is_none());
-    assert!(rt; manager.again()?.is_some());
-    Ok(())
+    let first = manager.start().expect(&rt, "the phase of a start");
+    expect_request(&rt, &manager, &first.expect(&rt, "a Get"), 0);
+    let set = manager.on_frame(Bus::Ipmb, &SHOWN);
+    expect_request(&rt, &manager, &set.expect(&rt, "a Set"), 1);
+}
+
+/// The phase is called so.
+fn expect_name(rt: &impl Abort, alloc: Global, phase: Phase, name: &str) {
+    let text = format!(in alloc; "{phase}").expect(rt, "memory");
+    assert_eq!(rt; text.as_str(), name);
 }
 
 #[test]
 fn phases_are_named(rt: HostRuntime) {
     let alloc = rt.alloc();
+    expect_name(&rt, alloc, Phase::Fresh, "Fresh");
+    expect_name(&rt, alloc, Phase::Getting(20), "Getting 20");
+    expect_name(&rt, alloc, Phase::Setting(255), "Setting 255");
+    expect_name(&rt, alloc, Phase::Done, "Done");
+    expect_name(&rt, alloc, Phase::Unsettled(0), "Unsettled 0");
+    expect_name(&rt, alloc, Phase::Undoing(10), "Undoing 10");
+    expect_name(&rt, alloc, Phase::Undone, "Undone");
+}
+
+#[test]
+fn phases_of_halted_and_refused_plans_are_named(rt: HostRuntime) {
+    let alloc = rt.alloc();
     let code = Code::new(0xCC).unwrap();
     let low = Code::new(0x05).unwrap();
-    for (phase, name) in [
-        (Phase::Fresh, "Fresh"),
-        (Phase::Getting(20), "Getting 20"),
-        (Phase::Setting(255), "Setting 255"),
-        (Phase::Done, "Done"),
-        (Phase::Halted(2, Why::Stop), "Halted 2 Stop"),
-        (Phase::Halted(1, Why::Refused(code)), "Halted 1 Refused CC"),
-        (
-            Phase::Halted(0, Why::NotRestorable),
-            "Halted 0 NotRestorable",
-        ),
-        (
-            Phase::Halted(3, Why::GetRefused(low)),
-            "Halted 3 GetRefused 05",
-        ),
-        (Phase::Unsettled(0), "Unsettled 0"),
-        (Phase::Undoing(10), "Undoing 10"),
-        (Phase::Undone, "Undone"),
-        (Phase::UndoRefused(7, code), "UndoRefused 7 CC"),
-    ] {
-        let text = format!(in alloc; "{phase}").expect(&rt, "memory");
-        assert_eq!(rt; text.as_str(), name);
-    }
+    expect_name(&rt, alloc, Phase::Halted(2, Why::Stop), "Halted 2 Stop");
+    let refused = Phase::Halted(1, Why::Refused(code));
+    expect_name(&rt, alloc, refused, "Halted 1 Refused CC");
+    let unrestorable = Phase::Halted(0, Why::NotRestorable);
+    expect_name(&rt, alloc, unrestorable, "Halted 0 NotRestorable");
+    let get_refused = Phase::Halted(3, Why::GetRefused(low));
+    expect_name(&rt, alloc, get_refused, "Halted 3 GetRefused 05");
+    let undo_refused = Phase::UndoRefused(7, code);
+    expect_name(&rt, alloc, undo_refused, "UndoRefused 7 CC");
 }

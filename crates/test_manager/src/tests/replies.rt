@@ -1,8 +1,5 @@
 //! What a manager does with each reply, and which frames it ignores.
-use super::scene::{expect_told, names, plan};
-use std::test::Fail;
-use two_wire::{Bus, Frame};
-use undo_core::{Manager, Phase};
+use super::scene::expect_told;
 
 const REPLIES: &str = "
 story a plan goes there and back
@@ -113,22 +110,4 @@ shows -> open Ipmb undo 0 next 0 0
 #[test]
 fn replies_lead_from_phase_to_phase(rt: HostRuntime) {
     expect_told(&rt, rt.alloc(), REPLIES);
-}
-
-#[test]
-fn a_reply_is_heard(rt: HostRuntime) -> Result<(), Fail> {
-    let mut manager = Manager::open(rt.alloc(), plan(rt.alloc())?, names(), 0)?;
-    assert!(rt; manager.start()?.is_some());
-    // The reply to the Get of sensor 5's thresholds; the Set of the plan's first step.
-    let heard = [
-        0x2C, 0x14, 0xC0, 0x20, 0x00, 0x27, 0x00, 0x3F, 0x14, 0x0A, 0x05, 0x50, 0x5F, 0x6E, 0x3A,
-    ];
-    let sent = manager.on_frame(Bus::Ipmb, &heard).ok_or("a Set")?;
-    assert_eq!(rt; (sent.bus, sent.request), (Bus::Ipmb, 1));
-    let set = Frame::from_slice(&[
-        0x20, 0x10, 0xD0, 0x2C, 0x04, 0x26, 0x05, 0x18, 0x00, 0x00, 0x00, 0x4B, 0x5A, 0x00, 0xE8,
-    ]);
-    assert_eq!(rt; sent.frames.as_slice(), [set].as_slice());
-    assert_eq!(rt; manager.phase(), Phase::Setting(0));
-    Ok(())
 }

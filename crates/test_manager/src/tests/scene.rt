@@ -1,10 +1,11 @@
 //! A manager, and the lines of what comes to it.
 use record_base::{Asked, Op, SetThresholds};
 use std::alloc::{AllocError, Global};
+use std::fmt::Debug;
 use std::process::Abort;
 use story_lines::{NoOutcome, NoScene, Scene, report_of};
 use two_wire::{Address, Below, Bus, Bytes, Retries};
-use undo_core::{Manager, Sent, WrongPhase};
+use undo_core::{Manager, OpenFault, ResumeFault, Sent, WrongPhase};
 use undo_plans::{Names, NextNumbers, Plan, Requests, Steps, UndoList};
 
 pub fn names() -> Names {
@@ -25,20 +26,20 @@ pub fn other_names() -> Names {
     other
 }
 
+/// A step that sets thresholds of sensor 5.
+fn step(mask: u8, values: [u8; 6]) -> Op {
+    Op::Thresholds(SetThresholds {
+        sensor: 5,
+        mask,
+        values,
+    })
+}
+
 /// A plan of two steps, each of which sets thresholds of sensor 5.
 pub fn plan(alloc: Global) -> Result<Plan, AllocError> {
-    let mut ops = Vec::new(alloc);
-    for (mask, values) in [
-        (0x18, [0, 0, 0, 0x4B, 0x5A, 0]),
-        (0x30, [0, 0, 0, 0, 0x5C, 0x64]),
-    ] {
-        ops.push(Op::Thresholds(SetThresholds {
-            sensor: 5,
-            mask,
-            values,
-        }))
-        .map_err(AllocError::from)?;
-    }
+    let first = step(0x18, [0, 0, 0, 0x4B, 0x5A, 0]);
+    let second = step(0x30, [0, 0, 0, 0, 0x5C, 0x64]);
+    let ops = vec![in alloc; first, second]?;
     let steps = Steps::new(ops).ok_or(AllocError)?;
     Ok(Plan {
         steps,
@@ -160,15 +161,54 @@ fn show(manager: &Manager, text: &mut String) -> Result<(), AllocError> {
     write!(text, " undo {length} next {ipmb} {smbus}")
 }
 
-/// Appends the phase of the manager that is there now.
-fn begin(
+/// The manager that was made is there now, and its phase is appended, or the fault.
+fn begin<F: Debug + Drop>(
     manager: &mut Option<Manager>,
-    made: Manager,
+    made: Result<Manager, F>,
     text: &mut String,
 ) -> Result<(), AllocError> {
-    let phase = made.phase();
-    *manager = Some(made);
-    write!(text, " {phase}")
+    match made {
+        Ok(made) => {
+            let phase = made.phase();
+            *manager = Some(made);
+            write!(text, " {phase}")
+        }
+        Err(fault) => write!(text, " {fault:?}"),
+    }
+}
+
+/// A manager of the plan with so many retries, or why there is none.
+fn open(alloc: Global, word: &str) -> Result<Result<Manager, OpenFault>, NoOutcome> {
+    let retries = word.parse::<u8>()?;
+    let plan = plan(alloc)?;
+    Ok(Manager::open(alloc, plan, names(), retries))
+}
+
+/// A manager that goes on from the list that is called so, with so many retries, or why there is none.
+fn resume(
+    alloc: Global,
+    kind: &str,
+    word: &str,
+) -> Result<Result<Manager, ResumeFault>, NoOutcome> {
+    let retries = word.parse::<u8>()?;
+    let list = told_list(alloc, kind)?;
+    Ok(Manager::resume(alloc, list, names(), retries))
+}
+
+/// What the manager that is there does, or shows.
+fn go_on(
+    alloc: Global,
+    manager: Option<&mut Manager>,
+    kind: &str,
+    word: &str,
+    text: &mut String,
+) -> Result<(), NoOutcome> {
+    match (kind, manager) {
+        ("shows", Some(manager)) => show(manager, text)?,
+        (_, Some(manager)) => turn(alloc, manager, (kind, word), text)?,
+        (_, None) => return Err(NoOutcome::Unread),
+    }
+    Ok(())
 }
 
 /// A manager, once a line opened one.
@@ -194,27 +234,12 @@ impl Scene for Managed {
     ///   requests on IPMB and SMBus.
     fn come(&mut self, alloc: Global, words: &str, text: &mut String) -> Result<(), NoOutcome> {
         let (kind, word) = words.split_once(' ').unwrap_or((words, ""));
-        match (kind, self.manager.as_mut()) {
-            ("plan", _) => {
-                match Manager::open(alloc, plan(alloc)?, names(), word.parse::<u8>()?) {
-                    Ok(made) => begin(&mut self.manager, made, text)?,
-                    Err(fault) => write!(text, " {fault:?}")?,
-                }
+        match kind {
+            "plan" => begin(&mut self.manager, open(alloc, word)?, text)?,
+            "list" | "named" | "others" => {
+                begin(&mut self.manager, resume(alloc, kind, word)?, text)?
             }
-            ("list" | "named" | "others", _) => {
-                match Manager::resume(
-                    alloc,
-                    told_list(alloc, kind)?,
-                    names(),
-                    word.parse::<u8>()?,
-                ) {
-                    Ok(made) => begin(&mut self.manager, made, text)?,
-                    Err(fault) => write!(text, " {fault:?}")?,
-                }
-            }
-            ("shows", Some(manager)) => show(manager, text)?,
-            (_, Some(manager)) => turn(alloc, manager, (kind, word), text)?,
-            (_, None) => return Err(NoOutcome::Unread),
+            _ => go_on(alloc, self.manager.as_mut(), kind, word, text)?,
         }
         Ok(())
     }

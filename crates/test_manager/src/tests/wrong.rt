@@ -1,6 +1,7 @@
 //! Lines that tell something else than what comes.
 use super::scene::Managed;
-use std::alloc::AllocError;
+use std::alloc::Global;
+use std::process::Abort;
 use story_lines::report_of;
 
 /// Each kind of line, and each is wrong.
@@ -44,12 +45,14 @@ wrong: list 1 -> Halted 1 Stop | came Halted 2 Stop
 wrong: again -> Undoing 0 | came refused Halted 2 Stop
 ";
 
+/// This is said of the text.
+fn expect_report(rt: &impl Abort, alloc: Global, text: &str, told: &str) {
+    let report = report_of::<Managed>(alloc, text).expect(rt, "memory");
+    assert_eq!(rt; report.as_str(), told);
+}
+
 #[test]
-fn wrong_lines_are_noticed(rt: HostRuntime) -> Result<(), AllocError> {
-    assert_eq!(rt; report_of::<Managed>(rt.alloc(), WRONG)?.as_str(), REPORT);
-    assert_eq!(rt;
-        report_of::<Managed>(rt.alloc(), "# A remark.")?.as_str(),
-        "no story\n"
-    );
-    Ok(())
+fn wrong_lines_are_noticed(rt: HostRuntime) {
+    expect_report(&rt, rt.alloc(), WRONG, REPORT);
+    expect_report(&rt, rt.alloc(), "# A remark.", "no story\n");
 }
