@@ -1,23 +1,29 @@
 //! Calls of each reader and writer of texts, one by one.
-use super::came::{Form, came_of, shown};
+use super::came::{Came, Form, came_of, shown};
 use super::files::SAMPLE;
+use super::story::expect_text;
 use bmc_play::{Account, Stopped};
 use cfg_records::{BoardFile, sample_board};
 use lab_run::Fault;
 use plan_file::read_plan;
-use std::test::Fail;
+use std::alloc::Global;
+use std::process::Abort;
 use text_schedule::read_schedule;
 use text_undo::{read_undo, write_undo};
 use two_wire::code::NODE_BUSY;
 use undo_core::{Phase, Why};
 
+/// The sample board, as Rust writes it.
+fn sample(rt: &impl Abort, alloc: Global) -> Came {
+    let board = sample_board(alloc).expect(rt, "memory");
+    shown::<BoardFile, &str>(alloc, Ok(board)).expect(rt, "memory")
+}
+
 #[test]
-fn the_sample_file_holds_the_sample_board(rt: HostRuntime) -> Result<(), Fail> {
-    let alloc = rt.alloc();
-    let read = came_of(alloc, Form::Board, SAMPLE)?;
-    let known = shown::<BoardFile, &str>(alloc, Ok(sample_board(alloc)?))?;
-    assert_eq!(rt; read.text.as_str(), known.text.as_str());
-    Ok(())
+fn the_sample_file_holds_the_sample_board(rt: HostRuntime) {
+    let read = came_of(rt.alloc(), Form::Board, SAMPLE).expect(&rt, "memory");
+    let known = sample(&rt, rt.alloc());
+    expect_text(&rt, read.text.as_str(), known.text.as_str());
 }
 
 /// A plan of one step.
@@ -28,18 +34,15 @@ policy = 2
 "#;
 
 #[test]
-fn a_plan_is_read(rt: HostRuntime) -> Result<(), Fail> {
-    let plan = read_plan(rt.alloc(), PLAN)?;
-    assert_eq!(rt; plan.steps.as_slice().len(), 1);
-    assert_eq!(rt; plan.retries.number(), 2);
-    Ok(())
+fn a_plan_is_read(rt: HostRuntime) {
+    let plan = read_plan(rt.alloc(), PLAN).expect(&rt, "a plan");
+    assert!(rt; plan.steps.as_slice().len() == 1 && plan.retries.number() == 2);
 }
 
 #[test]
-fn a_schedule_is_read(rt: HostRuntime) -> Result<(), Fail> {
-    let schedule = read_schedule(rt.alloc(), "start\n\nto-bmc 7\n")?;
-    assert_eq!(rt; schedule.as_slice().len(), 2);
-    Ok(())
+fn a_schedule_is_read(rt: HostRuntime) {
+    let schedule = read_schedule(rt.alloc(), "start\n\nto-bmc 7\n");
+    assert_eq!(rt; schedule.expect(&rt, "a schedule").as_slice().len(), 2);
 }
 
 /// The undo text of a plan that sets upper thresholds of sensor 5 twice.
@@ -57,14 +60,18 @@ ipmb 10260530000000005A6E
 ipmb 10260518000000505F00
 "#;
 
+/// The undo text of two requests is read and written.
+fn expect_written(rt: &impl Abort, alloc: Global, text: &str) {
+    let list = read_undo(alloc, text).expect(rt, "an undo list");
+    assert_eq!(rt; list.requests.len(), 2);
+    let written = write_undo(alloc, &list).expect(rt, "memory");
+    expect_text(rt, written.as_str(), text);
+}
+
 #[test]
-fn an_undo_text_is_read_and_written(rt: HostRuntime) -> Result<(), Fail> {
-    for text in [UNDO, NAMED] {
-        let list = read_undo(rt.alloc(), text)?;
-        assert_eq!(rt; list.requests.len(), 2);
-        assert_eq!(rt; write_undo(rt.alloc(), &list)?.as_str(), text);
-    }
-    Ok(())
+fn an_undo_text_is_read_and_written(rt: HostRuntime) {
+    expect_written(&rt, rt.alloc(), UNDO);
+    expect_written(&rt, rt.alloc(), NAMED);
 }
 
 /// What is told of that plan where it halted before a third step, as the lab came to an event that it doesn't take.
@@ -79,8 +86,8 @@ fault 83 NoFrame
 "#;
 
 #[test]
-fn an_account_is_written(rt: HostRuntime) -> Result<(), Fail> {
-    let undo = read_undo(rt.alloc(), UNDO)?;
+fn an_account_is_written(rt: HostRuntime) {
+    let undo = read_undo(rt.alloc(), UNDO).expect(&rt, "an undo list");
     let account = Account {
         phase: Phase::Halted(2, Why::Refused(NODE_BUSY)),
         frames: &[],
@@ -92,6 +99,6 @@ fn an_account_is_written(rt: HostRuntime) -> Result<(), Fail> {
             fault: Fault::NoFrame,
         }),
     };
-    assert_eq!(rt; account.text(rt.alloc(), true, true)?.as_str(), TOLD);
-    Ok(())
+    let text = account.text(rt.alloc(), true, true).expect(&rt, "memory");
+    expect_text(&rt, text.as_str(), TOLD);
 }

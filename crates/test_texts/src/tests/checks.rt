@@ -1,6 +1,5 @@
 //! Files that are looked at: what they look like, what they hold, their faults, and the keys that nothing reads.
 use super::story::expect_told;
-use std::test::Fail;
 
 /// What is told of files, by what they look like.
 const LOOKED_AT: &str = r#"
@@ -134,16 +133,16 @@ select = "enable"\nassert = [1]\ndeassert = [] => file: plan, 1 step, retries 3\
 "#;
 
 #[test]
-fn files_are_read_as_what_they_look_like(rt: HostRuntime) -> Result<(), Fail> {
-    expect_told(&rt, rt.alloc(), LOOKED_AT)
+fn files_are_read_as_what_they_look_like(rt: HostRuntime) {
+    expect_told(&rt, rt.alloc(), LOOKED_AT);
 }
 
 #[test]
-fn faults_say_where(rt: HostRuntime) -> Result<(), Fail> {
-    expect_told(&rt, rt.alloc(), REFUSED)
+fn faults_say_where(rt: HostRuntime) {
+    expect_told(&rt, rt.alloc(), REFUSED);
 }
 
 #[test]
-fn keys_that_nothing_reads_are_told(rt: HostRuntime) -> Result<(), Fail> {
-    expect_told(&rt, rt.alloc(), UNREAD_KEYS)
+fn keys_that_nothing_reads_are_told(rt: HostRuntime) {
+    expect_told(&rt, rt.alloc(), UNREAD_KEYS);
 }

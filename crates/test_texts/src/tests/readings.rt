@@ -1,6 +1,5 @@
 //! Texts of readings, good and bad.
 use super::story::expect_told;
-use std::test::Fail;
 
 /// What texts of readings say.
 const READINGS: &str = r#"
@@ -91,6 +90,6 @@ ends Line 4 => 31 32 33 34 35 36 37 38 39 40 41 42
 "#;
 
 #[test]
-fn readings_are_read(rt: HostRuntime) -> Result<(), Fail> {
-    expect_told(&rt, rt.alloc(), READINGS)
+fn readings_are_read(rt: HostRuntime) {
+    expect_told(&rt, rt.alloc(), READINGS);
 }

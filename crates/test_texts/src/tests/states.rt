@@ -1,6 +1,5 @@
 //! State effecters: of board files, and of the steps of plans.
 use super::story::expect_told;
-use std::test::Fail;
 
 /// What boards and plans say of state effecters.
 const STATES: &str = r#"
@@ -143,6 +142,6 @@ behind [[step]]\nkind = "state-effecter"\neffecter = 261\nstates =
 "#;
 
 #[test]
-fn state_effecters_are_read(rt: HostRuntime) -> Result<(), Fail> {
-    expect_told(&rt, rt.alloc(), STATES)
+fn state_effecters_are_read(rt: HostRuntime) {
+    expect_told(&rt, rt.alloc(), STATES);
 }

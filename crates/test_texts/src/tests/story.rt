@@ -3,7 +3,6 @@ use super::came::{Form, came_of};
 use super::files::{BARE, SAMPLE};
 use std::alloc::{AllocError, Global};
 use std::process::Abort;
-use std::test::Fail;
 
 /// Where the other lines of a story stand.
 #[derive(Clone, Copy)]
@@ -290,7 +289,7 @@ fn play<'s>(
 /// plan shows how often frames are sent again, a colon and the requests of its steps, and an undo text what is written of its list. What
 /// is cut in two shows both parts with a bar between them. A file that is checked shows its lines and what came of it. The others show what Rust writes of them. In LINES and behind `=> `, `\n` is a
 /// line feed and `\r` a carriage return, and `<N:PART>` is so many times the part, with its place, from 0, at each `#` in it.
-pub fn otherwise(alloc: Global, story: &str) -> Result<String, AllocError> {
+fn otherwise(alloc: Global, story: &str) -> Result<String, AllocError> {
     let mut player = Player {
         file: String::new(alloc),
         place: Place::Behind(""),
@@ -306,8 +305,18 @@ pub fn otherwise(alloc: Global, story: &str) -> Result<String, AllocError> {
     Ok(otherwise)
 }
 
+/// The texts are the same.
+pub fn expect_text(rt: &impl Abort, came: &str, told: &str) {
+    assert_eq!(rt; came, told);
+}
+
+/// This comes otherwise than the story tells it.
+pub fn expect_otherwise(rt: &impl Abort, alloc: Global, story: &str, said: &str) {
+    let report = otherwise(alloc, story).expect(rt, "memory");
+    expect_text(rt, report.as_str(), said);
+}
+
 /// All comes as the story tells it.
-pub fn expect_told(rt: &impl Abort, alloc: Global, story: &str) -> Result<(), Fail> {
-    assert_eq!(rt; otherwise(alloc, story)?.as_str(), "");
-    Ok(())
+pub fn expect_told(rt: &impl Abort, alloc: Global, story: &str) {
+    expect_otherwise(rt, alloc, story, "");
 }

@@ -1,6 +1,5 @@
 //! Undo texts, good and bad.
 use super::story::expect_told;
-use std::test::Fail;
 
 /// What is read of undo texts, and written of it.
 const UNDO_TEXTS: &str = r#"
@@ -135,6 +134,6 @@ undo 1\nnext ipmb 4 smbus 0\nipmb 10260530000000005a6e\nipmb 10260518000000505f0
 "#;
 
 #[test]
-fn undo_texts_are_read(rt: HostRuntime) -> Result<(), Fail> {
-    expect_told(&rt, rt.alloc(), UNDO_TEXTS)
+fn undo_texts_are_read(rt: HostRuntime) {
+    expect_told(&rt, rt.alloc(), UNDO_TEXTS);
 }

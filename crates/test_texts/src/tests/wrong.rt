@@ -1,6 +1,5 @@
 //! Stories that are told wrong, and what is said of each line.
-use super::story::otherwise;
-use std::test::Fail;
+use super::story::expect_otherwise;
 
 /// Each line is told wrong, but for those that say so.
 const WRONG: &str = r#"
@@ -124,9 +123,7 @@ nothing is told
 "#;
 
 #[test]
-fn what_is_told_wrong_is_noticed(rt: HostRuntime) -> Result<(), Fail> {
-    let alloc = rt.alloc();
-    assert_eq!(rt; otherwise(alloc, WRONG)?.as_str(), SAID);
-    assert_eq!(rt; otherwise(alloc, "")?.as_str(), "nothing is told\n");
-    Ok(())
+fn what_is_told_wrong_is_noticed(rt: HostRuntime) {
+    expect_otherwise(&rt, rt.alloc(), WRONG, SAID);
+    expect_otherwise(&rt, rt.alloc(), "", "nothing is told\n");
 }
