@@ -1,6 +1,7 @@
-//! What runs write and how they end: stories by theme, and what no story tells.
+//! What runs write and how they end: stories by theme, and calls one by one.
 mod ages;
 mod asked;
+mod calls;
 mod charts;
 mod drawn;
 mod faults;
