@@ -3,7 +3,7 @@ use super::scene::{expect_told, names, plan};
 use std::alloc::Global;
 use std::process::Abort;
 use two_wire::{Bus, Code};
-use undo_core::{Manager, Phase, Sent, Why};
+use undo_core::{Manager, Phase, Sent, Why, WrongPhase};
 
 const CALLS: &str = "
 story calls of a fresh manager
@@ -177,6 +177,30 @@ fn a_manager_has_its_names_and_counts_its_requests(rt: HostRuntime) {
     expect_request(&rt, &manager, &first.expect(&rt, "a Get"), 0);
     let set = manager.on_frame(Bus::Ipmb, &SHOWN);
     expect_request(&rt, &manager, &set.expect(&rt, "a Set"), 1);
+}
+
+/// The call gave something.
+fn expect_sent(rt: &impl Abort, given: Result<Option<Sent>, WrongPhase>) {
+    assert!(rt; given.expect(rt, "the phase of the call").is_some());
+}
+
+/// The call gave nothing.
+fn expect_none(rt: &impl Abort, given: Result<Option<Sent>, WrongPhase>) {
+    assert!(rt; given.expect(rt, "the phase of the call").is_none());
+}
+
+#[test]
+fn a_manager_is_opened_and_called(rt: HostRuntime) {
+    let mut manager = manager(&rt, rt.alloc());
+    assert_eq!(rt; manager.phase(), Phase::Fresh);
+    assert!(rt; manager.undo().is_err());
+    expect_sent(&rt, manager.start());
+    assert_eq!(rt; manager.phase(), Phase::Getting(0));
+    expect_none(&rt, manager.stop());
+    assert_eq!(rt; manager.open_bus(), Some(Bus::Ipmb));
+    expect_sent(&rt, manager.quiet());
+    expect_none(&rt, manager.quiet());
+    expect_sent(&rt, manager.again());
 }
 
 /// The phase is called so.
