@@ -1,46 +1,63 @@
 //! Frames that are served one after another, with a history and no lock.
 ghost use Rattle.std.specs.Prelude.{◌≡◌};
-ghost use Rattle.bmc_core.specs.Port.{bus_of, bus_asked};
 ghost use Rattle.bmc_board.specs.State.{state_of};
 ghost use Rattle.bmc_board.specs.OwnStore.{own_records};
 
 use crate::alone::open_sample;
 use crate::asked::Asked;
 use bmc_board::{Board, Records};
-use bmc_core::{Out, Pending, Port, Step};
-use bmc_ports::{Held, MOST_EVENTS, Opening};
+use bmc_carry::{AskedHere, Carrier, Reply};
+use bmc_core::{Out, Port};
+use bmc_ports::{Held, MOST_EVENTS, Opening, PeriodFull};
 use net_serve::controller_ports;
 use std::alloc::Global;
-use std::marker::Brand;
+use std::marker::{Brand, PhantomData};
 use std::time::{Clock, Duration, Instant};
+use two_wire::Code;
 
-/// Has the board answer a request, and tells the port. A request that finds no room is dropped.
-fn carry_out<J: Opening>(
-    held: &mut Held<J, Records>,
+/// A seat at a board that nobody shares: the board's history gains what the seat asks.
+#[derive(Debug, Drop)]
+struct Recorder<J> {
     seat: u8,
-    port: &mut Port,
-    pending: Pending,
-    out: &mut Out,
-)
-    requires { bus_asked pending ≡ bus_of port.old }
-{
-    if let Ok(answered) = held.exchange(seat, &pending.asked()) {
-        port.told(pending, &answered, out);
+    of: PhantomData<J>,
+}
+
+impl<J: Opening> Carrier for Recorder<J> {
+    ghost use Rattle.std.specs.Prelude.{◌≡◌};
+    ghost use Rattle.bmc_history.specs.declared.event.Call.TheVariants.{Exchanged};
+    ghost use Rattle.bmc_history.specs.Calls.{GainsEvent};
+
+    type Kept = Held<J, Records>;
+
+    type Refusal = PeriodFull;
+
+    ghost carries = { λ recorder before asked answered after.
+        GainsEvent before.history.items after.history.items
+        recorder.seat (Exchanged asked answered) };
+
+    ghost refuses = { λ recorder before why after. after ≡ before };
+
+    #[inline(always)]
+    fn carry<B: Reply>(
+        &self,
+        held: &mut Held<J, Records>,
+        asked: &AskedHere<'_>,
+        reply: &mut B,
+    ) -> Result<Result<(), Code>, PeriodFull> {
+        held.exchange_here(self.seat, asked, reply)
     }
 }
 
-/// Hands each frame to the port.
+/// Hands each frame to the port. A request that finds no room is dropped.
 fn serve_round<J: Opening>(
     held: &mut Held<J, Records>,
-    seat: u8,
+    recorder: &Recorder<J>,
     port: &mut Port,
     frames: &[Vec<u8>],
     out: &mut Out,
 ) {
     for frame in frames {
-        if let Step::Ask(pending) = port.hear(frame.as_slice(), out) {
-            carry_out(held, seat, port, pending, out);
-        }
+        let _ = port.serve(recorder, held, frame.as_slice(), out);
     }
 }
 
@@ -52,9 +69,13 @@ fn serve_all<J: Opening>(
     frames: &[Vec<u8>],
     times: u32,
 ) {
+    let recorder = Recorder {
+        seat,
+        of: PhantomData,
+    };
     let mut out = Out::new();
     for _ in 0..times {
-        serve_round(held, seat, &mut port, frames, &mut out);
+        serve_round(held, &recorder, &mut port, frames, &mut out);
     }
 }
 
