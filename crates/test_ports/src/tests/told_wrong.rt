@@ -1,5 +1,6 @@
 //! Stories of ports and windows that are told wrong on purpose: the player says of each line what came.
-use super::expect_report;
+use std::test::Fail;
+use stories::play;
 
 /// Each kind of line, told otherwise than it comes, and lines that can't be read.
 const WRONG: &str = "\
@@ -65,6 +66,7 @@ wrong: idle ipmb 40 -> no | came yes
 ";
 
 #[test]
-fn wrong_lines_are_noticed(rt: HostRuntime) {
-    expect_report(&rt, rt.alloc(), WRONG, REPORT);
+fn wrong_lines_are_noticed(rt: HostRuntime) -> Result<(), Fail> {
+    assert_eq!(rt; play(rt.alloc(), WRONG)?.as_str(), REPORT);
+    Ok(())
 }
