@@ -9,6 +9,7 @@ mod client;
 #[path = "../frames.rs"]
 mod frames;
 mod measures;
+mod place;
 #[allow(dead_code, reason = "bench/run uses more of it")]
 #[path = "../plain.rs"]
 mod plain;
@@ -31,6 +32,7 @@ mod words;
 
 use client::{Client, Talk, Took};
 use measures::Measure;
+use place::Place;
 use servers::{Programs, Running, SERVERS, Server};
 use shared::{Ipmb, MOST_EVENTS, Port, Shared, Smbus};
 use std::io;
@@ -164,11 +166,18 @@ fn sixteen_of_each(clients: &mut [Client; 2], talks: [Talk; 2]) -> io::Result<Me
     })
 }
 
-/// What one round measures of one server: one request at a time at each port, and sixteen outstanding at both.
-fn round(programs: &Programs, server: Server, sides: &[Side; 2]) -> io::Result<[Measure; 3]> {
+/// What one round measures of one server: one request at a time at each port, with processors of their own for the server and the clients where
+/// there are four, and sixteen outstanding at both, on any.
+fn round(
+    programs: &Programs,
+    server: Server,
+    sides: &[Side; 2],
+    place: Place,
+) -> io::Result<[Measure; 3]> {
     let talks = [sides[0].talk(server), sides[1].talk(server)];
-    let begin = || -> io::Result<(Running, [Client; 2])> {
-        let running = Running::start(programs, server, REQUESTS + SPARE_TURNS)?;
+    let begin = |is_apart| -> io::Result<(Running, [Client; 2])> {
+        place.take(is_apart)?;
+        let running = Running::start(programs, server, REQUESTS + SPARE_TURNS, is_apart)?;
         let clients = [Client::to(running.ports[0])?, Client::to(running.ports[1])?];
         Ok((running, clients))
     };
@@ -177,11 +186,11 @@ fn round(programs: &Programs, server: Server, sides: &[Side; 2]) -> io::Result<[
             clients.iter().for_each(|it| it.send_nothing(64))
         })
     };
-    let (running, mut clients) = begin()?;
+    let (running, mut clients) = begin(place.can_part())?;
     let first = one_at_a_time(&mut clients[0], talks[0])?;
     let second = one_at_a_time(&mut clients[1], talks[1])?;
     end(running, &clients)?;
-    let (running, mut clients) = begin()?;
+    let (running, mut clients) = begin(false)?;
     let both = sixteen_of_each(&mut clients, talks)?;
     end(running, &clients)?;
     Ok([first, second, both])
@@ -195,13 +204,14 @@ fn measure(words: &Words, sides: &[Side; 2]) -> io::Result<Vec<[[Measure; 3]; 3]
         echo: words.echo.clone(),
         sizes: [sides[0].sizes(), sides[1].sizes()],
     };
+    let place = Place::of_process()?;
     let begin = Instant::now();
     let mut rounds = Vec::new();
     while rounds.len() < words.rounds && begin.elapsed() < words.time {
         let mut measured = [[Measure::default(); 3]; 3];
         for turn in 0..SERVERS.len() {
-            let place = (turn + rounds.len()) % SERVERS.len();
-            measured[place] = round(&programs, SERVERS[place], sides)?;
+            let turned = (turn + rounds.len()) % SERVERS.len();
+            measured[turned] = round(&programs, SERVERS[turned], sides, place)?;
         }
         rounds.push(measured);
     }

@@ -1,5 +1,6 @@
 //! The three servers, each a process of its own.
 
+use crate::place;
 use std::io;
 use std::net::{Ipv4Addr, UdpSocket};
 use std::process::{Child, Command, Stdio};
@@ -89,9 +90,19 @@ fn are_bound(ports: [u16; 2]) -> io::Result<bool> {
 }
 
 impl Running {
-    /// Starts a server that listens so many times at each port, and waits until it's there.
-    pub fn start(programs: &Programs, server: Server, turns: usize) -> io::Result<Running> {
-        Running::watched(programs, &[], server, turns)
+    /// Starts a server that listens so many times at each port, on processors of its own or on any, and waits until it's there.
+    pub fn start(
+        programs: &Programs,
+        server: Server,
+        turns: usize,
+        is_apart: bool,
+    ) -> io::Result<Running> {
+        let placed: &[&str] = if is_apart {
+            &["taskset", "-c", place::SERVERS]
+        } else {
+            &[]
+        };
+        Running::watched(programs, placed, server, turns)
     }
 
     /// The same, by a command that watches it.
