@@ -1,4 +1,4 @@
--- The laws of a kind hold of it among all.
+-- The laws of a kind hold for it among all kinds.
 use Rattle.std.proofs.Common.{◌≡◌, ◌≤◌, ◌↔◌, ℕ, List, length, Option, Some, None, Err, Bool, true, IsTrue, refl, sym, ◌∙◌, ap, subst}
 use Rattle.std.specs.Option.{IsSome, is_some, option_map}
 use Rattle.two_wire.specs.Codes.{invalid_data_field}
@@ -12,7 +12,7 @@ use Rattle.record_base.specs.RefusalLaws.{refused_field}
 use Rattle.record_base.specs.Kind.{KindWords, RecordWords, KindLaws, RecordLaws}
 use Rattle.record_base.specs.AllKinds.{Place, OpWords, words_as, any_words, OpLaws, is_of_own, sets_own, outcome_own, lifted}
 
--- ---- what may be there, mapped
+-- ---- options under a map
 
 some_mapped : {A B : Type 0} (f : A → B) (o : Option A) → is_some (option_map f o) ≡ is_some o
 some_mapped f (Some a) = refl
@@ -24,7 +24,7 @@ mapped f None b is = cc
 
 -- ---- operations of any kind
 
--- what holds of what is said of each operation holds of the kind of which every record is
+-- where the words for each operation have their laws, the kind to which every record belongs has its laws
 pub any_laws : (op_words : Op → OpWords) (asked : Key → Asked) → ((op : Op) → OpLaws op_words op) → KindLaws (any_words op_words asked)
 any_laws op_words asked laws = record {
   set_short = λ op. (laws op).set_short;
@@ -37,11 +37,11 @@ module _ {K O : Type 0} (W : KindWords K O) (place : Place W) (op_words : Op →
   abbrev key_of : Op → Key
   key_of op = (op_words op).key
 
-  -- an operation of the kind, as one of all, changes the same record
+  -- an operation of the kind, among all operations, changes the same record
   key_is : (own : O) → key_of (place.op own) ≡ W.name (W.key_of own)
   key_is own = ap (λ (s : OpWords). s.key) (agrees own)
 
-  -- what undoes an operation of the kind is one of the kind
+  -- the inverse of an operation of the kind is an operation of the kind
   made_own : (own : O) (reply : List ℕ) (made : Op) → (op_words (place.op own)).inverse reply ≡ Some made → (m : O) × ((W.inverse own reply ≡ Some m) × (place.op m ≡ made))
   made_own own reply made is = mapped place.op (W.inverse own reply) made (sym (ap (λ (s : OpWords). s.inverse reply) (agrees own)) ∙ is)
 
@@ -55,7 +55,7 @@ module _ {K O : Type 0} (W : KindWords K O) (place : Place W) (op_words : Op →
       let m = made_own own reply made is in
       subst (λ (o : Op). (op_words o).is_plain) m.1.1 (subst (λ (s : OpWords). s.is_plain) (sym (agrees m.0)) (laws.plain own m.0 reply m.1.0))
 
-  -- what holds of the kind's operations
+  -- the laws of the kind's operations
   pub own_op_laws : KindLaws W → (own : O) → OpLaws op_words (place.op own)
   own_op_laws laws own = record {
     set_short = subst (λ (s : OpWords). length s.set_reply ≤ room_for s.set_asked) (sym (agrees own)) (laws.set_short own);
@@ -66,7 +66,7 @@ module _ {K O : Type 0} (W : KindWords K O) (place : Place W) (op_words : Op →
   -- ---- a record of the kind
 
   module _ (asked : Key → Asked) (asks : (own : K) → asked (W.name own) ≡ W.get_asked own) (op_there : (any : Op) → IsSome (place.own_key (key_of any)) → IsSome (place.own_op any)) (R : RecordWords K O) (laws : RecordLaws W R) where
-    -- an operation of the kind, and that it is one
+    -- an operation of the kind that equals the given operation
     abbrev Own : Op → Type 0
     Own op = (own : O) × (op ≡ place.op own)
 
@@ -84,7 +84,7 @@ module _ {K O : Type 0} (W : KindWords K O) (place : Place W) (op_words : Op →
     there key (Some own) here = refl
     there key None here = absurd here
 
-    -- an operation on a record of the kind is one of the kind
+    -- an operation on a record of the kind is an operation of the kind
     own_of : (op : Op) (found : Option (Own op)) → IsSome found → Own op
     own_of op (Some own) is = own
     own_of op None is = cc
@@ -152,7 +152,7 @@ module _ {K O : Type 0} (W : KindWords K O) (place : Place W) (op_words : Op →
         subst (λ (o : Op). (op_words o).inverse (R.view old live) ≡ Some made → sets_own (place.own_op made) R new old) (sym own.1) (undoes_own own.0 made old new live is_valid done)
     undoes op None made old new live is_valid done = absurd done
 
-    -- what holds of a record of the kind
+    -- the laws of a record of the kind
     pub lifted_laws : RecordLaws (any_words op_words asked) (lifted place R)
     lifted_laws = record {
       one_proof = laws.one_proof;

@@ -16,7 +16,7 @@ type_of (range.Enumeration possible) = enumeration_type
 type_of (range.Text lengths) = string_type
 type_of (range.Integer steps) = integer_type
 
--- one of so many possible values, or several: no more indexes than there are values, and each of one of these
+-- one or several of the possible values: no more indexes than possible values, and each index is that of a possible value
 pub record AllowsIndexes (count : ℕ) (indexes : List ℕ) : Type 0 where
   pub some : 1 ≤ length indexes
   pub few : length indexes ≤ count
@@ -27,31 +27,31 @@ pub record AllowsText (lengths : TextLengths) (text : List ℕ) : Type 0 where
   pub enough : lengths.least ≤ length text
   pub few : length text ≤ lengths.most
 
--- a number from the lower to the upper, by steps of the increment from the lower on where that isn't 0
-pub record AllowsNumber (steps : IntegerSteps) (n : ℕ) : Type 0 where
-  pub above : steps.lower ≤ n
-  pub below : n ≤ steps.upper
-  pub stepped : steps.increment ≢ 0 → (n - steps.lower) % steps.increment ≡ 0
+-- a number from the lower to the upper bound. Where the increment isn't 0, it is whole steps above the lower bound.
+pub record AllowsNumber (steps : IntegerSteps) (number : ℕ) : Type 0 where
+  pub above : steps.lower ≤ number
+  pub below : number ≤ steps.upper
+  pub stepped : steps.increment ≢ 0 → (number - steps.lower) % steps.increment ≡ 0
 
 -- the attribute can have the value
 abbrev pub Allows : AttributeRange → AttributeValue → Type 0
 Allows (range.Enumeration possible) (Indexes indexes) = AllowsIndexes possible.count indexes
 Allows (range.Text lengths) (Text text) = AllowsText lengths text
-Allows (range.Integer steps) (Number n) = AllowsNumber steps n
+Allows (range.Integer steps) (Number number) = AllowsNumber steps number
 Allows _ _ = ⊥
 
--- the test of this
+-- the test that the attribute can have the value
 abbrev pub allows : AttributeRange → AttributeValue → Bool
 allows (range.Enumeration possible) (Indexes indexes) = nat_le 1 (length indexes) && (nat_le (length indexes) possible.count && list_all (λ index. nat_lt index possible.count) indexes)
 allows (range.Text lengths) (Text text) = nat_le lengths.least (length text) && nat_le (length text) lengths.most
-allows (range.Integer steps) (Number n) = nat_le steps.lower n && (nat_le n steps.upper && (steps.increment == 0 || (n - steps.lower) % steps.increment == 0))
+allows (range.Integer steps) (Number number) = nat_le steps.lower number && (nat_le number steps.upper && (steps.increment == 0 || (number - steps.lower) % steps.increment == 0))
 allows _ _ = false
 
 -- the bytes of a value that the attribute can have
 abbrev pub IsValue : AttributeRange → List ℕ → Type 0
-IsValue r bytes = IsSomeAnd (value_in (type_of r) bytes) (Allows r)
+IsValue allowed bytes = IsSomeAnd (value_in (type_of allowed) bytes) (Allows allowed)
 
--- the test of this
+-- the test that bytes are those of a value that the attribute can have
 abbrev pub is_allowed : AttributeRange → Option AttributeValue → Bool
-is_allowed r (Some v) = allows r v
-is_allowed r None = false
+is_allowed allowed (Some value) = allows allowed value
+is_allowed allowed None = false

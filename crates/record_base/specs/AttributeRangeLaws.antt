@@ -61,7 +61,7 @@ allows_true (range.Text lengths) (Number n) is = absurd is
 allows_true (range.Integer steps) (Indexes indexes) is = absurd is
 allows_true (range.Integer steps) (Text text) is = absurd is
 
--- ---- that an attribute can have a value is proved in one way at most
+-- ---- at most one proof says that an attribute can have a value
 
 pub AllowsIndexes-prop : (count : ℕ) (indexes : List ℕ) → IsProp (AllowsIndexes count indexes)
 AllowsIndexes-prop count indexes = hlevel props
@@ -83,7 +83,7 @@ Allows-prop (range.Text lengths) (Number n) = hlevel props
 Allows-prop (range.Integer steps) (Indexes indexes) = hlevel props
 Allows-prop (range.Integer steps) (Text text) = hlevel props
 
--- ---- possible values are as many where their numbers are
+-- ---- possible values of the same number are the same
 
 few_prop : (m : ℕ) → IsProp (m ≤ most_indexes)
 few_prop m = hlevel props
@@ -96,15 +96,15 @@ same_possible m n p q same = subst (λ (k : ℕ). (r : k ≤ most_indexes) → p
 
 -- ---- lengths
 
--- where one of two comes and has the property, the test holds
+-- where an option with a property exists by a test, the test holds
 comes : {X : Type 0} (b : Bool) (x : X) (P : X → Type 0) → IsSomeAnd (if b then Some x else None) P → (b ≡ true) × P x
 comes true x P h = (refl, h)
 comes false x P h = absurd h
 
 -- a value has the least number of bytes or more, and no more than the most
-pub record IsLength (n : ℕ) : Type 0 where
-  pub least : least_value ≤ n
-  pub most : n ≤ most_value
+pub record IsLength (size : ℕ) : Type 0 where
+  pub least : least_value ≤ size
+  pub most : size ≤ most_value
 
 pub value_length : (r : AttributeRange) (bytes : List ℕ) → IsValue r bytes → IsLength (length bytes)
 value_length (range.Enumeration possible) [] is = absurd is
@@ -124,7 +124,7 @@ value_length (range.Integer steps) bytes is =
 pub length_tested : (n : ℕ) → IsLength n → (nat_le least_value n && nat_le n most_value) ≡ true
 length_tested n is = both _ _ (le_true _ _ is.least) (le_true _ _ is.most)
 
--- ---- a value's bytes are read as it
+-- ---- a value's bytes read as the value
 
 told : (n : ℕ) → n % 256 + 256 * (n / 256) ≡ n
 told n = omega arith

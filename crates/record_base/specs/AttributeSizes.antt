@@ -10,11 +10,11 @@ most_indexes = 16
 abbrev pub most_text : ℕ
 most_text = 200
 
--- how many bytes the value of an attribute has at least: how many indexes there are, and one; a text's length
+-- how many bytes the value of an attribute has at least: the number of indexes and one index, or the length of a text
 abbrev pub least_value : ℕ
 least_value = 2
 
--- how many bytes the value of an attribute has at most: a text's length, and the text
+-- how many bytes the value of an attribute has at most: the length of a text, and the text
 abbrev pub most_value : ℕ
 most_value = 2 + most_text
 
@@ -22,7 +22,7 @@ most_value = 2 + most_text
 abbrev pub most_data : ℕ
 most_data = most_pldm_request_data
 
--- how many of them stand before a value: handle, flag, attribute and type
+-- how many bytes of the data stand before a value: handle, flag, attribute and type
 abbrev pub before_value : ℕ
 before_value = 8
 

@@ -4,9 +4,9 @@ use Rattle.std.specs.Int.{w64, to_le_bytes, from_le_bytes}
 use Rattle.record_base.specs.declared.attribute_value.AttributeValue.{AttributeValue}
 use Rattle.record_base.specs.declared.attribute_value.AttributeValue.TheVariants.{Indexes, Text, Number}
 
--- a number's two bytes, the low one first
+-- a number's two bytes, the low byte first
 abbrev pub two_bytes : ℕ → List ℕ
-two_bytes n = n % 256 ∷ n / 256 ∷ []
+two_bytes number = number % 256 ∷ number / 256 ∷ []
 
 -- the number of two bytes
 abbrev pub number_of : ℕ → ℕ → ℕ
@@ -22,21 +22,21 @@ string_type = 0x01
 abbrev pub integer_type : ℕ
 integer_type = 0x03
 
--- the type that a value is of
+-- the type of a value
 abbrev pub type_of_value : AttributeValue → ℕ
 type_of_value (Indexes indexes) = enumeration_type
 type_of_value (Text text) = string_type
-type_of_value (Number n) = integer_type
+type_of_value (Number number) = integer_type
 
--- a value's bytes: how many indexes there are, and these; a text's length in two bytes, and the text; a number in eight bytes
+-- a value's bytes: the number of indexes, and the indexes; a text's length in two bytes, and the text; a number in eight bytes
 abbrev pub value_bytes : AttributeValue → List ℕ
 value_bytes (Indexes indexes) = length indexes ∷ indexes
 value_bytes (Text text) = two_bytes (length text) ++ text
-value_bytes (Number n) = to_le_bytes w64 n
+value_bytes (Number number) = to_le_bytes w64 number
 
 -- a number has eight bytes
 abbrev pub HasEightBytes : AttributeValue → Type 0
-HasEightBytes (Number n) = n < 2 ^ 64
+HasEightBytes (Number number) = number < 2 ^ 64
 HasEightBytes _ = Unit {0}
 
 -- ---- bytes as values
@@ -52,7 +52,7 @@ text_in _ = None
 abbrev pub number_in : List ℕ → Option AttributeValue
 number_in bytes = if length bytes == 8 then Some (Number (from_le_bytes w64 bytes)) else None
 
--- the value of this type that the bytes are, if their length is its
+-- the value of this type with these bytes, if a value of the type can have so many
 abbrev pub value_in : ℕ → List ℕ → Option AttributeValue
 value_in code bytes =
     if code == enumeration_type then indexes_in bytes

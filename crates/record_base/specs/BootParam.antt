@@ -41,14 +41,14 @@ pub record IsBootParam (parameter : BootParameter) (value : List ℕ) : Type 0 w
 
 -- ---- changes
 
--- the parameter that is changed
+-- the parameter that the change changes
 abbrev pub parameter_of : BootChange → BootParameter
 parameter_of (change.MarkAlone parameter) = parameter
 parameter_of (change.ValidBitClearing byte) = ValidBitClearing
 parameter_of (change.InfoAcknowledge masked) = InfoAcknowledge
 parameter_of (change.Flags flags) = Flags
 
--- the data that say the change, behind the selector: none leave the parameter's
+-- the data of the change, behind the selector. Without data, the parameter's data stay.
 abbrev pub change_bytes : BootChange → List ℕ
 change_bytes (change.MarkAlone parameter) = []
 change_bytes (change.ValidBitClearing byte) = byte ∷ []

@@ -1,4 +1,4 @@
--- The test of sets of events says what it is named for, and a value's bytes are its flags and events.
+-- The test of sets of events is right, and a value's bytes give its flags and events.
 use Rattle.std.proofs.Common.{◌≡◌, ℕ, zero, suc, ◌+◌, ◌-◌, ◌*◌, ◌/◌, ◌%◌, ◌^◌, ◌<◌, min, slice_index, Bool, true, false, ◌||◌, ◌==◌, not, IsTrue, refl, sym, ◌∙◌, ap, subst, arith}
 use Rattle.std.specs.Int.{bit_at}
 use Rattle.std.proofs.lemmas.Nat.{and_mask}
@@ -86,7 +86,7 @@ is_event_enable supported messages scanning enabled asserted deasserted = record
   deassertions = within_below enabled.deassertions supported deasserted;
 }
 
--- events that pass the tests make one
+-- events that pass the tests make such a value
 pub tested_events : (supported : ℕ) (messages scanning : Bool) (enabled : EventMasks) → are_within enabled.assertions supported ≡ true → are_within enabled.deassertions supported ≡ true
     → IsEventEnable supported (event_value messages scanning enabled)
 tested_events supported messages scanning enabled asserted deasserted = is_event_enable supported messages scanning enabled (within_true _ _ asserted) (within_true _ _ deasserted)

@@ -1,4 +1,4 @@
--- The names of records: how long the values are, and where a sensor's are found.
+-- The names of records: the lengths of the values, and the places of a sensor's records.
 use Rattle.std.specs.Prelude.{ℕ, Bool, Option, Some, None, nat_le, ◌==◌, ◌&&◌, ◌||◌}
 use Rattle.std.specs.Ordering.{is_eq}
 use Rattle.std.specs.declared.cmp.Ordering.{Ordering}
@@ -11,22 +11,22 @@ use Rattle.record_base.specs.contracts.key.KeyOrd.TheImpl as key_ord
 
 -- a value of the key's kind may have this length
 abbrev pub is_length : Key → ℕ → Bool
-is_length (key.Thresholds sensor) n = n == 6
-is_length (key.Hysteresis sensor) n = n == 2
-is_length (key.EventEnable sensor) n = n == 5
-is_length key.PowerPolicy n = n == 1
-is_length key.Watchdog n = n == 5
-is_length key.GlobalEnables n = n == 1
-is_length (key.BootParam parameter) n = n == boot_length parameter
-is_length (key.NumericEffecter id) n = (n == 1) || (n == 2) || (n == 4)
-is_length (key.StateEffecter id) n = nat_le 1 n && nat_le n 8
-is_length (key.UserName user) n = n == 16
-is_length (key.UserAccess on) n = n == 1
-is_length (key.ChannelAccess stored) n = n == 2
-is_length (key.BiosAttribute handle) n = nat_le least_value n && nat_le n most_value
-is_length (key.LanParam on) n = n == lan_length on.parameter
+is_length (key.Thresholds sensor) size = size == 6
+is_length (key.Hysteresis sensor) size = size == 2
+is_length (key.EventEnable sensor) size = size == 5
+is_length key.PowerPolicy size = size == 1
+is_length key.Watchdog size = size == 5
+is_length key.GlobalEnables size = size == 1
+is_length (key.BootParam parameter) size = size == boot_length parameter
+is_length (key.NumericEffecter id) size = (size == 1) || (size == 2) || (size == 4)
+is_length (key.StateEffecter id) size = nat_le 1 size && nat_le size 8
+is_length (key.UserName user) size = size == 16
+is_length (key.UserAccess on) size = size == 1
+is_length (key.ChannelAccess stored) size = size == 2
+is_length (key.BiosAttribute handle) size = nat_le least_value size && nat_le size most_value
+is_length (key.LanParam on) size = size == lan_length on.parameter
 
--- the table and the number under which a sensor's record is found: a line for each kind
+-- the table that has a sensor's record, and the sensor's number: a line for each kind
 abbrev pub slot : Key → Option (ℕ × ℕ)
 slot (key.Thresholds sensor) = Some (0, sensor)
 slot (key.Hysteresis sensor) = Some (1, sensor)
@@ -37,6 +37,6 @@ slot _ = None
 abbrev pub key_cmp : Key → Key → Ordering
 key_cmp = (key_ord.ghosts).cmp
 
--- the keys are one
+-- the keys are the same
 abbrev pub same_key : Key → Key → Bool
-same_key a b = is_eq (key_cmp a b)
+same_key first second = is_eq (key_cmp first second)

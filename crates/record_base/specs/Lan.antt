@@ -35,7 +35,7 @@ lan_length Vlan = 2
 
 -- the bytes of an address, and of a VLAN
 abbrev pub address_bytes : Ipv4Address → List ℕ
-address_bytes a = a.first ∷ a.second ∷ a.third ∷ a.fourth ∷ []
+address_bytes address = address.first ∷ address.second ∷ address.third ∷ address.fourth ∷ []
 
 abbrev pub vlan_bytes : VlanBytes → List ℕ
 vlan_bytes vlan = vlan.low ∷ vlan.high ∷ []
@@ -53,13 +53,13 @@ pub record IsLanParam (parameter : LanParameter) (value : List ℕ) : Type 0 whe
 
 -- ---- changes
 
--- the parameter that is changed
+-- the parameter that the change changes
 abbrev pub changed_parameter : LanChange → LanParameter
 changed_parameter (change.Address which address) = Address which
 changed_parameter (change.AddressSource byte) = AddressSource
 changed_parameter (change.Vlan vlan) = Vlan
 
--- the data that say the change, behind the selector
+-- the data of the change, behind the selector
 abbrev pub lan_data : LanChange → List ℕ
 lan_data (change.Address which address) = address_bytes address
 lan_data (change.AddressSource byte) = byte ∷ []

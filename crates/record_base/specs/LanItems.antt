@@ -17,7 +17,7 @@ parameter_on channel parameter = record { channel = channel; parameter = paramet
 abbrev pub lan_key : ChannelNumber → LanParameter → Key
 lan_key channel parameter = key.LanParam (parameter_on channel parameter)
 
--- the value that a parameter begins with
+-- the first value of a parameter
 abbrev pub lan_value : Lan → LanParameter → List ℕ
 lan_value lan (Address Ip) = address_bytes lan.ip
 lan_value lan (Address SubnetMask) = address_bytes lan.mask

@@ -1,4 +1,4 @@
--- Laws of LAN parameters: a value is valid in one way, and names that compare alike are one.
+-- Laws of LAN parameters: a value has at most one proof that it is valid, and names that compare as equal are the same.
 use Rattle.std.proofs.Common.{◌≡◌, ℕ, List, true, refl, nat_cmp}
 use Rattle.std.proofs.Props.{props}
 use Rattle.std.specs.Ordering.{is_eq, ordering_then}
@@ -32,7 +32,7 @@ exact_parameter AddressSource AddressSource h = refl
 exact_parameter Vlan Vlan h = refl
 exact_parameter _ _ h = cc
 
--- two comparisons of which the second decides where the first doesn't
+-- two comparisons that are equal one after the other are each equal
 both_equal : (r s : Ordering) → is_eq (ordering_then r s) ≡ true → (is_eq r ≡ true) × (is_eq s ≡ true)
 both_equal Equal s h = (refl, h)
 both_equal Less s h = cc
@@ -41,7 +41,7 @@ both_equal Greater s h = cc
 same_parts : (a b : ParameterOnChannel) → a.channel ≡ b.channel → a.parameter ≡ b.parameter → a ≡ b
 same_parts a b p q i = record { channel = p i; parameter = q i }
 
--- names that compare alike are one, where channels that compare alike are
+-- where channels that compare as equal are the same, so are names
 pub exact_on : ((c d : ChannelNumber) → is_eq (nat_cmp c.number d.number) ≡ true → c ≡ d)
     → (a b : ParameterOnChannel) → is_eq (ordering_then (nat_cmp a.channel.number b.channel.number) (parameter_cmp a.parameter b.parameter)) ≡ true → a ≡ b
 exact_on exact a b h = let parts = both_equal _ _ h in same_parts a b (exact _ _ parts.0) (exact_parameter _ _ parts.1)

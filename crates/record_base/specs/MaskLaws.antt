@@ -1,8 +1,8 @@
--- Tests of masks say what they are named for.
+-- The tests of masks are right.
 use Rattle.std.proofs.Common.{◌≡◌, ℕ, zero, suc, ◌<◌, Bool, true, false, ◌&&◌, ◌||◌, not, refl, sym, arith, below_more}
 use Rattle.record_base.specs.Masks.{has, IsWithin, all_below, is_within}
 
--- two tests are one where each says that the other holds
+-- two tests are equal where each implies the other
 pub same_test : (a b : Bool) → (a ≡ true → b ≡ true) → (b ≡ true → a ≡ true) → a ≡ b
 same_test true b p q = sym (p refl)
 same_test false true p q = q refl
@@ -25,17 +25,17 @@ both true true p q = refl
 both true false p q = q
 both false b p q = p
 
--- what holds at each number below holds at one of them
+-- a test that holds at each number below a bound holds at one such number
 pub all_below-at : (p : ℕ → Bool) (n : ℕ) → all_below p n ≡ true → (k : ℕ) → k < n → p k ≡ true
 all_below-at p zero h k lt = absurd (omega arith)
 all_below-at p (suc n) h k lt = below_more (λ j. p j ≡ true) n (all_below-at p n (both_true _ _ h).1) (both_true _ _ h).0 k (omega arith)
 
--- what holds at one after another holds at each number below
+-- a test that holds at one number after another holds at each number below the bound
 pub at-all_below : (p : ℕ → Bool) (n : ℕ) → ((k : ℕ) → k < n → p k ≡ true) → all_below p n ≡ true
 at-all_below p zero h = refl
 at-all_below p (suc n) h = both _ _ (h n (omega arith)) (at-all_below p n (λ k lt. h k (omega arith)))
 
--- the test of an implication holds where the implication does, and says no more
+-- the test of an implication holds exactly where the implication does
 pub implied : (a b : Bool) → (not a || b) ≡ true → a ≡ true → b ≡ true
 implied true b h t = h
 implied false b h t = cc
@@ -44,7 +44,7 @@ pub implies : (a b : Bool) → (a ≡ true → b ≡ true) → (not a || b) ≡ 
 implies true b h = h refl
 implies false b h = refl
 
--- the test of a mask within a set says that it is
+-- the test of a mask within a set is right
 pub within_true : (mask set : ℕ) → is_within mask set ≡ true → IsWithin mask set
 unfolding is_within
 within_true mask set h = λ place lt there. implied _ _ (all_below-at (λ p. not (has mask p) || has set p) 8 h place lt) there

@@ -6,14 +6,14 @@ use Rattle.std.specs.Int.{bit_at}
 abbrev pub has : ℕ → ℕ → Bool
 has mask place = bit_at mask place == 1
 
--- each place of the mask is one of the set's
+-- the set has each place of the mask
 abbrev pub IsWithin : ℕ → ℕ → Type 0
 IsWithin mask set = (place : ℕ) → place < 8 → IsTrue (has mask place) → IsTrue (has set place)
 
--- the test holds at each number below
+-- the test holds at each number below the bound
 abbrev pub all_below : (ℕ → Bool) → ℕ → Bool
-all_below p zero = true
-all_below p (suc n) = p n && all_below p n
+all_below test zero = true
+all_below test (suc number) = test number && all_below test number
 
 -- the test that the mask is within the set
 unfoldable pub is_within : ℕ → ℕ → Bool

@@ -1,21 +1,21 @@
--- What a kind of record says of an operation.
+-- The words of a kind of record for an operation.
 use Rattle.std.specs.Prelude.{◌≢◌, ℕ, ◌<◌, List, Result, Ok, Err}
 use Rattle.two_wire.specs.Codes.{node_busy, pldm_not_ready}
 use Rattle.two_wire.specs.Sizes.{most_ipmi_reply_data, most_pldm_reply_data}
 use Rattle.record_base.specs.declared.message.Asked.{Asked}
 use Rattle.record_base.specs.declared.message.Asked.TheVariants.{Ipmi, Pldm}
 
--- the outcome decides the relation: the new value is related, or none is
+-- the outcome decides the property: the new value has it, or no value has it
 abbrev pub Decides : Result (List ℕ) ℕ → (List ℕ → Type 0) → Type 0
-Decides (Ok new) P = P new
-Decides (Err code) P = (new : List ℕ) → ¬ P new
+Decides (Ok new) Holds = Holds new
+Decides (Err code) Holds = (new : List ℕ) → ¬ Holds new
 
--- what comes of a call that writes the new value where it succeeds
+-- the outcome of a call that writes the new value where it succeeds
 abbrev pub told : {A : Type 0} → Result A ℕ → List ℕ → Result (List ℕ) ℕ
 told (Ok _) new = Ok new
 told (Err code) new = Err code
 
--- a code that a command table answers: a byte that is neither success nor one of the two codes of a busy controller
+-- the code of a refusal: a byte that is neither success nor one of the two codes of a busy controller
 pub record IsRefusal (code : ℕ) : Type 0 where
   pub is_fault : 0 < code
   pub is_byte : code < 256

@@ -1,4 +1,4 @@
--- Numeric effecters (DSP0248). A value has the bytes of one number of the effecter's size, the low one first.
+-- Numeric effecters (DSP0248). A value has the bytes of one number of the effecter's size, the low byte first.
 use Rattle.std.specs.Prelude.{◌≡◌, ℕ, ◌≤◌, List, length, Bool, nat_le, ◌&&◌, ◌==◌}
 use Rattle.record_base.specs.declared.numeric_range.NumericRange.{NumericRange}
 use Rattle.record_base.specs.NumericSize.{width_of, rank, number_in}
@@ -11,7 +11,7 @@ pub record IsNumeric (range : NumericRange) (value : List ℕ) : Type 0 where
 
 -- the test that a number is within the bounds
 abbrev pub is_between : NumericRange → ℕ → Bool
-is_between range n = nat_le (rank range.size range.lower) (rank range.size n) && nat_le (rank range.size n) (rank range.size range.upper)
+is_between range number = nat_le (rank range.size range.lower) (rank range.size number) && nat_le (rank range.size number) (rank range.size range.upper)
 
 -- the test that an effecter with these bounds can have the value
 abbrev pub is_numeric : NumericRange → List ℕ → Bool

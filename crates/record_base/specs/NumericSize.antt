@@ -30,20 +30,20 @@ numbers_of S16 = 0x10000
 numbers_of U32 = 0x100000000
 numbers_of S32 = 0x100000000
 
--- how many of them are negative: half of the signed ones, and no other
+-- how many numbers of the size are negative: half of the signed numbers, and no unsigned number
 abbrev pub negatives_of : NumericSize → ℕ
 negatives_of S8 = 0x80
 negatives_of S16 = 0x8000
 negatives_of S32 = 0x80000000
 negatives_of _ = 0
 
--- how many numbers of the size are less than this one, where negative ones are in two's complement
+-- how many numbers of the size are less than this number, where negative numbers are in two's complement
 abbrev pub rank : NumericSize → ℕ → ℕ
-rank size n = (n + negatives_of size) % numbers_of size
+rank size number = (number + negatives_of size) % numbers_of size
 
--- the bytes of a number of the size, the low one first
+-- the bytes of a number of the size, the low byte first
 abbrev pub bytes_of : NumericSize → ℕ → List ℕ
-bytes_of size n = take (width_of size) (n % 256 ∷ n / 256 % 256 ∷ n / 65536 % 256 ∷ n / 16777216 ∷ [])
+bytes_of size number = take (width_of size) (number % 256 ∷ number / 256 % 256 ∷ number / 65536 % 256 ∷ number / 16777216 ∷ [])
 
 -- the number of at most four bytes
 abbrev pub number_in : List ℕ → ℕ

@@ -1,4 +1,4 @@
--- A part of a board file has at most one proof of being in its range.
+-- At most one proof says that a part of a board file is in its range.
 use Rattle.std.specs.Prelude.{ℕ, List}
 use Rattle.std.proofs.Props.{props}
 use Rattle.record_base.specs.declared.thresholds.ThresholdMasks.{ThresholdMasks}

@@ -16,7 +16,7 @@ application = 0x06
 abbrev pub transport : ℕ
 transport = 0x0C
 
--- the IPMI request of this network function, command and data: from nobody, to logical unit 0
+-- the IPMI request of this network function, command and data. It has no sender, and goes to logical unit 0.
 abbrev pub ipmi_request : ℕ → ℕ → List ℕ → Asked
 ipmi_request net_fn command body = Ipmi 0 net_fn 0 command body
 
@@ -24,7 +24,7 @@ ipmi_request net_fn command body = Ipmi 0 net_fn 0 command body
 abbrev pub platform : ℕ
 platform = 0x02
 
--- the PLDM request of this type, command and data: from nobody
+-- the PLDM request of this type, command and data. It has no sender.
 abbrev pub pldm_request : ℕ → ℕ → List ℕ → Asked
 pldm_request kind command body = Pldm 0 kind command body
 

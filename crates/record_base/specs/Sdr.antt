@@ -1,5 +1,5 @@
 -- Records of the repository that describes sensors and other parts (IPMI 2.0, "Sensor Data Record Formats"). A record begins with five bytes: its
--- id, the low byte first, the version of its format, its type, and the number of bytes behind these five.
+-- id, the low byte first, the version of its format, its type, and the number of bytes that follow.
 use Rattle.std.specs.Prelude.{◌≡◌, ◌≢◌, ℕ, ◌+◌, ◌*◌, ◌≤◌, List, length, slice_index}
 
 -- a record's id

@@ -3,12 +3,12 @@ use Rattle.std.specs.Prelude.{ℕ, List, [], ◌∷◌, map, Bool, true, false, 
 use Rattle.record_base.specs.declared.state_effecter.StateField.{StateField}
 use Rattle.record_base.specs.StateField.{allows}
 
--- there is a state for each of the fields, and each can be in its own
+-- each field has one state, and can be in it
 abbrev pub are_states : List StateField → List ℕ → Bool
 are_states [] [] = true
 are_states (field ∷ fields) (state ∷ states) = allows field.allowed state && are_states fields states
 are_states _ _ = false
 
--- the states that the fields begin in
+-- the first states of the fields
 abbrev pub state_value : List StateField → List ℕ
 state_value fields = map (λ f. f.current) fields

@@ -2,6 +2,6 @@
 use Rattle.std.specs.Prelude.{ℕ, List, Bool, ◌==◌}
 use Rattle.std.specs.List.{list_any}
 
--- a field with these states can be in this one
+-- a field with these states can be in this state
 abbrev pub allows : List ℕ → ℕ → Bool
 allows states state = list_any (λ s. s == state) states

@@ -1,4 +1,4 @@
--- What the states of fields are like.
+-- Fields have as many states as they are themselves.
 use Rattle.std.proofs.Common.{◌≡◌, ◌≢◌, ℕ, List, [], ◌∷◌, length, true, false, refl, arith}
 use Rattle.record_base.specs.MaskLaws.{both_true, is_false}
 use Rattle.record_base.specs.declared.state_effecter.StateField.{StateField}

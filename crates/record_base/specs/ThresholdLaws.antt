@@ -1,4 +1,4 @@
--- The test of the order of thresholds says that they are in order.
+-- The tests of thresholds are right.
 use Rattle.std.proofs.Common.{◌≡◌, ℕ, ◌<◌, ◌≤◌, List, length, slice_index, Bool, true, false, nat_le, ◌==◌, ◌||◌, IsFalse, refl, arith}
 use Rattle.std.proofs.lemmas.Bool.Decides.{nat_tests}
 use Rattle.record_base.specs.Masks.{all_below}
@@ -31,7 +31,7 @@ clear_at : (there : Bool) (n : ℕ) → (IsFalse there → n ≡ 0) → (there |
 clear_at true n h = refl
 clear_at false n h = let zero_is : n ≡ 0 = h refl in grind (arith, nat_tests)
 
--- the test says that there is 0 at each place where there is no threshold
+-- where the test holds, each place without a threshold has 0
 pub clear_true : (masks : ThresholdMasks) (value : List ℕ) → is_clear masks value ≡ true → (place : ℕ) → place < 6 → IsFalse (is_there masks place) → slice_index value place ≡ 0
 unfolding is_clear
 clear_true masks value clear place lt = absent_at _ _ (all_below-at (λ p. is_there masks p || (slice_index value p == 0)) 6 clear place lt)
@@ -48,6 +48,6 @@ tests_pass masks value long clear order = record {
   in_order = in_order_true masks value order;
 }
 
--- and a value passes both
+-- a value passes both tests
 pub value_is_clear : (masks : ThresholdMasks) (value : List ℕ) → IsThresholds masks value → is_clear masks value ≡ true
 value_is_clear masks value v = true_clear masks value (λ place lt. clear_at _ _ (v.absent place lt))

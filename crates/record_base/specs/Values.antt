@@ -1,4 +1,4 @@
--- The values of a board's parts, as its records begin with them.
+-- The first values of a board's records.
 use Rattle.std.specs.Prelude.{ℕ, List, [], ◌∷◌}
 use Rattle.record_base.specs.declared.power_policy.PowerPolicy.{PowerPolicy}
 use Rattle.record_base.specs.declared.watchdog.Watchdog.{Watchdog}
@@ -15,7 +15,7 @@ use Rattle.record_base.specs.declared.boot_param.BootParameter.TheVariants.{Vali
 use Rattle.record_base.specs.BootParam.{flag_bytes}
 use Rattle.record_base.specs.NumericSize.{bytes_of}
 
--- the values of what a board has once
+-- the values of the parts that a board has once
 abbrev pub policy_value : PowerPolicy → List ℕ
 policy_value policy = policy.number ∷ []
 
@@ -34,9 +34,9 @@ abbrev pub stored : ChannelNumber → AccessStore → StoredAccess
 stored channel store = record { channel = channel; store = store }
 
 abbrev pub access_value : ChannelAccess → List ℕ
-access_value a = a.access ∷ a.limit ∷ []
+access_value channel = channel.access ∷ channel.limit ∷ []
 
--- the value that each boot parameter begins with: no mark is set
+-- the first value of each boot parameter: no mark is set
 abbrev pub boot_value : BootOptions → BootParameter → List ℕ
 boot_value boot ValidBitClearing = 0 ∷ boot.valid_bit_clearing ∷ []
 boot_value boot InfoAcknowledge = 0 ∷ boot.info_acknowledge ∷ []

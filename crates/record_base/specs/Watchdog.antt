@@ -1,6 +1,6 @@
 -- The settings of the watchdog timer (IPMI 2.0). A value has five bytes: the timer use (bit 7 don't
--- log, bits 2:0 the use, 0 where it was never set), the actions (bits 6:4 the interrupt before the timeout, bits 2:0 the
--- action at it), the pre-timeout interval, and the countdown to begin from, low byte first.
+-- log, bits 2:0 the use, 0 before the first Set), the actions (bits 6:4 the interrupt before the timeout, bits 2:0 the
+-- action at it), the pre-timeout interval, and the countdown's first number, low byte first.
 use Rattle.std.specs.Prelude.{◌≡◌, ℕ, ◌<◌, ◌≤◌, ◌/◌, ◌%◌, List, ◌∷◌, length, slice_index}
 use Rattle.std.specs.Int.{w16, to_le_bytes}
 

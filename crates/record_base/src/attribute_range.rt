@@ -50,7 +50,7 @@ impl PossibleValues {
     ghost use Rattle.record_base.specs.declared.attribute_value.AttributeValue.TheVariants as value;
     ghost use Rattle.record_base.specs.AttributeRange.{AllowsIndexes, allows};
 
-    /// So many possible values, or nothing where these are too many.
+    /// This number of possible values, or nothing where they are too many.
     pub fn new(count: u8) -> Option<PossibleValues>
         ensures made { IsSome result ↔ (count ≤ most_indexes) }
         ensures parts { IfSome result (λ made. made.count ≡ count) }
@@ -61,7 +61,7 @@ impl PossibleValues {
         Some(PossibleValues { count })
     }
 
-    /// Whether these are one or more indexes of possible values, and no more than there are.
+    /// Whether these are indexes of possible values: at least one index, and no more indexes than possible values.
     pub fn allows(self, indexes: &[u8]) -> bool
         ensures test { result ≡ allows (range.Enumeration self) (value.Indexes indexes.now) }
         ensures means { IsTrue result ↔ AllowsIndexes self.count indexes.now }
@@ -105,7 +105,7 @@ impl IntegerSteps {
     ghost use Rattle.record_base.specs.declared.attribute_value.AttributeValue.TheVariants as value;
     ghost use Rattle.record_base.specs.AttributeRange.{AllowsNumber, allows};
 
-    /// Whether the number is one of these.
+    /// Whether the attribute can have the number.
     pub fn allows(self, number: u64) -> bool
         ensures test { result ≡ allows (range.Integer self) (value.Number number) }
         ensures means { IsTrue result ↔ AllowsNumber self number }

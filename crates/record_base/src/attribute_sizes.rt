@@ -7,10 +7,10 @@ pub const MOST_INDEXES: usize = 16;
 /// How many bytes a text has at most.
 pub const MOST_TEXT: usize = 200;
 
-/// How many bytes the value of an attribute has at least: how many indexes there are, and one; a text's length.
+/// How many bytes the value of an attribute has at least: the number of indexes and one index, or the length of a text.
 pub const LEAST_VALUE: usize = 2;
 
-/// How many bytes the value of an attribute has at most: a text's length, and the text.
+/// How many bytes the value of an attribute has at most: the length of a text, and the text.
 pub const MOST_VALUE: usize = 2 + MOST_TEXT;
 
 /// How many bytes stand before the value in the data of a Set or of a Get reply: handle, flag, attribute and type.

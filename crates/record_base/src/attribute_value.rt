@@ -15,7 +15,7 @@ pub const STRING_TYPE: u8 = 0x01;
 /// The type of an integer.
 pub const INTEGER_TYPE: u8 = 0x03;
 
-/// The value of an attribute. It lies where it is read from.
+/// The value of an attribute. Its bytes may be borrowed.
 #[derive(Debug, Drop)]
 pub enum AttributeValue<'a> {
     /// The indexes of the possible values that an enumeration has.
@@ -27,7 +27,7 @@ pub enum AttributeValue<'a> {
 }
 
 impl AttributeValue<'_> {
-    /// The type that the value is of.
+    /// The type of the value.
     pub fn type_code(&self) -> u8
         ensures value { result ≡ type_of_value self.now }
         ensures small { result ≤ 127 }
@@ -58,7 +58,7 @@ impl AttributeValue<'_> {
     }
 }
 
-/// The indexes that the bytes are, behind how many they are.
+/// The indexes behind a byte that counts them.
 fn read_indexes(bytes: &[u8]) -> Option<AttributeValue<'_>>
     requires { length bytes.now ≤ most_sent }
     ensures { result ≡ indexes_in bytes.now }
@@ -70,7 +70,7 @@ fn read_indexes(bytes: &[u8]) -> Option<AttributeValue<'_>>
     Some(AttributeValue::Indexes(Data::new(indexes)))
 }
 
-/// The text that the bytes are, behind its length.
+/// The text behind two bytes with its length.
 fn read_text(bytes: &[u8]) -> Option<AttributeValue<'_>>
     requires { length bytes.now ≤ most_sent }
     ensures { result ≡ text_in bytes.now }
@@ -85,7 +85,7 @@ fn read_text(bytes: &[u8]) -> Option<AttributeValue<'_>>
     Some(AttributeValue::Text(Data::new(text)))
 }
 
-/// The number that eight bytes are.
+/// The number of eight bytes.
 fn read_number(bytes: &[u8]) -> Option<AttributeValue<'static>>
     ensures { result ≡ number_in bytes.now }
 {
@@ -95,7 +95,7 @@ fn read_number(bytes: &[u8]) -> Option<AttributeValue<'static>>
     Some(AttributeValue::Number(u64::from_le_bytes([a, b, c, d, e, f, g, h])))
 }
 
-/// The value of this type that the bytes are, if their length is its.
+/// The value of this type with these bytes, or nothing where a value of the type can't have so many.
 pub fn value_in(code: u8, bytes: &[u8]) -> Option<AttributeValue<'_>>
     requires { length bytes.now ≤ most_sent }
     ensures { result ≡ value_in code bytes.now }

@@ -5,8 +5,8 @@ ghost use Rattle.record_base.specs.AttributeSizes.{most_sent};
 use crate::attribute_sizes::MOST_SENT;
 use two_wire::Bytes;
 
-/// Sets the value of an attribute, by the bytes of the request's entry: the attribute, its type, and the value. The operation keeps
-/// these bytes itself.
+/// Sets the value of an attribute, by the bytes of the request's entry: the attribute, its type, and the value. The operation owns
+/// these bytes.
 #[derive(Debug, Drop)]
 pub struct SetBiosAttribute {
     pub attribute: u16,
@@ -15,7 +15,7 @@ pub struct SetBiosAttribute {
     pub ghost fits: { length value ≤ most_sent },
 }
 
-/// The first bytes, at most so many.
+/// The first bytes, no more than `most`.
 fn first(bytes: &[u8], most: usize) -> &[u8]
     ensures value { result.now ≡ take most bytes.now }
     ensures few { length result.now ≤ most }
@@ -30,7 +30,7 @@ impl SetBiosAttribute {
     ghost use Rattle.std.specs.Prelude.{◌≡◌};
     ghost use Rattle.record_base.specs.BiosAttribute.{setting};
 
-    /// Sets the value of an attribute to these bytes, of which a request has no more than the most.
+    /// Sets the value of an attribute to the first of these bytes, as many as a request has at most.
     pub fn of(attribute: u16, attribute_type: u8, bytes: &[u8]) -> Self
         ensures { result ≡ setting attribute attribute_type bytes.now }
     {

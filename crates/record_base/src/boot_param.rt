@@ -31,7 +31,7 @@ pub struct BootFlags {
     pub instance: u8,
 }
 
-/// What the boot parameters begin with. None of them is marked as invalid.
+/// The first data of the boot parameters. At first no parameter is marked as invalid.
 #[derive(Clone, Copy, Debug)]
 pub struct BootOptions {
     pub valid_bit_clearing: u8,
@@ -41,21 +41,21 @@ pub struct BootOptions {
     ghost byte: { info_acknowledge < 256 },
 }
 
-/// Which bits of parameter 4 are written, and what is written there.
+/// The bits of parameter 4 that a Set writes, and their new values.
 #[derive(Clone, Copy, Debug, PartialEq, Eq)]
 pub struct MaskedBits {
     pub mask: u8,
     pub bits: u8,
 }
 
-/// What becomes of a boot parameter's data.
+/// A change of a boot parameter's data.
 #[derive(Clone, Copy, Debug, PartialEq, Eq)]
 pub enum BootChange {
-    /// They stay.
+    /// The data stay.
     MarkAlone(BootParameter),
     /// Parameter 3 becomes bits 4:0 of this byte.
     ValidBitClearing(u8),
-    /// These bits of parameter 4 are written.
+    /// The masked bits of parameter 4 become these.
     InfoAcknowledge(MaskedBits),
     /// Parameter 5 becomes these flags.
     Flags(BootFlags),
@@ -81,7 +81,7 @@ impl BootParameter {
         }
     }
 
-    /// How many bytes its value has: its mark and its data.
+    /// How many bytes the parameter's value has: the mark and the data.
     pub fn length(self) -> usize
         ensures { result ≡ boot_length self }
     {
@@ -118,7 +118,9 @@ impl BootOptions {
         flags: BootFlags,
     ) -> Option<BootOptions>
         ensures made { IsSome result ↔ (valid_bit_clearing < 32) }
-        ensures bytes { IfSome result (λ made. (made.valid_bit_clearing ≡ valid_bit_clearing) × (made.info_acknowledge ≡ info_acknowledge)) }
+        ensures bytes { IfSome result (λ made.
+            (made.valid_bit_clearing ≡ valid_bit_clearing)
+            × (made.info_acknowledge ≡ info_acknowledge)) }
         ensures flags { IfSome result (λ made. made.flags ≡ flags) }
     {
         if valid_bit_clearing >= 32 {

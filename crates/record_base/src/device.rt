@@ -1,4 +1,4 @@
-//! What a board says of itself.
+//! The identity of a board.
 ghost use Rattle.std.specs.Prelude.{◌<◌, ◌/◌, ◌%◌, ◌^◌};
 
 /// Two decimal digits in a byte, the tens in its upper half (BCD).
@@ -16,7 +16,7 @@ pub struct ManufacturerId {
     ghost three_bytes: { number < 2 ^ 24 },
 }
 
-/// What Get Device ID gives (IPMI 2.0). The minor revision is in decimal digits.
+/// The data of the Get Device ID reply (IPMI 2.0). The minor revision is in decimal digits.
 #[derive(Clone, Copy, Debug, PartialEq, Eq)]
 pub struct Device {
     pub id: u8,
@@ -31,7 +31,7 @@ pub struct Device {
 impl Bcd {
     ghost use Rattle.std.specs.Prelude.{◌≡◌, ◌<◌, ◌/◌, ◌%◌, ◌↔◌, IsSome, IfSome};
 
-    /// The digits of this byte, or nothing where one is above 9.
+    /// The digits of this byte, or nothing where a digit is above 9.
     pub fn new(byte: u8) -> Option<Bcd>
         ensures made { IsSome result ↔ ((byte / 16 < 10) × (byte % 16 < 10)) }
         ensures byte { IfSome result (λ made. made.byte ≡ byte) }
@@ -46,7 +46,7 @@ impl Bcd {
 impl ManufacturerId {
     ghost use Rattle.std.specs.Prelude.{◌≡◌, ◌<◌, ◌^◌, ◌↔◌, IsSome, IfSome};
 
-    /// The manufacturer of this number, or nothing where it has over 24 bits.
+    /// The manufacturer of this number, or nothing where the number has over 24 bits.
     pub fn new(number: u32) -> Option<ManufacturerId>
         ensures made { IsSome result ↔ (number < 2 ^ 24) }
         ensures number { IfSome result (λ made. made.number ≡ number) }

@@ -1,6 +1,6 @@
 //! Which events of a sensor are enabled: in a board file, and as it is set.
 ghost use Rattle.std.specs.Prelude.{◌≡◌, ◌<◌, ◌≤◌, ◌↔◌, IsTrue};
-ghost use Rattle.record_base.specs.Sensor.EventEnable.{IsEventEnable, AreWithin, are_within, event_value, flags_byte};
+ghost use Rattle.record_base.specs.Sensor.EventEnable.{IsEventEnable, AreWithin, CanEnable, are_within, event_value, flags_byte};
 ghost use Rattle.record_base.specs.PartLaws.{IsEventEnable-prop};
 
 use crate::key::Key;
@@ -35,16 +35,16 @@ pub struct EventEnable {
     ghost valid: { IsEventEnable supported (event_value messages scanning enabled) } by { IsEventEnable-prop supported (event_value messages scanning enabled) },
 }
 
-/// What a request does to the enabled events, by its selection.
+/// A change of the enabled events, by the selection of the request.
 #[derive(Clone, Copy, Debug, PartialEq, Eq)]
 pub enum EventChange {
-    /// They stay.
+    /// The enabled events stay.
     Leave,
-    /// These are enabled besides.
+    /// Enables these events, and leaves the others.
     Enable(EventMasks),
-    /// These are disabled.
+    /// Disables these events, and leaves the others.
     Disable(EventMasks),
-    /// The selection is a reserved one, which every sensor refuses.
+    /// Every sensor refuses the reserved selection.
     Reserved,
 }
 
@@ -65,9 +65,9 @@ pub fn are_within(events: u16, others: u16) -> bool
     events & !others == 0
 }
 
-/// Whether each supported event is one of a threshold, and each enabled one is supported.
+/// Whether each supported event belongs to a threshold, and each enabled event is supported.
 fn are_supported(enabled: &EventMasks, supported: u16) -> bool
-    ensures { IsTrue result ↔ ((supported < 4096) × AreWithin enabled.now.assertions supported × AreWithin enabled.now.deassertions supported) }
+    ensures { IsTrue result ↔ CanEnable supported enabled.now }
 {
     supported < 4096
         && are_within(enabled.assertions, supported)
@@ -95,19 +95,21 @@ pub fn event_value(messages: bool, scanning: bool, enabled: &EventMasks) -> [u8;
 }
 
 impl EventEnable {
-    ghost use Rattle.std.specs.Prelude.{◌≡◌, ◌<◌, ◌↔◌, IsSome, IfSome};
-    ghost use Rattle.record_base.specs.Sensor.EventEnable.{AreWithin, event_value};
+    ghost use Rattle.std.specs.Prelude.{◌≡◌, ◌↔◌, IsSome, IfSome};
+    ghost use Rattle.record_base.specs.Sensor.EventEnable.{CanEnable, event_value};
 
-    /// These events, or nothing where a supported one is none of a threshold, or an enabled one isn't supported.
+    /// These events, or nothing where a supported event belongs to no threshold, or an enabled event isn't supported.
     pub fn new(
         supported: u16,
         messages: bool,
         scanning: bool,
         enabled: EventMasks,
     ) -> Option<EventEnable>
-        ensures made { IsSome result ↔ ((supported < 4096) × AreWithin enabled.assertions supported × AreWithin enabled.deassertions supported) }
-        ensures flags { IfSome result (λ made. (made.messages ≡ messages) × (made.scanning ≡ scanning)) }
-        ensures masks { IfSome result (λ made. (made.supported ≡ supported) × (made.enabled ≡ enabled)) }
+        ensures made { IsSome result ↔ CanEnable supported enabled }
+        ensures flags { IfSome result (λ made.
+            (made.messages ≡ messages) × (made.scanning ≡ scanning)) }
+        ensures masks { IfSome result (λ made.
+            (made.supported ≡ supported) × (made.enabled ≡ enabled)) }
     {
         if !are_supported(&enabled, supported) {
             return None;
@@ -122,7 +124,10 @@ impl EventEnable {
 
     /// The record of the sensor of this number.
     pub fn pair(&self, sensor: u8) -> (Key, Value)
-        ensures { result ≡ (Key.EventEnable sensor, event_value self.now.messages self.now.scanning self.now.enabled) }
+        ensures { result ≡ (
+          Key.EventEnable sensor,
+          event_value self.now.messages self.now.scanning self.now.enabled,
+        ) }
     {
         let value = event_value(self.messages, self.scanning, &self.enabled);
         (Key::EventEnable(sensor), Value::from_slice(&value))

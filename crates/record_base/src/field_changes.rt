@@ -1,20 +1,20 @@
-//! What a request says of the fields of a state effecter.
+//! The changes that a request makes to the fields of a state effecter.
 ghost use Rattle.std.specs.Prelude.{◌≡◌, ◌<◌, ◌≤◌, [], ◌∷◌, ◌++◌, length};
 
 use arrayvec::ArrayVec;
 use std::marker::Model;
 
-/// How many there are at most.
+/// How many changes a request has at most.
 const MOST_CHANGES: usize = 9;
 
-/// What a request says of a field: a byte that is 00h where it is left and 01h where it is set, and the state that it is set to.
+/// A request's change of a field: a byte, 00h where the field stays and 01h where the request sets it, and the new state.
 #[derive(Clone, Copy, Debug, Default, PartialEq, Eq)]
 pub struct FieldChange {
     pub choice: u8,
     pub state: u8,
 }
 
-/// At most 9 changes of fields, in the fields' order, which lie in the value itself.
+/// At most 9 changes of fields, in the fields' order. They lie in the value itself.
 #[derive(Debug, PartialEq, Eq, Drop)]
 pub struct FieldChanges {
     items: ArrayVec<FieldChange, { MOST_CHANGES }>,

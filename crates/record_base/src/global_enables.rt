@@ -10,7 +10,7 @@ use crate::value::Value;
 /// The reserved bit, which no global enables have.
 const RESERVED_PLACE: usize = 4;
 
-/// What a controller enables as a whole, by the bits of Set BMC Global Enables (IPMI 2.0): bit 3 says whether events go into the
+/// The enables of the whole controller, by the bits of Set BMC Global Enables (IPMI 2.0): bit 3 says whether events go into the
 /// log. Bit 4 is reserved.
 #[derive(Clone, Copy, Debug)]
 pub struct GlobalEnables {

@@ -11,7 +11,7 @@ use crate::user::{UserNumber, UserOnChannel};
 /// How many kinds of record a sensor has.
 pub const SENSOR_KINDS: usize = 3;
 
-/// The name of a record: its kind, and which one of that kind.
+/// The name of a record: its kind, and its name among the records of the kind.
 #[derive(Clone, Copy, Debug, PartialEq, Eq, PartialOrd, Ord)]
 pub enum Key {
     /// The thresholds of the sensor of this number.
@@ -20,11 +20,11 @@ pub enum Key {
     Hysteresis(u8),
     /// Which events of the sensor of this number are enabled.
     EventEnable(u8),
-    /// What the board does when power comes back.
+    /// The power restore policy.
     PowerPolicy,
     /// The settings of the watchdog timer.
     Watchdog,
-    /// What the controller enables as a whole.
+    /// The enables of the whole controller.
     GlobalEnables,
     /// A parameter of the system boot options.
     BootParam(BootParameter),
@@ -34,7 +34,7 @@ pub enum Key {
     StateEffecter(u16),
     /// The name of a user.
     UserName(UserNumber),
-    /// What a user may do on a channel.
+    /// The access of a user on a channel.
     UserAccess(UserOnChannel),
     /// The access of a channel, in one of its stores.
     ChannelAccess(StoredAccess),
@@ -66,7 +66,7 @@ impl Key {
             Key::LanParam(on) => length == on.parameter.length(),
         }
     }
-    /// The table and the number under which a sensor's record is found.
+    /// The table that has a sensor's record, and the sensor's number.
     #[inline(always)]
     pub fn slot(&self) -> Option<(usize, u8)>
         ensures is { result ≡ slot self.now }

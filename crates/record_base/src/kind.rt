@@ -12,43 +12,48 @@ use two_wire::{Buffer, Code};
 
 /// A kind of record. `self` is the limits of one record, from the board file.
 pub trait RecordKind<'a> {
-    /// Which one of the kind a record is.
+    /// Names one record among those of the kind.
     type Key: Copy;
 
     /// A change of a record of the kind.
     type Op: Drop;
 
-    /// What the kind says of its records, and that it holds.
+    /// The kind's words and laws.
     ghost kind: { Kind Self.Key Self.Op Self };
 
     /// The name of the record that the operation changes.
     fn key(op: &Self::Op) -> Key
         ensures { result ≡ kind.words.name (kind.words.key_of op.now) };
 
-    /// Makes `new` the value that the operation makes of this one, or gives the code that refuses it.
+    /// Writes to `new` the value that the operation makes of `value`, or gives the code that refuses the operation.
     fn apply(&self, op: &Self::Op, value: &[u8], new: &mut Value) -> Result<(), Code>
         requires of_record { (kind.record_words self.now).is_of (kind.words.key_of op.now) }
         requires is_valid { (kind.record_words self.now).valid value.now }
-        ensures decides { Decides (told result new.new) ((kind.record_words self.now).sets op.now value.now) }
-        ensures outcome { told result new.new ≡ (kind.record_words self.now).outcome op.now value.now }
+        ensures decides { Decides (told result new.new)
+            ((kind.record_words self.now).sets op.now value.now) }
+        ensures outcome { told result new.new
+            ≡ (kind.record_words self.now).outcome op.now value.now }
         ensures kept { OnErr result (new.new ≡ new.old) };
 
-    /// Appends the data of the reply to a Set that was carried out.
+    /// Appends the data of the reply to the Set, after the board has carried it out.
     fn set_reply<B: Buffer>(op: &Self::Op, reply: &mut B)
-        requires room { length (B.bytes reply.old) + length (kind.words.set_reply op.now) ≤ B.capacity }
+        requires room { length (B.bytes reply.old) + length (kind.words.set_reply op.now)
+            ≤ B.capacity }
         ensures { B.bytes reply.new ≡ B.bytes reply.old ++ kind.words.set_reply op.now };
 
-    /// Changes what isn't configuration as the operation does, once it was carried out.
+    /// Changes the activity as the operation does, after the board has carried the operation out.
     fn next_live(op: &Self::Op, live: &mut Live)
         ensures { live.new ≡ kind.words.next_live op.now live.old };
 
     /// Appends the data of the Get reply.
     fn get_data<B: Buffer>(&self, value: &[u8], live: &Live, reply: &mut B)
         requires is_valid { (kind.record_words self.now).valid value.now }
-        requires room { length (B.bytes reply.old) + length ((kind.record_words self.now).view value.now live.now) ≤ B.capacity }
-        ensures { B.bytes reply.new ≡ B.bytes reply.old ++ (kind.record_words self.now).view value.now live.now };
+        requires room { length (B.bytes reply.old)
+            + length ((kind.record_words self.now).view value.now live.now) ≤ B.capacity }
+        ensures { B.bytes reply.new
+            ≡ B.bytes reply.old ++ (kind.record_words self.now).view value.now live.now };
 
-    /// The request that gets the record: from nobody, to logical unit 0.
+    /// The request that gets the record. It has no sender, and goes to logical unit 0.
     fn get_asked(key: &Self::Key) -> Asked
         ensures { result ≡ kind.words.get_asked key.now };
 
@@ -56,18 +61,19 @@ pub trait RecordKind<'a> {
     fn set_data(op: &Self::Op) -> RecordData
         ensures { result ≡ kind.words.set_data op.now };
 
-    /// The request that carries out the operation: from nobody, to logical unit 0, with the operation's bytes as they are. What
-    /// undoes an operation has 0 in each bit that a controller ignores.
+    /// The request that carries out the operation. It has no sender, goes to logical unit 0, and has the operation's bytes
+    /// unchanged. The request of an inverse has 0 in each bit that a controller ignores.
     fn set_asked(op: &Self::Op) -> Asked
         ensures { result ≡ kind.words.set_asked op.now };
 
-    /// The operation that brings back what the Get reply shows, where it is such a reply and the operation can be undone from it.
+    /// The operation that brings back the value that the Get reply shows, or nothing where the data are no such reply, or the
+    /// operation can't be undone from them.
     fn inverse(op: &Self::Op, get_data: &'a [u8]) -> Option<Self::Op>
         ensures { result ≡ kind.words.inverse op.now get_data.now };
 }
 
-/// The value that the operation and then its inverse leave, where the inverse is made from what a Get replied before them: the
-/// old one. There is none where the operation is refused, or can't be undone from that reply.
+/// The old value, which the operation and then its inverse leave. The inverse is made from the reply to a Get before both. There
+/// is no value where the record refuses the operation, or the operation can't be undone from the reply.
 pub fn there_and_back<'a, K: RecordKind<'a>>(
     limits: &K,
     op: &K::Op,
@@ -76,8 +82,11 @@ pub fn there_and_back<'a, K: RecordKind<'a>>(
 ) -> Option<Value>
     requires of_record { (K.kind.record_words limits.now).is_of (K.kind.words.key_of op.now) }
     requires is_valid { (K.kind.record_words limits.now).valid value.now }
-    requires was_got { (live : Live) × (get_data.now ≡ (K.kind.record_words limits.now).view value.now live) }
-    ensures { SomeIff result (((new : List ℕ) × (K.kind.record_words limits.now).sets op.now value.now new) × K.kind.words.restorable op.now get_data.now) value.now }
+    requires was_got { (live : Live)
+        × (get_data.now ≡ (K.kind.record_words limits.now).view value.now live) }
+    ensures { SomeIff result
+        (((new : List ℕ) × (K.kind.record_words limits.now).sets op.now value.now new)
+        × K.kind.words.restorable op.now get_data.now) value.now }
 {
     let mut new = Value::new();
     let Ok(()) = limits.apply(op, value, &mut new) else {

@@ -49,10 +49,10 @@ pub struct VlanBytes {
     pub high: u8,
 }
 
-/// What becomes of a LAN parameter, by the data of the request.
+/// A change of a LAN parameter, by the data of the request.
 #[derive(Clone, Copy, Debug, PartialEq, Eq)]
 pub enum LanChange {
-    /// The parameter of this address becomes that one.
+    /// The parameter of this name becomes this address.
     Address(LanAddress, Ipv4Address),
     /// Parameter 4 becomes bits 3:0 of this byte.
     AddressSource(u8),
@@ -95,7 +95,7 @@ impl LanParameter {
         }
     }
 
-    /// How many bytes its value has.
+    /// How many bytes the parameter's value has.
     pub fn length(self) -> usize
         ensures { result ≡ lan_length self }
     {
@@ -108,7 +108,7 @@ impl LanParameter {
 }
 
 impl Ipv4Address {
-    /// Its bytes, the most significant first.
+    /// The bytes of the address, the most significant first.
     pub fn bytes(self) -> [u8; 4]
         ensures { result ≡ address_bytes self }
     {
@@ -117,7 +117,7 @@ impl Ipv4Address {
 }
 
 impl VlanBytes {
-    /// Both bytes.
+    /// Both bytes of the VLAN.
     pub fn bytes(self) -> [u8; 2]
         ensures { result ≡ vlan_bytes self }
     {
@@ -126,7 +126,7 @@ impl VlanBytes {
 }
 
 impl LanChange {
-    /// The parameter that is changed.
+    /// The parameter that the change changes.
     pub fn parameter(&self) -> LanParameter
         ensures { result ≡ changed_parameter self.now }
     {

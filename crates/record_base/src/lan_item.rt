@@ -11,7 +11,7 @@ use crate::value::Value;
 /// The greatest source of an address (IPMI 2.0, IP Address Source).
 pub const MOST_SOURCE: u8 = 4;
 
-/// What the LAN parameters of a channel begin with. Bits that the standard reserves are clear.
+/// The first data of a channel's LAN parameters. Bits that the standard reserves are clear.
 #[derive(Clone, Copy, Debug)]
 pub struct Lan {
     pub number: ChannelNumber,

@@ -1,5 +1,5 @@
-//! What the kinds of configuration record stand on: the keys and values of records, a board's parts, the operations on them, requests and
-//! replies without their frames, and what a kind of record is.
+//! The base of the kinds of configuration record: the keys and values of records, a board's parts, the operations on records, requests and
+//! replies without their frames, and the trait of a kind of record.
 #![tactic(auto)]
 
 pub mod attribute;

@@ -1,15 +1,15 @@
-//! What is not configuration.
+//! The state of a board that isn't configuration.
 ghost use Rattle.std.specs.Prelude.{◌≡◌};
 ghost use Rattle.record_base.specs.Opening.{opening};
 
 use two_wire::Below;
 
-/// What a board shows beside its records, and what operations may change beside them.
+/// The state that a board shows beside its records, and that operations may change beside them.
 #[derive(Clone, Copy, Debug, PartialEq, Eq)]
 pub struct Live {
     /// Bits 4:0 of the chassis status (IPMI 2.0).
     pub chassis: Below<32>,
-    /// What is left of the watchdog's countdown, in 100 ms.
+    /// The rest of the watchdog's countdown, in 100 ms.
     pub countdown: u16,
     /// The expiration flags of the watchdog, by their bits (IPMI 2.0).
     pub expired: u8,
@@ -20,7 +20,7 @@ pub struct Live {
 }
 
 impl Live {
-    /// What a board begins with: no chassis bit, a watchdog that is stopped, with no flag and at 0, and no user enabled.
+    /// The state in which a board begins: no chassis bit, a stopped watchdog without flags and at 0, and no user enabled.
     pub fn opening() -> Live
         ensures { result ≡ opening }
     {

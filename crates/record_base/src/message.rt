@@ -6,7 +6,7 @@ ghost use Rattle.record_base.specs.Requests.{byte_at};
 use two_wire::size::{MOST_IPMI_REQUEST_DATA, MOST_PLDM_REPLY_DATA, MOST_PLDM_REQUEST_DATA};
 use two_wire::{Below, Bytes, Code, Lun, NetFn};
 
-/// A request, and who sent it: its IPMB address, or its endpoint's EID.
+/// A request and its sender: an IPMB address, or the EID of an endpoint.
 #[derive(Debug, PartialEq, Eq, Drop)]
 pub enum Asked {
     /// IPMI: network function, logical unit of the controller, command and data.
@@ -26,7 +26,7 @@ pub enum Asked {
     },
 }
 
-/// A reply: its completion code, 00h where the request was carried out, and its data.
+/// A reply: its completion code, 00h after the board has carried out the request, and its data.
 #[derive(Debug, PartialEq, Eq, Drop)]
 pub struct Answered {
     pub code: u8,
@@ -34,7 +34,7 @@ pub struct Answered {
 }
 
 impl Answered {
-    /// The reply to a request that was carried out.
+    /// The reply to a request that the board has carried out.
     pub fn done(body: &[u8]) -> Self
         requires { length body.now ≤ most_pldm_reply_data }
         ensures { result ≡ record { code = 0; body = body.now } }
@@ -45,7 +45,7 @@ impl Answered {
         }
     }
 
-    /// The reply to a request that was refused.
+    /// The reply to a request that the board has refused.
     pub fn refused(code: Code) -> Self
         ensures { result ≡ record { code = code; body = [] } }
     {
@@ -55,7 +55,7 @@ impl Answered {
         }
     }
 
-    /// The same reply once more.
+    /// A copy of the reply.
     pub fn copy(&self) -> Self
         ensures { result ≡ self.now }
     {
@@ -65,7 +65,7 @@ impl Answered {
         }
     }
 
-    /// Whether it is that reply.
+    /// Whether both replies are the same.
     pub fn is(&self, other: &Answered) -> bool
         ensures { IsTrue result ↔ (self.now ≡ other.now) }
     {
@@ -86,7 +86,8 @@ pub fn byte_at(body: &[u8], place: usize) -> u8
 impl Asked {
     ghost use Rattle.record_base.specs.Requests.{ipmi_request, pldm_request};
 
-    /// The IPMI request of this network function and command, with these bytes of data: from nobody, to logical unit 0.
+    /// The IPMI request of this network function and command, with these bytes of data. It has no sender, and goes to logical
+    /// unit 0.
     pub fn ipmi(net_fn: NetFn, command: u8, bytes: &[u8]) -> Self
         requires { length bytes.now ≤ most_ipmi_request_data }
         ensures { result ≡ ipmi_request net_fn command bytes.now }
@@ -100,7 +101,7 @@ impl Asked {
         }
     }
 
-    /// The PLDM request of this type and command, with these bytes of data: from nobody.
+    /// The PLDM request of this type and command, with these bytes of data. It has no sender.
     pub fn pldm(kind: Below<64>, command: u8, bytes: &[u8]) -> Self
         requires { length bytes.now ≤ most_pldm_request_data }
         ensures { result ≡ pldm_request kind command bytes.now }
@@ -113,7 +114,7 @@ impl Asked {
         }
     }
 
-    /// The same request once more.
+    /// A copy of the request.
     pub fn copy(&self) -> Self
         ensures { result ≡ self.now }
     {
@@ -145,7 +146,7 @@ impl Asked {
         }
     }
 
-    /// Whether it is that request.
+    /// Whether both requests are the same.
     pub fn is(&self, other: &Asked) -> bool
         ensures { IsTrue result ↔ (self.now ≡ other.now) }
     {

@@ -1,13 +1,13 @@
 //! The numbers of the network functions of the requests that get and set records (IPMI 2.0).
 
-/// That of the chassis.
+/// The chassis network function.
 pub const CHASSIS: u8 = 0x00;
 
-/// That of sensors and events.
+/// The sensor and event network function.
 pub const SENSOR_EVENT: u8 = 0x04;
 
-/// That of applications.
+/// The application network function.
 pub const APPLICATION: u8 = 0x06;
 
-/// That of transport.
+/// The transport network function.
 pub const TRANSPORT: u8 = 0x0C;

@@ -9,7 +9,8 @@ use crate::key::Key;
 use crate::numeric_range::NumericRange;
 use crate::value::Value;
 
-/// A numeric effecter: its id, whether it is enabled, which numbers it can be set to, and the present one, by its bits.
+/// A numeric effecter: its id, whether it is enabled, the numbers that a request can set it to, and the bits of the present
+/// number.
 #[derive(Clone, Copy, Debug)]
 pub struct NumericEffecter {
     pub id: u16,
@@ -23,7 +24,7 @@ pub struct NumericEffecter {
 /// The numeric effecters of a board.
 pub type NumericEffecters = Distinct<NumericEffecter, 32>;
 
-/// The bytes of a value in a request, the low one first: as many as a size has, or another number of bytes.
+/// The bytes of a value in a request, the low byte first: as many as a size has, or another number of bytes.
 #[derive(Clone, Copy, Debug, PartialEq, Eq)]
 pub enum NumericBytes {
     One(u8),
@@ -33,7 +34,7 @@ pub enum NumericBytes {
     Other,
 }
 
-/// Sets a numeric effecter, by the bytes of the request: the number that stands for the value's size, and the value.
+/// Sets a numeric effecter. The request's bytes are the number that stands for the value's size, and the value.
 #[derive(Clone, Copy, Debug, PartialEq, Eq)]
 pub struct SetNumericEffecter {
     pub effecter: u16,
@@ -56,7 +57,8 @@ impl NumericEffecter {
 
     /// This effecter, or nothing where it can't have the number.
     pub fn new(id: u16, enabled: bool, range: NumericRange, current: u32) -> Option<NumericEffecter>
-        ensures made { IsSome result ↔ ((current < numbers_of range.size) × IsNumeric range (bytes_of range.size current)) }
+        ensures made { IsSome result
+            ↔ ((current < numbers_of range.size) × IsNumeric range (bytes_of range.size current)) }
         ensures names { IfSome result (λ made. (made.id ≡ id) × (made.enabled ≡ enabled)) }
         ensures numbers { IfSome result (λ made. (made.range ≡ range) × (made.current ≡ current)) }
     {
@@ -74,7 +76,10 @@ impl NumericEffecter {
 
     /// The record of the effecter.
     pub fn pair(&self) -> (Key, Value)
-        ensures { result ≡ (Key.NumericEffecter self.now.id, bytes_of self.now.range.size self.now.current) }
+        ensures { result ≡ (
+          Key.NumericEffecter self.now.id,
+          bytes_of self.now.range.size self.now.current,
+        ) }
     {
         (
             Key::NumericEffecter(self.id),

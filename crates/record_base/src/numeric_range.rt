@@ -4,8 +4,8 @@ ghost use Rattle.record_base.specs.NumericSize.{numbers_of};
 
 use crate::numeric_size::{NumericSize, number_in};
 
-/// The numbers that a numeric effecter can be set to: those of its size from the lower to the upper bound. A bound is kept by its
-/// bits.
+/// The numbers that a request can set a numeric effecter to: the numbers of its size from the lower to the upper bound. The
+/// fields have the bits of the bounds.
 #[derive(Clone, Copy, Debug, PartialEq, Eq)]
 pub struct NumericRange {
     pub size: NumericSize,
@@ -23,7 +23,8 @@ impl NumericRange {
     /// The numbers of the size within these bounds, or nothing where a bound is none of the size.
     pub fn new(size: NumericSize, lower: u32, upper: u32) -> Option<NumericRange>
         ensures made { IsSome result ↔ ((lower < numbers_of size) × (upper < numbers_of size)) }
-        ensures parts { IfSome result (λ r. (r.size ≡ size) × (r.lower ≡ lower) × (r.upper ≡ upper)) }
+        ensures parts { IfSome result (λ made.
+            (made.size ≡ size) × (made.lower ≡ lower) × (made.upper ≡ upper)) }
     {
         if lower as u64 >= size.numbers() || upper as u64 >= size.numbers() {
             return None;

@@ -5,7 +5,7 @@ ghost use Rattle.record_base.specs.NumericSize.{number_in};
 use crate::message::byte_at;
 use crate::value::Value;
 
-/// The size of a numeric effecter's numbers (DSP0248). Signed ones are in two's complement.
+/// The size of a numeric effecter's numbers (DSP0248). Signed numbers are in two's complement.
 #[derive(Clone, Copy, Debug, PartialEq, Eq)]
 pub enum NumericSize {
     U8,
@@ -58,7 +58,7 @@ impl NumericSize {
         }
     }
 
-    /// How many of its numbers are negative.
+    /// How many numbers of the size are negative.
     fn negatives(self) -> u64
         ensures value { result ≡ negatives_of self }
         ensures few { result ≤ 0x80000000 }

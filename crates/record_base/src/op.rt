@@ -13,8 +13,7 @@ use crate::state_effecter::SetStateEffecter;
 use crate::user::{SetUserAccess, SetUserName};
 use crate::watchdog::SetWatchdog;
 
-/// A change of one record, as a request asks for it: any bytes that the request may carry. It stays where it is made, and is looked
-/// at there.
+/// A change of one record, as a request asks for it: any bytes that the request may carry. Its users borrow it, and don't move it.
 #[derive(Debug, Drop)]
 pub enum Op {
     Thresholds(SetThresholds),

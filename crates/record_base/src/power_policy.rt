@@ -24,7 +24,7 @@ impl PowerPolicy {
     ghost use Rattle.record_base.specs.PowerPolicy.{IsPowerPolicy};
     ghost use Rattle.record_base.specs.Values.{policy_value};
 
-    /// The policy of this number, or nothing where it is above 3.
+    /// The policy of this number, or nothing where the number is above 3.
     pub fn new(number: u8) -> Option<PowerPolicy>
         ensures made { IsSome result ↔ IsPowerPolicy (number ∷ []) }
         ensures number { IfSome result (λ made. made.number ≡ number) }

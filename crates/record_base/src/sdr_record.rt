@@ -6,14 +6,14 @@ use crate::distinct::{Distinct, Numbered};
 use std::marker::Model;
 use two_wire::Bytes;
 
-/// How many bytes a record has before those that it counts.
+/// How many bytes of a record stand before the bytes that its length counts.
 const HEADER_SIZE: usize = 5;
 
 /// The most bytes that a record has.
 pub const MOST_SDR_BYTES: usize = 64;
 
-/// The bytes of a sensor data record (IPMI 2.0), at most 64: its id in two bytes, the low one first, the version, the type, how many
-/// bytes follow, and these.
+/// The bytes of a sensor data record (IPMI 2.0), at most 64: its id in two bytes, the low byte first, the version, the type, the
+/// number of bytes that follow, and these bytes.
 #[derive(Debug, Drop)]
 pub struct SdrRecord {
     bytes: Bytes<64>,
@@ -45,7 +45,7 @@ impl SdrRecord {
     ghost use Rattle.std.specs.Prelude.{◌≡◌, ◌≤◌, ◌↔◌, IsSome, IfSome, length};
     ghost use Rattle.record_base.specs.Sdr.{IsSdrRecord};
 
-    /// The record that has these bytes, or nothing where they are none.
+    /// The record with these bytes, or nothing where they are no record.
     pub fn new(bytes: &[u8]) -> Option<SdrRecord>
         ensures made { IsSome result ↔ (IsSdrRecord bytes.now × (length bytes.now ≤ 64)) }
         ensures bytes { IfSome result (λ made. made ≡ bytes.now) }
@@ -61,7 +61,7 @@ impl SdrRecord {
         })
     }
 
-    /// Its bytes.
+    /// The record's bytes.
     pub fn as_slice(&self) -> &[u8]
         ensures value { result.now ≡ self.now }
         ensures sound { IsSdrRecord result.now }
@@ -70,7 +70,7 @@ impl SdrRecord {
         self.bytes.as_slice()
     }
 
-    /// The same record once more.
+    /// A copy of the record.
     pub fn copy(&self) -> Self
         ensures { result ≡ self.now }
     {

@@ -7,7 +7,8 @@ use crate::key::Key;
 use crate::thresholds::ThresholdMasks;
 use crate::value::Value;
 
-/// Which thresholds a sensor has, and their values, one at each place: 0 where it has none, and in order where it has some.
+/// The thresholds of a sensor, and their values, one at each place. A place without a threshold has 0. The thresholds that the
+/// sensor has are in order.
 #[derive(Clone, Copy, Debug)]
 pub struct Thresholds {
     pub masks: ThresholdMasks,
@@ -15,7 +16,7 @@ pub struct Thresholds {
     ghost valid: { IsThresholds masks values } by { IsThresholds-prop masks values },
 }
 
-/// Sets the thresholds that the mask has (bit i for the byte at place i) to the bytes at their places.
+/// Sets each threshold of the mask (bit i for the byte at place i) to the byte at its place.
 #[derive(Clone, Copy, Debug, PartialEq, Eq)]
 pub struct SetThresholds {
     pub sensor: u8,

@@ -8,7 +8,7 @@ use crate::items::Items;
 use crate::key::Key;
 use crate::value::Value;
 
-/// A field of a state effecter: the states that it can be in, and the present one.
+/// A field of a state effecter: the states that it can be in, and its present state.
 #[derive(Debug, Drop)]
 pub struct StateField {
     pub allowed: Items<u8>,
@@ -29,8 +29,8 @@ pub struct StateEffecter {
 /// The state effecters of a board.
 pub type StateEffecters = Distinct<StateEffecter, 32>;
 
-/// Sets fields of a state effecter, by the bytes of the request. No effecter has more than 8 fields, so 9 changes stand for those of
-/// any longer request: every effecter refuses them.
+/// Sets fields of a state effecter, by the bytes of the request. No effecter has more than 8 fields. So 9 changes stand for the
+/// changes of any longer request: every effecter refuses them.
 #[derive(Debug, PartialEq, Eq, Drop)]
 pub struct SetStateEffecter {
     pub effecter: u16,
@@ -50,10 +50,11 @@ impl StateField {
     ghost use Rattle.std.specs.Prelude.{◌≡◌, ◌↔◌, IsTrue, IsSome, IfSome};
     ghost use Rattle.record_base.specs.StateField.{allows};
 
-    /// This field, or nothing where the present state is none that it can be in.
+    /// This field, or nothing where it can't be in the present state.
     pub fn new(allowed: Items<u8>, current: u8) -> Option<StateField>
         ensures made { IsSome result ↔ IsTrue (allows allowed current) }
-        ensures parts { IfSome result (λ made. (made.allowed ≡ allowed) × (made.current ≡ current)) }
+        ensures parts { IfSome result (λ made.
+            (made.allowed ≡ allowed) × (made.current ≡ current)) }
     {
         if !allows(allowed.as_slice(), current) {
             return None;
@@ -61,7 +62,7 @@ impl StateField {
         Some(StateField { allowed, current })
     }
 
-    /// Whether it can be in this state.
+    /// Whether the field can be in this state.
     pub fn allows(&self, state: u8) -> bool
         ensures { result ≡ allows self.now.allowed state }
     {
@@ -69,7 +70,7 @@ impl StateField {
     }
 }
 
-/// Whether it is one of the states.
+/// Whether `state` is one of the states.
 fn allows(states: &[u8], state: u8) -> bool
     ensures { result ≡ allows states.now state }
 {

@@ -3,8 +3,8 @@ ghost use Rattle.std.specs.Prelude.{◌<◌};
 
 use crate::mask::has;
 
-/// Which thresholds of a sensor can be read and which can be set: bit i for the threshold at place i, no other bits.
-/// The sensor has those that can be read or set.
+/// The thresholds of a sensor that requests can read, and those that they can set: bit i for the threshold at place i, no other
+/// bits. The sensor has the thresholds of either mask.
 #[derive(Clone, Copy, Debug, PartialEq, Eq)]
 pub struct ThresholdMasks {
     pub readable: u8,
@@ -28,8 +28,8 @@ impl ThresholdMasks {
         has(self.readable, place) || has(self.settable, place)
     }
 
-    /// Whether no threshold that the sensor has is above a higher one that it has, where the thresholds are these six
-    /// bytes, one at each place.
+    /// Whether the sensor's thresholds don't decrease from the lowest to the highest, where the six bytes have a threshold at each
+    /// place.
     pub fn is_in_order(&self, value: &[u8]) -> bool
         requires { length value.now ≡ 6 }
         ensures { result ≡ is_in_order self.now value.now }
@@ -46,10 +46,11 @@ impl ThresholdMasks {
         true
     }
 
-    /// The masks of these places, or nothing where one has a place above 5.
+    /// The masks of these places, or nothing where a mask has a place above 5.
     pub fn new(readable: u8, settable: u8) -> Option<ThresholdMasks>
         ensures made { IsSome result ↔ ((readable < 64) × (settable < 64)) }
-        ensures masks { IfSome result (λ m. (m.readable ≡ readable) × (m.settable ≡ settable)) }
+        ensures masks { IfSome result (λ made.
+            (made.readable ≡ readable) × (made.settable ≡ settable)) }
     {
         if readable >= 64 || settable >= 64 {
             return None;
@@ -57,7 +58,7 @@ impl ThresholdMasks {
         Some(ThresholdMasks { readable, settable })
     }
 
-    /// Whether these are 0 where the sensor has no threshold.
+    /// Whether the bytes are 0 at each place without a threshold.
     fn is_clear(&self, value: &[u8]) -> bool
         requires { length value.now ≡ 6 }
         ensures { result ≡ is_clear self.now value.now }

@@ -1,4 +1,4 @@
-//! The bytes of values, and of what requests and replies say of them.
+//! The bytes of values, and the data of requests and replies.
 use two_wire::Bytes;
 use two_wire::size::MOST_PLDM_REQUEST_DATA;
 
@@ -11,5 +11,5 @@ pub const DATA_CAPACITY: usize = MOST_PLDM_REQUEST_DATA;
 /// The value of a record.
 pub type Value = Bytes<{ VALUE_CAPACITY }>;
 
-/// The data of a Get reply or of a Set request, whole.
+/// The whole data of a Get reply or of a Set request.
 pub type RecordData = Bytes<{ DATA_CAPACITY }>;

@@ -5,9 +5,9 @@ ghost use Rattle.record_base.specs.PartLaws.{IsWatchdog-prop};
 use crate::key::Key;
 use crate::value::Value;
 
-/// The settings of a watchdog timer, by their bytes: the timer use (bit 7 don't log, bits 2:0 the use: 0 where it was never
-/// set, at most 5), the actions (bits 6:4 the interrupt, bits 2:0 the action, each at most 3), no other bits, the pre-timeout
-/// interval in seconds, and the countdown to begin from, in 100 ms.
+/// The settings of a watchdog timer, by their bytes: the timer use (bit 7 don't log, bits 2:0 the use: at most 5, and 0 before
+/// the first Set), the actions (bits 6:4 the interrupt, bits 2:0 the action, each at most 3), no other bits, the pre-timeout
+/// interval in seconds, and the countdown's first number, in 100 ms.
 #[derive(Clone, Copy, Debug)]
 pub struct Watchdog {
     pub timer_use: u8,
@@ -19,7 +19,7 @@ pub struct Watchdog {
 
 /// Sets the watchdog timer, by the bytes of the request: the timer use (bit 7 don't log, bit 6 don't stop, bits 2:0 the use),
 /// the actions (bits 6:4 the interrupt, bits 2:0 the action), the pre-timeout interval in seconds, the expiration flags to
-/// clear, and the countdown to begin from, in 100 ms.
+/// clear, and the countdown's first number, in 100 ms.
 #[derive(Clone, Copy, Debug, PartialEq, Eq)]
 pub struct SetWatchdog {
     pub timer_use: u8,
@@ -34,9 +34,10 @@ impl Watchdog {
     ghost use Rattle.record_base.specs.Watchdog.{watchdog_value, IsWatchdog};
     ghost use Rattle.record_base.specs.Values.{settings_value};
 
-    /// The settings of these bytes, or nothing where they aren't such as a watchdog can have.
+    /// The settings of these bytes, or nothing where a watchdog can't have such settings.
     pub fn new(timer_use: u8, actions: u8, pre_timeout: u8, initial: u16) -> Option<Watchdog>
-        ensures made { IsSome result ↔ IsWatchdog (watchdog_value timer_use actions pre_timeout initial) }
+        ensures made { IsSome result
+            ↔ IsWatchdog (watchdog_value timer_use actions pre_timeout initial) }
         ensures uses { IfSome result (λ w. (w.timer_use ≡ timer_use) × (w.actions ≡ actions)) }
         ensures times { IfSome result (λ w. (w.pre_timeout ≡ pre_timeout) × (w.initial ≡ initial)) }
     {

@@ -1,5 +1,5 @@
 -- Which events of a sensor are enabled (IPMI 2.0). A value has five bytes: the flags (bit 7 event messages, bit 6 scanning), the mask of
--- the events that are enabled to be asserted, and that of those to be deasserted, each the low byte first. Bit i of a mask stands for the
+-- the enabled assertions, and the mask of the enabled deassertions, each the low byte first. Bit i of a mask stands for the
 -- event of offset i.
 use Rattle.std.specs.Prelude.{◌≡◌, ℕ, ◌+◌, ◌*◌, ◌/◌, ◌%◌, ◌<◌, List, [], ◌∷◌, length, slice_index, Bool, ◌||◌, not, IsTrue, if◌then◌else◌}
 use Rattle.record_base.specs.Masks.{has, all_below}
@@ -11,7 +11,12 @@ use Rattle.record_base.specs.declared.event_enable.EventMasks.{EventMasks}
 abbrev pub AreWithin : ℕ → ℕ → Type 0
 AreWithin events others = (offset : ℕ) → offset < 16 → IsTrue (has events offset) → IsTrue (has others offset)
 
--- the test of that
+-- a sensor can have these supported and these enabled events: each supported event belongs to a threshold (two events to each of six),
+-- and each enabled event is supported
+abbrev pub CanEnable : ℕ → EventMasks → Type 0
+CanEnable supported enabled = (supported < 4096) × AreWithin enabled.assertions supported × AreWithin enabled.deassertions supported
+
+-- the test that each event of a mask is one of the others
 unfoldable pub are_within : ℕ → ℕ → Bool
 are_within events others = all_below (λ offset. not (has events offset) || has others offset) 16
 

@@ -12,14 +12,14 @@ is_there masks place = has masks.readable place || has masks.settable place
 abbrev pub place_of : ℕ → ℕ
 place_of rank = slice_index (2 ∷ 1 ∷ 0 ∷ 3 ∷ 4 ∷ 5 ∷ []) rank
 
--- no threshold that the sensor has is above a higher one that it has
+-- the sensor's thresholds don't decrease from the lowest to the highest
 abbrev pub IsInOrder : ThresholdMasks → List ℕ → Type 0
 IsInOrder masks value =
     (low high : ℕ) → low < high → high < 6
     → IsTrue (is_there masks (place_of low)) → IsTrue (is_there masks (place_of high))
     → slice_index value (place_of low) ≤ slice_index value (place_of high)
 
--- a value that the sensor can have: 0 where it has no threshold
+-- a value that the sensor can have: 0 at each place without a threshold
 pub record IsThresholds (masks : ThresholdMasks) (value : List ℕ) : Type 0 where
   pub six : length value ≡ 6
   pub absent : (place : ℕ) → place < 6 → IsFalse (is_there masks place) → slice_index value place ≡ 0
@@ -34,6 +34,6 @@ are_in_order masks value high low =
 unfoldable pub is_in_order : ThresholdMasks → List ℕ → Bool
 is_in_order masks value = all_below (λ high. all_below (are_in_order masks value high) high) 6
 
--- the test that there is 0 where the sensor has no threshold
+-- the test that each place without a threshold has 0
 unfoldable pub is_clear : ThresholdMasks → List ℕ → Bool
 is_clear masks value = all_below (λ place. is_there masks place || (slice_index value place == 0)) 6
