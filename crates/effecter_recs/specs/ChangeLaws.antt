@@ -1,4 +1,4 @@
--- What changes of fields are like.
+-- Laws of changes of fields.
 use Rattle.std.proofs.Common.{◌≡◌, ℕ, ◌*◌, ◌<◌, ◌≤◌, List, [], ◌∷◌, length, take, drop, slice_index, Bool, true, false, ◌||◌, if◌then◌else◌, refl, ap, subst, ◌∙◌, arith}
 use Rattle.std.proofs.Props.{props}
 use Rattle.std.specs.List.{list_any, list_all}
@@ -28,7 +28,7 @@ pub three_each : (operational : ℕ) (states : List ℕ) → length (shown_field
 three_each operational [] = refl
 three_each operational (s ∷ ss) = let rest : length (shown_fields operational ss) ≡ 3 * length ss = three_each operational ss in omega arith
 
--- operations that change the same fields of one effecter alike are one
+-- operations with the same changes of the same effecter are the same
 abbrev set_states : (effecter : ℕ) (changes : List FieldChange) → length changes ≤ 9 → SetStateEffecter
 set_states effecter changes few = record { effecter = effecter; changes = changes; few = few }
 
@@ -63,7 +63,7 @@ all_read changes few = ap (take 9) (read_back changes) ∙ take_all 9 changes fe
 
 -- ---- what undoes changes
 
--- a change and what undoes it are of one field
+-- a change and its inverse are on the same field
 one_set : (b : Bool) (state : ℕ) → is_set (if b then set_to state else leave) ≡ b
 one_set true state = refl
 one_set false state = refl
@@ -95,7 +95,7 @@ one_back : (b : Bool) (state old : ℕ) → changed (if b then set_to old else l
 one_back true state old = refl
 one_back false state old = refl
 
--- what undoes changes brings each state back
+-- the inverse of changes brings each state back
 pub states_back : (operational : ℕ) (changes : List FieldChange) (old : List ℕ) → length changes ≡ length old → changed_states (undo_changes changes (shown_fields operational old)) (changed_states changes old) ≡ old
 states_back operational [] [] long = refl
 states_back operational (c ∷ cs) (s ∷ ss) long = λ i. one_back (is_set c) c.state s i ∷ states_back operational cs ss (omega arith) i
@@ -104,7 +104,7 @@ states_back operational (c ∷ cs) [] long = absurd (omega arith)
 
 -- ---- what is shown
 
--- states that are shown alike are one
+-- states with the same bytes in a reply are the same
 pub states_told : (operational : ℕ) (a b : List ℕ) → shown_states (shown_fields operational a) ≡ shown_states (shown_fields operational b) → a ≡ b
 states_told operational [] [] same = refl
 states_told operational (a ∷ more) (b ∷ others) same =

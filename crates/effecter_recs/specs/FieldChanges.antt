@@ -1,16 +1,17 @@
--- Changes of the fields of a state effecter, and what a Get reply shows of its fields (DSP0248).
+-- Changes of the fields of a state effecter, and the fields in a Get reply (DSP0248).
 use Rattle.std.specs.Prelude.{ℕ, List, [], ◌∷◌, drop, slice_index, Bool, true, nat_le, not, ◌==◌, ◌&&◌, ◌||◌, if◌then◌else◌}
 use Rattle.record_base.specs.declared.field_changes.FieldChange.{FieldChange}
 use Rattle.effecter_recs.specs.Requests.{enabled_state}
 
--- the change that sets a field to a state, and the one that leaves it: its state is ignored, so it is 0
+-- the change that sets a field to a state, and the change that leaves the field: an effecter ignores the state of the second change,
+-- which is 0
 abbrev pub set_to : ℕ → FieldChange
 set_to state = record { choice = 1; state = state }
 
 abbrev pub leave : FieldChange
 leave = record { choice = 0; state = 0 }
 
--- a field is to be set
+-- the change sets its field
 abbrev pub is_set : FieldChange → Bool
 is_set change = change.choice == 1
 
@@ -18,7 +19,7 @@ is_set change = change.choice == 1
 abbrev pub is_choice : FieldChange → Bool
 is_choice change = nat_le change.choice 1
 
--- a change has 0 for a state that is ignored
+-- a change has 0 for a state that an effecter ignores
 abbrev pub is_plain_change : FieldChange → Bool
 is_plain_change change = not (change.choice == 0) || (change.state == 0)
 
@@ -31,13 +32,13 @@ changed change old = if is_set change then change.state else old
 -- the states of fields after changes, one for each change
 abbrev pub changed_states : List FieldChange → List ℕ → List ℕ
 changed_states [] old = []
-changed_states (c ∷ cs) old = changed c (slice_index old 0) ∷ changed_states cs (drop 1 old)
+changed_states (change ∷ rest) old = changed change (slice_index old 0) ∷ changed_states rest (drop 1 old)
 
 -- ---- changes in the bytes of a request
 
 abbrev pub change_bytes : List FieldChange → List ℕ
 change_bytes [] = []
-change_bytes (c ∷ cs) = c.choice ∷ c.state ∷ change_bytes cs
+change_bytes (change ∷ rest) = change.choice ∷ change.state ∷ change_bytes rest
 
 abbrev pub changes_of : List ℕ → List FieldChange
 changes_of (choice ∷ state ∷ bytes) = record { choice = choice; state = state } ∷ changes_of bytes
@@ -45,7 +46,7 @@ changes_of _ = []
 
 -- ---- fields in the bytes of a reply
 
--- what is shown of fields in these states: the operational state, then the pending and the present state, which are one
+-- the bytes of a Get reply for fields in these states: the operational state, then the state twice, as the pending and the present one
 abbrev pub shown_fields : ℕ → List ℕ → List ℕ
 shown_fields operational [] = []
 shown_fields operational (state ∷ states) = operational ∷ state ∷ state ∷ shown_fields operational states
@@ -55,15 +56,15 @@ abbrev pub shown_states : List ℕ → List ℕ
 shown_states (operational ∷ pending ∷ present ∷ shown) = pending ∷ present ∷ shown_states shown
 shown_states _ = []
 
--- each field that is to be set is shown as enabled
+-- the reply shows each field that the changes set as enabled
 abbrev pub are_enabled : List FieldChange → List ℕ → Bool
 are_enabled [] shown = true
-are_enabled (c ∷ cs) shown = (not (is_set c) || (slice_index shown 0 == enabled_state)) && are_enabled cs (drop 3 shown)
+are_enabled (change ∷ rest) shown = (not (is_set change) || (slice_index shown 0 == enabled_state)) && are_enabled rest (drop 3 shown)
 
--- the changes of the same fields to the present states that are shown
+-- the changes of the same fields to the present states that the reply shows
 abbrev pub undo_change : FieldChange → ℕ → FieldChange
 undo_change change present = if is_set change then set_to present else leave
 
 abbrev pub undo_changes : List FieldChange → List ℕ → List FieldChange
 undo_changes [] shown = []
-undo_changes (c ∷ cs) shown = undo_change c (slice_index shown 2) ∷ undo_changes cs (drop 3 shown)
+undo_changes (change ∷ rest) shown = undo_change change (slice_index shown 2) ∷ undo_changes rest (drop 3 shown)

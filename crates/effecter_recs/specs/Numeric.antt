@@ -1,5 +1,5 @@
 -- The present value of a numeric effecter, as a kind of record (DSP0248). A value has the bytes of one number of the effecter's size, the
--- low one first.
+-- low byte first.
 use Rattle.std.specs.Prelude.{◌≡◌, ℕ, ◌+◌, ◌*◌, ◌≤◌, List, [], ◌∷◌, ◌++◌, drop, take, length, slice_index, Bool, ◌&&◌, ◌==◌, nat_le, IsTrue, if◌then◌else◌, Result, Ok, Err, Option, Some, None, refl}
 use Rattle.two_wire.specs.Codes.{pldm_invalid_data, pldm_invalid_length}
 use Rattle.record_base.specs.declared.key.Key.{Key}
@@ -17,7 +17,7 @@ use Rattle.record_base.specs.Requests.{byte_at}
 use Rattle.effecter_recs.specs.declared.numeric.NumericLimits.{NumericLimits}
 use Rattle.effecter_recs.specs.Requests.{effecter_request, id_bytes, id_in, enabled_state, operational_state}
 
--- the commands that set it and get it
+-- the Set command and the Get command
 abbrev pub set_numeric_effecter_value : ℕ
 set_numeric_effecter_value = 0x31
 
@@ -26,23 +26,23 @@ get_numeric_effecter_value = 0x32
 
 -- ---- the bytes of an operation's value
 
--- those bytes: where no size has so many, three of 00h stand for them
+-- the bytes of an operation's value. Three bytes 00h stand for bytes that are as many as no size has.
 abbrev pub value_bytes : NumericBytes → List ℕ
-value_bytes (One a) = a ∷ []
-value_bytes (Two a b) = a ∷ b ∷ []
-value_bytes (Four a b c d) = a ∷ b ∷ c ∷ d ∷ []
+value_bytes (One only) = only ∷ []
+value_bytes (Two low high) = low ∷ high ∷ []
+value_bytes (Four first second third fourth) = first ∷ second ∷ third ∷ fourth ∷ []
 value_bytes Other = 0 ∷ 0 ∷ 0 ∷ []
 
 -- the value of these bytes
 abbrev pub value_of : List ℕ → NumericBytes
-value_of (a ∷ []) = One a
-value_of (a ∷ b ∷ []) = Two a b
-value_of (a ∷ b ∷ c ∷ d ∷ []) = Four a b c d
+value_of (only ∷ []) = One only
+value_of (low ∷ high ∷ []) = Two low high
+value_of (first ∷ second ∷ third ∷ fourth ∷ []) = Four first second third fourth
 value_of _ = Other
 
 -- ---- what a Set makes
 
--- an enabled effecter takes a number of its size that is within its bounds, whatever the old one is
+-- an enabled effecter takes any number of its size within its bounds
 pub record SetsNumeric (limits : NumericLimits) (op : SetNumericEffecter) (new : List ℕ) : Type 0 where
   pub enabled : IsTrue limits.enabled
   pub of_size : op.size ≡ code_of limits.range.size
@@ -53,7 +53,7 @@ pub record SetsNumeric (limits : NumericLimits) (op : SetNumericEffecter) (new :
 abbrev pub is_accepted : NumericLimits → List ℕ → Bool
 is_accepted limits bytes = limits.enabled && is_numeric limits.range bytes
 
--- the new value, or the first code that refuses it: another size comes first, then a wrong length
+-- the new value, or the code of the first refusal: another size comes first, then a wrong length
 abbrev pub numeric_outcome : NumericLimits → SetNumericEffecter → Result (List ℕ) ℕ
 numeric_outcome limits op =
     if op.size == code_of limits.range.size
@@ -68,7 +68,7 @@ numeric_outcome limits op =
 abbrev pub numeric_body : SetNumericEffecter → List ℕ
 numeric_body op = id_bytes op.effecter ++ op.size ∷ value_bytes op.value
 
--- the operation that such data say
+-- the operation with these data
 abbrev pub numeric_effecter_in : List ℕ → SetNumericEffecter
 numeric_effecter_in body = record { effecter = id_in body; size = byte_at body 2; value = value_of (drop 3 body) }
 
@@ -76,11 +76,11 @@ numeric_effecter_in body = record { effecter = id_in body; size = byte_at body 2
 abbrev pub numeric_view : NumericLimits → List ℕ → List ℕ
 numeric_view limits value = code_of limits.range.size ∷ operational_state limits.enabled ∷ value ++ value
 
--- how many bytes a number has whose size this number stands for
+-- how many bytes a number of the size with this code has
 abbrev pub said_width : ℕ → ℕ
 said_width code = if nat_le code 1 then 1 else (if nat_le code 3 then 2 else 4)
 
--- a Get reply, by the size that it says
+-- a Get reply, by its size
 pub record IsNumericReply (reply : List ℕ) : Type 0 where
   pub known : slice_index reply 0 ≤ 5
   pub whole : length reply ≡ 2 + 2 * said_width (slice_index reply 0)
@@ -89,7 +89,7 @@ pub record IsNumericReply (reply : List ℕ) : Type 0 where
 abbrev pub present_in : List ℕ → List ℕ
 present_in reply = drop (said_width (slice_index reply 0)) (drop 2 reply)
 
--- the test that it is a Get reply of an enabled effecter
+-- the test that the data are a Get reply of an enabled effecter
 abbrev pub is_enabled_reply : List ℕ → Bool
 is_enabled_reply reply = nat_le (slice_index reply 0) 5 && ((length reply == 2 + 2 * said_width (slice_index reply 0)) && (slice_index reply 1 == enabled_state))
 

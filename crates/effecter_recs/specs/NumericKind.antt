@@ -1,4 +1,4 @@
--- NumericEffecter as one value, and where it stands among all kinds.
+-- The kind NumericEffecter, and its place among all kinds.
 use Rattle.std.specs.Prelude.{ℕ}
 use Rattle.record_base.specs.declared.numeric_effecter.SetNumericEffecter.{SetNumericEffecter}
 use Rattle.record_base.specs.Kind.{Kind}
@@ -9,14 +9,14 @@ use Rattle.effecter_recs.specs.declared.numeric.NumericLimits.{NumericLimits}
 use Rattle.effecter_recs.specs.Numeric.{numeric_effecter_in, words, record_words, place}
 use Rattle.effecter_recs.specs.NumericLaws.{kind_laws, record_laws}
 
--- what it says, and that it holds
+-- the words and the laws of the kind
 abbrev pub kind : Kind ℕ SetNumericEffecter NumericLimits
 kind = record { words = words; record_words = record_words; kind_laws = kind_laws; record_laws = record_laws }
 
--- the kind, and where it stands among all
+-- the kind, and its place among all kinds
 abbrev pub member : Member ℕ SetNumericEffecter NumericLimits
 member = record { kind = kind; place = place }
 
--- what the data of its commands say
+-- the record and the operation that the data of the commands name
 abbrev pub reader : Reader
 reader = record { key_in = λ body. words.name (id_in body); op_in = λ body. place.op (numeric_effecter_in body) }

@@ -116,7 +116,7 @@ reply_is limits value is = record {
   whole = omega (arith, length-append value value, is.of_size, said_is limits.range.size);
 }
 
--- the value twice tells the value
+-- the value twice determines the value
 twice_tells : (a b : List ℕ) → length a ≡ length b → a ++ a ≡ b ++ b → a ≡ b
 twice_tells a b long same = sym (drop-append_seam a a) ∙ ap (λ (n : ℕ). drop n (a ++ a)) long ∙ ap (drop (length b)) same ∙ drop-append_seam b b
 
@@ -124,7 +124,7 @@ twice_tells a b long same = sym (drop-append_seam a a) ∙ ap (λ (n : ℕ). dro
 present_is : (limits : NumericLimits) (value : List ℕ) → IsNumeric limits.range value → present_in (numeric_view limits value) ≡ value
 present_is limits value is = ap (λ (n : ℕ). drop n (value ++ value)) (said_is limits.range.size ∙ sym is.of_size) ∙ drop-append_seam value value
 
--- what is made from a Get reply brings the value back
+-- the inverse from a Get reply brings the value back
 undoes_numeric : (limits : NumericLimits) (op : SetNumericEffecter) (old : List ℕ) → (limits.enabled ≡ true) → IsNumeric limits.range old → SetsNumeric limits (undo_numeric op (numeric_view limits old)) old
 undoes_numeric limits op old enabled is = record {
   enabled = enabled;

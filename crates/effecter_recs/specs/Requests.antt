@@ -3,11 +3,11 @@ use Rattle.std.specs.Prelude.{ℕ, ◌+◌, ◌*◌, ◌/◌, ◌%◌, List, [],
 use Rattle.record_base.specs.declared.message.Asked.{Asked}
 use Rattle.record_base.specs.Requests.{platform, pldm_request, byte_at}
 
--- the request of platform monitoring and control with this command and data: from nobody
+-- the request of platform monitoring and control with this command and data, without a sender
 abbrev pub effecter_request : ℕ → List ℕ → Asked
 effecter_request command body = pldm_request platform command body
 
--- the bytes of an effecter's id, the low one first
+-- the bytes of an effecter's id, the low byte first
 abbrev pub id_bytes : ℕ → List ℕ
 id_bytes id = id % 256 ∷ id / 256 ∷ []
 

@@ -16,7 +16,7 @@ use Rattle.effecter_recs.specs.Requests.{effecter_request, id_bytes, id_in, oper
 use Rattle.effecter_recs.specs.FieldChanges.{is_set, is_choice, is_plain_change, changed_states, change_bytes, changes_of, shown_fields, shown_states, are_enabled, undo_changes}
 use Rattle.effecter_recs.specs.ChangeLaws.{nine_taken, few_undone}
 
--- the commands that set them and get them
+-- the Set command and the Get command
 abbrev pub set_state_effecter_states : ℕ
 set_state_effecter_states = 0x39
 
@@ -25,7 +25,8 @@ get_state_effecter_states = 0x3A
 
 -- ---- what a Set makes
 
--- an effecter whose fields these are takes as many changes, of which each leaves its field or sets it to a state that it can be in; only an enabled one is set
+-- an effecter takes one change for each of its fields. The change leaves the field, or sets the field to a state that it can be in. No
+-- change sets a field of a disabled effecter.
 pub record SetsStates (effecter : StateEffecter) (op : SetStateEffecter) (old new : List ℕ) : Type 0 where
   pub many : length op.changes ≡ length effecter.fields
   pub choices : IsTrue (list_all is_choice op.changes)
@@ -33,11 +34,11 @@ pub record SetsStates (effecter : StateEffecter) (op : SetStateEffecter) (old ne
   pub is_new : new ≡ changed_states op.changes old
   pub allowed : IsTrue (are_states effecter.fields new)
 
--- the request fits the effecter, whatever the states are that it names
+-- the request fits the effecter, apart from the states that it names
 abbrev pub fits_effecter : StateEffecter → List FieldChange → Bool
 fits_effecter effecter changes = (length changes == length effecter.fields) && (list_all is_choice changes && (effecter.enabled || not (list_any is_set changes)))
 
--- the new value, or the first code that refuses it: all that is wrong with any field comes before any state that isn't allowed
+-- the new value, or the code of the first refusal: any other fault of any field comes before any state that a field can't be in
 abbrev pub state_outcome : StateEffecter → SetStateEffecter → List ℕ → Result (List ℕ) ℕ
 state_outcome effecter op old =
     if fits_effecter effecter op.changes
@@ -50,11 +51,11 @@ state_outcome effecter op old =
 abbrev pub state_body : SetStateEffecter → List ℕ
 state_body op = id_bytes op.effecter ++ length op.changes ∷ change_bytes op.changes
 
--- the operation that such data say: 9 changes stand for more
+-- the operation with these data: 9 changes stand for more
 abbrev pub state_effecter_in : List ℕ → SetStateEffecter
 state_effecter_in body = record { effecter = id_in body; changes = take 9 (changes_of (drop 3 body)); few = nine_taken (changes_of (drop 3 body)) }
 
--- the Get reply: how many fields there are, and each of them
+-- the Get reply: the number of fields, and each field
 abbrev pub state_view : StateEffecter → List ℕ → List ℕ
 state_view effecter value = length value ∷ shown_fields (operational_state effecter.enabled) value
 
@@ -67,7 +68,7 @@ pub record IsStateReply (reply : List ℕ) : Type 0 where
 abbrev pub is_state_reply : List ℕ → Bool
 is_state_reply reply = nat_le 1 (slice_index reply 0) && (nat_le (slice_index reply 0) 8 && (length reply == 1 + 3 * slice_index reply 0))
 
--- the test that it is one in which each field to be set is enabled
+-- the test that the data are a Get reply in which each field that the operation sets is enabled
 abbrev pub is_undoable : SetStateEffecter → List ℕ → Bool
 is_undoable op reply = is_state_reply reply && are_enabled op.changes (drop 1 reply)
 
@@ -88,7 +89,7 @@ words = record {
   set_reply = λ op. [];
   next_live = λ op live. live;
   is_reply = λ op reply. IsStateReply reply;
-  -- where the reply says that each field to be set is enabled
+  -- the reply shows each field that the operation sets as enabled
   restorable = λ op reply. IsTrue (are_enabled op.changes (drop 1 reply));
   inverse = λ op reply. if is_undoable op reply then Some (undo_states op reply) else None;
   -- the state of a field that is left is ignored

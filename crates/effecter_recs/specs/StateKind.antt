@@ -1,4 +1,4 @@
--- StateEffecter as one value, and where it stands among all kinds. The limits of a record are its effecter, where the board file has it.
+-- The kind StateEffecter, and its place among all kinds. The limits of a record are its effecter, which the board file has.
 use Rattle.std.specs.Prelude.{ℕ}
 use Rattle.record_base.specs.declared.state_effecter.StateEffecter.{StateEffecter}
 use Rattle.record_base.specs.declared.state_effecter.SetStateEffecter.{SetStateEffecter}
@@ -9,14 +9,14 @@ use Rattle.effecter_recs.specs.Requests.{id_in}
 use Rattle.effecter_recs.specs.State.{state_effecter_in, words, record_words, place}
 use Rattle.effecter_recs.specs.StateLaws.{kind_laws, record_laws}
 
--- what it says, and that it holds
+-- the words and the laws of the kind
 abbrev pub kind : Kind ℕ SetStateEffecter StateEffecter
 kind = record { words = words; record_words = record_words; kind_laws = kind_laws; record_laws = record_laws }
 
--- the kind, and where it stands among all
+-- the kind, and its place among all kinds
 abbrev pub member : Member ℕ SetStateEffecter StateEffecter
 member = record { kind = kind; place = place }
 
--- what the data of its commands say
+-- the record and the operation that the data of the commands name
 abbrev pub reader : Reader
 reader = record { key_in = λ body. words.name (id_in body); op_in = λ body. place.op (state_effecter_in body) }

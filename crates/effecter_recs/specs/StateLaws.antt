@@ -75,7 +75,7 @@ reply_is effecter value is =
     let count = counted effecter value is in
     record { some = count.0; few = count.1; whole = omega (arith, three_each (operational_state effecter.enabled) value) }
 
--- what is made from a Get reply brings the value back
+-- the inverse from a Get reply brings the value back
 undoes_states : (effecter : StateEffecter) (op : SetStateEffecter) (old new : List ℕ) → are_states effecter.fields old ≡ true → SetsStates effecter op old new → SetsStates effecter (undo_states op (state_view effecter old)) new old
 undoes_states effecter op old new is_valid s =
     let shown : List ℕ = shown_fields (operational_state effecter.enabled) old in

@@ -1,4 +1,4 @@
-//! What becomes of the fields of a state effecter, and what a Get reply shows of them.
+//! Changes of the fields of a state effecter, and the fields in a Get reply.
 ghost use Rattle.std.specs.Prelude.{◌≡◌, ◌+◌, ◌*◌, ◌≤◌, ◌++◌, length, take};
 ghost use Rattle.std.specs.List.{list_any, list_all};
 ghost use Rattle.effecter_recs.specs.FieldChanges.{is_set, is_choice, changed_states, changes_of, shown_fields, are_enabled, undo_change, undo_changes};
@@ -8,19 +8,19 @@ use crate::request::ENABLED;
 use record_base::{FieldChange, FieldChanges, byte_at};
 use two_wire::{Buffer, Bytes};
 
-/// The first byte of a change that leaves its field, and of one that sets it.
+/// The first byte of a change that leaves its field, and of a change that sets its field.
 const LEAVE: u8 = 0;
 
 const SET: u8 = 1;
 
-/// Whether the field is to be set.
+/// Whether the change sets its field.
 fn is_set(change: &FieldChange) -> bool
     ensures { result ≡ is_set change.now }
 {
     change.choice == SET
 }
 
-/// Whether any field is to be set.
+/// Whether any change sets its field.
 pub fn any_set(changes: &[FieldChange]) -> bool
     ensures { result ≡ list_any is_set changes.now }
 {
@@ -34,7 +34,7 @@ pub fn are_choices(changes: &[FieldChange]) -> bool
     changes.iter().all(|change| change.choice <= SET)
 }
 
-/// The states of fields after these changes, from their old ones.
+/// The states of fields after these changes, from their old states.
 pub fn changed_states(changes: &[FieldChange], old: &[u8]) -> Bytes<9>
     requires { length changes.now ≤ 9 }
     ensures { result ≡ changed_states changes.now old.now }
@@ -52,7 +52,7 @@ pub fn changed_states(changes: &[FieldChange], old: &[u8]) -> Bytes<9>
     states
 }
 
-/// The changes that these bytes say: the first 9 of them.
+/// The changes with these bytes: the first 9 of them.
 pub fn changes_in(bytes: &[u8]) -> FieldChanges
     ensures { result ≡ take 9 (changes_of bytes.now) }
 {
@@ -70,7 +70,7 @@ pub fn changes_in(bytes: &[u8]) -> FieldChanges
     changes
 }
 
-/// Appends what is shown of fields in these states.
+/// Appends the bytes of a Get reply for fields in these states.
 pub fn show_fields<B: Buffer>(operational: u8, states: &[u8], reply: &mut B)
     requires { length (B.bytes reply.old) + 3 * length states.now ≤ B.capacity }
     ensures { B.bytes reply.new ≡ B.bytes reply.old ++ shown_fields operational states.now }
@@ -80,7 +80,7 @@ pub fn show_fields<B: Buffer>(operational: u8, states: &[u8], reply: &mut B)
     }
 }
 
-/// Whether each field that is to be set is shown as enabled.
+/// Whether the reply shows each field that the changes set as enabled.
 pub fn are_enabled(changes: &[FieldChange], shown: &[u8]) -> bool
     ensures { result ≡ are_enabled changes.now shown.now }
 {
@@ -111,7 +111,7 @@ fn undo_change(change: &FieldChange, present: u8) -> FieldChange
     }
 }
 
-/// The changes of the same fields to the present states that are shown.
+/// The changes of the same fields to the present states that the reply shows.
 pub fn undo_changes(changes: &[FieldChange], shown: &[u8]) -> FieldChanges
     requires { length changes.now ≤ 9 }
     ensures { result ≡ undo_changes changes.now shown.now }

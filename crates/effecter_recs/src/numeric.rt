@@ -10,13 +10,13 @@ use record_base::{
 use two_wire::code::{PLDM_INVALID_DATA, PLDM_INVALID_LENGTH};
 use two_wire::{Buffer, Bytes, Code};
 
-/// The number of the command that sets it.
+/// The number of the Set command.
 const SET_NUMERIC_EFFECTER_VALUE: u8 = 0x31;
 
-/// The number of the command that gets it.
+/// The number of the Get command.
 const GET_NUMERIC_EFFECTER_VALUE: u8 = 0x32;
 
-/// Whether the effecter can be set, and to which numbers.
+/// Whether a Set can set the effecter, and the numbers to which a Set can set it.
 #[derive(Clone, Copy, Debug, PartialEq, Eq)]
 pub struct NumericLimits {
     pub enabled: bool,
@@ -47,7 +47,7 @@ fn value_of(bytes: &[u8]) -> NumericBytes
     }
 }
 
-/// What stands behind so many bytes.
+/// The bytes behind the first `count` bytes.
 pub(crate) fn behind(bytes: &[u8], count: usize) -> &[u8]
     ensures { result.now ≡ drop count bytes.now }
 {
@@ -68,7 +68,7 @@ fn body(op: &SetNumericEffecter) -> RecordData
     body
 }
 
-/// The operation that the data of its request says.
+/// The operation with these data.
 fn numeric_effecter_in(body: &[u8]) -> SetNumericEffecter
     ensures { result ≡ numeric_effecter_in body.now }
 {
@@ -79,7 +79,7 @@ fn numeric_effecter_in(body: &[u8]) -> SetNumericEffecter
     }
 }
 
-/// How many bytes a number has whose size this number stands for.
+/// How many bytes a number of the size with this code has.
 fn said_width(code: u8) -> usize
     ensures value { result ≡ said_width code }
     ensures few { result ≤ 4 }
@@ -98,7 +98,7 @@ fn present_in(reply: &[u8]) -> &[u8]
     behind(behind(reply, 2), said_width(byte_at(reply, 0)))
 }
 
-/// Whether it is a Get reply of an enabled effecter.
+/// Whether the data are a Get reply of an enabled effecter.
 fn is_enabled_reply(reply: &[u8]) -> bool
     ensures { result ≡ is_enabled_reply reply.now }
 {
@@ -107,10 +107,6 @@ fn is_enabled_reply(reply: &[u8]) -> bool
 }
 
 impl NumericLimits {
-    ghost use Rattle.std.specs.Prelude.{OnErr};
-    ghost use Rattle.record_base.specs.Meaning.{told};
-    ghost use Rattle.effecter_recs.specs.Numeric.{numeric_outcome};
-
     /// The limits that an effecter gives.
     pub fn of(effecter: &NumericEffecter) -> Self
         ensures { result ≡ record { enabled = effecter.now.enabled; range = effecter.now.range } }
@@ -119,25 +115,6 @@ impl NumericLimits {
             enabled: effecter.enabled,
             range: effecter.range,
         }
-    }
-
-    /// Makes `new` the value that the operation makes.
-    fn set(&self, op: &SetNumericEffecter, new: &mut Value) -> Result<(), Code>
-        ensures outcome { told result new.new ≡ numeric_outcome self.now op.now }
-        ensures kept { OnErr result (new.new ≡ new.old) }
-    {
-        let value = value_bytes(&op.value);
-        if op.size != self.range.size.code() {
-            return Err(PLDM_INVALID_DATA);
-        }
-        if value.len() != self.range.size.width() {
-            return Err(PLDM_INVALID_LENGTH);
-        }
-        if !self.enabled || !self.range.is_numeric(value.as_slice()) {
-            return Err(PLDM_INVALID_DATA);
-        }
-        new.replace(value.as_slice());
-        Ok(())
     }
 }
 
@@ -172,7 +149,18 @@ impl<'a> RecordKind<'a> for NumericLimits {
 
     #[inline(always)]
     fn apply(&self, op: &SetNumericEffecter, _value: &[u8], new: &mut Value) -> Result<(), Code> {
-        self.set(op, new)
+        let value = value_bytes(&op.value);
+        if op.size != self.range.size.code() {
+            return Err(PLDM_INVALID_DATA);
+        }
+        if value.len() != self.range.size.width() {
+            return Err(PLDM_INVALID_LENGTH);
+        }
+        if !self.enabled || !self.range.is_numeric(value.as_slice()) {
+            return Err(PLDM_INVALID_DATA);
+        }
+        new.replace(value.as_slice());
+        Ok(())
     }
 
     fn set_reply<B: Buffer>(_op: &SetNumericEffecter, _reply: &mut B) {}

@@ -15,7 +15,7 @@ pub const ENABLED: u8 = 1;
 /// The operational state of an effecter that is disabled.
 const DISABLED: u8 = 2;
 
-/// The request of platform monitoring and control with this command and data: from nobody.
+/// The request of platform monitoring and control with this command and data, without a sender.
 pub fn effecter_request(command: u8, body: &[u8]) -> Asked
     requires { length body.now ≤ most_pldm_request_data }
     ensures { result ≡ effecter_request command body.now }
@@ -23,7 +23,7 @@ pub fn effecter_request(command: u8, body: &[u8]) -> Asked
     Asked::pldm(Below::new(PLATFORM), command, body)
 }
 
-/// The bytes of an effecter's id, the low one first.
+/// The bytes of an effecter's id, the low byte first.
 pub fn id_bytes(id: u16) -> [u8; 2]
     ensures { result ≡ id_bytes id }
 {

@@ -15,13 +15,14 @@ use std::marker::Model;
 use two_wire::code::{PLDM_INVALID_DATA, PLDM_INVALID_STATE};
 use two_wire::{Buffer, Code};
 
-/// The number of the command that sets them.
+/// The number of the Set command.
 const SET_STATE_EFFECTER_STATES: u8 = 0x39;
 
-/// The number of the command that gets them.
+/// The number of the Get command.
 const GET_STATE_EFFECTER_STATES: u8 = 0x3A;
 
-/// Which states its fields can be in, and whether it can be set: the effecter itself, where the board file has it.
+/// The states that the effecter's fields can be in, and whether a Set can set the effecter: the effecter itself, borrowed from the
+/// board file.
 #[derive(Debug, Drop)]
 pub struct StateLimits<'f> {
     effecter: &'f StateEffecter,
@@ -51,7 +52,7 @@ fn body(op: &SetStateEffecter) -> RecordData
     body
 }
 
-/// The operation that the data of its request says.
+/// The operation with these data.
 fn state_effecter_in(body: &[u8]) -> SetStateEffecter
     ensures { result ≡ state_effecter_in body.now }
 {
@@ -61,7 +62,7 @@ fn state_effecter_in(body: &[u8]) -> SetStateEffecter
     }
 }
 
-/// Whether it is a Get reply.
+/// Whether the data are a Get reply.
 fn is_state_reply(reply: &[u8]) -> bool
     ensures { result ≡ is_state_reply reply.now }
 {
@@ -69,7 +70,7 @@ fn is_state_reply(reply: &[u8]) -> bool
     1 <= count && count <= 8 && reply.len() == 1 + 3 * count as usize
 }
 
-/// Whether it is a Get reply in which each field to be set is enabled.
+/// Whether the data are a Get reply in which each field that the operation sets is enabled.
 fn is_undoable(op: &SetStateEffecter, reply: &[u8]) -> bool
     ensures { result ≡ is_undoable op.now reply.now }
 {
@@ -88,9 +89,7 @@ fn undo_states(op: &SetStateEffecter, reply: &[u8]) -> SetStateEffecter
 }
 
 impl<'f> StateLimits<'f> {
-    ghost use Rattle.std.specs.Prelude.{OnErr};
-    ghost use Rattle.record_base.specs.Meaning.{told};
-    ghost use Rattle.effecter_recs.specs.State.{fits_effecter, state_outcome};
+    ghost use Rattle.effecter_recs.specs.State.{fits_effecter};
 
     /// The limits that an effecter gives.
     pub fn of(effecter: &'f StateEffecter) -> Self
@@ -99,30 +98,13 @@ impl<'f> StateLimits<'f> {
         StateLimits { effecter }
     }
 
-    /// Whether a request of these changes fits the effecter, whatever the states are that it names.
+    /// Whether a request of these changes fits the effecter, apart from the states that it names.
     fn fits(&self, changes: &[FieldChange]) -> bool
         ensures { result ≡ fits_effecter self.now changes.now }
     {
         changes.len() == self.effecter.fields.as_slice().len()
             && are_choices(changes)
             && (self.effecter.enabled || !any_set(changes))
-    }
-
-    /// Makes `new` the value that the operation makes.
-    fn set(&self, op: &SetStateEffecter, old: &[u8], new: &mut Value) -> Result<(), Code>
-        ensures outcome { told result new.new ≡ state_outcome self.now op.now old.now }
-        ensures kept { OnErr result (new.new ≡ new.old) }
-    {
-        let changes = op.changes.as_slice();
-        if !self.fits(changes) {
-            return Err(PLDM_INVALID_DATA);
-        }
-        let states = changed_states(changes, old);
-        if !self.effecter.are_states(states.as_slice()) {
-            return Err(PLDM_INVALID_STATE);
-        }
-        new.replace(states.as_slice());
-        Ok(())
     }
 }
 
@@ -163,11 +145,21 @@ impl<'a, 'f> RecordKind<'a> for StateLimits<'f> {
     }
 
     fn apply(&self, op: &SetStateEffecter, value: &[u8], new: &mut Value) -> Result<(), Code> {
-        self.set(op, value, new)
+        let changes = op.changes.as_slice();
+        if !self.fits(changes) {
+            return Err(PLDM_INVALID_DATA);
+        }
+        let states = changed_states(changes, value);
+        if !self.effecter.are_states(states.as_slice()) {
+            return Err(PLDM_INVALID_STATE);
+        }
+        new.replace(states.as_slice());
+        Ok(())
     }
 
     fn set_reply<B: Buffer>(_op: &SetStateEffecter, _reply: &mut B)
-        requires room { length (B.bytes _reply.old) + length (state.kind.words.set_reply _op.now) ≤ B.capacity }
+        requires room { length (B.bytes _reply.old)
+            + length (state.kind.words.set_reply _op.now) ≤ B.capacity }
         ensures { B.bytes _reply.new ≡ B.bytes _reply.old ++ state.kind.words.set_reply _op.now }
     {}
 
