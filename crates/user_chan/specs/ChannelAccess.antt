@@ -19,7 +19,7 @@ use Rattle.record_base.specs.ChannelAccess.{IsChannelAccess}
 use Rattle.record_base.specs.Numbers.{six_bits_in}
 use Rattle.record_base.specs.Requests.{application, ipmi_request}
 
--- the commands that set it and get it
+-- the Set command and the Get command
 abbrev pub set_channel_access : ℕ
 set_channel_access = 0x40
 
@@ -28,7 +28,7 @@ get_channel_access = 0x41
 
 -- ---- what a Set makes
 
--- the mode of an access is a known one
+-- the mode of an access is known
 abbrev pub is_access : ℕ → Bool
 is_access byte = nat_le (byte % 8) 3
 
@@ -36,19 +36,19 @@ is_access byte = nat_le (byte % 8) 3
 abbrev pub is_limit : ℕ → Bool
 is_limit byte = nat_le 1 (byte % 16) && nat_le (byte % 16) 5
 
--- each part that the change names is one that a channel can have
+-- a channel can have each part that the change names
 abbrev pub is_change : ChannelChange → Bool
 is_change (Access access) = is_access access.number
 is_change (Limit limit) = is_limit limit.number
 is_change (Both access limit) = is_access access.number && is_limit limit.number
 
--- the parts that a change names become what it says, and the others stay
+-- the value after a change: the parts that the change names become new, and the others stay
 abbrev pub changed : ChannelChange → List ℕ → List ℕ
 changed (Access access) old = access.number ∷ slice_index old 1 ∷ []
 changed (Limit limit) old = slice_index old 0 ∷ limit.number % 16 ∷ []
 changed (Both access limit) old = access.number ∷ limit.number % 16 ∷ []
 
--- a change that a channel can have is made
+-- the change is one that a channel can have, and makes the new value
 pub record SetsChannelAccess (op : SetChannelAccess) (old new : List ℕ) : Type 0 where
   pub accepted : IsTrue (is_change op.change)
   pub made : new ≡ changed op.change old
@@ -65,11 +65,11 @@ store_bits NonVolatile = 1
 store_bits Volatile = 2
 store_bits Neither = 3
 
--- six bits behind those of the store
+-- six bits behind the bits of the store
 abbrev pub in_store : AccessStore → ℕ → ℕ
 in_store store bits = store_bits store * 64 + bits
 
--- the two bytes of a change: 00h leaves what stands there
+-- the two bytes of a change: 00h leaves a part
 abbrev pub change_bytes : AccessStore → ChannelChange → List ℕ
 change_bytes store (Access access) = in_store store access.number ∷ 0 ∷ []
 change_bytes store (Limit limit) = 0 ∷ in_store store limit.number ∷ []
@@ -79,7 +79,7 @@ change_bytes store (Both access limit) = in_store store access.number ∷ in_sto
 abbrev pub channel_body : SetChannelAccess → List ℕ
 channel_body op = op.channel.number ∷ change_bytes op.store op.change
 
--- ---- what undoes it
+-- ---- the inverse
 
 -- the same parts, with the bytes that a reply shows
 abbrev pub undo_change : ChannelChange → List ℕ → ChannelChange
@@ -109,7 +109,7 @@ words = record {
   set_reply = λ op. [];
   next_live = λ op live. live;
   is_reply = λ op reply. length reply ≡ 2;
-  -- from each reply
+  -- each reply is enough
   restorable = λ op reply. Unit {0};
   inverse = λ op reply. if length reply == 2 then Some (undo_channel op reply) else None;
   is_plain = λ op. is_plain_change op.change;

@@ -1,4 +1,4 @@
--- ChannelAccess as one value, and where it stands among all kinds.
+-- The kind ChannelAccess, and its place among all kinds.
 use Rattle.record_base.specs.declared.channel.StoredAccess.{StoredAccess}
 use Rattle.record_base.specs.declared.channel.SetChannelAccess.{SetChannelAccess}
 use Rattle.record_base.specs.Kind.{Kind}
@@ -7,10 +7,10 @@ use Rattle.user_chan.specs.declared.channel_access.ChannelAccessLimits.{ChannelA
 use Rattle.user_chan.specs.ChannelAccess.{words, record_words, place}
 use Rattle.user_chan.specs.ChannelAccessLaws.{kind_laws, record_laws}
 
--- what it says, and that it holds
+-- the words and the laws of the kind
 abbrev pub kind : Kind StoredAccess SetChannelAccess ChannelAccessLimits
 kind = record { words = words; record_words = λ limits. record_words; kind_laws = kind_laws; record_laws = λ limits. record_laws }
 
--- the kind, and where it stands among all
+-- the kind, and its place among all kinds
 abbrev pub member : Member StoredAccess SetChannelAccess ChannelAccessLimits
 member = record { kind = kind; place = place }

@@ -102,7 +102,7 @@ plain_undo (Access access) reply = tt
 plain_undo (Limit limit) reply = small _
 plain_undo (Both access limit) reply = small _
 
--- what undoes an operation
+-- the inverse of an operation
 made_channel : (op made : SetChannelAccess) (reply : List ℕ) → words.inverse op reply ≡ Some made → undo_channel op reply ≡ made
 made_channel op made reply is = (made_where (length reply == 2) (undo_channel op reply) made is).1
 

@@ -1,5 +1,5 @@
--- What the commands of channel access ask for, by their data (IPMI 2.0, Set and Get Channel Access): the channel in bits 3:0 of the first byte,
--- and a store in bits 7:6 of the others.
+-- Requests of the commands of channel access, from their data (IPMI 2.0, Set and Get Channel Access): the channel in bits 3:0 of the first
+-- byte, and a store in bits 7:6 of the others.
 use Rattle.std.specs.Prelude.{ℕ, ◌/◌, ◌==◌, List, Bool, Option, Some, None, if◌then◌else◌}
 use Rattle.record_base.specs.declared.channel.AccessStore.{AccessStore}
 use Rattle.record_base.specs.declared.channel.AccessStore.TheVariants.{NonVolatile, Volatile, Neither}
@@ -28,18 +28,18 @@ stored_in body = stored (channel_in (byte_at body 0)) (store_at (byte_at body 1 
 
 -- ---- Set Channel Access
 
--- the store that these bits name for a part: 00b leaves the part, and 11b names none that there is
+-- the store that these bits name for a part: 00b leaves the part, and 11b names no store that a channel has
 abbrev pub named : ℕ → Option AccessStore
 named bits = if bits == 0 then None else Some (store_at bits)
 
--- the two stores are one
+-- both stores are the same
 abbrev pub same_store : AccessStore → AccessStore → Bool
-same_store a b = store_bits a == store_bits b
+same_store first second = store_bits first == store_bits second
 
 abbrev pub change : ChannelNumber → AccessStore → ChannelChange → SetChannelAccess
 change channel store what = record { channel = channel; store = store; change = what }
 
--- what is asked for, by the stores that are named for the access and for the limit
+-- the request, from the stores that it names for the access and for the limit
 abbrev pub asked_for : ChannelNumber → Option AccessStore → Option AccessStore → SixBits → SixBits → ChannelRequest
 asked_for channel None None access limit = Leave channel
 asked_for channel (Some store) None access limit = One (change channel store (Access access))

@@ -20,42 +20,42 @@ use Rattle.record_base.specs.LanItems.{parameter_on}
 use Rattle.record_base.specs.Requests.{transport, ipmi_request}
 use Rattle.record_base.specs.Vlan.{vlan_high}
 
--- the commands that set them and get them
+-- the Set command and the Get command
 abbrev pub set_lan_parameters : ℕ
 set_lan_parameters = 0x01
 
 abbrev pub get_lan_parameters : ℕ
 get_lan_parameters = 0x02
 
--- the revision of the parameters that a reply gives first: 1.1
+-- the revision of the parameters, 1.1, which a reply gives first
 abbrev pub lan_revision : ℕ
 lan_revision = 0x11
 
--- the two are one parameter
+-- both are the same parameter
 abbrev pub same_parameter : LanParameter → LanParameter → Bool
-same_parameter a b = lan_selector a == lan_selector b
+same_parameter first second = lan_selector first == lan_selector second
 
 -- ---- what a Set makes
 
--- what the change says is what a parameter can be: of a source bits 3:0 are at most 4
+-- a parameter can have the data of the change: bits 3:0 of a source are at most 4
 abbrev pub is_change : LanChange → Bool
 is_change (Address which address) = true
 is_change (AddressSource byte) = nat_le (byte % 16) 4
 is_change (Vlan vlan) = true
 
--- the value after a change: bits 7:4 of a source, and 6:4 of a VLAN's second byte, are ignored
+-- the value after a change, without the ignored bits: 7:4 of a source, and 6:4 of a VLAN's second byte
 abbrev pub value_after : LanChange → List ℕ
 value_after (Address which address) = address_bytes address
 value_after (AddressSource byte) = byte % 16 ∷ []
 value_after (Vlan vlan) = vlan.low ∷ vlan_high vlan.high ∷ []
 
--- the parameter becomes what the change says, where it can
+-- the parameter can have the data of the change, and gets them
 pub record SetsLanParam (parameter : LanParameter) (op : SetLanParam) (old new : List ℕ) : Type 0 where
   pub of_it : IsTrue (same_parameter (changed_parameter op.change) parameter)
   pub accepted : IsTrue (is_change op.change)
   pub made : new ≡ value_after op.change
 
--- the change is on the parameter, and accepted
+-- the change is on the parameter, and the parameter accepts it
 abbrev pub is_taken : LanParameter → LanChange → Bool
 is_taken parameter change = same_parameter (changed_parameter change) parameter && is_change change
 
@@ -81,7 +81,7 @@ lan_view value = lan_revision ∷ value
 abbrev pub lan_reply_length : LanParameter → ℕ
 lan_reply_length parameter = 1 + lan_length parameter
 
--- ---- what undoes it
+-- ---- the inverse
 
 -- the address that a reply shows
 abbrev pub shown_address : List ℕ → Ipv4Address
@@ -91,17 +91,17 @@ shown_address reply = record { first = slice_index reply 1; second = slice_index
 abbrev pub shown_vlan : List ℕ → VlanBytes
 shown_vlan reply = record { low = slice_index reply 1; high = vlan_high (slice_index reply 2) }
 
--- the change that brings back what a reply shows
+-- the change that brings back the data that a reply shows
 abbrev pub undo_change : LanChange → List ℕ → LanChange
 undo_change (Address which address) reply = Address which (shown_address reply)
 undo_change (AddressSource byte) reply = AddressSource (slice_index reply 1 % 16)
 undo_change (Vlan vlan) reply = Vlan (shown_vlan reply)
 
--- of the same channel
+-- the operation that brings back the data that a reply shows, on the same channel
 abbrev pub undo_lan : SetLanParam → List ℕ → SetLanParam
 undo_lan op reply = record { channel = op.channel; change = undo_change op.change reply }
 
--- bits 7:4 of a source, and 6:4 of a VLAN's second byte, are ignored
+-- the change has 0 in the ignored bits: 7:4 of a source, and 6:4 of a VLAN's second byte
 abbrev pub is_plain_change : LanChange → Type 0
 is_plain_change (Address which address) = Unit {0}
 is_plain_change (AddressSource byte) = byte < 16
@@ -120,7 +120,7 @@ words = record {
   set_reply = λ op. [];
   next_live = λ op live. live;
   is_reply = λ op reply. length reply ≡ lan_reply_length (changed_parameter op.change);
-  -- from each reply
+  -- each reply is enough
   restorable = λ op reply. Unit {0};
   inverse = λ op reply. if length reply == lan_reply_length (changed_parameter op.change) then Some (undo_lan op reply) else None;
   is_plain = λ op. is_plain_change op.change;

@@ -24,7 +24,7 @@ use Rattle.user_chan.specs.LanParam.{same_parameter, is_change, value_after, Set
 
 -- ---- parameters
 
--- a parameter is found by its number
+-- the number of a parameter finds the parameter
 found_at : (a : LanParameter) → lan_parameter_at (lan_selector a) ≡ Some a
 found_at (parameter.Address Ip) = refl
 found_at (parameter.Address SubnetMask) = refl
@@ -35,7 +35,7 @@ found_at parameter.Vlan = refl
 same_found : (a b : LanParameter) → Some a ≡ Some b → a ≡ b
 same_found a b h = cc
 
--- parameters of one number are one
+-- parameters of the same number are the same
 pub exact_parameter : (a b : LanParameter) → same_parameter a b ≡ true → a ≡ b
 exact_parameter a b h = same_found a b (sym (found_at a) ∙ ap lan_parameter_at (tested_same _ _ h) ∙ found_at b)
 
@@ -66,7 +66,7 @@ true_le a b h = grind (arith, nat_tests)
 le_true : (a b : ℕ) → a ≤ b → nat_le a b ≡ true
 le_true a b h = grind (arith, nat_tests)
 
--- ignored bits are cleared once
+-- to clear the ignored bits twice is to clear them once
 high_again : (byte : ℕ) → vlan_high (vlan_high byte) ≡ vlan_high byte
 high_again byte = omega arith
 
@@ -80,7 +80,7 @@ refused : (made : List ℕ) (code : ℕ) (b : Bool) → (if b then Ok made else 
 refused made code true is = cc
 refused made code false is = refused_field code (Err invalid_data_field) refl is
 
--- the value after a change is one that the parameter can have
+-- the parameter can have the value after a change
 keeps_change : (c : LanChange) → is_change c ≡ true → IsLanParam (changed_parameter c) (value_after c)
 keeps_change (Address which address) is = record { long = refl; body = tt }
 keeps_change (AddressSource byte) is = record { long = refl; body = true_le _ _ is }
@@ -114,7 +114,7 @@ short_unset op = omega arith
 
 -- ---- what an undo brings back
 
--- it is on the same parameter
+-- the inverse is on the same parameter
 same_param : (c : LanChange) (reply : List ℕ) → changed_parameter (undo_change c reply) ≡ changed_parameter c
 same_param (Address which address) reply = refl
 same_param (AddressSource byte) reply = refl
@@ -155,7 +155,7 @@ undoes_param p op old new v s =
     let same : changed_parameter op.change ≡ p = exact_parameter _ _ s.of_it in
     subst (λ (q : LanParameter). SetsLanParam q (undo_lan op (lan_view old)) new old) same (undoes_change op old new (subst (λ (q : LanParameter). IsLanParam q old) (sym same) v))
 
--- no ignored bit of it is set
+-- the inverse sets no ignored bit
 small_source : (n : ℕ) → n % 16 < 16
 small_source n = omega arith
 
@@ -164,7 +164,7 @@ plain_change (Address which address) reply = tt
 plain_change (AddressSource byte) reply = small_source _
 plain_change (Vlan vlan) reply = high_again _
 
--- what undoes an operation
+-- the inverse of an operation
 made_lan : (op made : SetLanParam) (reply : List ℕ) → words.inverse op reply ≡ Some made → undo_lan op reply ≡ made
 made_lan op made reply is = (made_where (length reply == lan_reply_length (changed_parameter op.change)) (undo_lan op reply) made is).1
 

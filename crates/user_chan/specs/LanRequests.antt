@@ -1,5 +1,5 @@
--- What the commands of LAN parameters ask for, by their data (IPMI 2.0, Set and Get LAN Configuration Parameters): the channel in bits 3:0 of the
--- first byte, the selector of the parameter in the second, and behind them the data of a Set, or the set and the block of a Get.
+-- Requests of the commands of LAN parameters, from their data (IPMI 2.0, Set and Get LAN Configuration Parameters): the channel in bits 3:0
+-- of the first byte, the selector of the parameter in the second byte, and behind them the data of a Set, or the set and the block of a Get.
 use Rattle.std.specs.Prelude.{ℕ, List, [], ◌∷◌, drop, if◌then◌else◌, Option, Some, None}
 use Rattle.record_base.specs.declared.channel.ChannelNumber.{ChannelNumber}
 use Rattle.record_base.specs.declared.lan.LanParameter.{LanParameter}
@@ -19,9 +19,10 @@ use Rattle.user_chan.specs.declared.lan_request.LanShown.TheVariants as shown
 
 -- ---- Set LAN Configuration Parameters
 
--- what becomes of the parameter, by the data behind its selector, where there are as many as it takes
+-- the change of the parameter, from the data behind the selector, where their number is right for the parameter
 abbrev pub change_in : LanParameter → List ℕ → Option LanChange
-change_in (parameter.Address which) (a ∷ b ∷ c ∷ d ∷ []) = Some (Address which (record { first = a; second = b; third = c; fourth = d }))
+change_in (parameter.Address which) (first ∷ second ∷ third ∷ fourth ∷ []) =
+    Some (Address which (record { first = first; second = second; third = third; fourth = fourth }))
 change_in parameter.AddressSource (byte ∷ []) = Some (AddressSource byte)
 change_in parameter.Vlan (low ∷ high ∷ []) = Some (Vlan (record { low = low; high = high }))
 change_in _ _ = None
@@ -34,7 +35,7 @@ abbrev pub set_in : ChannelNumber → List ℕ → Option LanParameter → LanRe
 set_in channel rest (Some parameter) = with_change channel (change_in parameter rest)
 set_in channel rest None = request.Other channel Unsupported
 
--- what a Set asks for: the selector is looked at first, and then how many data stand behind it
+-- the request of a Set. A fault of the selector comes before a fault of the number of data behind it.
 abbrev pub lan_request_in : List ℕ → LanRequest
 lan_request_in body = set_in (channel_in (byte_at body 0)) (drop 2 body) (lan_parameter_at (byte_at body 1))
 
@@ -44,7 +45,7 @@ abbrev pub shown_in : ChannelNumber → Option LanParameter → LanShown
 shown_in channel (Some parameter) = shown.Param (parameter_on channel parameter)
 shown_in channel None = shown.Other channel Unsupported
 
--- what a Get asks for: with bit 7 of the first byte the revision alone, whatever the selector is
+-- the request of a Get. With bit 7 of the first byte it asks for the revision alone, and for no selector.
 abbrev pub lan_shown_in : List ℕ → LanShown
 lan_shown_in body =
     if has (byte_at body 0) 7 then shown.Other (channel_in (byte_at body 0)) Revision else shown_in (channel_in (byte_at body 0)) (lan_parameter_at (byte_at body 1))

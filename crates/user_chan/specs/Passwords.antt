@@ -1,5 +1,5 @@
--- What Set User Password does (IPMI 2.0). A password has 16 or 20 bytes. It is never shown: a test says whether another is it. It is no record,
--- and neither is whether a user is enabled.
+-- Set User Password (IPMI 2.0). A password has 16 or 20 bytes. No reply shows a password: a test tells whether another password equals it.
+-- Neither a password nor the status of a user is a record.
 use Rattle.std.specs.Prelude.{◌≡◌, ℕ, ◌-◌, ◌^◌, ◌<◌, ◌%◌, List, [], ◌∷◌, length, get_or, drop, replicate, bit_and, bit_or, ◌==◌, ◌&&◌, Bool, true, false, if◌then◌else◌, Result, Ok, Err}
 use Rattle.std.proofs.Math.ListN.{set}
 use Rattle.two_wire.specs.Codes.{invalid_length}
@@ -20,12 +20,12 @@ wrong_size = 0x81
 
 -- ---- requests
 
--- the password that these bytes are: 20 where the request says so, else 16
+-- the password with these bytes: 20 where the request says so, else 16
 abbrev pub password_in : Bool → List ℕ → Result Password ℕ
 password_in true bytes = if length bytes == 20 then Ok (Twenty bytes) else Err invalid_length
 password_in false bytes = if length bytes == 16 then Ok (Sixteen bytes) else Err invalid_length
 
--- what becomes of a password, if it is one
+-- the operation with a password, if the bytes are a password
 abbrev pub with_password : (Password → PasswordChange) → Result Password ℕ → Result PasswordChange ℕ
 with_password change (Ok password) = Ok (change password)
 with_password change (Err code) = Err code
@@ -38,31 +38,31 @@ change_in twenty number bytes =
     else (if number == 2 then with_password Set (password_in twenty bytes)
     else with_password Test (password_in twenty bytes)))
 
--- what a request's data ask for: bit 7 of the first byte says 20 bytes, and bits 1:0 of the second are the operation
+-- the operation with these data: bit 7 of the first byte stands for 20 bytes, and bits 1:0 of the second byte are the operation
 abbrev pub change_of : List ℕ → Result PasswordChange ℕ
 change_of body = change_in (has (byte_at body 0) 7) (byte_at body 1 % 4) (drop 2 body)
 
 -- ---- tests
 
--- the two lists are one
+-- both lists are the same
 abbrev pub same_bytes : List ℕ → List ℕ → Bool
 same_bytes [] [] = true
-same_bytes (a ∷ xs) (b ∷ ys) = (a == b) && same_bytes xs ys
+same_bytes (byte ∷ rest) (other ∷ others) = (byte == other) && same_bytes rest others
 same_bytes _ _ = false
 
--- the two are one password
+-- both passwords are the same
 abbrev pub same_password : Password → Password → Bool
-same_password (Sixteen a) (Sixteen b) = same_bytes a b
-same_password (Twenty a) (Twenty b) = same_bytes a b
+same_password (Sixteen first) (Sixteen second) = same_bytes first second
+same_password (Twenty first) (Twenty second) = same_bytes first second
 same_password _ _ = false
 
--- the two have one size
+-- both passwords have the same size
 abbrev pub same_size : Password → Password → Bool
-same_size (Sixteen a) (Sixteen b) = true
-same_size (Twenty a) (Twenty b) = true
+same_size (Sixteen first) (Sixteen second) = true
+same_size (Twenty first) (Twenty second) = true
 same_size _ _ = false
 
--- what a test of a password answers
+-- the answer to a test of a password
 abbrev pub test_answer : (kept given : Password) → Result (Unit {0}) ℕ
 test_answer kept given = if same_password kept given then Ok tt else Err (if same_size kept given then wrong_text else wrong_size)
 
@@ -72,7 +72,7 @@ test_answer kept given = if same_password kept given then Ok tt else Err (if sam
 abbrev pub Kept : Type 0
 Kept = List Password
 
--- a password as a board begins: sixteen bytes 00h
+-- the password with which a board begins: sixteen bytes 00h
 abbrev pub opening_password : Password
 opening_password = Sixteen (replicate 16 0)
 
@@ -82,13 +82,13 @@ opening_passwords = replicate 64 opening_password
 abbrev pub password_of : Kept → ℕ → Password
 password_of kept user = get_or kept user opening_password
 
--- the passwords, once this one was set
+-- the passwords after a Set of this password
 abbrev pub after_set : Kept → ℕ → Password → Kept
 after_set kept user password = set kept user password
 
 -- ---- who is enabled
 
--- the users that are enabled, once this one is or isn't
+-- the enabled users, after a Set of this user's status
 abbrev pub enabled_after : ℕ → ℕ → Bool → ℕ
 enabled_after users user true = bit_or users (2 ^ user)
 enabled_after users user false = bit_and users (18446744073709551615 - 2 ^ user)
@@ -98,7 +98,7 @@ with_enabled live user enabled = record live { enabled_users = enabled_after liv
 
 -- ---- what holds of that
 
--- a test is passed by the password that is kept, and by no other. One of another size is told from one with another text.
+-- only the stored password passes a test. The test tells a password of another size from a password with another text.
 pub record TestsTell (kept given : Password) : Type 0 where
   pub passed : test_answer kept given ≡ Ok tt → given ≡ kept
   pub itself : given ≡ kept → test_answer kept given ≡ Ok tt
@@ -108,7 +108,7 @@ pub record TestsTell (kept given : Password) : Type 0 where
 abbrev pub AllTestsTell : Type 0
 AllTestsTell = (kept given : Password) → TestsTell kept given
 
--- the password that was set last is the one that is kept, and no other user's changes
+-- the last Set stores its password, and changes no other user's
 pub record SetsAreKept (kept : Kept) (user : ℕ) (password : Password) : Type 0 where
   pub own : password_of (after_set kept user password) user ≡ password
   pub others : (other : ℕ) → ¬ (other ≡ user) → password_of (after_set kept user password) other ≡ password_of kept other
@@ -116,6 +116,6 @@ pub record SetsAreKept (kept : Kept) (user : ℕ) (password : Password) : Type 0
 abbrev pub AllSetsAreKept : Type 0
 AllSetsAreKept = (kept : Kept) (user : ℕ) (password : Password) → user < length kept → SetsAreKept kept user password
 
--- that a user is enabled or disabled changes this user's status alone
+-- to enable or disable a user changes this user's status alone
 abbrev pub ChangesOneStatus : Type 0
 ChangesOneStatus = (users user other : ℕ) (enabled : Bool) → user < 64 → other < 64 → has (enabled_after users user enabled) other ≡ (if other == user then enabled else has users other)

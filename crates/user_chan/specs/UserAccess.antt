@@ -1,4 +1,4 @@
--- What a user may do on a channel, as a kind of record (IPMI 2.0, Set and Get User Access). A value has one byte: bits 6:4 callback, link
+-- The access of a user on a channel, as a kind of record (IPMI 2.0, Set and Get User Access). A value has one byte: bits 6:4 callback, link
 -- and messages, and the limit of privileges in bits 3:0.
 use Rattle.std.specs.Prelude.{◌≡◌, ℕ, ◌+◌, ◌*◌, ◌/◌, ◌%◌, ◌<◌, List, [], ◌∷◌, length, slice_index, count_ones, Bool, false, IsTrue, ◌==◌, if◌then◌else◌, Result, Ok, Err, Option, Some, None, refl}
 use Rattle.two_wire.specs.Codes.{invalid_data_field}
@@ -17,7 +17,7 @@ use Rattle.record_base.specs.UserAccess.{is_limit, IsUserAccess}
 use Rattle.record_base.specs.Requests.{application, ipmi_request, byte_at}
 use Rattle.user_chan.specs.declared.user_access.UserAccessLimits.{UserAccessLimits}
 
--- the commands that set it and get it
+-- the Set command and the Get command
 abbrev pub set_user_access : ℕ
 set_user_access = 0x43
 
@@ -38,7 +38,7 @@ changes_bits op = has op.first 7
 
 -- ---- what a Set makes
 
--- the limit becomes the operation's, and bits 6:4 become its bits where it changes them
+-- the limit becomes the operation's limit, and bits 6:4 become the operation's bits where it changes them
 pub record SetsUserAccess (op : SetUserAccess) (old new : List ℕ) : Type 0 where
   pub accepted : IsTrue (is_limit (low_of op.limit))
   pub one : length new ≡ 1
@@ -47,7 +47,7 @@ pub record SetsUserAccess (op : SetUserAccess) (old new : List ℕ) : Type 0 whe
   pub changed : IsTrue (changes_bits op) → bits_of (slice_index new 0) ≡ bits_of op.first
   pub kept : changes_bits op ≡ false → bits_of (slice_index new 0) ≡ bits_of (slice_index old 0)
 
--- bits 6:4 after it
+-- bits 6:4 after the operation
 abbrev pub next_bits : SetUserAccess → ℕ → ℕ
 next_bits op old = if changes_bits op then bits_of op.first else bits_of old
 
@@ -62,7 +62,7 @@ access_outcome op old =
 
 -- ---- requests and replies
 
--- the limit of sessions, if it is there
+-- the byte of the limit of sessions, if the operation has one
 abbrev pub session_bytes : Option ℕ → List ℕ
 session_bytes (Some limit) = limit ∷ []
 session_bytes None = []
@@ -73,10 +73,10 @@ access_body op = op.first ∷ op.user ∷ op.limit ∷ session_bytes op.session_
 
 -- the limit of sessions in such data
 abbrev pub session_limit_in : List ℕ → Option ℕ
-session_limit_in (a ∷ b ∷ c ∷ limit ∷ rest) = Some limit
+session_limit_in (first ∷ user ∷ privilege ∷ limit ∷ rest) = Some limit
 session_limit_in _ = None
 
--- the operation that such data say
+-- the operation with these data
 abbrev pub access_in : List ℕ → SetUserAccess
 access_in body = record { first = byte_at body 0; user = byte_at body 1; limit = byte_at body 2; session_limit = session_limit_in body }
 
@@ -88,21 +88,22 @@ is_enabled user live = has live.enabled_users user
 abbrev pub status_of : Bool → ℕ
 status_of enabled = if enabled then 0x40 else 0x80
 
--- the same beside how many are enabled
+-- the status of a user beside the number of enabled users
 abbrev pub status_byte : Bool → ℕ → ℕ
 status_byte enabled count = status_of enabled + count
 
--- the Get reply: how many users there are at most, the status beside how many are enabled, how many have fixed names, and the value
+-- the Get reply: how many users a board has at most, the status beside the number of enabled users, how many have fixed names, and the
+-- value
 abbrev pub access_view : UserAccessLimits → List ℕ → Live → List ℕ
 access_view limits value live = limits.most ∷ status_byte (is_enabled limits.user.number live) (count_ones live.enabled_users) ∷ 1 ∷ slice_index value 0 ∷ []
 
--- ---- what undoes it
+-- ---- the inverse
 
--- the first byte of a request with the same choice, where the bits are these
+-- the first byte of a request with the same choice and these bits
 abbrev pub first_byte : SetUserAccess → ℕ → ℕ
 first_byte op bits = if changes_bits op then 128 + bits * 16 + low_of op.first else low_of op.first
 
--- the operation that brings back what a reply shows: the limit, and the bits where they were changed
+-- the operation that brings back the access that a reply shows: the limit, and the bits where the operation changed them
 abbrev pub undo_access : SetUserAccess → List ℕ → SetUserAccess
 undo_access op reply = record {
   first = first_byte op (bits_of (slice_index reply 3));
@@ -111,7 +112,8 @@ undo_access op reply = record {
   session_limit = None;
 }
 
--- no bit that is ignored is set: those beside a user and a limit, and bits 6:4 where they aren't changed. No limit of sessions is given.
+-- the operation sets no ignored bit: the bits beside a user and a limit, and bits 6:4 where it doesn't change them. It has no limit of
+-- sessions.
 pub record IsPlainAccess (op : SetUserAccess) : Type 0 where
   pub user : op.user < 64
   pub limit : op.limit < 16
@@ -131,7 +133,7 @@ words = record {
   set_reply = λ op. [];
   next_live = λ op live. live;
   is_reply = λ op reply. length reply ≡ 4;
-  -- from each reply
+  -- each reply is enough
   restorable = λ op reply. Unit {0};
   inverse = λ op reply. if length reply == 4 then Some (undo_access op reply) else None;
   is_plain = IsPlainAccess;
@@ -144,7 +146,7 @@ record_words limits = record {
   sets = SetsUserAccess;
   outcome = access_outcome;
   view = access_view limits;
-  -- the value alone is configuration: which users are enabled isn't
+  -- the value alone is configuration, and not the status of users
   conf = λ reply. slice_index reply 3 ∷ [];
   shown = λ value. value;
 }

@@ -1,4 +1,4 @@
--- UserAccess as one value, and where it stands among all kinds.
+-- The kind UserAccess, and its place among all kinds.
 use Rattle.record_base.specs.declared.user.UserOnChannel.{UserOnChannel}
 use Rattle.record_base.specs.declared.user.SetUserAccess.{SetUserAccess}
 use Rattle.record_base.specs.Kind.{Kind}
@@ -10,14 +10,14 @@ use Rattle.user_chan.specs.declared.user_access.UserAccessLimits.{UserAccessLimi
 use Rattle.user_chan.specs.UserAccess.{access_in, words, record_words, place}
 use Rattle.user_chan.specs.UserAccessLaws.{kind_laws, record_laws}
 
--- what it says, and that it holds
+-- the words and the laws of the kind
 abbrev pub kind : Kind UserOnChannel SetUserAccess UserAccessLimits
 kind = record { words = words; record_words = record_words; kind_laws = kind_laws; record_laws = record_laws }
 
--- the kind, and where it stands among all
+-- the kind, and its place among all kinds
 abbrev pub member : Member UserOnChannel SetUserAccess UserAccessLimits
 member = record { kind = kind; place = place }
 
--- what the data of its commands say
+-- the record and the operation that the data of the commands name
 abbrev pub reader : Reader
 reader = record { key_in = λ body. words.name (user_on (byte_at body 0) (byte_at body 1)); op_in = λ body. place.op (access_in body) }

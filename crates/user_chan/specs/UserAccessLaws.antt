@@ -63,7 +63,7 @@ bits_are op old new s false is = s.kept is
 whole : (byte bits low : ℕ) → byte < 128 → bits_of byte ≡ bits → low_of byte ≡ low → byte ≡ bits * 16 + low
 whole byte bits low lt p q = omega arith
 
--- the new value is that one
+-- the new value is the outcome's value
 next_only : (op : SetUserAccess) (old new : List ℕ) → SetsUserAccess op old new → new ≡ byte_of (next_bits op (slice_index old 0)) op.limit ∷ []
 next_only op old new s =
     one_of new s.one ∙ ap (λ (n : ℕ). n ∷ []) (whole (slice_index new 0) _ _ s.seven_bits (bits_are op old new s (changes_bits op) refl) s.limited)
@@ -89,7 +89,7 @@ keeps_access op old new s = record {
 not_one : (n : ℕ) → n ≡ 0 → (n == 1) ≡ false
 not_one n zero_is = grind (arith, nat_tests)
 
--- the first byte of an undo: it changes the bits where the operation did, to these
+-- the first byte of an inverse: it changes the bits exactly where the operation did
 first_changes : (b : Bool) (bits low : ℕ) → bits < 8 → low < 16 → has (if b then 128 + bits * 16 + low else low) 7 ≡ b
 first_changes true bits low few small = same_tested _ 1 (omega arith)
 first_changes false bits low few small = not_one (low / 128 % 2) (omega arith)
@@ -118,7 +118,7 @@ low_again n = omega arith
 again : (n : ℕ) → n % 64 % 64 ≡ n % 64
 again n = omega arith
 
--- it is plain
+-- the inverse is plain
 undo_is_plain : (op : SetUserAccess) (reply : List ℕ) → IsPlainAccess (undo_access op reply)
 undo_is_plain op reply =
     let bits : ℕ = bits_of (slice_index reply 3) in
@@ -130,7 +130,7 @@ undo_is_plain op reply =
       three = refl;
     }
 
--- it is on the same user and channel
+-- the inverse is on the same user and channel
 users_on : (c d : ℕ) (u v : ℕ) → channel_in c ≡ channel_in d → user_in u ≡ user_in v → user_on c u ≡ user_on d v
 users_on c d u v p q i = record { channel = p i; user = q i }
 
@@ -141,7 +141,7 @@ same_on op reply =
     (same_channel (channel_in (first_byte op bits)) (channel_in op.first) (first_low (changes_bits op) bits (low_of op.first) (few_bits _) (small_low _)))
     (same_user (user_in (op.user % 64)) (user_in op.user) (again op.user))
 
--- it brings the old value back
+-- the inverse brings the old value back
 undoes_access : (limits : UserAccessLimits) (op : SetUserAccess) (old new : List ℕ) (live : Live) → IsUserAccess old → SetsUserAccess op old new → SetsUserAccess (undo_access op (access_view limits old live)) new old
 undoes_access limits op old new live v s =
     let byte : ℕ = slice_index old 0 in
@@ -155,7 +155,7 @@ undoes_access limits op old new live v s =
       kept = λ off. sym (s.kept (sym same ∙ off));
     }
 
--- what undoes an operation
+-- the inverse of an operation
 made_access : (op made : SetUserAccess) (reply : List ℕ) → words.inverse op reply ≡ Some made → undo_access op reply ≡ made
 made_access op made reply is = (made_where (length reply == 4) (undo_access op reply) made is).1
 

@@ -12,14 +12,14 @@ use Rattle.record_base.specs.AllKinds.{Place}
 use Rattle.record_base.specs.Numbers.{user_in}
 use Rattle.record_base.specs.Requests.{application, ipmi_request, byte_at}
 
--- the commands that set it and get it
+-- the Set command and the Get command
 abbrev pub set_user_name : ℕ
 set_user_name = 0x45
 
 abbrev pub get_user_name : ℕ
 get_user_name = 0x46
 
--- the user whose name never changes: user 1 has none
+-- user 1, who has no name. No Set changes it.
 abbrev pub nameless : ℕ
 nameless = 1
 
@@ -27,7 +27,7 @@ nameless = 1
 abbrev pub user_of : SetUserName → ℕ
 user_of op = op.user % 64
 
--- the name becomes the operation's, whatever the old one is, of any user but user 1
+-- the name of any user but user 1 becomes the operation's name
 pub record SetsUserName (op : SetUserName) (new : List ℕ) : Type 0 where
   pub has_name : user_of op ≢ nameless
   pub all : new ≡ op.name
@@ -41,7 +41,7 @@ abbrev pub shown_name : List ℕ → List ℕ
 shown_name reply =
     slice_index reply 0 ∷ slice_index reply 1 ∷ slice_index reply 2 ∷ slice_index reply 3 ∷ slice_index reply 4 ∷ slice_index reply 5 ∷ slice_index reply 6 ∷ slice_index reply 7 ∷ slice_index reply 8 ∷ slice_index reply 9 ∷ slice_index reply 10 ∷ slice_index reply 11 ∷ slice_index reply 12 ∷ slice_index reply 13 ∷ slice_index reply 14 ∷ slice_index reply 15 ∷ []
 
--- the operation that sets it
+-- the operation that sets the name of the reply
 abbrev pub undo_name : SetUserName → List ℕ → SetUserName
 undo_name op reply = record { user = user_of op; name = shown_name reply; sixteen = refl }
 
@@ -49,7 +49,7 @@ undo_name op reply = record { user = user_of op; name = shown_name reply; sixtee
 abbrev pub name_body : SetUserName → List ℕ
 name_body op = op.user ∷ op.name
 
--- the operation that such data say
+-- the operation with these data
 abbrev pub name_in : List ℕ → SetUserName
 name_in body = record {
   user = byte_at body 0;
@@ -71,10 +71,10 @@ words = record {
   set_reply = λ op. [];
   next_live = λ op live. live;
   is_reply = λ op reply. length reply ≡ 16;
-  -- from each reply
+  -- each reply is enough
   restorable = λ op reply. Unit {0};
   inverse = λ op reply. if length reply == 16 then Some (undo_name op reply) else None;
-  -- bits 7:6 of the user's byte are ignored
+  -- a controller ignores bits 7:6 of the user's byte
   is_plain = λ op. op.user < 64;
 }
 

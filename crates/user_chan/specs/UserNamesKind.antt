@@ -1,4 +1,4 @@
--- UserName as one value, and where it stands among all kinds.
+-- The kind UserName, and its place among all kinds.
 use Rattle.record_base.specs.declared.user.UserNumber.{UserNumber}
 use Rattle.record_base.specs.declared.user.SetUserName.{SetUserName}
 use Rattle.record_base.specs.Kind.{Kind}
@@ -10,14 +10,14 @@ use Rattle.user_chan.specs.declared.user_name.UserNameLimits.{UserNameLimits}
 use Rattle.user_chan.specs.UserNames.{name_in, words, record_words, place}
 use Rattle.user_chan.specs.UserNamesLaws.{kind_laws, record_laws}
 
--- what it says, and that it holds
+-- the words and the laws of the kind
 abbrev pub kind : Kind UserNumber SetUserName UserNameLimits
 kind = record { words = words; record_words = λ limits. record_words; kind_laws = kind_laws; record_laws = λ limits. record_laws }
 
--- the kind, and where it stands among all
+-- the kind, and its place among all kinds
 abbrev pub member : Member UserNumber SetUserName UserNameLimits
 member = record { kind = kind; place = place }
 
--- what the data of its commands say
+-- the record and the operation that the data of the commands name
 abbrev pub reader : Reader
 reader = record { key_in = λ body. words.name (user_in (byte_at body 0)); op_in = λ body. place.op (name_in body) }

@@ -64,7 +64,7 @@ same_named op = same_user (user_in (user_of op)) (user_in op.user) (again op.use
 sixteen_proofs : (value : List ℕ) → IsProp (length value ≡ 16)
 sixteen_proofs value = hlevel props
 
--- what undoes an operation
+-- the inverse of an operation
 made_name : (op made : SetUserName) (reply : List ℕ) → words.inverse op reply ≡ Some made → (length reply ≡ 16) × (undo_name op reply ≡ made)
 made_name op made reply is = let parts = made_where (length reply == 16) (undo_name op reply) made is in (tested_same _ _ parts.0, parts.1)
 

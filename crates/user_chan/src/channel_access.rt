@@ -1,8 +1,6 @@
 //! The access of a channel, in one of its stores, as a kind of record.
-ghost use Rattle.std.specs.Prelude.{◌≡◌, ◌≤◌, OnErr, length};
-ghost use Rattle.record_base.specs.Meaning.{told};
-ghost use Rattle.record_base.specs.ChannelAccess.{IsChannelAccess};
-ghost use Rattle.user_chan.specs.ChannelAccess.{is_access, is_limit, is_change, channel_outcome, store_bits, in_store, channel_body};
+ghost use Rattle.std.specs.Prelude.{◌≡◌, ◌≤◌, length};
+ghost use Rattle.user_chan.specs.ChannelAccess.{is_access, is_limit, is_change, store_bits, in_store, channel_body};
 
 use record_base::net_fn::APPLICATION;
 use record_base::{
@@ -12,17 +10,17 @@ use record_base::{
 use two_wire::code::INVALID_DATA_FIELD;
 use two_wire::{Buffer, Code, NetFn};
 
-/// The number of the command that sets it.
+/// The number of the Set command.
 const SET_CHANNEL_ACCESS: u8 = 0x40;
 
-/// The number of the command that gets it.
+/// The number of the Get command.
 const GET_CHANNEL_ACCESS: u8 = 0x41;
 
-/// Any known mode and any limit can be set.
+/// A Set can set any known mode and any limit.
 #[derive(Clone, Copy, Debug, PartialEq, Eq)]
 pub struct ChannelAccessLimits;
 
-/// Whether the mode of an access is a known one.
+/// Whether the mode of an access is known.
 fn is_access(byte: u8) -> bool
     ensures { result ≡ is_access byte }
 {
@@ -37,7 +35,7 @@ fn is_limit(byte: u8) -> bool
     1 <= limit && limit <= 5
 }
 
-/// Whether each part that the change names is one that a channel can have.
+/// Whether a channel can have each part that the change names.
 fn is_change(change: &ChannelChange) -> bool
     ensures { result ≡ is_change change.now }
 {
@@ -46,23 +44,6 @@ fn is_change(change: &ChannelChange) -> bool
         ChannelChange::Limit(limit) => is_limit(limit.number),
         ChannelChange::Both(access, limit) => is_access(access.number) && is_limit(limit.number),
     }
-}
-
-/// Makes `new` the value that the operation makes of the old one.
-fn set(op: &SetChannelAccess, old: &[u8], new: &mut Value) -> Result<(), Code>
-    requires { IsChannelAccess old.now }
-    ensures outcome { told result new.new ≡ channel_outcome op.now old.now }
-    ensures kept { OnErr result (new.new ≡ new.old) }
-{
-    if !is_change(&op.change) {
-        return Err(INVALID_DATA_FIELD);
-    }
-    match &op.change {
-        ChannelChange::Access(access) => new.replace(&[access.number, old[1]]),
-        ChannelChange::Limit(limit) => new.replace(&[old[0], limit.number % 16]),
-        ChannelChange::Both(access, limit) => new.replace(&[access.number, limit.number % 16]),
-    }
-    Ok(())
 }
 
 /// The bits that name a store, 11b for neither.
@@ -77,7 +58,7 @@ fn store_bits(store: AccessStore) -> u8
     }
 }
 
-/// Six bits behind those of the store.
+/// Six bits behind the bits of the store.
 fn in_store(store: AccessStore, bits: SixBits) -> u8
     ensures { result ≡ in_store store bits.number }
 {
@@ -116,7 +97,15 @@ impl<'a> RecordKind<'a> for ChannelAccessLimits {
     }
 
     fn apply(&self, op: &SetChannelAccess, value: &[u8], new: &mut Value) -> Result<(), Code> {
-        set(op, value, new)
+        if !is_change(&op.change) {
+            return Err(INVALID_DATA_FIELD);
+        }
+        match &op.change {
+            ChannelChange::Access(access) => new.replace(&[access.number, value[1]]),
+            ChannelChange::Limit(limit) => new.replace(&[value[0], limit.number % 16]),
+            ChannelChange::Both(access, limit) => new.replace(&[access.number, limit.number % 16]),
+        }
+        Ok(())
     }
 
     fn set_reply<B: Buffer>(_op: &SetChannelAccess, _reply: &mut B) {}

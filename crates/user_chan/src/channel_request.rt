@@ -1,4 +1,4 @@
-//! What the commands of channel access ask for, by their data.
+//! Requests of the commands of channel access, from their data.
 ghost use Rattle.std.specs.Prelude.{◌≡◌};
 ghost use Rattle.user_chan.specs.ChannelRequests.{store_at, stored_in, named, same_store, asked_for, channel_request_in};
 
@@ -6,7 +6,7 @@ use record_base::{
     AccessStore, ChannelChange, ChannelNumber, SetChannelAccess, SixBits, StoredAccess, byte_at,
 };
 
-/// What Set Channel Access asks for.
+/// A request of Set Channel Access.
 #[derive(Clone, Copy, Debug, PartialEq, Eq)]
 pub enum ChannelRequest {
     /// Nothing of the channel changes.
@@ -28,7 +28,7 @@ fn store_at(bits: u8) -> AccessStore
     }
 }
 
-/// The record that the data of Get Channel Access ask for.
+/// The record that a Get Channel Access with these data asks for.
 pub fn stored_in(body: &[u8]) -> StoredAccess
     ensures { result ≡ stored_in body.now }
 {
@@ -38,7 +38,7 @@ pub fn stored_in(body: &[u8]) -> StoredAccess
     }
 }
 
-/// The store that these bits name for a part: 00b leaves the part, and 11b names none that there is.
+/// The store that these bits name for a part: 00b leaves the part, and 11b names no store that a channel has.
 fn named(bits: u8) -> Option<AccessStore>
     ensures { result ≡ named bits }
 {
@@ -48,7 +48,7 @@ fn named(bits: u8) -> Option<AccessStore>
     Some(store_at(bits))
 }
 
-/// Whether the two stores are one.
+/// Whether both stores are the same.
 fn same_store(a: AccessStore, b: AccessStore) -> bool
     ensures { result ≡ same_store a b }
 {
@@ -60,7 +60,7 @@ fn same_store(a: AccessStore, b: AccessStore) -> bool
     )
 }
 
-/// What is asked for, by the stores that are named for the access and for the limit.
+/// The request, from the stores that it names for the access and for the limit.
 fn asked_for(
     channel: ChannelNumber,
     stores: (Option<AccessStore>, Option<AccessStore>),
@@ -90,7 +90,7 @@ fn asked_for(
     }
 }
 
-/// What the data of Set Channel Access ask for.
+/// The request of Set Channel Access with these data.
 pub fn channel_request_in(body: &[u8]) -> ChannelRequest
     ensures { result ≡ channel_request_in body.now }
 {

@@ -1,8 +1,6 @@
 //! The LAN parameters of a channel, as a kind of record.
-ghost use Rattle.std.specs.Prelude.{◌≡◌, ◌≤◌, OnErr, IsTrue, length};
-ghost use Rattle.record_base.specs.Meaning.{told};
-ghost use Rattle.record_base.specs.Lan.{changed_parameter};
-ghost use Rattle.user_chan.specs.LanParam.{same_parameter, is_change, lan_outcome, lan_body};
+ghost use Rattle.std.specs.Prelude.{◌≡◌, ◌≤◌, length};
+ghost use Rattle.user_chan.specs.LanParam.{is_change, lan_body};
 
 use record_base::lan_item::{MOST_SOURCE, vlan_high};
 use record_base::net_fn::TRANSPORT;
@@ -13,22 +11,22 @@ use record_base::{
 use two_wire::code::INVALID_DATA_FIELD;
 use two_wire::{Buffer, Code, NetFn};
 
-/// The number of the command that sets them.
+/// The number of the Set command.
 const SET_LAN_CONFIGURATION_PARAMETERS: u8 = 0x01;
 
-/// The number of the command that gets them.
+/// The number of the Get command.
 const GET_LAN_CONFIGURATION_PARAMETERS: u8 = 0x02;
 
-/// The revision of the parameters that a reply gives first: 1.1.
+/// The revision of the parameters, 1.1, which a reply gives first.
 const REVISION: u8 = 0x11;
 
-/// The limits of one LAN parameter: which one it is.
+/// The limits of one LAN parameter: its name.
 #[derive(Clone, Copy, Debug, PartialEq, Eq)]
 pub struct LanParamLimits {
     pub parameter: LanParameter,
 }
 
-/// Whether what the change says is what a parameter can be.
+/// Whether a parameter can have the data of the change.
 fn is_change(change: &LanChange) -> bool
     ensures { result ≡ is_change change.now }
 {
@@ -36,23 +34,6 @@ fn is_change(change: &LanChange) -> bool
         LanChange::AddressSource(byte) => byte % 16 <= MOST_SOURCE,
         LanChange::Address(_, _) | LanChange::Vlan(_) => true,
     }
-}
-
-/// Makes `new` the value that the operation makes.
-fn set(parameter: LanParameter, op: &SetLanParam, new: &mut Value) -> Result<(), Code>
-    requires { IsTrue (same_parameter (changed_parameter op.now.change) parameter) }
-    ensures outcome { told result new.new ≡ lan_outcome parameter op.now }
-    ensures kept { OnErr result (new.new ≡ new.old) }
-{
-    if !is_change(&op.change) {
-        return Err(INVALID_DATA_FIELD);
-    }
-    match &op.change {
-        LanChange::Address(_, address) => new.replace(&address.bytes()),
-        LanChange::AddressSource(byte) => new.replace(&[byte % 16]),
-        LanChange::Vlan(vlan) => new.replace(&[vlan.low, vlan_high(vlan.high)]),
-    }
-    Ok(())
 }
 
 /// The data of the request that carries out the operation.
@@ -91,7 +72,15 @@ impl<'a> RecordKind<'a> for LanParamLimits {
     }
 
     fn apply(&self, op: &SetLanParam, _value: &[u8], new: &mut Value) -> Result<(), Code> {
-        set(self.parameter, op, new)
+        if !is_change(&op.change) {
+            return Err(INVALID_DATA_FIELD);
+        }
+        match &op.change {
+            LanChange::Address(_, address) => new.replace(&address.bytes()),
+            LanChange::AddressSource(byte) => new.replace(&[byte % 16]),
+            LanChange::Vlan(vlan) => new.replace(&[vlan.low, vlan_high(vlan.high)]),
+        }
+        Ok(())
     }
 
     fn set_reply<B: Buffer>(_op: &SetLanParam, _reply: &mut B) {}

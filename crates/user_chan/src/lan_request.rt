@@ -1,4 +1,4 @@
-//! What the commands of LAN parameters ask for, by their data.
+//! Requests of the commands of LAN parameters, from their data.
 ghost use Rattle.std.specs.Prelude.{◌≡◌, drop};
 ghost use Rattle.user_chan.specs.LanRequests.{change_in, lan_request_in, lan_shown_in};
 
@@ -8,39 +8,39 @@ use record_base::{
     VlanBytes, byte_at,
 };
 
-/// How a request on LAN parameters that asks for no record is answered, on a channel that has such parameters.
+/// The answer to a request on LAN parameters that asks for no record, on a channel that has such parameters.
 #[derive(Clone, Copy, Debug, PartialEq, Eq)]
 pub enum LanAnswer {
     /// The revision alone.
     Revision,
-    /// 80h: the selector isn't a record's.
+    /// 80h: no record has the selector.
     Unsupported,
-    /// C7h: as many data as the selector doesn't take.
+    /// C7h: the number of data isn't right for the selector.
     WrongLength,
 }
 
-/// What Set LAN Configuration Parameters asks for.
+/// A request of Set LAN Configuration Parameters.
 #[derive(Clone, Copy, Debug, PartialEq, Eq)]
 pub enum LanRequest {
     /// A parameter changes.
     Param(SetLanParam),
-    /// No record of the channel changes, and this is the answer.
+    /// No record of the channel changes. The reply is the answer.
     Other(ChannelNumber, LanAnswer),
 }
 
-/// What Get LAN Configuration Parameters asks for.
+/// A request of Get LAN Configuration Parameters.
 #[derive(Clone, Copy, Debug, PartialEq, Eq)]
 pub enum LanShown {
     /// A parameter.
     Param(ParameterOnChannel),
-    /// No record of the channel, and this is the answer.
+    /// No record of the channel. The reply is the answer.
     Other(ChannelNumber, LanAnswer),
 }
 
 /// The bit beside the channel of a Get that asks for the revision alone.
 const REVISION_PLACE: usize = 7;
 
-/// What becomes of the parameter, by the data behind its selector.
+/// The change of the parameter, from the data behind the selector.
 fn change_in(parameter: LanParameter, rest: &[u8]) -> Option<LanChange>
     ensures { result ≡ change_in parameter rest.now }
 {
@@ -75,7 +75,8 @@ fn behind(body: &[u8]) -> &[u8]
     }
 }
 
-/// What the data of Set LAN Configuration Parameters ask for. The selector is looked at first, and then how many bytes stand behind it.
+/// The request of Set LAN Configuration Parameters with these data. It checks the selector first, and then the number of bytes behind
+/// the selector.
 pub fn lan_request_in(body: &[u8]) -> LanRequest
     ensures { result ≡ lan_request_in body.now }
 {
@@ -89,7 +90,7 @@ pub fn lan_request_in(body: &[u8]) -> LanRequest
     }
 }
 
-/// What the data of Get LAN Configuration Parameters ask for.
+/// The request of Get LAN Configuration Parameters with these data.
 pub fn lan_shown_in(body: &[u8]) -> LanShown
     ensures { result ≡ lan_shown_in body.now }
 {

@@ -1,5 +1,5 @@
-//! The names of users, what users may do on channels, the access of channels, and their LAN parameters, as kinds of record; and the
-//! users' passwords, which no call shows.
+//! The names of users, the access of users on channels, the access of channels, and the LAN parameters of channels, as kinds of record;
+//! and the users' passwords, which no call shows.
 #![tactic(auto)]
 
 pub mod channel_access;

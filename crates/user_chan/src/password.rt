@@ -1,4 +1,4 @@
-//! Passwords, and what Set User Password does (IPMI 2.0). No call shows a password.
+//! Passwords, and the operations of Set User Password (IPMI 2.0). No call shows a password.
 ghost use Rattle.std.specs.Prelude.{◌≡◌, ◌↔◌, ◌<◌, drop, IsTrue};
 ghost use Rattle.user_chan.specs.Passwords.{password_in, change_in, change_of, same_password, same_size, test_answer, with_enabled};
 
@@ -18,17 +18,17 @@ const WRONG_SIZE: u8 = 0x81;
 /// How many numbers users can have.
 const NUMBERS: usize = 64;
 
-/// The bit of a request's first byte that says that a password has 20 bytes.
+/// The bit of a request's first byte that is set where a password has 20 bytes.
 const TWENTY_PLACE: usize = 7;
 
-/// A password, by its size in bytes. It has no form that is printed.
+/// A password, by its size in bytes. Nothing prints it.
 #[derive(Clone, Copy)]
 pub enum Password {
     Sixteen([u8; 16]),
     Twenty([u8; 20]),
 }
 
-/// What becomes of a user.
+/// A change of a user, or a test of the user's password.
 #[derive(Clone, Copy)]
 pub enum PasswordChange {
     Disable,
@@ -37,7 +37,7 @@ pub enum PasswordChange {
     Test(Password),
 }
 
-/// The password of each user, by the user's number. They are seen as that list. All their memory is taken when they are made.
+/// The password of each user, by the user's number. Contracts see the list of passwords. It takes all its memory when it is made.
 #[derive(Drop)]
 pub struct Passwords {
     kept: Vec<Password>,
@@ -54,7 +54,7 @@ impl Model for Passwords {
     ghost invariant = { λ s. length s.kept.items ≡ 64 };
 }
 
-/// Whether the bytes are the same. Each pair is looked at, whatever those before it are.
+/// Whether the bytes are the same. The function compares each pair, also behind a pair that differs.
 fn are_same<const N: usize>(a: &[u8; N], b: &[u8; N]) -> bool
     ensures { IsTrue result ↔ (a.now ≡ b.now) }
 {
@@ -65,7 +65,7 @@ fn are_same<const N: usize>(a: &[u8; N], b: &[u8; N]) -> bool
     same
 }
 
-/// The password that these bytes are.
+/// The password with these bytes.
 fn password_in(twenty: bool, bytes: &[u8]) -> Result<Password, Code>
     ensures { result ≡ password_in twenty bytes.now }
 {
@@ -98,7 +98,7 @@ fn change_in(twenty: bool, number: u8, bytes: &[u8]) -> Result<PasswordChange, C
     }
 }
 
-/// What stands behind the first two bytes.
+/// The bytes behind the first two.
 fn behind(body: &[u8]) -> &[u8]
     ensures { result.now ≡ drop 2 body.now }
 {
@@ -108,7 +108,7 @@ fn behind(body: &[u8]) -> &[u8]
     }
 }
 
-/// What the data of Set User Password ask for, the user apart.
+/// The operation of Set User Password with these data, without the user.
 pub fn change_of(body: &[u8]) -> Result<PasswordChange, Code>
     ensures { result ≡ change_of body.now }
 {
@@ -117,7 +117,7 @@ pub fn change_of(body: &[u8]) -> Result<PasswordChange, Code>
 }
 
 impl Password {
-    /// Whether the two are one password.
+    /// Whether both passwords are the same.
     fn is(&self, other: &Password) -> bool
         ensures { result ≡ same_password self.now other.now }
     {
@@ -128,7 +128,7 @@ impl Password {
         }
     }
 
-    /// Whether the two have one size.
+    /// Whether both passwords have the same size.
     fn is_as_long(&self, other: &Password) -> bool
         ensures { result ≡ same_size self.now other.now }
     {
@@ -139,7 +139,7 @@ impl Password {
         )
     }
 
-    /// What a test answers where this password is kept: nothing, or a code that tells another text from another size.
+    /// The answer to a test against this password: success, or a code that tells another text from another size.
     fn test(&self, given: &Password) -> Result<(), Code>
         ensures { result ≡ test_answer self.now given.now }
     {
@@ -159,7 +159,7 @@ impl Passwords {
     ghost use Rattle.std.specs.Prelude.{◌≡◌, IfOk};
     ghost use Rattle.user_chan.specs.Passwords.{test_answer, opening_passwords, password_of, after_set};
 
-    /// As a board begins: sixteen bytes 00h for each user.
+    /// The passwords with which a board begins: sixteen bytes 00h for each user.
     pub fn opening(alloc: Global) -> Result<Self, AllocError>
         ensures { IfOk result (λ s. s ≡ opening_passwords) }
     {
@@ -176,14 +176,14 @@ impl Passwords {
         &self.kept[user.number as usize]
     }
 
-    /// What a test of this user's password answers.
+    /// The answer to a test of this user's password.
     pub fn test(&self, user: UserNumber, given: &Password) -> Result<(), Code>
         ensures { result ≡ test_answer (password_of self.now user.number) given.now }
     {
         self.of(user).test(given)
     }
 
-    /// This password becomes the user's.
+    /// Makes this password the user's password.
     pub fn put(&mut self, user: UserNumber, password: Password)
         ensures { self.new ≡ after_set self.old user.number password }
     {
@@ -191,7 +191,7 @@ impl Passwords {
     }
 }
 
-/// The user is enabled from now on, or disabled.
+/// Enables or disables the user.
 pub fn set_enabled(live: &mut Live, user: UserNumber, enabled: bool)
     ensures { live.new ≡ with_enabled live.old user.number enabled }
 {

@@ -1,7 +1,6 @@
-//! What a user may do on a channel, as a kind of record.
-ghost use Rattle.std.specs.Prelude.{◌≡◌, ◌≤◌, ◌<◌, [], ◌∷◌, OnErr, length};
-ghost use Rattle.record_base.specs.Meaning.{told};
-ghost use Rattle.user_chan.specs.UserAccess.{bits_of, changes_bits, access_outcome, access_body, session_limit_in, access_in, is_enabled, status_of, first_byte};
+//! The access of a user on a channel, as a kind of record.
+ghost use Rattle.std.specs.Prelude.{◌≡◌, ◌≤◌, ◌<◌, length};
+ghost use Rattle.user_chan.specs.UserAccess.{bits_of, changes_bits, access_body, session_limit_in, access_in, is_enabled, status_of, first_byte};
 
 use record_base::mask::has;
 use record_base::net_fn::APPLICATION;
@@ -13,16 +12,16 @@ use record_base::{
 use two_wire::code::INVALID_DATA_FIELD;
 use two_wire::{Buffer, Code, NetFn};
 
-/// The number of the command that sets it.
+/// The number of the Set command.
 const SET_USER_ACCESS: u8 = 0x43;
 
-/// The number of the command that gets it.
+/// The number of the Get command.
 const GET_USER_ACCESS: u8 = 0x44;
 
-/// The bit of a request's first byte that says that bits 6:4 change.
+/// The bit of a request's first byte that is set where bits 6:4 change.
 const CHANGE_PLACE: usize = 7;
 
-/// Whose access a record is, and how many users there are at most.
+/// The user whose access the record is, and how many users a board has at most.
 #[derive(Clone, Copy, Debug, PartialEq, Eq)]
 pub struct UserAccessLimits {
     pub user: UserNumber,
@@ -44,20 +43,6 @@ fn changes_bits(op: &SetUserAccess) -> bool
     has(op.first, CHANGE_PLACE)
 }
 
-/// Makes `new` the value that the operation makes of the old one.
-fn set(op: &SetUserAccess, old: u8, new: &mut Value) -> Result<(), Code>
-    ensures outcome { told result new.new ≡ access_outcome op.now (old ∷ []) }
-    ensures kept { OnErr result (new.new ≡ new.old) }
-{
-    let limit = op.limit % 16;
-    if !is_limit(limit) {
-        return Err(INVALID_DATA_FIELD);
-    }
-    let bits = bits_of(if changes_bits(op) { op.first } else { old });
-    new.replace(&[bits * 16 + limit]);
-    Ok(())
-}
-
 /// The data of the request that carries out the operation.
 fn body(op: &SetUserAccess) -> RecordData
     ensures value { result ≡ access_body op.now }
@@ -69,7 +54,7 @@ fn body(op: &SetUserAccess) -> RecordData
     }
 }
 
-/// The limit of sessions in a request's data, if it is there.
+/// The limit of sessions in a request's data, if the data have one.
 fn session_limit_in(body: &[u8]) -> Option<u8>
     ensures { result ≡ session_limit_in body.now }
 {
@@ -79,7 +64,7 @@ fn session_limit_in(body: &[u8]) -> Option<u8>
     }
 }
 
-/// The operation that the data of its request says.
+/// The operation with these data.
 fn access_in(body: &[u8]) -> SetUserAccess
     ensures { result ≡ access_in body.now }
 {
@@ -106,7 +91,7 @@ fn status_of(enabled: bool) -> u8
     if enabled { 0x40 } else { 0x80 }
 }
 
-/// The first byte of a request with the same choice, where the bits are these.
+/// The first byte of a request with the same choice and these bits.
 fn first_byte(op: &SetUserAccess, bits: u8) -> u8
     requires { bits < 8 }
     ensures { result ≡ first_byte op.now bits }
@@ -149,7 +134,13 @@ impl<'a> RecordKind<'a> for UserAccessLimits {
     }
 
     fn apply(&self, op: &SetUserAccess, value: &[u8], new: &mut Value) -> Result<(), Code> {
-        set(op, value[0], new)
+        let limit = op.limit % 16;
+        if !is_limit(limit) {
+            return Err(INVALID_DATA_FIELD);
+        }
+        let bits = bits_of(if changes_bits(op) { op.first } else { value[0] });
+        new.replace(&[bits * 16 + limit]);
+        Ok(())
     }
 
     fn set_reply<B: Buffer>(_op: &SetUserAccess, _reply: &mut B) {}

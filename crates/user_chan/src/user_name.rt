@@ -1,7 +1,6 @@
 //! The names of users, as a kind of record.
-ghost use Rattle.std.specs.Prelude.{◌≡◌, OnErr, length};
-ghost use Rattle.record_base.specs.Meaning.{told};
-ghost use Rattle.user_chan.specs.UserNames.{name_outcome, shown_name, undo_name, name_body, name_in};
+ghost use Rattle.std.specs.Prelude.{◌≡◌, length};
+ghost use Rattle.user_chan.specs.UserNames.{shown_name, undo_name, name_body, name_in};
 
 use record_base::net_fn::APPLICATION;
 use record_base::{
@@ -11,20 +10,20 @@ use record_base::{
 use two_wire::code::INVALID_DATA_FIELD;
 use two_wire::{Buffer, Code, NetFn};
 
-/// The number of the command that sets a name.
+/// The number of the Set command.
 const SET_USER_NAME: u8 = 0x45;
 
-/// The number of the command that gets it.
+/// The number of the Get command.
 const GET_USER_NAME: u8 = 0x46;
 
-/// The user whose name never changes: user 1 has none.
+/// User 1, who has no name. No Set changes it.
 const NAMELESS: u8 = 1;
 
 /// Any user but user 1 can have any name.
 #[derive(Clone, Copy, Debug, PartialEq, Eq)]
 pub struct UserNameLimits;
 
-/// The name that a reply shows, 00h where bytes are missing.
+/// The name that a reply shows. Missing bytes are 00h.
 fn shown_name(reply: &[u8]) -> [u8; 16]
     ensures { result ≡ shown_name reply.now }
 {
@@ -48,7 +47,7 @@ fn shown_name(reply: &[u8]) -> [u8; 16]
     ]
 }
 
-/// The operation that sets it.
+/// The operation that sets the name of the reply.
 fn undo_name(op: &SetUserName, reply: &[u8]) -> SetUserName
     ensures { result ≡ undo_name op.now reply.now }
 {
@@ -58,7 +57,7 @@ fn undo_name(op: &SetUserName, reply: &[u8]) -> SetUserName
     }
 }
 
-/// The operation that the data of its request says.
+/// The operation with these data.
 fn name_in(body: &[u8]) -> SetUserName
     ensures { result ≡ name_in body.now }
 {
@@ -83,18 +82,6 @@ fn name_in(body: &[u8]) -> SetUserName
             byte_at(body, 16),
         ],
     }
-}
-
-/// Makes `new` the name that the operation says.
-fn set(op: &SetUserName, new: &mut Value) -> Result<(), Code>
-    ensures outcome { told result new.new ≡ name_outcome op.now }
-    ensures kept { OnErr result (new.new ≡ new.old) }
-{
-    if op.user % 64 == NAMELESS {
-        return Err(INVALID_DATA_FIELD);
-    }
-    new.replace(&op.name);
-    Ok(())
 }
 
 /// The data of the request that carries out the operation.
@@ -137,7 +124,11 @@ impl<'a> RecordKind<'a> for UserNameLimits {
     }
 
     fn apply(&self, op: &SetUserName, _value: &[u8], new: &mut Value) -> Result<(), Code> {
-        set(op, new)
+        if op.user % 64 == NAMELESS {
+            return Err(INVALID_DATA_FIELD);
+        }
+        new.replace(&op.name);
+        Ok(())
     }
 
     fn set_reply<B: Buffer>(_op: &SetUserName, _reply: &mut B) {}
