@@ -4,6 +4,7 @@ use Rattle.std.specs.List.{find}
 use Rattle.std.specs.Option.{option_map, unwrap_or, IsSomeAnd}
 use Rattle.std.proofs.lemmas.Bool.Decides.{nat_tests}
 use Rattle.record_base.specs.Distinct.{NamesDiffer}
+use Rattle.record_base.specs.InOrderLaws.{numbered_differ}
 use Rattle.record_base.specs.InverseLaws.{same_tested}
 use Rattle.record_base.specs.declared.key.Key.TheVariants as key
 use Rattle.record_base.specs.declared.attribute.Attribute.{Attribute}
@@ -66,7 +67,7 @@ attributes_have_values file records sound =
       λ handle. current_at (attribute_at items handle) (values_in records handle),
       λ k d within.
           let a : Attribute = get_or items k d in
-          let found : attribute_at items a.handle ≡ Some a = attribute_found items file.attributes.differ k d within in
+          let found : attribute_at items a.handle ≡ Some a = attribute_found items (numbered_differ (λ (a : Attribute). a.handle) 0 items file.attributes.numbered) k d within in
           read_at a a.handle (records (key.BiosAttribute a.handle)) (subst (λ (o : Option Attribute). IsSoundAt (option_map (limits_of a.handle) o) (records (key.BiosAttribute a.handle))) found (sound (key.BiosAttribute a.handle)))
           ∙ ap (λ (o : Option Attribute). Some (current_at o (values_in records a.handle))) (sym found),
     )

@@ -1,12 +1,10 @@
--- A board file that has no item.
-use Rattle.std.specs.Prelude.{ℕ, refl, []}
+-- A board file that has no item but its first user.
+use Rattle.std.specs.Prelude.{ℕ, refl, [], ◌∷◌}
 use Rattle.std.proofs.Common.{lit<, lit≤, arith}
 use Rattle.cfg_records.specs.declared.board_file.BoardFile.{BoardFile}
 use Rattle.record_base.specs.declared.sensor.Sensor.{Sensor}
 use Rattle.record_base.specs.declared.numeric_effecter.NumericEffecter.{NumericEffecter}
 use Rattle.record_base.specs.declared.state_effecter.StateEffecter.{StateEffecter}
-use Rattle.record_base.specs.declared.attribute.Attribute.{Attribute}
-use Rattle.record_base.specs.declared.user.User.{User}
 use Rattle.record_base.specs.declared.user.UserAccess.{UserAccess}
 use Rattle.record_base.specs.declared.lan_item.Lan.{Lan}
 use Rattle.record_base.specs.declared.channel.Channel.{Channel}
@@ -14,12 +12,13 @@ use Rattle.record_base.specs.declared.channel.ChannelNumber.{ChannelNumber}
 use Rattle.record_base.specs.Numbers.{number_on}
 use Rattle.record_base.specs.Sdr.{sdr_id}
 use Rattle.record_base.specs.Distinct.{NamesDiffer}
+use Rattle.record_base.specs.UsersLaws.{first_user, one_user}
 
 -- no two items of none have one name
 pub none_differ : {T : Type 0} (name : T → ℕ) → NamesDiffer name []
 none_differ name i j d below within = absurd (omega (arith, below, within))
 
--- no record of items, and each other record as plain as it can be
+-- no record of items but the first user's, and each other record as plain as it can be
 abbrev pub bare_file : BoardFile
 bare_file = record {
   tid = 0;
@@ -54,10 +53,13 @@ bare_file = record {
   };
   numeric_effecters = record { items = []; differ = none_differ (λ (e : NumericEffecter). e.id); few = lit≤ tt };
   state_effecters = record { items = []; differ = none_differ (λ (e : StateEffecter). e.id); few = lit≤ tt };
-  users = record { items = []; differ = none_differ (λ (u : User). u.number.number); few = lit≤ tt };
+  users = record { items = first_user ∷ []; valid = one_user };
   channels = record { items = []; differ = none_differ (λ (c : Channel). c.number.number); few = lit≤ tt };
   sessionless = record { items = []; differ = none_differ (λ (c : ChannelNumber). c.number); few = lit≤ tt };
   user_accesses = record { items = []; differ = none_differ (λ (a : UserAccess). number_on a.on); few = lit≤ tt };
-  attributes = record { items = []; differ = none_differ (λ (a : Attribute). a.handle); few = lit≤ tt };
+  attributes = record { items = []; numbered = tt; few = lit≤ tt };
   lans = record { items = []; differ = none_differ (λ (l : Lan). l.number.number); few = lit≤ tt };
+  apart = none_differ (λ (number : ℕ). number);
+  few = lit≤ tt;
+  each = refl;
 }

@@ -22,6 +22,7 @@ use Rattle.record_base.specs.AttributeLaws.{begins_long}
 use Rattle.record_base.specs.Keys.{is_length, slot}
 use Rattle.record_base.specs.KeyLaws.{exact_key}
 use Rattle.record_base.specs.Distinct.{NamesDiffer}
+use Rattle.record_base.specs.InOrderLaws.{numbered_differ}
 use Rattle.record_base.specs.LanItems.{lan_key, lan_value}
 use Rattle.record_base.specs.declared.lan.LanAddress.TheVariants.{Ip, SubnetMask, DefaultGateway}
 use Rattle.record_base.specs.declared.lan.LanParameter.{LanParameter}
@@ -223,7 +224,7 @@ pairs_are file =
     and_then file 3 _ before_3 (of_numbered (λ e. e.id) key.NumericEffecter number_value 3 file.numeric_effecters.items file.numeric_effecters.differ (λ m n same. cc) (λ n. refl) (λ e. of_width e.range.size e.current)) in
     let before_5 =
     and_then file 4 _ before_4 (of_numbered (λ e. e.id) key.StateEffecter (λ e. state_value e.fields) 4 file.state_effecters.items file.state_effecters.differ (λ m n same. cc) (λ n. refl) (λ e. of_fields e.fields e.some e.few)) in
-    let before_6 = and_then file 5 _ before_5 (of_items (λ u. u.number.number) (λ u. key.UserName u.number) (λ u. u.name) 5 file.users.items file.users.differ (λ u v same. ap user_number same) (λ u. refl) (λ u. sixteen _ u.sixteen)) in
+    let before_6 = and_then file 5 _ before_5 (of_items (λ u. u.number.number) (λ u. key.UserName u.number) (λ u. u.name) 5 file.users.items (numbered_differ (λ u. u.number.number) 1 file.users.items file.users.valid.numbered) (λ u v same. ap user_number same) (λ u. refl) (λ u. sixteen _ u.sixteen)) in
     let before_7 = and_then file 6 _ before_6 (of_items (λ a. number_on a.on) (λ a. key.UserAccess a.on) (λ a. a.byte ∷ []) 6 file.user_accesses.items file.user_accesses.differ (λ a b same. ap user_on_number same) (λ a. refl) (λ a. refl)) in
     let before_8 =
     and_then file 7 _ before_7
@@ -237,7 +238,7 @@ pairs_are file =
     let before_13 = and_then file 12 _ before_12 (one_of 12 (key.BootParam ValidBitClearing, boot_value file.boot ValidBitClearing) refl refl) in
     let before_14 = and_then file 13 _ before_13 (one_of 13 (key.BootParam InfoAcknowledge, boot_value file.boot InfoAcknowledge) refl refl) in
     let before_15 = and_then file 14 _ before_14 (one_of 14 (key.BootParam Flags, boot_value file.boot Flags) refl refl) in
-    let before_16 = and_then file 15 _ before_15 (of_numbered (λ a. a.handle) key.BiosAttribute attribute_value 15 file.attributes.items file.attributes.differ (λ m n same. cc) (λ n. refl) of_attribute) in
+    let before_16 = and_then file 15 _ before_15 (of_numbered (λ a. a.handle) key.BiosAttribute attribute_value 15 file.attributes.items (numbered_differ (λ a. a.handle) 0 file.attributes.items file.attributes.numbered) (λ m n same. cc) (λ n. refl) of_attribute) in
     let before_17 = and_then file 16 _ before_16 (of_lans file (Address Ip)) in
     let before_18 = and_then file 17 _ before_17 (of_lans file AddressSource) in
     let before_19 = and_then file 18 _ before_18 (of_lans file (Address SubnetMask)) in

@@ -4,3 +4,4 @@ pub mod Pairs
 pub mod LanPlaces
 pub mod BoardPairs
 pub mod Placed
+pub mod SampleChannels

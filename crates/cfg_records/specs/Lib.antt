@@ -4,5 +4,6 @@ pub mod Index
 pub mod PlacesLaws
 pub mod RecordLaws
 pub mod LanBoards
+pub mod BoardChannels
 pub mod Boards
 pub mod Sample

@@ -1,4 +1,8 @@
 //! What a board begins with.
+ghost use Rattle.std.specs.Prelude.{◌≡◌, ◌≤◌, map, length};
+ghost use Rattle.record_base.specs.Distinct.{NamesDiffer};
+ghost use Rattle.cfg_records.specs.BoardChannels.{channel_numbers, on_numbers, each_user_on};
+
 use record_base::{
     Attributes, BootOptions, BootParameter, Channels, Device, GlobalEnables, Key, Lans,
     LogCapacity, NumericEffecters, PowerPolicy, SdrRecords, Sensors, SessionlessChannels,
@@ -24,15 +28,18 @@ pub struct BoardFile {
     pub numeric_effecters: NumericEffecters,
     pub state_effecters: StateEffecters,
     pub users: Users,
-    /// The channels with sessions, and those without.
+    /// The channels with sessions, and those without: at most eight, of which no two have one number.
     pub channels: Channels,
     pub sessionless: SessionlessChannels,
-    /// What each user may do on each channel with sessions.
+    /// What each user may do on each channel with sessions, in the channels' order and then in the users'.
     pub user_accesses: UserAccesses,
     /// The attributes of its BIOS.
     pub attributes: Attributes,
     /// The LAN parameters of its channels.
     pub lans: Lans,
+    ghost apart: { NamesDiffer (λ number. number) (channel_numbers channels.items sessionless.items) },
+    ghost few: { length (channel_numbers channels.items sessionless.items) ≤ 8 },
+    ghost each: { map on_numbers user_accesses.items ≡ each_user_on channels.items users.items },
 }
 
 impl BoardFile {

@@ -141,7 +141,7 @@ fn users(alloc: Global) -> Result<Users, AllocError>
             0x61, 0x64, 0x6D, 0x69, 0x6E, 0, 0, 0, 0, 0, 0, 0, 0, 0, 0, 0,
         ],
     })?;
-    Ok(Distinct::new(users).unwrap())
+    Ok(Users::new(users).unwrap())
 }
 
 /// One channel, with sessions.
@@ -235,7 +235,7 @@ fn attributes(alloc: Global) -> Result<Attributes, AllocError>
     attributes.push(attribute(0, &[0x51, 0x75, 0x69, 0x65, 0x74], quiet(alloc)?))?;
     attributes.push(attribute(1, &[0x41, 0x73, 0x73, 0x65, 0x74], asset()))?;
     attributes.push(attribute(2, &[0x44, 0x65, 0x6C, 0x61, 0x79], delay()))?;
-    Ok(Distinct::new(attributes).unwrap())
+    Ok(Attributes::new(attributes).unwrap())
 }
 
 /// The sample board, which the program takes where it is given no board file.

@@ -12,8 +12,6 @@ use Rattle.cfg_records.specs.declared.board_file.BoardFile.{BoardFile}
 use Rattle.record_base.specs.declared.sensor.Sensor.{Sensor}
 use Rattle.record_base.specs.declared.numeric_effecter.NumericEffecter.{NumericEffecter}
 use Rattle.record_base.specs.declared.state_effecter.StateEffecter.{StateEffecter}
-use Rattle.record_base.specs.declared.attribute.Attribute.{Attribute}
-use Rattle.record_base.specs.declared.user.User.{User}
 use Rattle.record_base.specs.declared.user.UserAccess.{UserAccess}
 use Rattle.record_base.specs.declared.lan_item.Lan.{Lan}
 use Rattle.record_base.specs.declared.channel.Channel.{Channel}
@@ -21,6 +19,7 @@ use Rattle.record_base.specs.declared.channel.ChannelNumber.{ChannelNumber}
 use Rattle.record_base.specs.Numbers.{number_on}
 use Rattle.record_base.specs.declared.event_enable.EventMasks.{EventMasks}
 use Rattle.record_base.specs.Distinct.{NamesDiffer}
+use Rattle.record_base.specs.UsersLaws.{first_user, one_user}
 use Rattle.record_base.specs.Sdr.{sdr_id}
 use Rattle.record_base.specs.Sensor.EventEnable.{are_within, event_value, IsEventEnable}
 use Rattle.record_base.specs.EventLaws.{tested_events}
@@ -83,9 +82,6 @@ no_numbers i j d below within = absurd (omega (arith, below, within))
 pub no_states : NamesDiffer (λ (e : StateEffecter). e.id) []
 no_states i j d below within = absurd (omega (arith, below, within))
 
-pub no_users : NamesDiffer (λ (u : User). u.number.number) []
-no_users i j d below within = absurd (omega (arith, below, within))
-
 pub no_channels : NamesDiffer (λ (c : Channel). c.number.number) []
 no_channels i j d below within = absurd (omega (arith, below, within))
 
@@ -98,8 +94,8 @@ no_lans i j d below within = absurd (omega (arith, below, within))
 pub no_accesses : NamesDiffer (λ (a : UserAccess). number_on a.on) []
 no_accesses i j d below within = absurd (omega (arith, below, within))
 
-pub no_attributes : NamesDiffer (λ (a : Attribute). a.handle) []
-no_attributes i j d below within = absurd (omega (arith, below, within))
+pub no_number_twice : NamesDiffer (λ (number : ℕ). number) []
+no_number_twice i j d below within = absurd (omega (arith, below, within))
 
 -- a board with that sensor
 abbrev pub board_file : BoardFile
@@ -136,12 +132,15 @@ board_file = record {
   };
   numeric_effecters = record { items = []; differ = no_numbers; few = lit≤ tt };
   state_effecters = record { items = []; differ = no_states; few = lit≤ tt };
-  users = record { items = []; differ = no_users; few = lit≤ tt };
+  users = record { items = first_user ∷ []; valid = one_user };
   channels = record { items = []; differ = no_channels; few = lit≤ tt };
   sessionless = record { items = []; differ = no_sessionless; few = lit≤ tt };
   user_accesses = record { items = []; differ = no_accesses; few = lit≤ tt };
-  attributes = record { items = []; differ = no_attributes; few = lit≤ tt };
+  attributes = record { items = []; numbered = tt; few = lit≤ tt };
   lans = record { items = []; differ = no_lans; few = lit≤ tt };
+  apart = no_number_twice;
+  few = lit≤ tt;
+  each = refl;
 }
 
 -- ---- the runs

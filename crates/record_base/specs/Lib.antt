@@ -37,6 +37,10 @@ pub mod MemberLaws
 pub mod Sensor
 pub mod Values
 pub mod Distinct
+pub mod InOrder
+pub mod InOrderLaws
+pub mod Users
+pub mod UsersLaws
 pub mod AttributeSizes
 pub mod AttributeValue
 pub mod AttributeRange

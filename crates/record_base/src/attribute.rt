@@ -5,9 +5,9 @@ ghost use Rattle.record_base.specs.AttributeRange.{AllowsIndexes, AllowsText, Al
 ghost use Rattle.record_base.specs.AttributeRangeLaws.{AllowsIndexes-prop, AllowsText-prop, AllowsNumber-prop};
 
 use crate::attribute_range::{AttributeRange, IntegerSteps, PossibleValues, TextLengths};
-use crate::attribute_sizes::{MOST_ATTRIBUTES, MOST_INDEXES, MOST_TEXT};
+use crate::attribute_sizes::{MOST_INDEXES, MOST_TEXT};
 use crate::attribute_value::{ENUMERATION_TYPE, INTEGER_TYPE, STRING_TYPE};
-use crate::distinct::{Distinct, Numbered};
+use crate::distinct::Numbered;
 use crate::items::Items;
 use crate::key::Key;
 use crate::value::Value;
@@ -69,9 +69,6 @@ pub struct Attribute {
     pub read_only: bool,
     pub kind: AttributeKind,
 }
-
-/// The attributes of a board.
-pub type Attributes = Distinct<Attribute, { MOST_ATTRIBUTES }>;
 
 impl Numbered for Attribute {
     ghost number_of = { λ attribute. attribute.handle };

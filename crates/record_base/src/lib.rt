@@ -6,6 +6,7 @@ pub mod attribute;
 pub mod attribute_range;
 pub mod attribute_sizes;
 pub mod attribute_value;
+pub mod attributes;
 pub mod bios_attribute;
 pub mod boot_param;
 pub mod channel;
@@ -16,6 +17,7 @@ pub mod event_enable;
 pub mod field_changes;
 pub mod global_enables;
 pub mod hysteresis;
+pub mod in_order;
 pub mod items;
 pub mod key;
 pub mod kind;
@@ -37,15 +39,17 @@ pub mod sensor_thresholds;
 pub mod state_effecter;
 pub mod thresholds;
 pub mod user;
+pub mod users;
 pub mod value;
 pub mod watchdog;
 
 pub use attribute::{
-    Attribute, AttributeKind, Attributes, EnumerationAttribute, Indexes, IntegerAttribute,
-    StringAttribute, Text,
+    Attribute, AttributeKind, EnumerationAttribute, Indexes, IntegerAttribute, StringAttribute,
+    Text,
 };
 pub use attribute_range::{AttributeRange, IntegerSteps, PossibleValues, TextLengths};
 pub use attribute_value::AttributeValue;
+pub use attributes::Attributes;
 pub use bios_attribute::SetBiosAttribute;
 pub use boot_param::{BootChange, BootFlags, BootOptions, BootParameter, MaskedBits, SetBootParam};
 pub use channel::{
@@ -80,7 +84,8 @@ pub use sensor_thresholds::{SetThresholds, Thresholds};
 pub use state_effecter::{SetStateEffecter, StateEffecter, StateEffecters, StateField};
 pub use thresholds::ThresholdMasks;
 pub use user::{
-    SetUserAccess, SetUserName, User, UserAccess, UserAccesses, UserNumber, UserOnChannel, Users,
+    SetUserAccess, SetUserName, User, UserAccess, UserAccesses, UserNumber, UserOnChannel,
 };
+pub use users::Users;
 pub use value::{RecordData, Value};
 pub use watchdog::{SetWatchdog, Watchdog};

@@ -30,9 +30,6 @@ pub struct User {
     pub ghost sixteen: { length name ≡ 16 },
 }
 
-/// The users of a board.
-pub type Users = Distinct<User, 16>;
-
 /// What a user may do on a channel with sessions, by a byte of Get User Access (IPMI 2.0): bit 6 callback alone, bit 5 link
 /// authentication, bit 4 messages, and the limit of privileges in bits 3:0, 1 to 5, or 15 for no access.
 #[derive(Clone, Copy, Debug)]

@@ -1,0 +1,19 @@
+-- The channels of a board file, and what its users may do on them (IPMI 2.0).
+use Rattle.std.specs.Prelude.{ℕ, List, ◌++◌, map}
+use Rattle.std.specs.List.{flat_map}
+use Rattle.record_base.specs.declared.channel.Channel.{Channel}
+use Rattle.record_base.specs.declared.channel.ChannelNumber.{ChannelNumber}
+use Rattle.record_base.specs.declared.user.User.{User}
+use Rattle.record_base.specs.declared.user.UserAccess.{UserAccess}
+
+-- the numbers of all channels: of those with sessions, and of those without
+abbrev pub channel_numbers : List Channel → List ChannelNumber → List ℕ
+channel_numbers channels sessionless = map (λ channel. channel.number.number) channels ++ map (λ channel. channel.number) sessionless
+
+-- the numbers of the channel and of the user
+abbrev pub on_numbers : UserAccess → ℕ × ℕ
+on_numbers access = (access.on.channel.number, access.on.user.number)
+
+-- each of the users on each of the channels, channel after channel
+abbrev pub each_user_on : List Channel → List User → List (ℕ × ℕ)
+each_user_on channels users = flat_map (λ channel. map (λ user. (channel.number.number, user.number.number)) users) channels

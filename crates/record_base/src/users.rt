@@ -1,0 +1,36 @@
+//! The users of a board.
+ghost use Rattle.record_base.specs.Users.{AreUsers};
+ghost use Rattle.record_base.specs.UsersLaws.{AreUsers-prop};
+
+use crate::in_order::are_numbered;
+use crate::items::Items;
+use crate::user::User;
+
+/// The most users that a board has.
+const MOST_USERS: usize = 16;
+
+/// The users of a board: at most 16, of numbers 1, 2 and so on in order. The first has no name.
+#[derive(Debug, Drop)]
+pub struct Users {
+    pub items: Items<User>,
+    ghost valid: { AreUsers items } by { AreUsers-prop items },
+}
+
+impl Users {
+    ghost use Rattle.std.specs.Prelude.{◌≡◌, ◌↔◌, IsSome, IfSome};
+    ghost use Rattle.record_base.specs.Users.{AreUsers};
+
+    /// These users, or nothing where no board can have them.
+    pub fn new(items: Vec<User>) -> Option<Self>
+        ensures made { IsSome result ↔ AreUsers items.items }
+        ensures items { IfSome result (λ made. made.items ≡ items.items) }
+    {
+        let first = items.first()?;
+        if first.name != [0; 16] || items.len() > MOST_USERS || !are_numbered(items.as_slice(), 1) {
+            return None;
+        }
+        Some(Users {
+            items: Items::new(items),
+        })
+    }
+}
