@@ -67,7 +67,7 @@ attributes_have_values file records sound =
       λ handle. current_at (attribute_at items handle) (values_in records handle),
       λ k d within.
           let a : Attribute = get_or items k d in
-          let found : attribute_at items a.handle ≡ Some a = attribute_found items (numbered_differ (λ (a : Attribute). a.handle) 0 items file.attributes.numbered) k d within in
+          let found : attribute_at items a.handle ≡ Some a = attribute_found items (numbered_differ (λ (a : Attribute). a.handle) 0 items file.attributes.placed) k d within in
           read_at a a.handle (records (key.BiosAttribute a.handle)) (subst (λ (o : Option Attribute). IsSoundAt (option_map (limits_of a.handle) o) (records (key.BiosAttribute a.handle))) found (sound (key.BiosAttribute a.handle)))
           ∙ ap (λ (o : Option Attribute). Some (current_at o (values_in records a.handle))) (sym found),
     )

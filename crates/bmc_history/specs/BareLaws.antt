@@ -57,7 +57,7 @@ bare_file = record {
   channels = record { items = []; differ = none_differ (λ (c : Channel). c.number.number); few = lit≤ tt };
   sessionless = record { items = []; differ = none_differ (λ (c : ChannelNumber). c.number); few = lit≤ tt };
   user_accesses = record { items = []; differ = none_differ (λ (a : UserAccess). number_on a.on); few = lit≤ tt };
-  attributes = record { items = []; numbered = tt; few = lit≤ tt };
+  attributes = record { items = []; placed = tt; few = lit≤ tt };
   lans = record { items = []; differ = none_differ (λ (l : Lan). l.number.number); few = lit≤ tt };
   apart = none_differ (λ (number : ℕ). number);
   few = lit≤ tt;

@@ -37,7 +37,8 @@ pub struct BoardFile {
     pub attributes: Attributes,
     /// The LAN parameters of its channels.
     pub lans: Lans,
-    ghost apart: { NamesDiffer (λ number. number) (channel_numbers channels.items sessionless.items) },
+    ghost apart: { NamesDiffer (λ number. number)
+        (channel_numbers channels.items sessionless.items) },
     ghost few: { length (channel_numbers channels.items sessionless.items) ≤ 8 },
     ghost each: { map on_numbers user_accesses.items ≡ each_user_on channels.items users.items },
 }
@@ -49,7 +50,8 @@ impl BoardFile {
 
     /// The records of its sensors: a line for each kind.
     fn sensor_records(&self, alloc: Global) -> Result<Vec<(Key, Value)>, AllocError>
-        ensures { IfOk result (λ pairs. pairs.items ≡ joined [] (sensor_kinds self.now.sensors.items)) }
+        ensures { IfOk result
+            (λ pairs. pairs.items ≡ joined [] (sensor_kinds self.now.sensors.items)) }
     {
         let sensors = self.sensors.items.as_slice();
         let thresholds = sensors.iter().map(|s| s.thresholds.pair(s.number));

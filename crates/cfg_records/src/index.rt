@@ -72,7 +72,8 @@ impl Index {
     /// Puts the key's record at this place, and gives the place that it had.
     pub fn insert(&mut self, key: Key, place: usize) -> Result<Option<usize>, AllocError>
         ensures old { IfOk result (λ found. found ≡ place_of self.old key) }
-        ensures updates { IfOk result (λ found. (k : AnyKey) → place_of self.new k ≡ (if same_key key k then Some place else place_of self.old k)) }
+        ensures updates { IfOk result (λ found. (k : AnyKey) → place_of self.new k
+            ≡ (if same_key key k then Some place else place_of self.old k)) }
     {
         if let Some((table, sensor)) = key.slot() {
             return Ok(put(&mut self.sensors.tables[table], sensor, place));

@@ -34,7 +34,8 @@ pub struct PlainStore {
 impl PlainStore {
     /// A store of these pairs.
     pub fn new(alloc: Global, pairs: &[(Key, Value)]) -> Result<Self, StoreFault>
-        ensures records { IfOk result (λ s. ⟦<PlainStore as Store>⟧.records s ≡ records_of pairs.now) }
+        ensures records { IfOk result
+            (λ s. ⟦<PlainStore as Store>⟧.records s ≡ records_of pairs.now) }
         ensures differ { OnOk result (KeysDiffer pairs.now) }
         ensures fit { OnOk result (LengthsFit pairs.now) }
 
@@ -65,7 +66,8 @@ impl PlainStore {
 
     /// A store of the records that a board begins with.
     pub fn of_file(alloc: Global, file: &BoardFile) -> Result<Self, AllocError>
-        ensures { IfOk result (λ s. ⟦<PlainStore as Store>⟧.records s ≡ records_of (pairs_of file.now)) }
+        ensures { IfOk result
+            (λ s. ⟦<PlainStore as Store>⟧.records s ≡ records_of (pairs_of file.now)) }
     {
         let pairs = file.records(alloc)?;
         match PlainStore::new(alloc, pairs.as_slice()) {

@@ -32,12 +32,15 @@ pub trait Store: Drop {
     /// The value that lies there.
     fn value(&self, place: Self::Place) -> &[u8]
         requires { IsPlace (places self.now) place }
-        ensures { (key : Key) → places self.now key ≡ Some place → records self.now key ≡ Some result.now };
+        ensures { (key : Key) → places self.now key ≡ Some place
+            → records self.now key ≡ Some result.now };
 
     /// Writes the value that lies there.
     fn write(&mut self, place: Self::Place, value: &[u8])
-        requires { (key : Key) × (places self.old key ≡ Some place) × IsTrue (is_length key (length value.now)) }
-        ensures records { (key : Key) → places self.old key ≡ Some place → records self.new ≡ with_record (records self.old) key value.now }
+        requires { (key : Key) × (places self.old key ≡ Some place)
+            × IsTrue (is_length key (length value.now)) }
+        ensures records { (key : Key) → places self.old key ≡ Some place
+            → records self.new ≡ with_record (records self.old) key value.now }
         ensures places { places self.new ≡ places self.old };
 
     /// The key's value, where it lies.
@@ -54,7 +57,8 @@ pub trait Store: Drop {
     fn put(&mut self, key: &Key, value: &[u8]) -> Result<(), NoKey>
         requires { IsTrue (is_length key.now (length value.now)) }
         ensures absent { IsErr result ↔ IsNone (records self.old key.now) }
-        ensures ok { OnOk result (records self.new ≡ with_record (records self.old) key.now value.now) }
+        ensures ok { OnOk result
+            (records self.new ≡ with_record (records self.old) key.now value.now) }
         ensures err { OnErr result (records self.new ≡ records self.old) }
         ensures places { places self.new ≡ places self.old }
     {

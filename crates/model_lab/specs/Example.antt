@@ -136,7 +136,7 @@ board_file = record {
   channels = record { items = []; differ = no_channels; few = lit≤ tt };
   sessionless = record { items = []; differ = no_sessionless; few = lit≤ tt };
   user_accesses = record { items = []; differ = no_accesses; few = lit≤ tt };
-  attributes = record { items = []; numbered = tt; few = lit≤ tt };
+  attributes = record { items = []; placed = tt; few = lit≤ tt };
   lans = record { items = []; differ = no_lans; few = lit≤ tt };
   apart = no_number_twice;
   few = lit≤ tt;

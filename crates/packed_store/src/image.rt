@@ -10,7 +10,8 @@ use std::alloc::AllocError;
 /// The length of the longest value of the key's kind.
 pub(crate) fn longest(key: &Key) -> usize
     ensures bound { (n : ℕ) → IsTrue (is_length key.now n) → n ≤ result }
-    ensures least { (most : ℕ) → ((n : ℕ) → IsTrue (is_length key.now n) → n ≤ most) → result ≤ most }
+    ensures least { (most : ℕ)
+        → ((n : ℕ) → IsTrue (is_length key.now n) → n ≤ most) → result ≤ most }
     ensures short { result ≤ VALUE_CAPACITY }
 {
     for unused in 0..VALUE_CAPACITY {

@@ -41,7 +41,8 @@ impl Places {
     /// Adds a key that has no offset.
     pub fn insert(&mut self, key: Key, offset: usize) -> Result<(), AllocError>
         requires { offset_of self.old key ≡ None }
-        ensures { OnOk result ((k : AnyKey) → offset_of self.new k ≡ (if same_key key k then Some offset else offset_of self.old k)) }
+        ensures { OnOk result ((k : AnyKey) → offset_of self.new k
+            ≡ (if same_key key k then Some offset else offset_of self.old k)) }
     {
         match key.slot() {
             Some(_) => {

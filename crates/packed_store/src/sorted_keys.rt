@@ -97,7 +97,8 @@ impl SortedKeys {
     /// Adds a key that isn't there.
     pub fn insert(&mut self, key: Key, offset: usize) -> Result<(), AllocError>
         requires { offset_in self.old.entries.items key ≡ None }
-        ensures { OnOk result ((k : AnyKey) → offset_in self.new.entries.items k ≡ (if same_key key k then Some offset else offset_in self.old.entries.items k)) }
+        ensures { OnOk result ((k : AnyKey) → offset_in self.new.entries.items k
+            ≡ (if same_key key k then Some offset else offset_in self.old.entries.items k)) }
     {
         match self.search(&key) {
             Ok(_) => unreachable!(),

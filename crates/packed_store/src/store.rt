@@ -51,7 +51,8 @@ impl PackedStore {
     fn pack(alloc: Global, pairs: &[(Key, Value)]) -> Result<Self, AllocError>
         requires differ { KeysDiffer pairs.now }
         requires fit { LengthsFit pairs.now }
-        ensures { IfOk result (λ s. records_in s.bytes.items (offset_of s.places) ≡ records_of pairs.now) }
+        ensures { IfOk result
+            (λ s. records_in s.bytes.items (offset_of s.places) ≡ records_of pairs.now) }
     {
         let mut places = Places::new(alloc)?;
         let mut bytes = Vec::new(alloc);
@@ -65,7 +66,8 @@ impl PackedStore {
 
     /// A store of these pairs.
     pub fn new(alloc: Global, pairs: &[(Key, Value)]) -> Result<Self, StoreFault>
-        ensures records { IfOk result (λ s. ⟦<PackedStore as Store>⟧.records s ≡ records_of pairs.now) }
+        ensures records { IfOk result
+            (λ s. ⟦<PackedStore as Store>⟧.records s ≡ records_of pairs.now) }
         ensures differ { OnOk result (KeysDiffer pairs.now) }
         ensures fit { OnOk result (LengthsFit pairs.now) }
 
@@ -88,7 +90,8 @@ impl PackedStore {
 
     /// A store of the records that a board begins with.
     pub fn of_file(alloc: Global, file: &BoardFile) -> Result<Self, AllocError>
-        ensures { IfOk result (λ s. ⟦<PackedStore as Store>⟧.records s ≡ records_of (pairs_of file.now)) }
+        ensures { IfOk result
+            (λ s. ⟦<PackedStore as Store>⟧.records s ≡ records_of (pairs_of file.now)) }
     {
         let pairs = file.records(alloc)?;
         PackedStore::pack(alloc, pairs.as_slice())

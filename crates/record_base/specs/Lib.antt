@@ -41,6 +41,8 @@ pub mod InOrder
 pub mod InOrderLaws
 pub mod Users
 pub mod UsersLaws
+pub mod Attributes
+pub mod AttributesLaws
 pub mod AttributeSizes
 pub mod AttributeValue
 pub mod AttributeRange

@@ -85,8 +85,11 @@ impl EnumerationAttribute {
 
     /// An enumeration with these possible values, or nothing where these are too many, or where it can't have a value.
     pub fn new(values: Vec<Text>, default: Indexes, current: Indexes) -> Option<Self>
-        ensures made { IsSome result ↔ ((length values.items ≤ most_indexes) × AllowsIndexes (length values.items) default × AllowsIndexes (length values.items) current) }
-        ensures parts { IfSome result (λ made. (made.values ≡ values.items) × (made.default ≡ default) × (made.current ≡ current)) }
+        ensures made { IsSome result ↔ ((length values.items ≤ most_indexes)
+            × AllowsIndexes (length values.items) default
+            × AllowsIndexes (length values.items) current) }
+        ensures parts { IfSome result (λ made. (made.values ≡ values.items)
+            × (made.default ≡ default) × (made.current ≡ current)) }
     {
         if values.len() > MOST_INDEXES {
             return None;
@@ -112,8 +115,10 @@ impl StringAttribute {
     /// A string with these lengths, or nothing where it can't have a value.
     pub fn new(string_type: u8, lengths: TextLengths, default: Text, current: Text) -> Option<Self>
         ensures made { IsSome result ↔ (AllowsText lengths default × AllowsText lengths current) }
-        ensures texts { IfSome result (λ made. (made.default ≡ default) × (made.current ≡ current)) }
-        ensures parts { IfSome result (λ made. (made.string_type ≡ string_type) × (made.lengths ≡ lengths)) }
+        ensures texts { IfSome result
+            (λ made. (made.default ≡ default) × (made.current ≡ current)) }
+        ensures parts { IfSome result
+            (λ made. (made.string_type ≡ string_type) × (made.lengths ≡ lengths)) }
     {
         if !lengths.allows(default.as_slice()) || !lengths.allows(current.as_slice()) {
             return None;
@@ -134,7 +139,8 @@ impl IntegerAttribute {
     /// An integer with these steps, or nothing where it can't have a value.
     pub fn new(steps: IntegerSteps, default: u64, current: u64) -> Option<Self>
         ensures made { IsSome result ↔ (AllowsNumber steps default × AllowsNumber steps current) }
-        ensures parts { IfSome result (λ made. (made.steps ≡ steps) × (made.default ≡ default) × (made.current ≡ current)) }
+        ensures parts { IfSome result (λ made. (made.steps ≡ steps)
+            × (made.default ≡ default) × (made.current ≡ current)) }
     {
         if !steps.allows(default) || !steps.allows(current) {
             return None;

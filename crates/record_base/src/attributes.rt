@@ -1,8 +1,8 @@
 //! The BIOS attributes of a board, in its list.
 ghost use Rattle.std.specs.Prelude.{◌≤◌, length};
 ghost use Rattle.record_base.specs.AttributeSizes.{most_attributes};
-ghost use Rattle.record_base.specs.InOrder.{AreNumbered};
-ghost use Rattle.record_base.specs.InOrderLaws.{AreNumbered-prop};
+ghost use Rattle.record_base.specs.Attributes.{AreInPlace};
+ghost use Rattle.record_base.specs.AttributesLaws.{AreInPlace-prop};
 
 use crate::attribute::Attribute;
 use crate::attribute_sizes::MOST_ATTRIBUTES;
@@ -13,19 +13,19 @@ use crate::items::Items;
 #[derive(Debug, Drop)]
 pub struct Attributes {
     pub items: Items<Attribute>,
-    ghost numbered: { AreNumbered (λ attribute. attribute.handle) 0 items } by { AreNumbered-prop (λ attribute. attribute.handle) 0 items },
+    ghost placed: { AreInPlace items } by { AreInPlace-prop items },
     ghost few: { length items ≤ most_attributes },
 }
 
 impl Attributes {
     ghost use Rattle.std.specs.Prelude.{◌≡◌, ◌≤◌, ◌↔◌, IsSome, IfSome, length};
     ghost use Rattle.record_base.specs.AttributeSizes.{most_attributes};
-    ghost use Rattle.record_base.specs.InOrder.{AreNumbered};
+    ghost use Rattle.record_base.specs.Attributes.{AreInPlace};
 
     /// These attributes, or nothing where a handle isn't its attribute's place, or where there are too many.
     pub fn new(items: Vec<Attribute>) -> Option<Self>
         ensures made { IsSome result
-            ↔ (AreNumbered (λ attribute. attribute.handle) 0 items.items × (length items.items ≤ most_attributes)) }
+            ↔ (AreInPlace items.items × (length items.items ≤ most_attributes)) }
         ensures items { IfSome result (λ made. made.items ≡ items.items) }
     {
         if items.len() > MOST_ATTRIBUTES || !are_numbered(items.as_slice(), 0) {

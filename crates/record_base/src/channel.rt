@@ -136,11 +136,14 @@ impl ChannelAccess {
 
 impl Channel {
     ghost use Rattle.std.specs.Prelude.{◌≡◌};
-    ghost use Rattle.record_base.specs.Values.{access_value};
+    ghost use Rattle.record_base.specs.Values.{access_value, stored};
 
     /// The record of its non-volatile store.
     pub fn non_volatile_pair(&self) -> (Key, Value)
-        ensures { result ≡ (Key.ChannelAccess (record { channel = self.now.number; store = AccessStore.NonVolatile }), access_value self.now.non_volatile) }
+        ensures { result ≡ (
+          Key.ChannelAccess (stored self.now.number AccessStore.NonVolatile),
+          access_value self.now.non_volatile,
+        ) }
     {
         let stored = StoredAccess {
             channel: self.number,
@@ -155,7 +158,10 @@ impl Channel {
 
     /// The record of its volatile store.
     pub fn volatile_pair(&self) -> (Key, Value)
-        ensures { result ≡ (Key.ChannelAccess (record { channel = self.now.number; store = AccessStore.Volatile }), access_value self.now.volatile) }
+        ensures { result ≡ (
+          Key.ChannelAccess (stored self.now.number AccessStore.Volatile),
+          access_value self.now.volatile,
+        ) }
     {
         let stored = StoredAccess {
             channel: self.number,

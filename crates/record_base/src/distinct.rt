@@ -26,7 +26,8 @@ pub struct Distinct<T: Numbered, const MOST: usize> {
 impl<T: Numbered + Drop, const MOST: usize> Distinct<T, MOST> {
     /// These items, or nothing where two have the same number or there are too many.
     pub fn new(items: Vec<T>) -> Option<Self>
-        ensures made { IsSome result ↔ (NamesDiffer T.number_of items.items × (length items.items ≤ MOST)) }
+        ensures made { IsSome result
+            ↔ (NamesDiffer T.number_of items.items × (length items.items ≤ MOST)) }
         ensures items { IfSome result (λ made. made.items ≡ items.items) }
     {
         if items.len() > MOST || !numbers_differ(items.as_slice()) {
@@ -39,7 +40,7 @@ impl<T: Numbered + Drop, const MOST: usize> Distinct<T, MOST> {
 }
 
 /// Whether one of the items has the number.
-fn is_taken<T: Numbered>(items: &[T], number: u16) -> bool
+pub fn is_taken<T: Numbered>(items: &[T], number: u16) -> bool
     ensures { result ≡ list_any (λ item. T.number_of item == number) items.now }
 {
     items.iter().any(|item| item.number() == number)
