@@ -64,3 +64,25 @@ asked_offset table operation handle =
     else (if operation == 1 then Some 0
     else (if operation == 0 && (nat_lt 0 handle && begins_part table handle) then Some handle
     else None))
+
+-- ---- an entry, which is given whole where it is short
+
+-- how many bytes an entry has at most that is given whole
+abbrev pub most_whole : ℕ
+most_whole = 205
+
+-- whether it is given whole
+abbrev pub goes_whole : List ℕ → Bool
+goes_whole entry = nat_le (length entry) most_whole
+
+-- the offset of the part of an entry that a request asks for: a whole one has no later part
+abbrev pub asked_of_entry : List ℕ → ℕ → ℕ → Option ℕ
+asked_of_entry entry operation handle =
+    if goes_whole entry then (if operation == 1 then Some 0 else None)
+    else asked_offset entry operation handle
+
+-- the part of an entry at an offset: the whole entry, or that of a table
+pub record IsEntryPart (entry : List ℕ) (offset : ℕ) (p : Part) : Type 0 where
+  pub bytes : p.bytes.now ≡ (if goes_whole entry then entry else part_bytes entry offset)
+  pub next : p.next ≡ (if goes_whole entry then 0 else next_handle entry offset)
+  pub flag : p.flag ≡ (if goes_whole entry then StartAndEnd else flag_of (offset == 0) (is_last entry offset))

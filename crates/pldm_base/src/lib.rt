@@ -21,6 +21,6 @@ pub use laws::{
 pub use message::{Header, Instance, PldmBytes, PldmReply, PldmRequest, PldmType};
 pub use reading::{read_pldm, read_pldm_reply};
 pub use sameness::same_request;
-pub use table::{GET_FIRST_PART, GET_NEXT_PART, PART_LENGTH, Part, TransferFlag};
-pub use transfer::part;
+pub use table::{GET_FIRST_PART, GET_NEXT_PART, MOST_WHOLE, PART_LENGTH, Part, TransferFlag};
+pub use transfer::{entry_part, part};
 pub use writing::{begin_pldm_reply, write_pldm, write_pldm_reply};

@@ -4,6 +4,9 @@ ghost use Rattle.std.specs.Prelude.{◌≡◌};
 /// How many bytes each part of a table has, but for the last.
 pub const PART_LENGTH: usize = 192;
 
+/// How many bytes an entry has at most that is given whole.
+pub const MOST_WHOLE: usize = 205;
+
 /// The transfer operation that asks for a later part, by its handle.
 pub const GET_NEXT_PART: u8 = 0x00;
 

@@ -1,9 +1,9 @@
 //! The part of a table that a request asks for.
 ghost use Rattle.std.specs.Prelude.{◌≡◌, ◌^◌, ◌≤◌, ◌&&◌, length, nat_lt, MatchOption, IsOkAnd};
 ghost use Rattle.two_wire.specs.Codes.{pldm_invalid_data};
-ghost use Rattle.pldm_base.specs.Parts.{asked_offset, begins_part, flag_of, IsPart};
+ghost use Rattle.pldm_base.specs.Parts.{asked_of_entry, asked_offset, begins_part, flag_of, IsEntryPart, IsPart};
 
-use crate::{GET_FIRST_PART, GET_NEXT_PART, PART_LENGTH, Part, TransferFlag};
+use crate::{GET_FIRST_PART, GET_NEXT_PART, MOST_WHOLE, PART_LENGTH, Part, TransferFlag};
 use two_wire::Code;
 use two_wire::code::PLDM_INVALID_DATA;
 
@@ -26,6 +26,26 @@ pub fn part(table: &[u8], operation: u8, handle: u32) -> Result<Part<'_>, Code>
         GET_NEXT_PART if is_later_part(table, handle) => Ok(part_at(table, handle)),
         _ => Err(PLDM_INVALID_DATA),
     }
+}
+
+/// The part of the entry that a request asks for, as in GetBIOSAttributeCurrentValueByHandle of DSP0247. An entry of at most
+/// `MOST_WHOLE` bytes is its own first part, and has no other; a longer one has the parts of a table.
+pub fn entry_part(entry: &[u8], operation: u8, handle: u32) -> Result<Part<'_>, Code>
+    ensures { MatchOption (asked_of_entry entry.now operation handle)
+        (result ≡ Err pldm_invalid_data)
+        (λ offset. IsOkAnd result (IsEntryPart entry.now offset)) }
+{
+    if entry.len() > MOST_WHOLE {
+        return part(entry, operation, handle);
+    }
+    if operation != GET_FIRST_PART {
+        return Err(PLDM_INVALID_DATA);
+    }
+    Ok(Part {
+        next: 0,
+        flag: TransferFlag::StartAndEnd,
+        bytes: entry,
+    })
 }
 
 // Whether a part other than the first begins at the handle.
