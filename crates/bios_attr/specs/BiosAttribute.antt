@@ -1,5 +1,6 @@
 -- The value of a BIOS attribute, as a kind of record (DSP0247). A value has the bytes that a value entry has behind the type.
-use Rattle.std.specs.Prelude.{◌≡◌, ℕ, ◌==◌, ◌&&◌, nat_le, not, List, [], ◌∷◌, ◌++◌, drop, length, slice_index, Bool, true, false, IsTrue, if◌then◌else◌, is_some, Option, Some, None, Result, Ok, Err, refl}
+use Rattle.std.specs.Prelude.{◌≡◌, ℕ, ◌==◌, ◌&&◌, nat_le, nat_lt, not, List, [], ◌∷◌, ◌++◌, drop, length, slice_index, Bool, true, false, IsTrue, if◌then◌else◌, is_some, Option, Some, None, Result, Ok, Err, refl}
+use Rattle.std.specs.Int.{w32, from_le_bytes}
 use Rattle.two_wire.specs.Codes.{pldm_invalid_data, pldm_invalid_length, pldm_invalid_attribute}
 use Rattle.record_base.specs.declared.key.Key.{Key}
 use Rattle.record_base.specs.declared.key.Key.TheVariants as key
@@ -12,6 +13,8 @@ use Rattle.record_base.specs.declared.attribute_value.AttributeValue.{AttributeV
 use Rattle.record_base.specs.declared.attribute_value.AttributeValue.TheVariants.{Indexes, Text, Number}
 use Rattle.bios_attr.specs.declared.value_entry.ValueEntry.{ValueEntry}
 use Rattle.bios_attr.specs.declared.bios_attribute.AttributeLimits.{AttributeLimits}
+use Rattle.bios_attr.specs.declared.bios_attribute.AskedPart.{AskedPart}
+use Rattle.bios_attr.specs.declared.bios_attribute.AskedPart.TheVariants.{First, Later}
 use Rattle.record_base.specs.declared.bios_attribute.SetBiosAttribute.{SetBiosAttribute}
 use Rattle.record_base.specs.AttributeSizes.{most_indexes, most_text}
 use Rattle.record_base.specs.AttributeValue.{two_bytes, number_of, value_in}
@@ -29,12 +32,15 @@ set_current_value = 0x07
 abbrev pub get_current_value : ℕ
 get_current_value = 0x08
 
--- the transfer flag of data that is whole, and the transfer operation that asks for it
+-- the transfer flag of data that is whole, and the transfer operations that ask for the first part and for a later one
 abbrev pub start_and_end : ℕ
 start_and_end = 0x05
 
 abbrev pub get_first_part : ℕ
 get_first_part = 0x01
+
+abbrev pub get_next_part : ℕ
+get_next_part = 0x00
 
 -- a transfer handle that stands for nothing
 abbrev pub no_handle : List ℕ
@@ -80,18 +86,24 @@ op_entry op = two_bytes op.attribute ++ op.attribute_type ∷ op.value
 abbrev pub attribute_body : SetBiosAttribute → List ℕ
 attribute_body op = no_handle ++ start_and_end ∷ op_entry op
 
--- the operation in such data: too short first, then another flag
+-- the transfer handle in the data of a request
+abbrev pub transfer_handle : List ℕ → ℕ
+transfer_handle body = from_le_bytes w32 (byte_at body 0 ∷ byte_at body 1 ∷ byte_at body 2 ∷ byte_at body 3 ∷ [])
+
+-- the operation in such data: too short first, then another flag, then too short for an entry
 abbrev pub attribute_in : List ℕ → Result SetBiosAttribute ℕ
 attribute_in body =
-    if nat_le 8 (length body)
-    then (if byte_at body 4 == start_and_end
-    then Ok (setting (number_of (byte_at body 5) (byte_at body 6)) (byte_at body 7) (drop 8 body))
-    else Err pldm_invalid_data)
-    else Err pldm_invalid_length
+    if nat_lt (length body) 6 then Err pldm_invalid_length
+    else (if not (byte_at body 4 == start_and_end) then Err pldm_invalid_data
+    else (if nat_lt (length body) 8 then Err pldm_invalid_length
+    else Ok (setting (number_of (byte_at body 5) (byte_at body 6)) (byte_at body 7) (drop 8 body))))
 
--- the attribute that the data of a Get ask for: another transfer operation is refused
-abbrev pub attribute_shown_in : List ℕ → Result ℕ ℕ
-attribute_shown_in body = if byte_at body 4 == get_first_part then Ok (number_of (byte_at body 5) (byte_at body 6)) else Err pldm_invalid_data
+-- the part of an attribute's entry that the data of a Get ask for: another transfer operation is refused
+abbrev pub attribute_shown_in : List ℕ → Result AskedPart ℕ
+attribute_shown_in body =
+    if byte_at body 4 == get_first_part then Ok (First (number_of (byte_at body 5) (byte_at body 6)))
+    else (if byte_at body 4 == get_next_part then Ok (Later (number_of (byte_at body 5) (byte_at body 6)) (transfer_handle body))
+    else Err pldm_invalid_data)
 
 -- the Get reply: no further part, the flag, and the entry
 abbrev pub attribute_view : AttributeLimits → List ℕ → List ℕ

@@ -1,11 +1,11 @@
 //! The value of a BIOS attribute, as a kind of record.
-ghost use Rattle.std.specs.Prelude.{◌≡◌, ◌+◌, ◌≤◌, ◌++◌, ◌∷◌, OnErr, length};
-ghost use Rattle.record_base.specs.Meaning.{told};
+ghost use Rattle.std.specs.Prelude.{◌≡◌, ◌+◌, ◌≤◌, ◌++◌, ◌∷◌, length};
 ghost use Rattle.record_base.specs.AttributeSizes.{most_data};
 ghost use Rattle.record_base.specs.AttributeValue.{two_bytes};
-ghost use Rattle.bios_attr.specs.BiosAttribute.{no_handle, get_first_part, attribute_outcome, attribute_body, attribute_in, attribute_shown_in, attribute_view, is_within, is_attribute_reply};
+ghost use Rattle.bios_attr.specs.BiosAttribute.{no_handle, get_first_part, attribute_body, transfer_handle, attribute_in, attribute_shown_in, attribute_view, is_within, is_attribute_reply};
 
 use crate::value_entry::{entry_in, shown_type};
+use pldm_base::{GET_FIRST_PART, GET_NEXT_PART};
 use record_base::attribute_sizes::{BEFORE_VALUE, MOST_INDEXES, MOST_TEXT};
 use record_base::attribute_value::{AttributeValue, value_in};
 use record_base::value::DATA_CAPACITY;
@@ -13,7 +13,7 @@ use record_base::{
     Asked, Attribute, AttributeRange, Key, Live, RecordData, RecordKind, SetBiosAttribute, Value,
     byte_at,
 };
-use two_wire::code::{PLDM_INVALID_ATTRIBUTE, PLDM_INVALID_DATA, PLDM_INVALID_LENGTH};
+use two_wire::code::{PLDM_INVALID_DATA, PLDM_INVALID_LENGTH};
 use two_wire::{Below, Buffer, Code};
 
 /// The PLDM type of BIOS control and configuration.
@@ -28,8 +28,8 @@ const GET_CURRENT_VALUE: u8 = 0x08;
 /// The transfer flag of data that is whole.
 const START_AND_END: u8 = 0x05;
 
-/// The transfer operation that asks for the first part.
-const GET_FIRST_PART: u8 = 0x01;
+/// How many bytes the data of a Set have at least, of whatever flag.
+const LEAST_SET: usize = 6;
 
 /// A transfer handle that stands for nothing.
 const NO_HANDLE: [u8; 4] = [0; 4];
@@ -40,6 +40,15 @@ pub struct AttributeLimits {
     pub handle: u16,
     pub read_only: bool,
     pub range: AttributeRange,
+}
+
+/// Which part of an attribute's entry the data of a Get ask for.
+#[derive(Clone, Copy, Debug, PartialEq, Eq)]
+pub enum AskedPart {
+    /// The first part, of the attribute with this handle.
+    First(u16),
+    /// The part of such an attribute that this transfer handle names.
+    Later(u16, u32),
 }
 
 /// Appends an entry's bytes.
@@ -68,28 +77,45 @@ fn body(op: &SetBiosAttribute) -> RecordData
     body
 }
 
+/// The transfer handle in the data of a request.
+pub fn transfer_handle(body: &[u8]) -> u32
+    ensures { result ≡ transfer_handle body.now }
+{
+    u32::from_le_bytes([
+        byte_at(body, 0),
+        byte_at(body, 1),
+        byte_at(body, 2),
+        byte_at(body, 3),
+    ])
+}
+
 /// The operation that the data of its request says: nothing where they are too short, or where their flag says that they are a part.
 pub fn attribute_in(body: &[u8]) -> Result<SetBiosAttribute, Code>
     ensures { result ≡ attribute_in body.now }
 {
-    if body.len() < BEFORE_VALUE {
+    if body.len() < LEAST_SET {
         return Err(PLDM_INVALID_LENGTH);
     }
     if body[4] != START_AND_END {
         return Err(PLDM_INVALID_DATA);
     }
+    if body.len() < BEFORE_VALUE {
+        return Err(PLDM_INVALID_LENGTH);
+    }
     let attribute = u16::from_le_bytes([body[5], body[6]]);
     Ok(SetBiosAttribute::of(attribute, body[7], &body[BEFORE_VALUE..]))
 }
 
-/// The attribute whose value the data of a request ask for, or the code that refuses another transfer operation.
-pub fn attribute_shown_in(body: &[u8]) -> Result<u16, Code>
+/// The part that the data of a Get ask for, or the code that refuses another transfer operation.
+pub fn attribute_shown_in(body: &[u8]) -> Result<AskedPart, Code>
     ensures { result ≡ attribute_shown_in body.now }
 {
-    if byte_at(body, 4) != GET_FIRST_PART {
-        return Err(PLDM_INVALID_DATA);
+    let attribute = u16::from_le_bytes([byte_at(body, 5), byte_at(body, 6)]);
+    match byte_at(body, 4) {
+        GET_FIRST_PART => Ok(AskedPart::First(attribute)),
+        GET_NEXT_PART => Ok(AskedPart::Later(attribute, transfer_handle(body))),
+        _ => Err(PLDM_INVALID_DATA),
     }
-    Ok(u16::from_le_bytes([byte_at(body, 5), byte_at(body, 6)]))
 }
 
 /// Whether a value is within the limits of all attributes.
@@ -141,28 +167,6 @@ impl AttributeLimits {
         }
     }
 
-    /// Makes `new` the value that the operation makes. Where the attribute can't have it, `new` stays, and the error is the reply's code.
-    pub fn set(&self, op: &SetBiosAttribute, new: &mut Value) -> Result<(), Code>
-        ensures outcome { told result new.new ≡ attribute_outcome self.now op.now }
-        ensures kept { OnErr result (new.new ≡ new.old) }
-    {
-        if op.attribute != self.handle {
-            return Err(PLDM_INVALID_ATTRIBUTE);
-        }
-        if op.attribute_type != self.range.type_code() || self.read_only {
-            return Err(PLDM_INVALID_DATA);
-        }
-        let bytes = op.value.as_slice();
-        let Some(value) = value_in(op.attribute_type, bytes) else {
-            return Err(PLDM_INVALID_LENGTH);
-        };
-        if !self.range.allows(&value) {
-            return Err(PLDM_INVALID_DATA);
-        }
-        new.replace(bytes);
-        Ok(())
-    }
-
     /// Appends the data of the Get reply, which show this value.
     pub fn show<B: Buffer>(&self, value: &[u8], reply: &mut B)
         requires { length (B.bytes reply.old) + length (attribute_view self.now value.now) ≤ B.capacity }
@@ -189,7 +193,18 @@ impl<'a> RecordKind<'a> for AttributeLimits {
     }
 
     fn apply(&self, op: &SetBiosAttribute, _value: &[u8], new: &mut Value) -> Result<(), Code> {
-        self.set(op, new)
+        if op.attribute_type != self.range.type_code() || self.read_only {
+            return Err(PLDM_INVALID_DATA);
+        }
+        let bytes = op.value.as_slice();
+        let Some(value) = value_in(op.attribute_type, bytes) else {
+            return Err(PLDM_INVALID_LENGTH);
+        };
+        if !self.range.allows(&value) {
+            return Err(PLDM_INVALID_DATA);
+        }
+        new.replace(bytes);
+        Ok(())
     }
 
     fn set_reply<B: Buffer>(_op: &SetBiosAttribute, reply: &mut B) {

@@ -20,7 +20,7 @@ pub mod whole_table;
 pub use attribute_entry::{
     AttributeEntry, EnumerationFields, IntegerFields, KindFields, TextFields,
 };
-pub use bios_attribute::AttributeLimits;
+pub use bios_attribute::{AskedPart, AttributeLimits};
 pub use bios_table::BiosTable;
 pub use current_values::{CurrentValues, EntryHead};
 pub use rest::Rest;
