@@ -1,0 +1,4 @@
+pub mod SetParts
+pub mod Entries
+pub mod Stagings
+pub mod StagingsLaws

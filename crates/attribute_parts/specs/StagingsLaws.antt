@@ -1,0 +1,16 @@
+-- What holds of all stagings.
+use Rattle.std.specs.Prelude.{ℕ, ◌<◌, ◌≤◌, List, length, All}
+use Rattle.attribute_parts.specs.Entries.{whole_length, most_entry}
+use Rattle.attribute_parts.specs.Stagings.{Staged, most_stagings}
+
+-- the bytes begin an entry, and more are behind them
+pub record IsBegun (entry : List ℕ) : Type 0 where
+  pub headed : 5 ≤ length entry
+  pub goes_on : length entry < whole_length entry
+  pub fits : whole_length entry ≤ most_entry
+
+-- no more stagings than there can be, with room for all, each of an entry that is begun
+pub record AreSound (room : ℕ) (stagings : Staged) : Type 0 where
+  pub few : length stagings ≤ most_stagings
+  pub reserved : most_stagings ≤ room
+  pub begun : All (λ staging. IsBegun staging.entry) stagings

@@ -1,0 +1,105 @@
+//! Entries of strings, as they come in parts: an attribute, its type, the text's length, and the text.
+ghost use Rattle.std.specs.Prelude.{◌≡◌, ◌==◌, nat_lt};
+ghost use Rattle.attribute_parts.specs.Entries.{text_length, whole_length, op_of, begins_string, allows_length, first_fault, middle_fault, last_fault};
+ghost use Rattle.attribute_parts.specs.Stagings.{unless};
+
+use bios_attr::AttributeLimits;
+use pldm_base::PART_LENGTH;
+use record_base::attribute_sizes::MOST_VALUE;
+use record_base::attribute_value::STRING_TYPE;
+use record_base::{AttributeRange, SetBiosAttribute, byte_at};
+use two_wire::Code;
+use two_wire::code::{PLDM_INVALID_DATA, PLDM_INVALID_LENGTH};
+
+/// How many bytes an entry has before its value: the attribute, and its type.
+const BEFORE_VALUE: usize = 3;
+
+/// How many bytes a string's entry has before its text.
+const BEFORE_TEXT: usize = 5;
+
+/// How many bytes an attribute's entry has at most.
+pub const MOST_ENTRY: usize = BEFORE_VALUE + MOST_VALUE;
+
+/// How long the text of a string's entry is, by its length field.
+fn text_length(entry: &[u8]) -> u16
+    ensures { result ≡ text_length entry.now }
+{
+    u16::from_le_bytes([byte_at(entry, 3), byte_at(entry, 4)])
+}
+
+/// How many bytes a string's entry has once it is whole.
+fn whole_length(entry: &[u8]) -> usize
+    ensures { result ≡ whole_length entry.now }
+{
+    BEFORE_TEXT + usize::from(text_length(entry))
+}
+
+/// The operation of a whole entry.
+pub(crate) fn op_in(entry: &[u8]) -> SetBiosAttribute
+    ensures { result ≡ op_of entry.now }
+{
+    let attribute = u16::from_le_bytes([byte_at(entry, 0), byte_at(entry, 1)]);
+    let value = entry.get(BEFORE_VALUE..).unwrap_or(&[]);
+    SetBiosAttribute::of(attribute, byte_at(entry, 2), value)
+}
+
+/// Whether the bytes are the first part of a string's entry that goes on.
+fn begins_string(entry: &[u8]) -> bool
+    ensures { result ≡ begins_string entry.now }
+{
+    byte_at(entry, 2) == STRING_TYPE
+        && entry.len() == PART_LENGTH
+        && whole_length(entry) > PART_LENGTH
+}
+
+/// Whether an attribute can be a text of this length.
+fn allows_length(range: &AttributeRange, length: u16) -> bool
+    ensures { result ≡ allows_length range.now length }
+{
+    match range {
+        AttributeRange::Text(lengths) => lengths.least <= length && length <= lengths.most,
+        _ => false,
+    }
+}
+
+/// Refuses what no entry of the attribute begins with.
+pub(crate) fn check_first(limits: &AttributeLimits, entry: &[u8]) -> Result<(), Code>
+    ensures { result ≡ unless (first_fault limits.now entry.now) tt }
+{
+    if byte_at(entry, 2) != limits.range.type_code() || limits.read_only {
+        return Err(PLDM_INVALID_DATA);
+    }
+    if !begins_string(entry) {
+        return Err(PLDM_INVALID_LENGTH);
+    }
+    if !allows_length(&limits.range, text_length(entry)) {
+        return Err(PLDM_INVALID_DATA);
+    }
+    Ok(())
+}
+
+/// Refuses what isn't the part behind these bytes, with more behind it.
+pub(crate) fn check_middle(staged: &[u8], handle: u32, bytes: &[u8]) -> Result<(), Code>
+    ensures { result ≡ unless (middle_fault staged.now handle bytes.now) tt }
+{
+    if handle as usize != staged.len() {
+        return Err(PLDM_INVALID_DATA);
+    }
+    if bytes.len() != PART_LENGTH || staged.len() + bytes.len() >= whole_length(staged) {
+        return Err(PLDM_INVALID_LENGTH);
+    }
+    Ok(())
+}
+
+/// Refuses what isn't the last part behind these bytes.
+pub(crate) fn check_last(staged: &[u8], handle: u32, bytes: &[u8]) -> Result<(), Code>
+    ensures { result ≡ unless (last_fault staged.now handle bytes.now) tt }
+{
+    if handle as usize != staged.len() {
+        return Err(PLDM_INVALID_DATA);
+    }
+    if staged.len() + bytes.len() != whole_length(staged) || bytes.len() > PART_LENGTH {
+        return Err(PLDM_INVALID_LENGTH);
+    }
+    Ok(())
+}
