@@ -17,20 +17,20 @@ use Rattle.record_base.specs.Masks.{has}
 use Rattle.record_base.specs.BootParam.{selector, parameter_of, change_bytes, flag_bytes, IsBootParam}
 use Rattle.record_base.specs.Requests.{chassis, ipmi_request}
 
--- the commands that set them and get them
+-- the Set command and the Get command
 abbrev pub set_boot_options : ℕ
 set_boot_options = 0x08
 
 abbrev pub get_boot_options : ℕ
 get_boot_options = 0x09
 
--- the two are one parameter
+-- both are the same parameter
 abbrev pub same_parameter : BootParameter → BootParameter → Bool
-same_parameter a b = selector a == selector b
+same_parameter first second = selector first == selector second
 
 -- ---- what a Set makes
 
--- a byte has the new bits at the mask's places, and the old ones at the others
+-- a byte has the new bits at the mask's places, and the old bits at the other places
 pub record IsMasked (mask bits old new : ℕ) : Type 0 where
   pub byte : new < 256
   pub written : (place : ℕ) → place < 8 → IsTrue (has mask place) → has new place ≡ has bits place
@@ -47,14 +47,14 @@ body_of parameter.ValidBitClearing value = slice_index value 1 ∷ []
 body_of parameter.InfoAcknowledge value = slice_index value 1 ∷ []
 body_of parameter.Flags value = slice_index value 1 ∷ slice_index value 2 ∷ slice_index value 3 ∷ slice_index value 4 ∷ slice_index value 5 ∷ []
 
--- the data of a value become these: the old ones, bits 4:0 of the byte, the old byte with the masked bits written, or the flags
+-- the new data of a value: the old data, bits 4:0 of the byte, the old byte with the masked bits written, or the flags
 abbrev pub Changes : BootChange → List ℕ → List ℕ → Type 0
 Changes (MarkAlone parameter) old body = body ≡ body_of parameter old
 Changes (ValidBitClearing byte) old body = body ≡ byte % 32 ∷ []
 Changes (InfoAcknowledge masked) old body = (length body ≡ 1) × IsMasked masked.mask masked.bits (slice_index old 1) (slice_index body 0)
 Changes (Flags flags) old body = body ≡ flag_bytes flags
 
--- the mark becomes the operation's, and the data behind it change as it says
+-- the mark becomes the operation's mark, and the data behind the mark change by the operation's change
 pub record SetsBootParam (parameter : BootParameter) (op : SetBootParam) (old new : List ℕ) : Type 0 where
   pub of_it : IsTrue (same_parameter (parameter_of op.change) parameter)
   pub body : List ℕ
@@ -85,11 +85,11 @@ abbrev pub marked : Bool → BootParameter → ℕ
 marked true parameter = 128 + selector parameter
 marked false parameter = selector parameter
 
--- the data of a Set: the first byte, and those of the change
+-- the data of a Set: the first byte, and the data of the change
 abbrev pub boot_body : SetBootParam → List ℕ
 boot_body op = marked op.invalid (parameter_of op.change) ∷ change_bytes op.change
 
--- what a reply has before the data: parameter 4 shows no mask
+-- the bytes of a reply before the parameter's data: parameter 4 shows no mask
 abbrev pub before_body : BootParameter → List ℕ
 before_body parameter.InfoAcknowledge = 0 ∷ []
 before_body _ = []
@@ -104,13 +104,13 @@ reply_length parameter.ValidBitClearing = 3
 reply_length parameter.InfoAcknowledge = 4
 reply_length parameter.Flags = 7
 
--- ---- what undoes it
+-- ---- the inverse
 
 -- the flags that a reply shows
 abbrev pub shown_flags : List ℕ → BootFlags
 shown_flags reply = record { validity = slice_index reply 2; device = slice_index reply 3; console = slice_index reply 4; overrides = slice_index reply 5; instance = slice_index reply 6 }
 
--- the change that brings back what a reply shows: of parameter 4 the same bits, out of the whole old byte
+-- the change that brings back the data that a reply shows: of parameter 4 the same bits, from the whole old byte
 abbrev pub undo_change : BootChange → List ℕ → BootChange
 undo_change (MarkAlone parameter) reply = MarkAlone parameter
 undo_change (ValidBitClearing byte) reply = ValidBitClearing (slice_index reply 2 % 32)
@@ -139,7 +139,7 @@ words = record {
   set_reply = λ op. [];
   next_live = λ op live. live;
   is_reply = λ op reply. length reply ≡ reply_length (parameter_of op.change);
-  -- from each reply
+  -- each reply is enough
   restorable = λ op reply. Unit {0};
   inverse = λ op reply. if length reply == reply_length (parameter_of op.change) then Some (undo_boot op reply) else None;
   is_plain = λ op. is_plain_change op.change;

@@ -1,4 +1,4 @@
--- BootParam as one value, and where it stands among all kinds.
+-- The kind BootParam, and its place among all kinds.
 use Rattle.record_base.specs.declared.boot_param.BootParameter.{BootParameter}
 use Rattle.record_base.specs.declared.boot_param.SetBootParam.{SetBootParam}
 use Rattle.record_base.specs.Kind.{Kind}
@@ -7,10 +7,10 @@ use Rattle.watch_boot.specs.declared.boot_param.BootParamLimits.{BootParamLimits
 use Rattle.watch_boot.specs.BootParam.{words, record_words, place}
 use Rattle.watch_boot.specs.BootParamLaws.{kind_laws, record_laws}
 
--- what it says, and that it holds
+-- the words and the laws of the kind
 abbrev pub kind : Kind BootParameter SetBootParam BootParamLimits
 kind = record { words = words; record_words = λ limits. record_words limits.parameter; kind_laws = kind_laws; record_laws = λ limits. record_laws limits.parameter }
 
--- the kind, and where it stands among all
+-- the kind, and its place among all kinds
 abbrev pub member : Member BootParameter SetBootParam BootParamLimits
 member = record { kind = kind; place = place }

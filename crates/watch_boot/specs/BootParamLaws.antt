@@ -23,7 +23,7 @@ use Rattle.watch_boot.specs.BootParam.{same_parameter, IsMasked, mark_of, body_o
 
 -- ---- parameters
 
--- parameters of one number are one
+-- parameters of the same number are the same
 pub exact_parameter : (a b : BootParameter) → same_parameter a b ≡ true → a ≡ b
 exact_parameter parameter.ValidBitClearing parameter.ValidBitClearing h = refl
 exact_parameter parameter.InfoAcknowledge parameter.InfoAcknowledge h = refl
@@ -213,7 +213,7 @@ body_told parameter.ValidBitClearing value other same = ap (drop 2) same
 body_told parameter.InfoAcknowledge value other same = ap (drop 3) same
 body_told parameter.Flags value other same = ap (drop 2) same
 
--- a reply tells the value
+-- a reply determines the value
 told_value : (p : BootParameter) (value other : List ℕ) → IsBootParam p value → IsBootParam p other → boot_view p value ≡ boot_view p other → value ≡ other
 told_value p value other v w same =
     whole p value v
@@ -232,7 +232,7 @@ mark_back parameter.InfoAcknowledge (suc zero) small = refl
 mark_back parameter.Flags (suc zero) small = refl
 mark_back p (suc (suc m)) small = absurd (omega arith)
 
--- it is on the same parameter
+-- the inverse is on the same parameter
 same_param : (c : BootChange) (reply : List ℕ) → parameter_of (undo_change c reply) ≡ parameter_of c
 same_param (MarkAlone p) reply = refl
 same_param (ValidBitClearing byte) reply = refl
@@ -267,7 +267,7 @@ undoes_param p op old new v s =
     (subst (λ (q : BootParameter). SetsBootParam q (undo_boot op (boot_view q old)) (mark_of op.invalid ∷ s.body) old) same
     (undoes_change op.change op.invalid old s.body (subst (λ (q : BootParameter). IsBootParam q old) (sym same) v) s.changed))
 
--- no ignored bit of it is set
+-- the inverse sets no ignored bit
 plain_change : (c : BootChange) (reply : List ℕ) → is_plain_change (undo_change c reply)
 plain_change (MarkAlone p) reply = tt
 plain_change (ValidBitClearing byte) reply = omega arith

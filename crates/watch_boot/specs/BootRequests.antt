@@ -1,4 +1,4 @@
--- What the commands of the system boot options ask for, by their data (IPMI 2.0).
+-- Requests of the commands of the system boot options, from their data (IPMI 2.0).
 use Rattle.std.specs.Prelude.{ℕ, ◌%◌, List, [], ◌∷◌, drop, ◌==◌, Bool, if◌then◌else◌, Result, Ok, Err, Option, Some, None}
 use Rattle.two_wire.specs.Codes.{invalid_length}
 use Rattle.record_base.specs.declared.boot_param.BootParameter.{BootParameter}
@@ -17,18 +17,19 @@ use Rattle.watch_boot.specs.declared.boot_request.BootShown.TheVariants as shown
 abbrev pub unsupported_parameter : ℕ
 unsupported_parameter = 0x80
 
--- what parameter 0 becomes, by the data behind the selector
+-- the request on parameter 0, from the data behind the selector
 abbrev pub progress_in : List ℕ → Result BootRequest ℕ
 progress_in [] = Ok (Progress None)
 progress_in (byte ∷ []) = Ok (Progress (Some byte))
 progress_in _ = Err invalid_length
 
--- what becomes of another parameter: without data its mark alone is set
+-- the change of another parameter. Without data, a Set sets the parameter's mark alone.
 abbrev pub change_in : BootParameter → List ℕ → Result BootChange ℕ
 change_in parameter [] = Ok (MarkAlone parameter)
 change_in parameter.ValidBitClearing (byte ∷ []) = Ok (ValidBitClearing byte)
 change_in parameter.InfoAcknowledge (mask ∷ bits ∷ []) = Ok (InfoAcknowledge (record { mask = mask; bits = bits }))
-change_in parameter.Flags (a ∷ b ∷ c ∷ d ∷ e ∷ []) = Ok (Flags (record { validity = a; device = b; console = c; overrides = d; instance = e }))
+change_in parameter.Flags (validity ∷ device ∷ console ∷ overrides ∷ instance ∷ []) =
+    Ok (Flags (record { validity = validity; device = device; console = console; overrides = overrides; instance = instance }))
 change_in _ _ = Err invalid_length
 
 abbrev pub with_mark : Bool → Result BootChange ℕ → Result BootRequest ℕ
@@ -39,7 +40,7 @@ abbrev pub param_in : Bool → List ℕ → Option BootParameter → Result Boot
 param_in invalid rest (Some parameter) = with_mark invalid (change_in parameter rest)
 param_in invalid rest None = Err unsupported_parameter
 
--- what a Set asks for: its first byte has the mark in bit 7 and the selector below it
+-- the request of a Set: its first byte has the mark in bit 7 and the selector in bits 6:0
 abbrev pub boot_request_in : List ℕ → Result BootRequest ℕ
 boot_request_in body =
     if byte_at body 0 % 128 == 0 then progress_in (drop 1 body) else param_in (has (byte_at body 0) 7) (drop 1 body) (parameter_at (byte_at body 0 % 128))
@@ -48,6 +49,6 @@ abbrev pub shown_in : Option BootParameter → Result BootShown ℕ
 shown_in (Some parameter) = Ok (shown.Param parameter)
 shown_in None = Err unsupported_parameter
 
--- what a Get asks for: its first byte has the selector in bits 6:0
+-- the request of a Get: its first byte has the selector in bits 6:0
 abbrev pub boot_shown_in : List ℕ → Result BootShown ℕ
 boot_shown_in body = if byte_at body 0 % 128 == 0 then Ok shown.Progress else shown_in (parameter_at (byte_at body 0 % 128))

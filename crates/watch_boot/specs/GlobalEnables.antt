@@ -11,7 +11,7 @@ use Rattle.record_base.specs.AllKinds.{Place}
 use Rattle.record_base.specs.GlobalEnables.{are_enables, AreGlobalEnables}
 use Rattle.record_base.specs.Requests.{application, ipmi_request, byte_at}
 
--- the commands that set them and get them
+-- the Set command and the Get command
 abbrev pub set_global_enables : ℕ
 set_global_enables = 0x2E
 
@@ -27,11 +27,11 @@ pub record SetsEnables (op : SetGlobalEnables) (new : List ℕ) : Type 0 where
 abbrev pub enables_outcome : SetGlobalEnables → Result (List ℕ) ℕ
 enables_outcome op = if are_enables op.byte then Ok (op.byte ∷ []) else Err invalid_data_field
 
--- the operation that sets what the reply shows
+-- the operation that sets the byte of the reply
 abbrev pub undo_enables : List ℕ → SetGlobalEnables
 undo_enables reply = record { byte = slice_index reply 0 }
 
--- the operation that the data of its request says
+-- the operation with these data
 abbrev pub enables_in : List ℕ → SetGlobalEnables
 enables_in body = record { byte = byte_at body 0 }
 
@@ -48,7 +48,7 @@ words = record {
   set_reply = λ op. [];
   next_live = λ op live. live;
   is_reply = λ op reply. length reply ≡ 1;
-  -- from each reply
+  -- each reply is enough
   restorable = λ op reply. Unit {0};
   inverse = λ op reply. if length reply == 1 then Some (undo_enables reply) else None;
   -- no bit is ignored

@@ -13,7 +13,7 @@ use Rattle.record_base.specs.AllKinds.{Place}
 use Rattle.record_base.specs.PowerPolicy.{IsPowerPolicy}
 use Rattle.record_base.specs.Requests.{chassis, ipmi_request, byte_at}
 
--- the command that sets it, and the one that gets it among other things
+-- the Set command, and the command that gets the policy among other things
 abbrev pub set_power_restore_policy : ℕ
 set_power_restore_policy = 0x06
 
@@ -24,18 +24,18 @@ get_chassis_status = 0x01
 abbrev pub supported : ℕ
 supported = 0x07
 
--- the policy that is asked for: bits 2:0
+-- the policy that the operation asks for: bits 2:0
 abbrev pub asked_policy : SetPowerPolicy → ℕ
 asked_policy op = op.policy % 8
 
--- 0, 1 and 2 become the policy, 3 leaves it as it is, and there is no other
+-- 0, 1 and 2 become the policy, 3 changes nothing, and the record accepts no other number
 pub record SetsPolicy (op : SetPowerPolicy) (old new : List ℕ) : Type 0 where
   pub known : asked_policy op ≤ 3
   pub one : length new ≡ 1
   pub changed : asked_policy op < 3 → slice_index new 0 ≡ asked_policy op
   pub unchanged : asked_policy op ≡ 3 → slice_index new 0 ≡ slice_index old 0
 
--- the policy that there is then
+-- the policy after the operation
 abbrev pub next_policy : SetPowerPolicy → List ℕ → ℕ
 next_policy op old = if asked_policy op == 3 then slice_index old 0 else asked_policy op
 
@@ -51,15 +51,15 @@ status value live = (slice_index value 0 * 32 + live.chassis % 32) ∷ 0 ∷ 0 �
 abbrev pub shown_policy : List ℕ → ℕ
 shown_policy reply = slice_index reply 0 / 32 % 4
 
--- the test that it is a status of a known policy
+-- the test that the data are a status of a known policy
 abbrev pub is_known : List ℕ → Bool
 is_known reply = length reply == 3 && not (shown_policy reply == 3)
 
--- the operation that sets what the status shows
+-- the operation that sets the policy of the status
 abbrev pub undo_policy : List ℕ → SetPowerPolicy
 undo_policy reply = record { policy = shown_policy reply }
 
--- the operation that the data of its request says
+-- the operation with these data
 abbrev pub policy_in : List ℕ → SetPowerPolicy
 policy_in body = record { policy = byte_at body 0 }
 
@@ -72,7 +72,7 @@ words = record {
   get_asked = λ alone. ipmi_request chassis get_chassis_status [];
   set_data = λ op. op.policy ∷ [];
   set_asked = λ op. ipmi_request chassis set_power_restore_policy (op.policy ∷ []);
-  -- the Set reply says which policies are there
+  -- the Set reply names the supported policies
   set_reply = λ op. supported ∷ [];
   next_live = λ op live. live;
   is_reply = λ op reply. length reply ≡ 3;

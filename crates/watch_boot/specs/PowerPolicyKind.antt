@@ -1,4 +1,4 @@
--- PowerPolicy as one value, and where it stands among all kinds.
+-- The kind PowerPolicy, and its place among all kinds.
 use Rattle.record_base.specs.declared.power_policy.SetPowerPolicy.{SetPowerPolicy}
 use Rattle.record_base.specs.Kind.{Kind}
 use Rattle.record_base.specs.Member.{Member}
@@ -7,14 +7,14 @@ use Rattle.watch_boot.specs.declared.power_policy.PowerPolicyLimits.{PowerPolicy
 use Rattle.watch_boot.specs.PowerPolicy.{policy_in, words, record_words, place}
 use Rattle.watch_boot.specs.PowerPolicyLaws.{kind_laws, record_laws}
 
--- what it says, and that it holds
+-- the words and the laws of the kind
 abbrev pub kind : Kind (Unit {0}) SetPowerPolicy PowerPolicyLimits
 kind = record { words = words; record_words = λ limits. record_words; kind_laws = kind_laws; record_laws = λ limits. record_laws }
 
--- the kind, and where it stands among all
+-- the kind, and its place among all kinds
 abbrev pub member : Member (Unit {0}) SetPowerPolicy PowerPolicyLimits
 member = record { kind = kind; place = place }
 
--- what the data of its commands say
+-- the record and the operation that the data of the commands name
 abbrev pub reader : Reader
 reader = record { key_in = λ body. words.name tt; op_in = λ body. place.op (policy_in body) }

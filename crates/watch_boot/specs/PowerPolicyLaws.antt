@@ -97,14 +97,14 @@ three_not : (n : ℕ) → n ≢ 3 → (b : Bool) → (n == 3) ≡ b → not b �
 three_not n other true is = absurd (other (tested_same n 3 is))
 three_not n other false is = refl
 
--- the test holds of the statuses of a known policy
+-- the test holds for the statuses of a known policy
 known_tested : (reply : List ℕ) → is_known reply ≡ true → (length reply ≡ 3) × (shown_policy reply ≢ 3)
 known_tested reply is = let tests = both_true (length reply == 3) _ is in (tested_same _ _ tests.0, not_three _ tests.1)
 
 tested_known : (reply : List ℕ) → (length reply ≡ 3) × (shown_policy reply ≢ 3) → is_known reply ≡ true
 tested_known reply h = both _ _ (same_tested _ _ h.0) (three_not (shown_policy reply) h.1 (shown_policy reply == 3) refl)
 
--- what undoes an operation, made from a status
+-- the inverse of an operation, from a status
 made_policy : (op made : SetPowerPolicy) (reply : List ℕ) → words.inverse op reply ≡ Some made → (is_known reply ≡ true) × (undo_policy reply ≡ made)
 made_policy op made reply is = made_where (is_known reply) (undo_policy reply) made is
 
@@ -113,7 +113,7 @@ undo_is_plain reply = omega arith
 
 -- ---- what of a status is configuration
 
--- the policy that a status shows tells the value
+-- the policy that a status shows determines the value
 told_policy : (value other : List ℕ) (live : Live) → IsPowerPolicy value → IsPowerPolicy other → shown_policy (status value live) ∷ [] ≡ shown_policy (status other live) ∷ [] → value ≡ other
 told_policy value other live v w same =
     let heads : shown_policy (status value live) ≡ shown_policy (status other live) = ap (λ (xs : List ℕ). slice_index xs 0) same in

@@ -14,7 +14,7 @@ use Rattle.record_base.specs.Masks.{has}
 use Rattle.record_base.specs.Watchdog.{IsWatchdog, watchdog_value}
 use Rattle.record_base.specs.Requests.{application, ipmi_request, byte_at}
 
--- the commands that set it and get it
+-- the Set command and the Get command
 abbrev pub set_watchdog_timer : ℕ
 set_watchdog_timer = 0x24
 
@@ -27,7 +27,7 @@ get_watchdog_timer = 0x25
 abbrev pub use_in : ℕ → ℕ
 use_in timer_use = timer_use % 8
 
--- don't log in bit 7 and the use in bits 2:0: what a Set keeps of a timer use byte
+-- the bits of a timer use byte that a Set keeps: don't log in bit 7 and the use in bits 2:0
 abbrev pub kept_use : ℕ → ℕ
 kept_use timer_use = timer_use / 128 * 128 + use_in timer_use
 
@@ -42,17 +42,17 @@ interrupt_in actions = actions / 16 % 8
 abbrev pub action_in : ℕ → ℕ
 action_in actions = actions % 8
 
--- what a Set keeps of an actions byte
+-- the bits of an actions byte that a Set keeps
 abbrev pub kept_actions : ℕ → ℕ
 kept_actions actions = interrupt_in actions * 16 + action_in actions
 
 -- ---- Set Watchdog Timer
 
--- the settings that the bytes say
+-- the settings of the operation's bytes
 abbrev pub settings_of : SetWatchdog → List ℕ
 settings_of op = watchdog_value (kept_use op.timer_use) (kept_actions op.actions) op.pre_timeout op.initial
 
--- they are a use from 1 to 5, and an interrupt and an action of at most 3, and become the value
+-- the operation has a use from 1 to 5, and an interrupt and an action of at most 3, and its settings become the value
 pub record SetsWatchdog (op : SetWatchdog) (new : List ℕ) : Type 0 where
   pub a_use : 1 ≤ use_in op.timer_use
   pub known_use : use_in op.timer_use ≤ 5
@@ -72,11 +72,11 @@ watchdog_outcome op = if is_accepted op then Ok (settings_of op) else Err invali
 abbrev pub without : ℕ → ℕ → ℕ
 without flags named = bit_and flags (255 - named)
 
--- a flag is there after a Set where it was there and isn't named
+-- a flag is set after a Set exactly where it was set before and the Set doesn't name it
 abbrev pub ClearsNamed : Type 0
 ClearsNamed = (flags named place : ℕ) → named < 2 ^ 8 → place < 8 → has (without flags named) place ≡ (has flags place && not (has named place))
 
--- the countdown begins anew, the timer goes on only where bit 6 is set, and the named flags are cleared
+-- the countdown begins anew, the timer goes on only where bit 6 is set, and the operation clears the named flags
 abbrev pub live_after_set : SetWatchdog → Live → Live
 live_after_set op live = record {
   chassis = live.chassis;
@@ -90,7 +90,7 @@ live_after_set op live = record {
 abbrev pub watchdog_body : SetWatchdog → List ℕ
 watchdog_body op = op.timer_use ∷ op.actions ∷ op.pre_timeout ∷ op.flags_to_clear ∷ op.initial % 256 ∷ op.initial / 256 ∷ []
 
--- the operation that such data say
+-- the operation with these data
 abbrev pub watchdog_in : List ℕ → SetWatchdog
 watchdog_in body = record {
   timer_use = byte_at body 0;
@@ -106,7 +106,7 @@ watchdog_in body = record {
 abbrev pub shown_use : ℕ → Bool → ℕ
 shown_use timer_use running = without_bit_6 timer_use + (if running then 64 else 0)
 
--- the reply: the settings, with the flags after the pre-timeout interval, and what is left of the countdown
+-- the reply: the settings, with the flags after the pre-timeout interval, and the rest of the countdown
 abbrev pub watchdog_view : List ℕ → Live → List ℕ
 watchdog_view value live =
     shown_use (slice_index value 0) live.running ∷ slice_index value 1 ∷ slice_index value 2 ∷ live.expired
@@ -117,17 +117,17 @@ abbrev pub configuration : List ℕ → List ℕ
 configuration reply =
     without_bit_6 (slice_index reply 0) ∷ slice_index reply 1 ∷ slice_index reply 2 ∷ slice_index reply 4 ∷ slice_index reply 5 ∷ []
 
--- a reply of a timer that is stopped and was set
+-- a reply of a stopped timer whose settings have a use
 pub record IsStopped (reply : List ℕ) : Type 0 where
   pub not_running : IsFalse (has (slice_index reply 0) 6)
   pub a_use : 1 ≤ use_in (slice_index reply 0)
   pub known_use : use_in (slice_index reply 0) ≤ 5
 
--- the test that it is one
+-- the test that the data are a reply of a stopped timer whose settings have a use
 abbrev pub is_stopped : List ℕ → Bool
 is_stopped reply = length reply == 8 && not (has (slice_index reply 0) 6) && nat_le 1 (use_in (slice_index reply 0)) && nat_le (use_in (slice_index reply 0)) 5
 
--- the operation that sets what the reply shows: don't stop is 0, and no flag is cleared
+-- the operation that sets the settings of the reply: don't stop is 0, and it clears no flag
 abbrev pub undo_watchdog : List ℕ → SetWatchdog
 undo_watchdog reply = record {
   timer_use = kept_use (slice_index reply 0);
@@ -143,7 +143,7 @@ undo_watchdog reply = record {
 abbrev pub WasSet : List ℕ → Type 0
 WasSet value = 1 ≤ use_in (slice_index value 0)
 
--- the test of that
+-- the test that the settings have a use
 abbrev pub was_set : List ℕ → Bool
 was_set value = nat_le 1 (use_in (slice_index value 0))
 

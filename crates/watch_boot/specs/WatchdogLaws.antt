@@ -84,7 +84,7 @@ same_use : (byte : ℕ) (running : Bool) → byte % 128 ≤ 5 → use_in (kept_u
 same_use byte true known = omega arith
 same_use byte false known = omega arith
 
--- and so is an actions byte
+-- an actions byte of valid settings is kept whole
 kept_both : (byte : ℕ) → byte / 16 ≤ 3 → byte % 16 ≤ 3 → kept_actions (kept_actions byte) ≡ byte
 kept_both byte interrupt action = omega arith
 
@@ -121,7 +121,7 @@ not_of : (b : Bool) → IsFalse b → not b ≡ true
 not_of true h = cc
 not_of false h = refl
 
--- the test holds of the replies of a timer that is stopped and was set
+-- the test holds for the replies of a stopped timer whose settings have a use
 stopped_tested : (reply : List ℕ) → is_stopped reply ≡ true → (length reply ≡ 8) × IsStopped reply
 stopped_tested reply is =
     let tests = all_true (length reply == 8) (not (has (slice_index reply 0) 6)) (nat_le 1 (use_in (slice_index reply 0))) (nat_le (use_in (slice_index reply 0)) 5) is in (
@@ -132,7 +132,7 @@ stopped_tested reply is =
 tested_stopped : (reply : List ℕ) → (length reply ≡ 8) × IsStopped reply → is_stopped reply ≡ true
 tested_stopped reply h = both _ _ (both _ _ (both _ _ (same_tested _ _ h.0) (not_of _ h.1.not_running)) (to_le _ _ h.1.a_use)) (to_le _ _ h.1.known_use)
 
--- what undoes an operation, made from a reply
+-- the inverse of an operation, from a reply
 made_watchdog : (op made : SetWatchdog) (reply : List ℕ) → words.inverse op reply ≡ Some made → (is_stopped reply ≡ true) × (undo_watchdog reply ≡ made)
 made_watchdog op made reply is = made_where (is_stopped reply) (undo_watchdog reply) made is
 
@@ -153,7 +153,7 @@ no_bit_6 byte known = omega arith
 five_bytes : (a b c d e v w x y z : ℕ) → a ≡ v → b ≡ w → c ≡ x → d ≡ y → e ≡ z → a ∷ b ∷ c ∷ d ∷ e ∷ [] ≡ v ∷ w ∷ x ∷ y ∷ z ∷ []
 five_bytes a b c d e v w x y z p q r s t = cc
 
--- the configuration of a reply tells the settings
+-- the configuration bytes of a reply determine the settings
 told_settings : (value other : List ℕ) (live : Live) → IsWatchdog value → IsWatchdog other → configuration (watchdog_view value live) ≡ configuration (watchdog_view other live) → value ≡ other
 told_settings value other live v w same =
     let at : (k : ℕ) → slice_index (configuration (watchdog_view value live)) k ≡ slice_index (configuration (watchdog_view other live)) k = λ k. ap (λ (xs : List ℕ). slice_index xs k) same in

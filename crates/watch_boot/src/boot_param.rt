@@ -1,8 +1,7 @@
 //! The boot parameters, as a kind of record.
-ghost use Rattle.std.specs.Prelude.{◌≡◌, ◌+◌, ◌≤◌, ◌++◌, OnErr, IsTrue, length};
-ghost use Rattle.record_base.specs.Meaning.{told};
+ghost use Rattle.std.specs.Prelude.{◌≡◌, ◌+◌, ◌≤◌, ◌++◌, length};
 ghost use Rattle.record_base.specs.BootParam.{selector, parameter_of, IsBootParam};
-ghost use Rattle.watch_boot.specs.BootParam.{same_parameter, masked_byte, boot_outcome, marked, boot_body, boot_view};
+ghost use Rattle.watch_boot.specs.BootParam.{masked_byte, marked, boot_body, boot_view};
 
 use record_base::mask::has;
 use record_base::net_fn::CHASSIS;
@@ -12,19 +11,19 @@ use record_base::{
 };
 use two_wire::{Buffer, Code, NetFn};
 
-/// The number of the command that sets them.
+/// The number of the Set command.
 const SET_SYSTEM_BOOT_OPTIONS: u8 = 0x08;
 
-/// The number of the command that gets them.
+/// The number of the Get command.
 const GET_SYSTEM_BOOT_OPTIONS: u8 = 0x09;
 
-/// The version of the parameters that a reply gives first.
+/// The version of the parameters, which a reply gives first.
 const VERSION: u8 = 0x01;
 
 /// The bit beside a selector that marks its parameter as invalid.
 const INVALID_PLACE: usize = 7;
 
-/// The limits of one boot parameter: which one it is.
+/// The limits of one boot parameter: its name.
 #[derive(Clone, Copy, Debug, PartialEq, Eq)]
 pub struct BootParamLimits {
     pub parameter: BootParameter,
@@ -50,7 +49,7 @@ fn marked(invalid: bool, parameter: BootParameter) -> u8
     if invalid { 128 + number } else { number }
 }
 
-/// The parameter that is changed.
+/// The parameter that the change changes.
 fn parameter_of(change: &BootChange) -> BootParameter
     ensures { result ≡ parameter_of change.now }
 {
@@ -67,29 +66,6 @@ fn masked_byte(masked: &MaskedBits, old: u8) -> u8
     ensures { result ≡ masked_byte masked.now.mask masked.now.bits old }
 {
     old ^ ((old ^ masked.bits) & masked.mask)
-}
-
-/// Makes `new` the value that the operation makes of the old one.
-fn set(parameter: BootParameter, op: &SetBootParam, old: &[u8], new: &mut Value) -> Result<(), Code>
-    requires of_it { IsTrue (same_parameter (parameter_of op.now.change) parameter) }
-    requires is_valid { IsBootParam parameter old.now }
-    ensures outcome { told result new.new ≡ boot_outcome parameter op.now old.now }
-    ensures kept { OnErr result (new.new ≡ new.old) }
-{
-    let mark = if op.invalid { 1 } else { 0 };
-    match &op.change {
-        BootChange::MarkAlone(BootParameter::Flags) => {
-            new.replace(&[mark, old[1], old[2], old[3], old[4], old[5]]);
-        }
-        BootChange::MarkAlone(_) => new.replace(&[mark, old[1]]),
-        BootChange::ValidBitClearing(byte) => new.replace(&[mark, byte & 0x1F]),
-        BootChange::InfoAcknowledge(masked) => new.replace(&[mark, masked_byte(masked, old[1])]),
-        BootChange::Flags(flags) => {
-            let [validity, device, console, overrides, instance] = flags.bytes();
-            new.replace(&[mark, validity, device, console, overrides, instance]);
-        }
-    }
-    Ok(())
 }
 
 /// The data of the request that carries out the operation.
@@ -114,7 +90,8 @@ fn body(op: &SetBootParam) -> RecordData
 /// Appends the data of the Get reply.
 fn show<B: Buffer>(parameter: BootParameter, value: &[u8], reply: &mut B)
     requires is_valid { IsBootParam parameter value.now }
-    requires room { length (B.bytes reply.old) + length (boot_view parameter value.now) ≤ B.capacity }
+    requires room { length (B.bytes reply.old)
+        + length (boot_view parameter value.now) ≤ B.capacity }
     ensures { B.bytes reply.new ≡ B.bytes reply.old ++ boot_view parameter value.now }
 {
     let second = marked(value[0] == 1, parameter);
@@ -141,7 +118,23 @@ impl<'a> RecordKind<'a> for BootParamLimits {
     }
 
     fn apply(&self, op: &SetBootParam, value: &[u8], new: &mut Value) -> Result<(), Code> {
-        set(self.parameter, op, value, new)
+        let mark = if op.invalid { 1 } else { 0 };
+        match &op.change {
+            BootChange::MarkAlone(BootParameter::Flags) => {
+                new.replace(&[mark, value[1], value[2], value[3], value[4], value[5]]);
+            }
+            BootChange::MarkAlone(_) => new.replace(&[mark, value[1]]),
+            BootChange::ValidBitClearing(byte) => new.replace(&[mark, byte % 32]),
+            BootChange::InfoAcknowledge(masked) => new.replace(&[
+                mark,
+                masked_byte(masked, value[1]),
+            ]),
+            BootChange::Flags(flags) => {
+                let [validity, device, console, overrides, instance] = flags.bytes();
+                new.replace(&[mark, validity, device, console, overrides, instance]);
+            }
+        }
+        Ok(())
     }
 
     fn set_reply<B: Buffer>(_op: &SetBootParam, _reply: &mut B) {}
@@ -179,7 +172,7 @@ impl<'a> RecordKind<'a> for BootParamLimits {
             | (BootChange::MarkAlone(BootParameter::InfoAcknowledge), [_, _, _, _])
             | (BootChange::MarkAlone(BootParameter::Flags), [_, _, _, _, _, _, _]) => op.change,
             (BootChange::ValidBitClearing(_), [_, _, byte]) => {
-                BootChange::ValidBitClearing(byte & 0x1F)
+                BootChange::ValidBitClearing(byte % 32)
             }
             (BootChange::InfoAcknowledge(masked), [_, _, _, bits]) => {
                 BootChange::InfoAcknowledge(MaskedBits {

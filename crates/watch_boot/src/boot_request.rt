@@ -1,4 +1,4 @@
-//! What the commands of the system boot options ask for, by their data.
+//! Requests of the commands of the system boot options, from their data.
 ghost use Rattle.std.specs.Prelude.{◌≡◌, drop};
 ghost use Rattle.watch_boot.specs.BootRequests as requests;
 
@@ -7,16 +7,16 @@ use record_base::{BootChange, BootFlags, BootParameter, MaskedBits, SetBootParam
 use two_wire::Code;
 use two_wire::code::INVALID_LENGTH;
 
-/// What Set System Boot Options asks for.
+/// A request of Set System Boot Options.
 #[derive(Clone, Copy, Debug, PartialEq, Eq)]
 pub enum BootRequest {
-    /// Parameter 0, set in progress, becomes this byte, where there is one.
+    /// Parameter 0, set in progress, becomes this byte, or stays where there is none.
     Progress(Option<u8>),
     /// Another parameter changes.
     Param(SetBootParam),
 }
 
-/// What Get System Boot Options asks for.
+/// A request of Get System Boot Options.
 #[derive(Clone, Copy, Debug, PartialEq, Eq)]
 pub enum BootShown {
     /// Parameter 0, set in progress.
@@ -31,14 +31,14 @@ const INVALID_PLACE: usize = 7;
 /// The code of a parameter that isn't one of the controller's (IPMI 2.0, Set and Get System Boot Options).
 const UNSUPPORTED_PARAMETER: u8 = 0x80;
 
-/// That code.
+/// The code of an unsupported parameter.
 fn unsupported_parameter() -> Code
     ensures { result ≡ requests.unsupported_parameter }
 {
     Code::new(UNSUPPORTED_PARAMETER).unwrap()
 }
 
-/// What parameter 0 becomes, by the data behind the selector.
+/// The request on parameter 0, from the data behind the selector.
 fn progress_in(rest: &[u8]) -> Result<BootRequest, Code>
     ensures { result ≡ requests.progress_in rest.now }
 {
@@ -49,7 +49,7 @@ fn progress_in(rest: &[u8]) -> Result<BootRequest, Code>
     }
 }
 
-/// What becomes of another parameter: without data its mark alone is set.
+/// The change of another parameter. Without data, a Set sets the parameter's mark alone.
 fn change_in(parameter: BootParameter, rest: &[u8]) -> Result<BootChange, Code>
     ensures { result ≡ requests.change_in parameter rest.now }
 {
@@ -83,7 +83,8 @@ fn behind(body: &[u8]) -> &[u8]
     }
 }
 
-/// What the data of Set System Boot Options ask for. The selector is looked at first, and then how many bytes stand behind it.
+/// The request of Set System Boot Options with these data. It checks the selector first, and then the number of bytes behind the
+/// selector.
 pub fn boot_request_in(body: &[u8]) -> Result<BootRequest, Code>
     ensures { result ≡ requests.boot_request_in body.now }
 {
@@ -102,7 +103,7 @@ pub fn boot_request_in(body: &[u8]) -> Result<BootRequest, Code>
     }))
 }
 
-/// What the data of Get System Boot Options ask for.
+/// The request of Get System Boot Options with these data.
 pub fn boot_shown_in(body: &[u8]) -> Result<BootShown, Code>
     ensures { result ≡ requests.boot_shown_in body.now }
 {

@@ -1,7 +1,6 @@
 //! The global enables, as a kind of record.
-ghost use Rattle.std.specs.Prelude.{◌≡◌, OnErr};
-ghost use Rattle.record_base.specs.Meaning.{told};
-ghost use Rattle.watch_boot.specs.GlobalEnables.{enables_outcome, enables_in};
+ghost use Rattle.std.specs.Prelude.{◌≡◌};
+ghost use Rattle.watch_boot.specs.GlobalEnables.{enables_in};
 
 use record_base::global_enables::are_enables;
 use record_base::net_fn::APPLICATION;
@@ -11,29 +10,17 @@ use record_base::{
 use two_wire::code::INVALID_DATA_FIELD;
 use two_wire::{Buffer, Code, NetFn};
 
-/// The number of the command that sets them.
+/// The number of the Set command.
 const SET_GLOBAL_ENABLES: u8 = 0x2E;
 
-/// The number of the command that gets them.
+/// The number of the Get command.
 const GET_GLOBAL_ENABLES: u8 = 0x2F;
 
-/// Any enables without the reserved bit can be set.
+/// A Set can set any enables without the reserved bit.
 #[derive(Clone, Copy, Debug, PartialEq, Eq)]
 pub struct GlobalEnablesLimits;
 
-/// Makes `new` the enables that the operation says.
-fn set(op: &SetGlobalEnables, new: &mut Value) -> Result<(), Code>
-    ensures outcome { told result new.new ≡ enables_outcome op.now }
-    ensures kept { OnErr result (new.new ≡ new.old) }
-{
-    if !are_enables(op.byte) {
-        return Err(INVALID_DATA_FIELD);
-    }
-    new.replace(&[op.byte]);
-    Ok(())
-}
-
-/// The operation that the data of its request says.
+/// The operation with these data.
 fn enables_in(body: &[u8]) -> SetGlobalEnables
     ensures { result ≡ enables_in body.now }
 {
@@ -73,7 +60,11 @@ impl<'a> RecordKind<'a> for GlobalEnablesLimits {
 
     #[inline(always)]
     fn apply(&self, op: &SetGlobalEnables, _value: &[u8], new: &mut Value) -> Result<(), Code> {
-        set(op, new)
+        if !are_enables(op.byte) {
+            return Err(INVALID_DATA_FIELD);
+        }
+        new.replace(&[op.byte]);
+        Ok(())
     }
 
     fn set_reply<B: Buffer>(_op: &SetGlobalEnables, _reply: &mut B) {}

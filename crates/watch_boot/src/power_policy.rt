@@ -1,7 +1,6 @@
 //! The power restore policy, as a kind of record.
-ghost use Rattle.std.specs.Prelude.{◌≡◌, OnErr, length};
-ghost use Rattle.record_base.specs.Meaning.{told};
-ghost use Rattle.watch_boot.specs.PowerPolicy.{policy_outcome, policy_in};
+ghost use Rattle.std.specs.Prelude.{◌≡◌};
+ghost use Rattle.watch_boot.specs.PowerPolicy.{policy_in};
 
 use record_base::net_fn::CHASSIS;
 use record_base::{
@@ -10,38 +9,23 @@ use record_base::{
 use two_wire::code::INVALID_DATA_FIELD;
 use two_wire::{Buffer, Code, NetFn};
 
-/// The number of the command that gets it.
+/// The number of the Get command.
 const GET_CHASSIS_STATUS: u8 = 0x01;
 
-/// The number of the command that sets it.
+/// The number of the Set command.
 const SET_POWER_RESTORE_POLICY: u8 = 0x06;
 
-/// The policy that isn't known, and that a Set leaves as it is.
+/// The unknown policy. A Set with it changes nothing.
 const UNKNOWN: u8 = 3;
 
 /// The policies that a Set may choose, by a bit for each: 0, 1 and 2.
 const SUPPORTED: u8 = 0x07;
 
-/// Any known policy can be set.
+/// A Set can set any known policy.
 #[derive(Clone, Copy, Debug, PartialEq, Eq)]
 pub struct PowerPolicyLimits;
 
-/// Makes `new` the value that the operation makes of the old one.
-fn set(op: &SetPowerPolicy, old: &[u8], new: &mut Value) -> Result<(), Code>
-    requires { length old.now ≡ 1 }
-    ensures outcome { told result new.new ≡ policy_outcome op.now old.now }
-    ensures kept { OnErr result (new.new ≡ new.old) }
-{
-    let asked = op.policy & 0x07;
-    if asked > UNKNOWN {
-        return Err(INVALID_DATA_FIELD);
-    }
-    let next = if asked == UNKNOWN { old[0] } else { asked };
-    new.replace(&[next]);
-    Ok(())
-}
-
-/// The operation that the data of its request says.
+/// The operation with these data.
 fn policy_in(body: &[u8]) -> SetPowerPolicy
     ensures { result ≡ policy_in body.now }
 {
@@ -81,7 +65,13 @@ impl<'a> RecordKind<'a> for PowerPolicyLimits {
 
     #[inline(always)]
     fn apply(&self, op: &SetPowerPolicy, value: &[u8], new: &mut Value) -> Result<(), Code> {
-        set(op, value, new)
+        let asked = op.policy & 0x07;
+        if asked > UNKNOWN {
+            return Err(INVALID_DATA_FIELD);
+        }
+        let next = if asked == UNKNOWN { value[0] } else { asked };
+        new.replace(&[next]);
+        Ok(())
     }
 
     fn set_reply<B: Buffer>(_op: &SetPowerPolicy, reply: &mut B) {

@@ -1,9 +1,8 @@
 //! The watchdog timer, as a kind of record.
-ghost use Rattle.std.specs.Prelude.{◌≡◌, ◌+◌, ◌%◌, ◌≤◌, ◌++◌, OnErr, length};
+ghost use Rattle.std.specs.Prelude.{◌≡◌, ◌+◌, ◌%◌, ◌≤◌, ◌++◌, length};
 ghost use Rattle.std.specs.Option.{SomeIff};
-ghost use Rattle.record_base.specs.Meaning.{told};
 ghost use Rattle.record_base.specs.Watchdog.{IsWatchdog};
-ghost use Rattle.watch_boot.specs.Watchdog.{kept_use, kept_actions, is_accepted, watchdog_outcome, live_after_set, watchdog_body, watchdog_in, shown_use, watchdog_view, WasSet, live_after_reset, live_after_tick};
+ghost use Rattle.watch_boot.specs.Watchdog.{kept_use, kept_actions, is_accepted, live_after_set, watchdog_body, watchdog_in, shown_use, watchdog_view, WasSet, live_after_reset, live_after_tick};
 
 use record_base::mask::has;
 use record_base::net_fn::APPLICATION;
@@ -13,34 +12,34 @@ use record_base::{
 use two_wire::code::INVALID_DATA_FIELD;
 use two_wire::{Buffer, Code, NetFn};
 
-/// The number of the command that sets it.
+/// The number of the Set command.
 const SET_WATCHDOG_TIMER: u8 = 0x24;
 
-/// The number of the command that gets it.
+/// The number of the Get command.
 const GET_WATCHDOG_TIMER: u8 = 0x25;
 
-/// The bit of a timer use byte that a Set has for "don't stop" and a Get for "running".
+/// The bit of a timer use byte that means "don't stop" in a Set, and "running" in a Get reply.
 const RUNNING_PLACE: usize = 6;
 
-/// Any settings with a known use, interrupt and action can be set.
+/// A Set can set any settings with a known use, interrupt and action.
 #[derive(Clone, Copy, Debug, PartialEq, Eq)]
 pub struct WatchdogLimits;
 
-/// What a Set keeps of a timer use byte: don't log in bit 7 and the use in bits 2:0.
+/// The bits of a timer use byte that a Set keeps: don't log in bit 7 and the use in bits 2:0.
 fn kept_use(timer_use: u8) -> u8
     ensures { result ≡ kept_use timer_use }
 {
     timer_use & 0x87
 }
 
-/// What a Set keeps of an actions byte: the interrupt in bits 6:4 and the action in bits 2:0.
+/// The bits of an actions byte that a Set keeps: the interrupt in bits 6:4 and the action in bits 2:0.
 fn kept_actions(actions: u8) -> u8
     ensures { result ≡ kept_actions actions }
 {
     actions & 0x77
 }
 
-/// Whether the bytes say a use from 1 to 5, and an interrupt and an action of at most 3.
+/// Whether the bytes have a use from 1 to 5, and an interrupt and an action of at most 3.
 fn is_accepted(op: &SetWatchdog) -> bool
     ensures { result ≡ is_accepted op.now }
 {
@@ -50,22 +49,7 @@ fn is_accepted(op: &SetWatchdog) -> bool
     matches!(timer_use, 1..=5) && interrupt <= 3 && action <= 3
 }
 
-/// Makes `new` the settings that the operation says.
-fn set(op: &SetWatchdog, new: &mut Value) -> Result<(), Code>
-    ensures outcome { told result new.new ≡ watchdog_outcome op.now }
-    ensures kept { OnErr result (new.new ≡ new.old) }
-{
-    if !is_accepted(op) {
-        return Err(INVALID_DATA_FIELD);
-    }
-    let [low, high] = op.initial.to_le_bytes();
-    let timer_use = kept_use(op.timer_use);
-    let actions = kept_actions(op.actions);
-    new.replace(&[timer_use, actions, op.pre_timeout, low, high]);
-    Ok(())
-}
-
-/// Changes what isn't configuration as the operation does.
+/// Changes the timer's state as the operation does.
 fn live_after_set(op: &SetWatchdog, live: &mut Live)
     ensures { live.new ≡ live_after_set op.now live.old }
 {
@@ -90,7 +74,7 @@ fn body(op: &SetWatchdog) -> RecordData
     ])
 }
 
-/// The operation that the data of its request says.
+/// The operation with these data.
 fn watchdog_in(body: &[u8]) -> SetWatchdog
     ensures { result ≡ watchdog_in body.now }
 {
@@ -118,7 +102,8 @@ fn shown_use(timer_use: u8, running: bool) -> u8
 /// Appends the data of the Get reply.
 fn show<B: Buffer>(value: &[u8], live: &Live, reply: &mut B)
     requires is_valid { IsWatchdog value.now }
-    requires room { length (B.bytes reply.old) + length (watchdog_view value.now live.now) ≤ B.capacity }
+    requires room { length (B.bytes reply.old)
+        + length (watchdog_view value.now live.now) ≤ B.capacity }
     ensures { B.bytes reply.new ≡ B.bytes reply.old ++ watchdog_view value.now live.now }
 {
     let [low, high] = live.countdown.to_le_bytes();
@@ -134,7 +119,7 @@ fn show<B: Buffer>(value: &[u8], live: &Live, reply: &mut B)
     ]);
 }
 
-/// What isn't configuration, after Reset Watchdog Timer: its countdown begins anew and it runs. None where it was never set.
+/// The timer's state after Reset Watchdog Timer: the countdown begins anew and the timer runs. None where the settings have no use.
 pub fn live_after_reset(value: &[u8], live: &Live) -> Option<Live>
     requires { IsWatchdog value.now }
     ensures { SomeIff result (WasSet value.now) (live_after_reset value.now live.now) }
@@ -151,7 +136,7 @@ pub fn live_after_reset(value: &[u8], live: &Live) -> Option<Live>
     })
 }
 
-/// A tenth of a second has passed: changes what isn't configuration, by the settings.
+/// Changes the timer's state as a tenth of a second does, by the settings.
 pub fn live_after_tick(value: &[u8], live: &mut Live)
     ensures { live.new ≡ live_after_tick value.now live.old }
 {
@@ -196,7 +181,14 @@ impl<'a> RecordKind<'a> for WatchdogLimits {
 
     #[inline(always)]
     fn apply(&self, op: &SetWatchdog, _value: &[u8], new: &mut Value) -> Result<(), Code> {
-        set(op, new)
+        if !is_accepted(op) {
+            return Err(INVALID_DATA_FIELD);
+        }
+        let [low, high] = op.initial.to_le_bytes();
+        let timer_use = kept_use(op.timer_use);
+        let actions = kept_actions(op.actions);
+        new.replace(&[timer_use, actions, op.pre_timeout, low, high]);
+        Ok(())
     }
 
     fn set_reply<B: Buffer>(_op: &SetWatchdog, _reply: &mut B) {}
