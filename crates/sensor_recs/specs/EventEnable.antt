@@ -16,7 +16,7 @@ use Rattle.record_base.specs.Requests.{byte_at}
 use Rattle.record_base.specs.Sensor.EventEnable.{AreWithin, are_within, flags_byte, makes_messages, is_scanning, event_value, enabled_in, IsEventValue, IsEventEnable}
 use Rattle.sensor_recs.specs.Requests.{sensor_request}
 
--- the commands that set it and get it
+-- the Set command and the Get command
 abbrev pub set_sensor_event_enable : ℕ
 set_sensor_event_enable = 0x28
 
@@ -25,15 +25,15 @@ get_sensor_event_enable = 0x29
 
 -- ---- what a Set makes
 
--- the set has the events of both, and no others
+-- the set has the events of both sets, and no others
 abbrev pub IsUnion : ℕ → ℕ → ℕ → Type 0
 IsUnion old more new = (offset : ℕ) → offset < 16 → has new offset ≡ (has old offset || has more offset)
 
--- the set has those of the first that aren't of the second, and no others
+-- the set has the events of the first set that the second set hasn't, and no others
 abbrev pub IsDifference : ℕ → ℕ → ℕ → Type 0
 IsDifference old less new = (offset : ℕ) → offset < 16 → has new offset ≡ (has old offset && not (has less offset))
 
--- the sets are one
+-- both sets have the same events
 abbrev pub IsSame : ℕ → ℕ → Type 0
 IsSame old new = (offset : ℕ) → offset < 16 → has new offset ≡ has old offset
 
@@ -42,7 +42,7 @@ pub record AreSupported (supported : ℕ) (masks : EventMasks) : Type 0 where
   pub assertions : AreWithin masks.assertions supported
   pub deassertions : AreWithin masks.deassertions supported
 
--- these become the enabled events: the old ones, or those with the operation's besides, or those without the operation's
+-- the enabled events after a change: the old events, with the operation's events besides, or without them
 abbrev pub Changes : ℕ → EventChange → EventMasks → EventMasks → Type 0
 Changes supported Leave old new = IsSame old.assertions new.assertions × IsSame old.deassertions new.deassertions
 Changes supported (Enable more) old new =
@@ -60,12 +60,12 @@ pub record SetsEventEnable (supported : ℕ) (op : SetEventEnable) (old new : Li
 
 -- ---- the same as functions
 
--- the events of the first set that aren't of the second, and those of both
+-- the events of the first set that the second set hasn't, and the events of both sets
 abbrev pub difference : ℕ → ℕ → ℕ
 difference events others = bit_xor events (bit_and events others)
 
 abbrev pub both_masks : (ℕ → ℕ → ℕ) → EventMasks → EventMasks → EventMasks
-both_masks of a b = record { assertions = of a.assertions b.assertions; deassertions = of a.deassertions b.deassertions }
+both_masks of first second = record { assertions = of first.assertions second.assertions; deassertions = of first.deassertions second.deassertions }
 
 -- the enabled events after a change
 abbrev pub events_after : EventChange → EventMasks → EventMasks
@@ -101,7 +101,7 @@ selection Reserved = 48
 abbrev pub mask_bytes : EventMasks → List ℕ
 mask_bytes masks = masks.assertions % 256 ∷ masks.assertions / 256 ∷ masks.deassertions % 256 ∷ masks.deassertions / 256 ∷ []
 
--- only where events are enabled or disabled the request has their masks
+-- a request that enables or disables events has their masks, and no other request has masks
 abbrev pub masks_of : EventChange → List ℕ
 masks_of (Enable more) = mask_bytes more
 masks_of (Disable less) = mask_bytes less
@@ -115,15 +115,15 @@ event_enable_body op = op.sensor ∷ (flags_byte op.messages op.scanning + selec
 abbrev pub event_masks_in : List ℕ → EventMasks
 event_masks_in body = record { assertions = byte_at body 2 + 256 * byte_at body 3; deassertions = byte_at body 4 + 256 * byte_at body 5 }
 
--- what a selection does to the enabled events
+-- the change of the enabled events, by the selection
 abbrev pub selected : ℕ → EventMasks → EventChange
 selected selection masks = if selection == 0 then Leave else (if selection == 1 then Enable masks else (if selection == 2 then Disable masks else Reserved))
 
--- what bits 5:4 of the second byte select
+-- the change that bits 5:4 of the second byte select
 abbrev pub event_change_in : List ℕ → EventChange
 event_change_in body = selected (byte_at body 1 / 16 % 4) (event_masks_in body)
 
--- the operation that such data say
+-- the operation with these data
 abbrev pub event_enable_in : List ℕ → SetEventEnable
 event_enable_in body = record {
   sensor = byte_at body 0;
@@ -132,9 +132,10 @@ event_enable_in body = record {
   change = event_change_in body;
 }
 
--- ---- what undoes it
+-- ---- the inverse
 
--- what was enabled is disabled but for the old events, and of what was disabled the old events are enabled
+-- the inverse disables the events that the operation enabled, but for the old events, and enables the old events that the operation
+-- disabled
 abbrev pub undo_change : EventChange → EventMasks → EventChange
 undo_change (Enable more) old = Disable (both_masks difference more old)
 undo_change (Disable less) old = Enable (both_masks bit_and less old)
@@ -162,7 +163,7 @@ words = record {
   set_reply = λ op. [];
   next_live = λ op live. live;
   is_reply = λ op reply. length reply ≡ 5;
-  -- from each reply
+  -- each reply is enough
   restorable = λ op reply. Unit {0};
   inverse = λ op reply. if length reply == 5 then Some (undo_event_enable op reply) else None;
   -- the ignored bits 3:0 of the second byte aren't the operation's, so its request has 0 there

@@ -1,4 +1,4 @@
--- EventEnable as one value, and where it stands among all kinds.
+-- The kind EventEnable, and its place among all kinds.
 use Rattle.std.specs.Prelude.{ℕ}
 use Rattle.record_base.specs.declared.event_enable.SetEventEnable.{SetEventEnable}
 use Rattle.record_base.specs.Kind.{Kind}
@@ -9,14 +9,14 @@ use Rattle.sensor_recs.specs.declared.event_enable.EventEnableLimits.{EventEnabl
 use Rattle.sensor_recs.specs.EventEnable.{event_enable_in, words, record_words, place}
 use Rattle.sensor_recs.specs.EventEnableLaws.{kind_laws, record_laws}
 
--- what it says, and that it holds
+-- the words and the laws of the kind
 abbrev pub kind : Kind ℕ SetEventEnable EventEnableLimits
 kind = record { words = words; record_words = λ limits. record_words limits.supported; kind_laws = kind_laws; record_laws = λ limits. record_laws limits.supported }
 
--- the kind, and where it stands among all
+-- the kind, and its place among all kinds
 abbrev pub member : Member ℕ SetEventEnable EventEnableLimits
 member = record { kind = kind; place = place }
 
--- what the data of its commands say
+-- the record and the operation that the data of the commands name
 abbrev pub reader : Reader
 reader = record { key_in = λ body. words.name (byte_at body 0); op_in = λ body. place.op (event_enable_in body) }

@@ -1,6 +1,6 @@
 -- Readings of a sensor, and the events that they make (IPMI 2.0: Get Sensor Reading, and the event offsets of sensors with thresholds).
 -- The thresholds stand at places 0 to 5: lower non-critical, lower critical, lower non-recoverable, upper non-critical, upper critical,
--- upper non-recoverable. Of each it is known whether the last reading was beyond it.
+-- upper non-recoverable. A list says for each threshold whether the last reading was beyond the threshold.
 use Rattle.std.specs.Prelude.{ℕ, zero, suc, ◌+◌, ◌*◌, List, [], ◌∷◌, ◌++◌, get_or, slice_index, Bool, true, false, not, ◌&&◌, nat_le, nat_lt, if◌then◌else◌}
 use Rattle.std.specs.List.{filter}
 use Rattle.record_base.specs.Masks.{has}
@@ -23,28 +23,28 @@ abbrev pub comes_back : ℕ → Hysteresis → ℕ → ℕ → Bool
 comes_back place hysteresis threshold reading =
     if is_upper place then nat_lt (reading + hysteresis.positive) threshold else nat_lt (threshold + hysteresis.negative) reading
 
--- the reading crosses the threshold at the place, where the last one was beyond it or not
+-- the reading crosses the threshold at the place, where the last reading was beyond the threshold or not
 abbrev pub crosses : Compared → ℕ → Bool → ℕ → Bool
-crosses s place was reading =
-    is_there s.masks place
-    && (if was then comes_back place s.hysteresis (slice_index s.thresholds place) reading else reaches place (slice_index s.thresholds place) reading)
+crosses compared place was reading =
+    is_there compared.masks place
+    && (if was then comes_back place compared.hysteresis (slice_index compared.thresholds place) reading else reaches place (slice_index compared.thresholds place) reading)
 
 -- a crossing changes whether the reading is beyond the threshold
 abbrev pub is_beyond : Compared → ℕ → Bool → ℕ → Bool
-is_beyond s place was reading = if crosses s place was reading then not was else was
+is_beyond compared place was reading = if crosses compared place was reading then not was else was
 
 -- whether the last reading was beyond the threshold at the place
 abbrev pub was_beyond : List Bool → ℕ → Bool
 was_beyond beyond place = get_or beyond place false
 
--- of each threshold, whether the reading is beyond it
+-- for each threshold, whether the reading is beyond the threshold
 abbrev pub beyond_at : Compared → List Bool → ℕ → ℕ → Bool
-beyond_at s beyond reading place = is_beyond s place (was_beyond beyond place) reading
+beyond_at compared beyond reading place = is_beyond compared place (was_beyond beyond place) reading
 
 abbrev pub beyond_after : Compared → List Bool → ℕ → List Bool
-beyond_after s beyond reading =
-    beyond_at s beyond reading 0 ∷ beyond_at s beyond reading 1 ∷ beyond_at s beyond reading 2
-    ∷ beyond_at s beyond reading 3 ∷ beyond_at s beyond reading 4 ∷ beyond_at s beyond reading 5 ∷ []
+beyond_after compared beyond reading =
+    beyond_at compared beyond reading 0 ∷ beyond_at compared beyond reading 1 ∷ beyond_at compared beyond reading 2
+    ∷ beyond_at compared beyond reading 3 ∷ beyond_at compared beyond reading 4 ∷ beyond_at compared beyond reading 5 ∷ []
 
 -- ---- events
 
@@ -57,22 +57,22 @@ abbrev pub offset_of : Event → ℕ
 offset_of event = 2 * event.place + (if event.high then 1 else 0)
 
 abbrev pub is_same : Bool → Bool → Bool
-is_same a b = if a then b else not b
+is_same first second = if first then second else not second
 
--- a crossing asserts the event that goes its way, and deasserts the one that goes the other way
+-- a crossing asserts the event of the crossing's direction, and deasserts the event of the other direction
 abbrev pub happens : Compared → List Bool → ℕ → Event → Bool
-happens s beyond reading event =
-    crosses s event.place (was_beyond beyond event.place) reading
+happens compared beyond reading event =
+    crosses compared event.place (was_beyond beyond event.place) reading
     && is_same event.high (if event.deasserted then not (goes_high event.place (was_beyond beyond event.place)) else goes_high event.place (was_beyond beyond event.place))
 
 -- an event counts where the sensor makes messages, and its offset is in the mask of assertions or of deassertions
 abbrev pub counts : Compared → Event → Bool
-counts s event = s.messages && has (if event.deasserted then s.enabled.deassertions else s.enabled.assertions) (offset_of event)
+counts compared event = compared.messages && has (if event.deasserted then compared.enabled.deassertions else compared.enabled.assertions) (offset_of event)
 
 abbrev pub is_made : Compared → List Bool → ℕ → Event → Bool
-is_made s beyond reading event = happens s beyond reading event && counts s event
+is_made compared beyond reading event = happens compared beyond reading event && counts compared event
 
--- the events that there can be of a threshold, the assertions first
+-- the possible events of a threshold, the assertions first
 abbrev pub events_at : ℕ → List Event
 events_at place =
     record { place = place; high = false; deasserted = false }
@@ -80,11 +80,11 @@ events_at place =
     ∷ record { place = place; high = false; deasserted = true }
     ∷ record { place = place; high = true; deasserted = true } ∷ []
 
--- those of the thresholds before a place, threshold by threshold
+-- the possible events of the thresholds before a place, threshold by threshold
 abbrev pub events_below : ℕ → List Event
 events_below zero = []
 events_below (suc place) = events_below place ++ events_at place
 
--- the events that the reading makes: of all that there can be, those that it makes
+-- the events that the reading makes, among the possible events
 abbrev pub events_of : Compared → List Bool → ℕ → List Event
-events_of s beyond reading = filter (is_made s beyond reading) (events_below 6)
+events_of compared beyond reading = filter (is_made compared beyond reading) (events_below 6)

@@ -13,21 +13,21 @@ pub record Repository : Type 0 where
 abbrev pub repository_of : List (List ℕ) → Repository
 repository_of records = record { records = records; reservations = no_reservation }
 
--- where the record stands that is asked for by this number: 0000h stands for the first and FFFFh for the last
+-- the place of the record that this number asks for: 0000h asks for the first record, and FFFFh for the last
 abbrev pub place_for : List (List ℕ) → ℕ → ℕ
 place_for records number =
     if number == 0x0000 then 0
     else (if number == 0xFFFF then length records - 1 else position_or_len (λ bytes. sdr_id bytes == number) records)
 
--- the record that is asked for by this number
+-- the record that this number asks for
 abbrev pub asked_for : List (List ℕ) → ℕ → Option (List ℕ)
 asked_for records number = slice_get records (place_for records number)
 
--- a record's id, and FFFFh where there is none
+-- a record's id, and FFFFh behind the last record
 abbrev pub id_or_none : Option (List ℕ) → ℕ
 id_or_none (Some bytes) = sdr_id bytes
 id_or_none None = 0xFFFF
 
--- the id of the record behind the one that is asked for by this number, FFFFh behind the last
+-- the id of the record behind the record that this number asks for, FFFFh behind the last record
 abbrev pub id_behind : List (List ℕ) → ℕ → ℕ
 id_behind records number = id_or_none (slice_get records (place_for records number + 1))

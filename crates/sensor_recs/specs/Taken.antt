@@ -1,4 +1,4 @@
--- Readings that were taken (IPMI 2.0, Get Sensor Reading): of each sensor the last one, and of which thresholds it was beyond.
+-- The last reading of each sensor (IPMI 2.0, Get Sensor Reading), and the thresholds that it was beyond.
 use Rattle.std.specs.Prelude.{ℕ, ◌+◌, ◌*◌, List, [], ◌∷◌, get_or, set, replicate, slice_index, Bool, false, Option, Some, None, is_none, if◌then◌else◌, refl}
 use Rattle.record_base.specs.Sensor.EventEnable.{flags_byte, makes_messages, is_scanning, enabled_in}
 use Rattle.record_base.specs.declared.thresholds.ThresholdMasks.{ThresholdMasks}
@@ -7,11 +7,11 @@ use Rattle.sensor_recs.specs.declared.compared.Event.{Event}
 use Rattle.sensor_recs.specs.declared.compared.Taken.{Taken}
 use Rattle.sensor_recs.specs.Readings.{offset_of, beyond_after}
 
--- of each sensor, at the place of its number, the last reading, if one was taken
+-- the last reading of each sensor, at the place of its number, if the sensor has a reading
 abbrev pub LastReadings : Type 0
 LastReadings = List (Option Taken)
 
--- no reading was taken, of any of the numbers that a byte can be
+-- no sensor has a reading, for each number that a byte can be
 abbrev pub none_taken : LastReadings
 none_taken = replicate 256 None
 
@@ -19,20 +19,20 @@ none_taken = replicate 256 None
 abbrev pub last_of : LastReadings → ℕ → Option Taken
 last_of readings sensor = get_or readings sensor None
 
--- the last readings, once this one was taken of the sensor
+-- the last readings, after this reading of the sensor
 abbrev pub with_reading : LastReadings → ℕ → Taken → LastReadings
 with_reading readings sensor taken = set readings sensor (Some taken)
 
--- of each threshold, whether the last reading was beyond it; before the first it was beyond none
+-- for each threshold, whether the last reading was beyond the threshold. Before the first reading, none is beyond a threshold.
 abbrev pub last_beyond : Option Taken → List Bool
 last_beyond (Some taken) = taken.beyond
 last_beyond None = false ∷ false ∷ false ∷ false ∷ false ∷ false ∷ []
 
--- what is known of a reading that is taken
+-- the new last reading
 abbrev pub taken_after : Compared → Option Taken → ℕ → Taken
-taken_after s last reading = record { raw = reading; beyond = beyond_after s (last_beyond last) reading; six = refl }
+taken_after compared last reading = record { raw = reading; beyond = beyond_after compared (last_beyond last) reading; six = refl }
 
--- what the readings of a sensor are compared with: its thresholds by the sensor's masks, and the values of its records
+-- the comparison for the readings of a sensor, from its masks and from the values of its records
 abbrev pub compared_of : ThresholdMasks → List ℕ → List ℕ → List ℕ → Compared
 compared_of masks thresholds hysteresis events = record {
   masks = masks;
@@ -45,10 +45,10 @@ compared_of masks thresholds hysteresis events = record {
 
 -- ---- Get Sensor Reading
 
--- the places of those that are true, as a mask: bit i for place i
+-- the mask of the places that have true: bit i for place i
 abbrev pub mask_of : List Bool → ℕ
 mask_of [] = 0
-mask_of (b ∷ bs) = (if b then 1 else 0) + 2 * mask_of bs
+mask_of (bit ∷ rest) = (if bit then 1 else 0) + 2 * mask_of rest
 
 -- the last reading; 00h before the first
 abbrev pub raw_in : Option Taken → ℕ
@@ -65,10 +65,10 @@ reading_data events last =
 
 -- ---- the System Event Log
 
--- the record of an event that a reading of the sensor makes. Its id and its time are put in by the log. It is a system event (02h) of the
+-- the record of an event that a reading of the sensor makes. The log puts in the record's id and time. The record is a system event (02h) of the
 -- controller (20h, channel 0), in the format of IPMI 2.0 (04h), of the sensor's type and number, of the generic type of thresholds (01h, with
--- bit 7 where it is deasserted), with the offset, the reading and the threshold.
+-- bit 7 where the event is deasserted), with the offset, the reading and the threshold.
 abbrev pub log_record : ℕ → ℕ → Compared → ℕ → Event → List ℕ
-log_record sensor_type sensor s reading event =
+log_record sensor_type sensor compared reading event =
     0 ∷ 0 ∷ 0x02 ∷ 0 ∷ 0 ∷ 0 ∷ 0 ∷ 0x20 ∷ 0x00 ∷ 0x04 ∷ sensor_type ∷ sensor ∷ (if event.deasserted then 0x81 else 0x01)
-    ∷ (0x50 + offset_of event) ∷ reading ∷ slice_index s.thresholds event.place ∷ []
+    ∷ (0x50 + offset_of event) ∷ reading ∷ slice_index compared.thresholds event.place ∷ []

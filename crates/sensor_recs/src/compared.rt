@@ -1,9 +1,9 @@
-//! What readings of a sensor are compared with, and events.
+//! The thresholds to which a sensor compares its readings, and events.
 ghost use Rattle.std.specs.Prelude.{◌≡◌, length};
 
 use record_base::{EventMasks, Hysteresis, ThresholdMasks};
 
-/// What a sensor's readings are compared with, and which of its events count.
+/// The thresholds and the hysteresis to which a sensor compares its readings, and the events that count.
 #[derive(Clone, Copy, Debug)]
 pub struct Compared {
     pub masks: ThresholdMasks,
@@ -17,8 +17,8 @@ pub struct Compared {
     pub ghost six: { length thresholds ≡ 6 },
 }
 
-/// An event: the threshold at the place was crossed upwards ("going high") or downwards ("going low"). Where it is deasserted,
-/// it was crossed the other way.
+/// An event: a reading has crossed the threshold at the place upwards ("going high") or downwards ("going low"). Where the
+/// event is deasserted, the reading has crossed the threshold the other way.
 #[derive(Clone, Copy, Debug, Default, PartialEq, Eq)]
 pub struct Event {
     pub place: u8,
@@ -26,7 +26,7 @@ pub struct Event {
     pub deasserted: bool,
 }
 
-/// The last reading of a sensor, as a raw byte, and of each threshold whether it was beyond it.
+/// The last reading of a sensor, as a raw byte, and for each threshold whether the reading was beyond the threshold.
 #[derive(Clone, Copy, Debug, PartialEq, Eq)]
 pub struct Taken {
     pub raw: u8,

@@ -1,8 +1,7 @@
 //! Which events of a sensor are enabled, as a kind of record.
-ghost use Rattle.std.specs.Prelude.{◌≡◌, ◌≤◌, ◌/◌, ◌%◌, ◌&&◌, [], ◌∷◌, OnErr, length};
-ghost use Rattle.record_base.specs.Meaning.{told};
+ghost use Rattle.std.specs.Prelude.{◌≡◌, ◌≤◌, ◌/◌, ◌%◌, ◌&&◌, [], ◌∷◌, length};
 ghost use Rattle.record_base.specs.Sensor.EventEnable.{are_within, enabled_in};
-ghost use Rattle.sensor_recs.specs.EventEnable.{difference, both_masks, events_after, is_accepted, events_outcome, selection, mask_bytes, event_enable_body, event_masks_in, event_change_in, event_enable_in, undo_change};
+ghost use Rattle.sensor_recs.specs.EventEnable.{difference, both_masks, events_after, is_accepted, selection, mask_bytes, event_enable_body, event_masks_in, event_change_in, event_enable_in, undo_change};
 
 use crate::request::sensor_request;
 use record_base::event_enable::{
@@ -16,13 +15,13 @@ use record_base::{
 use two_wire::code::INVALID_DATA_FIELD;
 use two_wire::{Buffer, Code};
 
-/// The number of the command that sets it.
+/// The number of the Set command.
 const SET_SENSOR_EVENT_ENABLE: u8 = 0x28;
 
-/// The number of the command that gets it.
+/// The number of the Get command.
 const GET_SENSOR_EVENT_ENABLE: u8 = 0x29;
 
-/// Which events the sensor supports. These can be enabled and disabled.
+/// The events that the sensor supports. A Set can enable and disable these events alone.
 #[derive(Clone, Copy, Debug, PartialEq, Eq)]
 pub struct EventEnableLimits {
     pub supported: u16,
@@ -39,14 +38,14 @@ fn enabled_in(value: &[u8]) -> EventMasks
     }
 }
 
-/// The events of a set that aren't of the other.
+/// The events of the first set that the second set hasn't.
 fn difference(events: u16, others: u16) -> u16
     ensures { result ≡ difference events others }
 {
     events & !others
 }
 
-/// The events of both masks of a pair that aren't of the other pair's.
+/// The events of both masks of the first pair that the masks of the second pair haven't.
 fn without(masks: EventMasks, others: EventMasks) -> EventMasks
     ensures { result ≡ both_masks difference masks others }
 {
@@ -70,7 +69,7 @@ fn events_after(change: &EventChange, old: EventMasks) -> EventMasks
     }
 }
 
-/// The change that undoes this one, where these events were enabled.
+/// The inverse of the change, where these events were enabled before it.
 fn undo_change(change: &EventChange, old: EventMasks) -> EventChange
     ensures { result ≡ undo_change change.now old }
 {
@@ -139,7 +138,7 @@ fn event_masks_in(body: &[u8]) -> EventMasks
     }
 }
 
-/// What the selection in bits 5:4 of the second byte does to the enabled events.
+/// The change of the enabled events that bits 5:4 of the second byte select.
 fn event_change_in(body: &[u8]) -> EventChange
     ensures { result ≡ event_change_in body.now }
 {
@@ -151,7 +150,7 @@ fn event_change_in(body: &[u8]) -> EventChange
     }
 }
 
-/// The operation that the data of its request says. Masks that are missing are empty.
+/// The operation with these data. Missing masks are empty.
 fn event_enable_in(body: &[u8]) -> SetEventEnable
     ensures { result ≡ event_enable_in body.now }
 {
@@ -176,7 +175,9 @@ impl EventEnableLimits {
 
     /// Whether the sensor supports each of these events.
     fn support(&self, masks: &EventMasks) -> bool
-        ensures { result ≡ (are_within masks.now.assertions self.now.supported && are_within masks.now.deassertions self.now.supported) }
+        ensures { result
+            ≡ (are_within masks.now.assertions self.now.supported
+            && are_within masks.now.deassertions self.now.supported) }
     {
         are_within(masks.assertions, self.supported)
             && are_within(masks.deassertions, self.supported)
@@ -191,20 +192,6 @@ impl EventEnableLimits {
             EventChange::Enable(masks) | EventChange::Disable(masks) => self.support(masks),
             EventChange::Reserved => false,
         }
-    }
-
-    /// Makes `new` the value that the operation makes of the old one.
-    fn set(&self, op: &SetEventEnable, old: &[u8], new: &mut Value) -> Result<(), Code>
-        requires { length old.now ≡ 5 }
-        ensures outcome { told result new.new ≡ events_outcome self.now.supported op.now old.now }
-        ensures kept { OnErr result (new.new ≡ new.old) }
-    {
-        if !self.takes(&op.change) {
-            return Err(INVALID_DATA_FIELD);
-        }
-        let enabled = events_after(&op.change, enabled_in(old));
-        new.replace(&event_value(op.messages, op.scanning, &enabled));
-        Ok(())
     }
 }
 
@@ -239,7 +226,12 @@ impl<'a> RecordKind<'a> for EventEnableLimits {
 
     #[inline(always)]
     fn apply(&self, op: &SetEventEnable, value: &[u8], new: &mut Value) -> Result<(), Code> {
-        self.set(op, value, new)
+        if !self.takes(&op.change) {
+            return Err(INVALID_DATA_FIELD);
+        }
+        let enabled = events_after(&op.change, enabled_in(value));
+        new.replace(&event_value(op.messages, op.scanning, &enabled));
+        Ok(())
     }
 
     fn set_reply<B: Buffer>(_op: &SetEventEnable, _reply: &mut B) {}

@@ -9,16 +9,16 @@ use record_base::{
 };
 use two_wire::{Buffer, Code};
 
-/// The number of the command that sets it.
+/// The number of the Set command.
 const SET_SENSOR_HYSTERESIS: u8 = 0x24;
 
-/// The number of the command that gets it.
+/// The number of the Get command.
 const GET_SENSOR_HYSTERESIS: u8 = 0x25;
 
 /// The hysteresis mask, the second byte of both requests: all thresholds have the same hysteresis.
 const HYSTERESIS_MASK: u8 = 0xFF;
 
-/// Any hysteresis can be set.
+/// A Set can set any hysteresis.
 #[derive(Clone, Copy, Debug, PartialEq, Eq)]
 pub struct HysteresisLimits;
 
@@ -45,7 +45,7 @@ fn body(op: &SetHysteresis) -> RecordData
     RecordData::from_slice(&[op.sensor, HYSTERESIS_MASK, op.positive, op.negative])
 }
 
-/// The operation that the data of its request says.
+/// The operation with these data.
 fn hysteresis_in(body: &[u8]) -> SetHysteresis
     ensures { result ≡ hysteresis_in body.now }
 {

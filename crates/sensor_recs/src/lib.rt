@@ -1,5 +1,5 @@
-//! The records of a sensor: its thresholds, its hysteresis and which of its events are enabled. The readings of sensors, and the
-//! repository of sensor data records.
+//! The records of a sensor: its thresholds, its hysteresis and its enabled events. The readings of sensors, and the repository of
+//! sensor data records.
 #![tactic(auto)]
 
 pub mod compared;

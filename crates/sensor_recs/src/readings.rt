@@ -92,7 +92,7 @@ impl Compared {
         }
     }
 
-    /// Of each threshold, whether the reading is beyond it.
+    /// For each threshold, whether the reading is beyond the threshold.
     fn beyond_after(&self, beyond: &[bool; 6], reading: u8) -> [bool; 6]
         ensures { result ≡ beyond_after self.now beyond.now reading }
     {
@@ -123,7 +123,8 @@ impl Compared {
     fn add(&self, event: Event, events: &mut Events)
         requires of_threshold { event.place < 6 }
         requires room { array_vec_len events.old < 12 }
-        ensures items { events.new.items ≡ events.old.items ++ (if counts self.now event then event ∷ [] else []) }
+        ensures items { events.new.items ≡
+            events.old.items ++ (if counts self.now event then event ∷ [] else []) }
         ensures few { array_vec_len events.new ≤ array_vec_len events.old + 1 }
     {
         if self.counts(&event) {
@@ -135,7 +136,8 @@ impl Compared {
     fn add_at(&self, beyond: &[bool; 6], place: usize, reading: u8, events: &mut Events)
         requires of_threshold { place < 6 }
         requires room { array_vec_len events.old ≤ 10 }
-        ensures items { events.new.items ≡ events.old.items ++ filter (is_made self.now beyond.now reading) (events_at place) }
+        ensures items { events.new.items ≡
+            events.old.items ++ filter (is_made self.now beyond.now reading) (events_at place) }
         ensures few { array_vec_len events.new ≤ array_vec_len events.old + 2 }
     {
         let was = beyond[place];
@@ -168,7 +170,8 @@ impl Compared {
         events
     }
 
-    /// Takes a reading: the events that it makes. `beyond` says of each threshold whether the last reading was beyond it.
+    /// Takes a reading, and gives the events that it makes. `beyond` says for each threshold whether the last reading was beyond the
+    /// threshold.
     pub fn read_taken(&self, beyond: &mut [bool; 6], reading: u8) -> Events
         ensures events { result.items ≡ events_of self.now beyond.old reading }
         ensures beyond { beyond.new ≡ beyond_after self.now beyond.old reading }

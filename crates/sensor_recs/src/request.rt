@@ -7,7 +7,7 @@ use record_base::Asked;
 use record_base::net_fn::SENSOR_EVENT;
 use two_wire::NetFn;
 
-/// The sensor request with this command and data: from nobody, to logical unit 0.
+/// The sensor request with this command and data: without a sender, to logical unit 0.
 pub fn sensor_request(command: u8, body: &[u8]) -> Asked
     requires { length body.now ≤ most_ipmi_request_data }
     ensures { result ≡ sensor_request command body.now }

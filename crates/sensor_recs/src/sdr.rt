@@ -10,16 +10,16 @@ use sel_log::{FIRST_RECORD, LAST_RECORD, Reservations};
 use std::alloc::{AllocError, Global};
 use std::marker::Model;
 
-/// A record, and the id of the one behind it.
+/// A record, and the id of the next record.
 #[derive(Debug, Drop)]
 pub struct SdrEntry<'a> {
     pub kept: &'a SdrRecord,
-    /// FFFFh where no record is behind it.
+    /// FFFFh behind the last record.
     pub next: u16,
 }
 
-/// The repository of sensor data records. It is seen as its list of records and its reservations. All its memory is taken when it is
-/// made.
+/// The repository of sensor data records. Contracts see it as its list of records and its reservations. It takes all its memory when
+/// it is made.
 #[derive(Drop)]
 pub struct Sdr {
     records: Vec<SdrRecord>,
@@ -37,7 +37,7 @@ impl Model for Sdr {
     ghost invariant = { λ s. length s.records.items ≤ 64 };
 }
 
-/// Where the record with this id stands, or the number of records where none has it.
+/// The place of the record with this id, or the number of records where no record has it.
 fn place_of_id(records: &[SdrRecord], id: u16) -> usize
     ensures { result ≡ position_or_len (λ bytes. sdr_id bytes == id) records.now }
 {
@@ -49,7 +49,7 @@ fn place_of_id(records: &[SdrRecord], id: u16) -> usize
     records.len()
 }
 
-/// Where the record stands that the number asks for.
+/// The place of the record that the number asks for.
 fn place_for(records: &[SdrRecord], number: u16) -> usize
     ensures { result ≡ place_for records.now number }
 {
@@ -60,7 +60,7 @@ fn place_for(records: &[SdrRecord], number: u16) -> usize
     }
 }
 
-/// The id of the record at the place, FFFFh where none is there.
+/// The id of the record at the place, FFFFh behind the last record.
 fn id_at(records: &[SdrRecord], place: usize) -> u16
     ensures { result ≡ id_or_none (slice_get records.now place) }
 {
@@ -82,7 +82,7 @@ impl Sdr {
         })
     }
 
-    /// How many records it has.
+    /// How many records the repository has.
     pub fn count(&self) -> u16
         ensures { result ≡ length self.now.records }
     {
@@ -107,12 +107,13 @@ impl Sdr {
     /// Gives the next reservation.
     pub fn reserve(&mut self) -> u16
         ensures number { result ≡ next_number self.old.reservations.last }
-        ensures after { self.new ≡ record self.old { reservations = record { present = result; last = result } } }
+        ensures after { self.new
+            ≡ record self.old { reservations = record { present = result; last = result } } }
     {
         self.reservations.reserve()
     }
 
-    /// Whether the number is the present reservation. 0000h never is.
+    /// Whether the number is the present reservation. 0000h is no reservation.
     pub fn is_reserved(&self, number: u16) -> bool
         ensures { result ≡ is_present self.now.reservations number }
     {

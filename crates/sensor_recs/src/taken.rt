@@ -1,4 +1,4 @@
-//! Readings that were taken.
+//! The last readings of sensors.
 ghost use Rattle.std.specs.Prelude.{◌≡◌, ◌<◌, IfOk, All};
 ghost use Rattle.sensor_recs.specs.Taken.{none_taken, last_of, with_reading, last_beyond, taken_after, compared_of, mask_of, reading_data, log_record};
 ghost use Rattle.sensor_recs.specs.Readings.{events_of};
@@ -18,14 +18,14 @@ const UNAVAILABLE: u8 = 0x20;
 /// The type of the log's records of events.
 const SYSTEM_EVENT: u8 = 0x02;
 
-/// Who makes the events: the controller, by its IPMB address.
+/// The IPMB address of the controller, which makes the events.
 const CONTROLLER: u8 = 0x20;
 
-/// The format of events: that of IPMI 2.0.
+/// The format of events of IPMI 2.0.
 const EVENT_FORMAT: u8 = 0x04;
 
-/// Of each sensor, by its number, the last reading, if one was taken. It is seen as that list, with a place for each
-/// number. All its memory is taken when it is made.
+/// The last reading of each sensor, if the sensor has one. Contracts see a list with a place for each number of a sensor. It takes
+/// all its memory when it is made.
 #[derive(Debug, Drop)]
 pub struct Readings {
     items: Vec<Option<Taken>>,
@@ -43,7 +43,7 @@ impl Model for Readings {
 }
 
 impl Readings {
-    /// Before any reading.
+    /// No sensor has a reading.
     pub fn new(alloc: Global) -> Result<Self, AllocError>
         ensures { IfOk result (λ s. s ≡ none_taken) }
     {
@@ -59,7 +59,7 @@ impl Readings {
         self.items[sensor as usize]
     }
 
-    /// This reading was taken of the sensor of this number.
+    /// Makes this reading the last one of the sensor of this number.
     pub fn put(&mut self, sensor: u8, taken: Taken)
         ensures { self.new ≡ with_reading self.old sensor taken }
     {
@@ -67,7 +67,7 @@ impl Readings {
     }
 }
 
-/// Of each threshold, whether the last reading was beyond it.
+/// For each threshold, whether the last reading was beyond the threshold.
 fn last_beyond(last: &Option<Taken>) -> [bool; 6]
     ensures { result ≡ last_beyond last.now }
 {
@@ -77,7 +77,7 @@ fn last_beyond(last: &Option<Taken>) -> [bool; 6]
     }
 }
 
-/// The places of those that are true, as a mask.
+/// The mask of the places that have `true`.
 fn mask_of(beyond: &[bool; 6]) -> u8
     ensures value { result ≡ mask_of beyond.now }
     ensures small { result < 64 }
@@ -87,7 +87,7 @@ fn mask_of(beyond: &[bool; 6]) -> u8
     u8::from(a) + 2 * (u8::from(b) + 2 * (u8::from(c) + 2 * upper))
 }
 
-/// What Get Sensor Reading replies, by the value of the sensor's enabled events and by its last reading.
+/// The data of the Get Sensor Reading reply, from the sensor's enabled events and its last reading.
 pub fn reading_data(events: &[u8], last: &Option<Taken>) -> [u8; 3]
     ensures { result ≡ reading_data events.now last.now }
 {
@@ -100,7 +100,7 @@ pub fn reading_data(events: &[u8], last: &Option<Taken>) -> [u8; 3]
 }
 
 impl Compared {
-    /// What the readings of a sensor are compared with: its thresholds by the sensor's masks, and the values of its records.
+    /// The comparison for the readings of a sensor, from its masks and from the values of its records.
     pub fn of(
         masks: ThresholdMasks,
         thresholds: &[u8],
@@ -131,7 +131,7 @@ impl Compared {
         }
     }
 
-    /// Takes a reading after the last one: what is known of it, and the events that it makes.
+    /// Takes a reading after the last reading: gives the new last reading, and the events that the reading makes.
     pub fn take(&self, last: &Option<Taken>, reading: u8) -> (Taken, Events)
         ensures taken { result.0 ≡ taken_after self.now last.now reading }
         ensures events { result.1.items ≡ events_of self.now (last_beyond last.now) reading }

@@ -11,22 +11,22 @@ use record_base::{
 use two_wire::code::INVALID_DATA_FIELD;
 use two_wire::{Buffer, Code};
 
-/// The number of the command that sets them.
+/// The number of the Set command.
 const SET_SENSOR_THRESHOLDS: u8 = 0x26;
 
-/// The number of the command that gets them.
+/// The number of the Get command.
 const GET_SENSOR_THRESHOLDS: u8 = 0x27;
 
 /// 00h for each threshold.
 const ZEROS: [u8; 6] = [0; 6];
 
-/// Which thresholds the sensor has. Those that can be set can be set to any values that leave all of them in order.
+/// The thresholds that the sensor has. A Set can give the settable thresholds any values that leave all thresholds in order.
 #[derive(Clone, Copy, Debug, PartialEq, Eq)]
 pub struct ThresholdLimits {
     pub masks: ThresholdMasks,
 }
 
-/// A byte for each place: of the first where the mask has the place, else of the second.
+/// A byte for each place: from the first list where the mask has the place, else from the second list.
 fn choose(mask: u8, first: &[u8], second: &[u8]) -> [u8; 6]
     requires first_six { length first.now ≡ 6 }
     requires second_six { length second.now ≡ 6 }
@@ -53,7 +53,7 @@ fn body(op: &SetThresholds) -> RecordData
     body
 }
 
-/// The operation that the data of its request says.
+/// The operation with these data.
 fn thresholds_in(body: &[u8]) -> SetThresholds
     ensures { result ≡ thresholds_in body.now }
 {
@@ -79,10 +79,6 @@ fn shows_all(mask: u8, reply: &[u8]) -> bool
 }
 
 impl ThresholdLimits {
-    ghost use Rattle.std.specs.Prelude.{OnErr};
-    ghost use Rattle.record_base.specs.Meaning.{told};
-    ghost use Rattle.sensor_recs.specs.Thresholds.{thresholds_outcome};
-
     /// The limits that a sensor gives.
     pub fn of(sensor: &Sensor) -> Self
         ensures { result ≡ record { masks = sensor.now.thresholds.masks } }
@@ -90,20 +86,6 @@ impl ThresholdLimits {
         ThresholdLimits {
             masks: sensor.thresholds.masks,
         }
-    }
-
-    /// Makes `new` the thresholds that the operation makes of the old ones.
-    fn set(&self, op: &SetThresholds, old: &[u8], new: &mut Value) -> Result<(), Code>
-        requires { length old.now ≡ 6 }
-        ensures outcome { told result new.new ≡ thresholds_outcome self.now.masks op.now old.now }
-        ensures kept { OnErr result (new.new ≡ new.old) }
-    {
-        let values = choose(op.mask, &op.values, old);
-        if !is_within(op.mask, self.masks.settable) || !self.masks.is_in_order(&values) {
-            return Err(INVALID_DATA_FIELD);
-        }
-        new.replace(&values);
-        Ok(())
     }
 }
 
@@ -138,7 +120,12 @@ impl<'a> RecordKind<'a> for ThresholdLimits {
 
     #[inline(always)]
     fn apply(&self, op: &SetThresholds, value: &[u8], new: &mut Value) -> Result<(), Code> {
-        self.set(op, value, new)
+        let values = choose(op.mask, &op.values, value);
+        if !is_within(op.mask, self.masks.settable) || !self.masks.is_in_order(&values) {
+            return Err(INVALID_DATA_FIELD);
+        }
+        new.replace(&values);
+        Ok(())
     }
 
     fn set_reply<B: Buffer>(_op: &SetThresholds, _reply: &mut B) {}
