@@ -1,4 +1,4 @@
--- What a board file has under a number, and what it has on a channel.
+-- The parts of a board file under a number and on a channel.
 use Rattle.std.specs.Prelude.{ℕ, List, Bool, Option, None, find, ◌==◌, ◌&&◌}
 use Rattle.std.specs.List.{list_any}
 use Rattle.record_base.specs.declared.sensor.Sensor.{Sensor}
@@ -30,9 +30,9 @@ state_at effecters id = find (λ e. e.id == id) effecters
 abbrev pub user_at : List User → ℕ → Option User
 user_at users number = find (λ u. u.number.number == number) users
 
--- what this user may do on this channel
+-- the access of this user on this channel
 abbrev pub is_on : UserOnChannel → UserOnChannel → Bool
-is_on a b = (a.channel.number == b.channel.number) && (a.user.number == b.user.number)
+is_on place other = (place.channel.number == other.channel.number) && (place.user.number == other.user.number)
 
 abbrev pub access_at : List UserAccess → UserOnChannel → Option UserAccess
 access_at accesses on = find (λ a. is_on a.on on) accesses
@@ -41,11 +41,11 @@ access_at accesses on = find (λ a. is_on a.on on) accesses
 abbrev pub channel_at : List Channel → ℕ → Option Channel
 channel_at channels number = find (λ c. c.number.number == number) channels
 
--- the channel is one without sessions
+-- the board file has a channel of this number without sessions
 abbrev pub is_sessionless : BoardFile → ℕ → Bool
 is_sessionless file number = list_any (λ c. c.number == number) file.sessionless.items
 
--- the channel whose access is kept there
+-- the channel whose access has this name
 abbrev pub in_store_of : AccessStore → Option Channel → Option Channel
 in_store_of NonVolatile channel = channel
 in_store_of Volatile channel = channel

@@ -1,7 +1,7 @@
--- What a board file has of the LAN parameters of a channel.
+-- The LAN parameters of a channel in a board file.
 use Rattle.std.specs.Prelude.{ℕ, List, Option, find, ◌==◌}
 use Rattle.record_base.specs.declared.lan_item.Lan.{Lan}
 
--- those of the channel of this number
+-- the LAN parameters of the channel of this number
 abbrev pub lan_at : List Lan → ℕ → Option Lan
 lan_at lans number = find (λ l. l.number.number == number) lans

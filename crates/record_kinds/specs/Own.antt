@@ -1,4 +1,4 @@
--- An operation, and the limits of a record, each with the kind of which it is.
+-- An operation with its kind, and the limits of a record with the record's kind.
 use Rattle.record_base.specs.declared.key.Key.{Key}
 use Rattle.record_base.specs.declared.op.Op.{Op}
 use Rattle.record_base.specs.Kind.{RecordWords}
@@ -13,10 +13,10 @@ pub data OwnOp : Type 1 where
 pub data OwnLimits : Type 1 where
   limits_of : {K O L : Type 0} → Member K O L → L → OwnLimits
 
--- what its kind says of the operation
+-- the kind's words for the operation
 abbrev pub words_of : OwnOp → OpWords
 words_of (op_of member own) = op_words_of member own
 
--- what its kind says of a record with these limits, spoken of any key and any operation
+-- the kind's words for a record with these limits, extended to any key and any operation
 abbrev pub record_words_in : OwnLimits → RecordWords Key Op
 record_words_in (limits_of member own) = record_words_of member own

@@ -13,7 +13,7 @@ IsSoundAt (Some limits) (Some value) = valid limits value
 IsSoundAt None None = Unit {0}
 IsSoundAt _ _ = ⊥
 
--- so at each key
+-- each key has limits and a value that they allow, or neither
 abbrev pub IsSound : BoardFile → Records → Type 0
 IsSound file records = (key : Key) → IsSoundAt (limits_at file key) (records key)
 

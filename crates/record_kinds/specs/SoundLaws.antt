@@ -1,4 +1,4 @@
--- Records that are sound stay so where a valid value is written.
+-- Sound records stay sound where a valid value is written.
 use Rattle.std.proofs.Common.{◌≡◌, ℕ, List, Option, Some, None, Bool, true, false, if◌then◌else◌, subst, sym, refl}
 use Rattle.std.proofs.Props.{props}
 use Rattle.record_base.specs.declared.key.Key.{Key}
@@ -12,7 +12,7 @@ use Rattle.record_kinds.specs.Limits.{valid, sets, limits_at}
 use Rattle.record_kinds.specs.LimitsLaws.{record_laws}
 use Rattle.record_kinds.specs.Sound.{IsSoundAt, IsSound}
 
--- ---- there is one proof at most
+-- ---- at most one proof
 
 pub valid-prop : (limits : Limits) (value : List ℕ) → IsProp (valid limits value)
 valid-prop limits = (record_laws limits).one_proof
@@ -26,7 +26,7 @@ IsSoundAt-prop None (Some value) = hlevel props
 pub IsSound-prop : (file : BoardFile) (records : Records) → IsProp (IsSound file records)
 IsSound-prop file records = hlevel (props, IsSoundAt-prop)
 
--- ---- records that are written
+-- ---- written records
 
 -- a record with limits has a valid value
 pub valid_at : (at : Option Limits) (had : Option (List ℕ)) (limits : Limits) (old : List ℕ) → at ≡ Some limits → had ≡ Some old → IsSoundAt at had → valid limits old

@@ -1,4 +1,4 @@
-//! What holds of the records that a board file gives.
+//! Laws of the records that a board file gives.
 ghost use Rattle.record_kinds.specs.Sound.{StartsSound};
 
 /// Every record that a board file gives has limits, and a value that they allow.

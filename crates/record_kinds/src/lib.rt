@@ -1,4 +1,4 @@
-//! The kinds of record, as one, and the limits that a board file gives to its records.
+//! The kinds of record as one kind, and the limits that a board file gives to its records.
 #![tactic(auto)]
 
 pub mod laws;

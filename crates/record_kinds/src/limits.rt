@@ -1,5 +1,5 @@
-//! The kinds of record, a line for each: the limits of a record of each, and the kinds whose commands say by their data alone
-//! what they ask for.
+//! The kinds of record, a line for each kind: the limits of its records, and whether its commands name the record and the operation by
+//! their data alone.
 ghost use Rattle.std.specs.Prelude.{◌≡◌};
 ghost use Rattle.record_kinds.specs.Limits.{reader_of};
 
@@ -12,14 +12,14 @@ use two_wire::{Buffer, Code};
 use user_chan::{ChannelAccessLimits, UserAccessLimits, UserNameLimits};
 use watch_boot::{BootParamLimits, GlobalEnablesLimits, PowerPolicyLimits, WatchdogLimits};
 
-/// A kind of record that has one command to show a record and one to change it: each says by its data alone, whatever they are,
-/// which record, and the change.
+/// A kind of record with one command to show a record and one command to change it. Each command names the record and the change by its
+/// data alone, and any data name some.
 #[derive(Clone, Copy, Debug, PartialEq, Eq)]
 pub enum PlainKind {
     Thresholds,
     Hysteresis,
     EventEnable,
-    /// Get Chassis Status shows it, Set Power Restore Policy changes it.
+    /// Get Chassis Status shows the policy, and Set Power Restore Policy changes it.
     PowerPolicy,
     Watchdog,
     GlobalEnables,
@@ -29,7 +29,7 @@ pub enum PlainKind {
     UserAccess,
 }
 
-/// These kinds, a line for each: its name, its limits, and where its keys are.
+/// The plain kinds, a line for each kind: its name, its limits, and its keys.
 #[macro_export]
 macro_rules! of_each_plain_kind {
     ($does:ident $how:tt) => {
@@ -48,7 +48,7 @@ macro_rules! of_each_plain_kind {
     };
 }
 
-/// The limits of one record, of which those that are a table lie in the board file.
+/// The limits of one record. Limits that are a table lie in the board file.
 #[derive(Debug, Drop)]
 pub enum Limits<'f> {
     Thresholds(ThresholdLimits),
@@ -80,7 +80,7 @@ macro_rules! of_all_kinds {
     };
 }
 
-/// The kinds, a line for each: its name, its limits, and where its keys are.
+/// The kinds, a line for each kind: its name, its limits, and its keys.
 macro_rules! of_each_kind {
     ($does:ident $how:tt) => {
         of_each_plain_kind!(of_all_kinds [$does $how])
@@ -94,7 +94,7 @@ macro_rules! call {
     };
 }
 
-/// What the record's kind does, by its limits.
+/// A call of the record's kind, by the record's limits.
 macro_rules! by_limits {
     ([$any:expr, $function:ident $more:tt] $($kind:ident $limits:ty {$($key:tt)*})*) => {
         match $any {
@@ -103,7 +103,7 @@ macro_rules! by_limits {
     };
 }
 
-/// What the record's kind does with its operation, by its limits.
+/// A call of the record's kind with an operation of the kind, by the record's limits.
 macro_rules! by_both {
     ([$any:expr, $op:expr, $value:expr, $new:expr] $($kind:ident $limits:ty {$($key:tt)*})*) => {
         match $any {
@@ -115,7 +115,7 @@ macro_rules! by_both {
     };
 }
 
-/// What the operation's kind does.
+/// A call of the operation's kind.
 macro_rules! by_op {
     ([$op:expr, $function:ident $more:tt] $($kind:ident $limits:ty {$($key:tt)*})*) => {
         match $op {
@@ -136,7 +136,7 @@ macro_rules! op_by_op {
     };
 }
 
-/// What the key's kind does.
+/// A call of the key's kind.
 macro_rules! by_key {
     ([$any:expr, $function:ident] $($kind:ident $limits:ty {$key:pat => $own:expr})*) => {
         match $any {
@@ -233,7 +233,8 @@ impl<'a, 'f> RecordKind<'a> for Limits<'f> {
     }
 
     fn set_reply<B: Buffer>(op: &Op, reply: &mut B)
-        requires room { length (B.bytes reply.old) + length (all.kind.words.set_reply op.now) ≤ B.capacity }
+        requires room { length (B.bytes reply.old)
+            + length (all.kind.words.set_reply op.now) ≤ B.capacity }
         ensures { B.bytes reply.new ≡ B.bytes reply.old ++ all.kind.words.set_reply op.now }
     {
         of_each_kind!(by_op [op, set_reply(reply)])

@@ -1,4 +1,4 @@
-//! What never changes of a board.
+//! The parts of a board that never change.
 ghost use Rattle.std.specs.Prelude.{◌≡◌, ◌≤◌, IfOk, length};
 ghost use Rattle.std.specs.Option.{option_copied};
 ghost use Rattle.record_base.specs.Distinct.{NamesDiffer};
@@ -13,7 +13,7 @@ use std::marker::Model;
 
 pub mod lans;
 
-/// The place of a sensor that isn't there.
+/// The place of a sensor that the board file hasn't.
 const NOWHERE: u8 = 255;
 
 /// A board file, in which a sensor is found by its number in one step. The file lies in memory of its own.
@@ -62,14 +62,14 @@ impl Setup {
         }
     }
 
-    /// The number of its terminus.
+    /// The number of the board's terminus.
     pub fn tid(&self) -> u8
         ensures { result ≡ self.now.tid }
     {
         self.file.tid
     }
 
-    /// What the board says of itself.
+    /// The identity of the board.
     pub fn device(&self) -> &Device
         ensures { result.now ≡ self.now.device }
     {
@@ -118,7 +118,7 @@ impl Setup {
         self.file.users.items.as_slice().len() as u8
     }
 
-    /// What this user may do on this channel. It looks at one after another, of which there are at most 128.
+    /// The access of this user on this channel. It looks at one after another, of which there are at most 128.
     pub fn user_access(&self, on: &UserOnChannel) -> Option<&UserAccess>
         ensures { option_copied result ≡ access_at self.now.user_accesses.items on.now }
     {
@@ -138,7 +138,7 @@ impl Setup {
             .find(|channel| channel.number.number == number.number)
     }
 
-    /// Whether the channel of this number is one without sessions.
+    /// Whether the board has a channel of this number without sessions.
     pub fn is_sessionless(&self, number: ChannelNumber) -> bool
         ensures { result ≡ is_sessionless self.now number.number }
     {
@@ -146,7 +146,7 @@ impl Setup {
         channels.iter().any(|c| c.number == number.number)
     }
 
-    /// The attributes of its BIOS.
+    /// The attributes of the board's BIOS.
     pub fn attributes(&self) -> &Attributes
         ensures { result.now ≡ self.now.attributes }
     {
@@ -163,7 +163,7 @@ impl Setup {
             .find(|attribute| attribute.handle == handle)
     }
 
-    /// The channel whose access is kept there.
+    /// The channel whose access has this name.
     pub fn stored_access(&self, at: &StoredAccess) -> Option<&Channel>
         ensures { option_copied result ≡ stored_at self.now at.now }
     {
