@@ -23,15 +23,19 @@ ghost use Rattle.model_bus.specs.Resume.{GoesOn, GoesOnInPackets, TagsGoOn, Noth
 /// Over every honest schedule of whole messages the manager's requests are carried out at most once, in the order begun,
 /// and it takes for each the reply that is kept for it.
 pub fn requests_are_carried_at_most_once()
-    ensures ipmb { (manager controller first : ℕ) → AlwaysAtMostOnce (ipmb manager controller first) }
-    ensures smbus { (manager controller first : ℕ) → AlwaysAtMostOnce (smbus manager controller first) }
+    ensures ipmb { (manager controller first : ℕ)
+        → AlwaysAtMostOnce (ipmb manager controller first) }
+    ensures smbus { (manager controller first : ℕ)
+        → AlwaysAtMostOnce (smbus manager controller first) }
 {}
 
 /// What each honest event does to the open request: nothing, or it is carried out for the first time, or the reply that
 /// is kept for it is taken.
 pub fn events_have_effects()
-    ensures ipmb { (manager controller first : ℕ) → EventsHaveEffects (ipmb manager controller first) }
-    ensures smbus { (manager controller first : ℕ) → EventsHaveEffects (smbus manager controller first) }
+    ensures ipmb { (manager controller first : ℕ)
+        → EventsHaveEffects (ipmb manager controller first) }
+    ensures smbus { (manager controller first : ℕ)
+        → EventsHaveEffects (smbus manager controller first) }
 {}
 
 /// Where another manager takes the place of one, its requests count from the number that came next. By its own requests and
@@ -54,8 +58,10 @@ pub fn resumed_manager_goes_on_in_packets()
 /// What a link without loss gives. The open request's first frame that comes is carried out, unless the controller is busy; any
 /// frame that comes with its reply is taken; and the packets of a message, one after another, are the message.
 pub fn open_request_goes_through()
-    ensures ipmb { (manager controller first : ℕ) → OpenGoesThrough (ipmb manager controller first) }
-    ensures smbus { (manager controller first : ℕ) → OpenGoesThrough (smbus manager controller first) }
+    ensures ipmb { (manager controller first : ℕ)
+        → OpenGoesThrough (ipmb manager controller first) }
+    ensures smbus { (manager controller first : ℕ)
+        → OpenGoesThrough (smbus manager controller first) }
     ensures in_packets { OpenGoesThroughInPackets RecentWhereWhole }
     ensures cut { CutIsWhole }
 {}
@@ -63,8 +69,10 @@ pub fn open_request_goes_through()
 /// Of what is live, the manager's test on bytes (number, command, the next netFn or the same type, a code that isn't one of a
 /// busy port) takes exactly what the model takes by the number. So the model needn't look at commands.
 pub fn test_on_bytes_is_the_model()
-    ensures ipmb { (manager controller first : ℕ) → TestIsModel Ipmb (ipmb manager controller first) }
-    ensures smbus { (manager controller first : ℕ) → TestIsModel Smbus (smbus manager controller first) }
+    ensures ipmb { (manager controller first : ℕ)
+        → TestIsModel Ipmb (ipmb manager controller first) }
+    ensures smbus { (manager controller first : ℕ)
+        → TestIsModel Smbus (smbus manager controller first) }
     ensures in_packets { TestIsModelInPackets Smbus RecentWhereWhole }
     ensures busy { (on : Bus) → BusyFails on }
 {}

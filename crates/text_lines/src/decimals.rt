@@ -32,7 +32,8 @@ pub fn plain_number(word: &str) -> Option<u32>
 /// The number that the word is in at most so many decimal digits, of which the first ones may be 0.
 pub fn number(word: &str, most: usize) -> Option<u32>
     requires { most ≤ 9 }
-    ensures { SomeIff result (IsNumeral 10 word.now × (length word.now ≤ most)) (digits_value 10 word.now) }
+    ensures { SomeIff result (IsNumeral 10 word.now × (length word.now ≤ most))
+        (digits_value 10 word.now) }
 {
     if begins_with(word, b'+') || word.len() > most {
         return None;

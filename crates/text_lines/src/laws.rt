@@ -5,8 +5,10 @@ ghost use Rattle.text_lines.specs.Cuts.{Lacks, CutsAt};
 
 /// A text is cut in one way at most, and only where the mark is in it.
 pub fn one_cut()
-    ensures same { (mark : ℕ) (text front back before after : List ℕ) → CutsAt mark text front back → CutsAt mark text before after → (front ≡ before) × (back ≡ after) }
-    ensures there { (mark : ℕ) (text front back : List ℕ) → CutsAt mark text front back → ¬ Lacks mark text }
+    ensures same { (mark : ℕ) (text front back before after : List ℕ) → CutsAt mark text front back
+        → CutsAt mark text before after → (front ≡ before) × (back ≡ after) }
+    ensures there { (mark : ℕ) (text front back : List ℕ) → CutsAt mark text front back
+        → ¬ Lacks mark text }
 {}
 
 /// No two numbers are written alike.

@@ -7,7 +7,9 @@ use std::alloc::{AllocError, Global};
 
 /// The bytes that the word is in hexadecimal digits of either case, two for each byte.
 pub fn bytes(alloc: Global, word: &str) -> Result<Option<Vec<u8>>, AllocError>
-    ensures { IfOk result (λ found. MatchOption found ((bytes : List ℕ) → decode_of word.now ≢ Ok bytes) (λ bytes. decode_of word.now ≡ Ok bytes.items)) }
+    ensures { IfOk result (λ found. MatchOption found
+        ((bytes : List ℕ) → decode_of word.now ≢ Ok bytes)
+        (λ bytes. decode_of word.now ≡ Ok bytes.items)) }
 {
     match hex::decode(alloc, word) {
         Ok(bytes) => Ok(Some(bytes)),
