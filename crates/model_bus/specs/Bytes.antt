@@ -60,6 +60,10 @@ ipmb_answers _ _ = false
 
 -- ---- PLDM, from the message's type byte, 01h
 
+-- the message type of MCTP control messages (DSP0239)
+abbrev pub control_message_type : ℕ
+control_message_type = 0
+
 -- the message type of PLDM (DSP0239)
 abbrev pub pldm_message_type : ℕ
 pldm_message_type = 1

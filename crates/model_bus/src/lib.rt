@@ -7,6 +7,6 @@ pub mod laws;
 mod numbers;
 
 pub use numbers::{
-    INSTANCES, PLDM_MESSAGE_TYPE, REQUESTERS, SEQUENCE_NUMBERS, TAGS,
+    CONTROL_MESSAGE_TYPE, INSTANCES, PLDM_MESSAGE_TYPE, REQUESTERS, SEQUENCE_NUMBERS, TAGS,
     constants_are_the_definitions, span,
 };

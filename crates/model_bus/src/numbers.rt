@@ -1,6 +1,6 @@
 //! The numbers of a bus, as code names them.
 ghost use Rattle.std.specs.Prelude.{◌≡◌};
-ghost use Rattle.model_bus.specs.Bytes.{pldm_message_type};
+ghost use Rattle.model_bus.specs.Bytes.{control_message_type, pldm_message_type};
 ghost use Rattle.model_bus.specs.Circle.{sequence_numbers, instances, tags, span_of};
 ghost use Rattle.model_bus.specs.Request.{requester_bytes};
 
@@ -15,6 +15,9 @@ pub const INSTANCES: u8 = 32;
 /// How many tags tell the messages of one endpoint apart.
 pub const TAGS: u8 = 8;
 
+/// The message type of MCTP control messages (DSP0239).
+pub const CONTROL_MESSAGE_TYPE: u8 = 0x00;
+
 /// The message type of PLDM (DSP0239).
 pub const PLDM_MESSAGE_TYPE: u8 = 0x01;
 
@@ -26,6 +29,7 @@ pub fn constants_are_the_definitions()
     ensures sequence_numbers { SEQUENCE_NUMBERS ≡ sequence_numbers }
     ensures instances { INSTANCES ≡ instances }
     ensures tags { TAGS ≡ tags }
+    ensures control_message_type { CONTROL_MESSAGE_TYPE ≡ control_message_type }
     ensures pldm_message_type { PLDM_MESSAGE_TYPE ≡ pldm_message_type }
     ensures requesters { REQUESTERS ≡ requester_bytes }
 {}
