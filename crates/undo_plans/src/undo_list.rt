@@ -4,10 +4,11 @@ ghost use Rattle.undo_plans.specs.Steps.{most_steps};
 
 use crate::names::Names;
 use crate::plan::MOST_STEPS;
+use ipmb_frame::Sequence;
+use pldm_base::Instance;
 use record_base::Asked;
 use std::alloc::{AllocError, Global};
 use std::marker::Model;
-use two_wire::Below;
 
 /// At most `MOST_STEPS` requests, each of which undoes a step, in the order of the steps. All memory is taken when the list is made.
 #[derive(Debug, Drop)]
@@ -66,9 +67,9 @@ impl Requests {
 #[derive(Clone, Copy, Debug, PartialEq, Eq)]
 pub struct NextNumbers {
     /// The sequence number of the next request on IPMB.
-    pub ipmb: Below<64>,
+    pub ipmb: Sequence,
     /// The instance of the next request on SMBus.
-    pub smbus: Below<32>,
+    pub smbus: Instance,
 }
 
 /// The requests that undo the steps that were done, the numbers of the next requests, and between whom they go.
