@@ -22,7 +22,8 @@ impl<const CAP: usize> Model for Octets<CAP> {
 impl<const CAP: usize> Octets<CAP> {
     /// These bytes, or nothing where there are none or too many.
     pub fn new(items: Vec<u8>) -> Option<Self>
-        ensures { SomeIff result ((0 < length items.items) × (length items.items ≤ CAP)) items.items }
+        ensures { SomeIff result
+            ((0 < length items.items) × (length items.items ≤ CAP)) items.items }
     {
         if items.is_empty() || items.len() > CAP {
             return None;

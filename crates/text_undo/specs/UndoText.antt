@@ -9,6 +9,7 @@ use Rattle.record_base.specs.declared.message.Asked.TheVariants.{Ipmi, Pldm}
 use Rattle.two_wire.specs.declared.Bus.{Bus}
 use Rattle.two_wire.specs.declared.Bus.TheVariants.{Ipmb, Smbus}
 use Rattle.two_wire.specs.Sizes.{most_ipmi_request_data, most_pldm_request_data}
+use Rattle.model_bus.specs.Circle.{sequence_numbers, instances}
 use Rattle.undo_plans.specs.Steps.{most_steps}
 use Rattle.undo_plans.specs.declared.names.Names.{Names}
 use Rattle.undo_plans.specs.declared.undo_list.NextNumbers.{NextNumbers}
@@ -35,8 +36,8 @@ numbers_line next = codes "next ipmb " ++ (decimal next.ipmb ++ (codes " smbus "
 -- the line has these numbers: a sequence number of IPMB and an instance of PLDM
 pub record IsNumbersLine (line : List ℕ) (next : NextNumbers) : Type 0 where
   pub spelt : line ≡ numbers_line next
-  pub ipmb : next.ipmb < 64
-  pub smbus : next.smbus < 32
+  pub ipmb : next.ipmb < sequence_numbers
+  pub smbus : next.smbus < instances
 
 -- a number of the manager and that of the controller, of two hexadecimal digits of either case each
 pub record IsPair (words : List ℕ) (own peer : ℕ) : Type 0 where
