@@ -11,11 +11,11 @@ use Rattle.model_bus.specs.PacketBus.{PacketBus, rules_of, Ends, PacketEvent, pa
 use Rattle.model_bus.specs.PacketSchedule.{JoinRule, AllPacketHonest}
 use Rattle.model_bus.specs.Bytes.{is_busy_code, IsRequestOn, IsReplyOn, answers}
 
--- the manager's requests are requests' bytes, each under its number, and what is kept for them are replies' with other codes
--- than those of a busy port
-pub record AreWritten (on : Bus) (b : Rules) (s : BusState) : Type 0 where
-  pub requests : (n : ℕ) (bytes : List ℕ) → slice_get s.begun n ≡ Some bytes → IsRequestOn on (b.number_of n) bytes
-  pub replies : (n : ℕ) (k : Kept) → slice_get s.carried n ≡ Some k → (code : ℕ) × (is_busy_code code ≡ false) × IsReplyOn on code k.request.bytes k.reply
+-- The bytes of the manager's requests are requests, each under its number. The bytes that the port keeps for them are replies to them, with other
+-- codes than those of a busy port.
+pub record AreWritten (on : Bus) (rules : Rules) (state : BusState) : Type 0 where
+  pub requests : (request : ℕ) (bytes : List ℕ) → slice_get state.begun request ≡ Some bytes → IsRequestOn on (rules.number_of request) bytes
+  pub replies : (request : ℕ) (kept : Kept) → slice_get state.carried request ≡ Some kept → (code : ℕ) × (is_busy_code code ≡ false) × IsReplyOn on code kept.request.bytes kept.reply
 
 -- what the manager takes of content, where these are the open request's bytes: it looks at bytes alone
 abbrev pub taken_by_test : Bus → List ℕ → Content → Option (List ℕ)
@@ -23,21 +23,21 @@ taken_by_test on opened (Ask bytes) = None
 taken_by_test on opened (Reply number None) = None
 taken_by_test on opened (Reply number (Some reply)) = if answers on opened reply then Some reply else None
 
--- of every live frame the test takes what the model takes
+-- of every live frame the test takes the reply that the model takes
 abbrev pub TestsAgree : Bus → Rules → BusState → Type 0
-TestsAgree on b s = (which : ℕ) (f : Frame) (opened : List ℕ) → slice_get s.frames which ≡ Some f → IsLive b s f
-    → slice_get s.begun (length s.taken) ≡ Some opened → taken_content b f.content s ≡ taken_by_test on opened f.content
+TestsAgree on rules state = (which : ℕ) (frame : Frame) (opened : List ℕ) → slice_get state.frames which ≡ Some frame → IsLive rules state frame
+    → slice_get state.begun (length state.taken) ≡ Some opened → taken_content rules frame.content state ≡ taken_by_test on opened frame.content
 
 -- so it is at every event of every honest schedule from a start
 abbrev pub TestIsModel : Bus → Rules → Type 0
-TestIsModel on b = (start : BusState) (events : List Event) → NothingUnderWay start → EmptyWindow b start.log
-    → AllHonest b events start → AreWritten on b (run b events start) → TestsAgree on b (run b events start)
+TestIsModel on rules = (start : BusState) (events : List Event) → NothingUnderWay start → EmptyWindow rules start.log
+    → AllHonest rules events start → AreWritten on rules (run rules events start) → TestsAgree on rules (run rules events start)
 
--- and in packets, by the rule
+-- so it is at every event of every schedule of packets that is honest by the rule
 abbrev pub TestIsModelInPackets : Bus → JoinRule → Type 0
-TestIsModelInPackets on rule = (b : PacketBus) → IsCutting b.split → (start : Ends) (events : List PacketEvent)
-    → NothingUnderWay start.bus → NothingWaits b start → EmptyWindow (rules_of b) start.bus.log
-    → AllPacketHonest rule b events start → AreWritten on (rules_of b) (packet_run b events start).bus → TestsAgree on (rules_of b) (packet_run b events start).bus
+TestIsModelInPackets on rule = (bus : PacketBus) → IsCutting bus.split → (start : Ends) (events : List PacketEvent)
+    → NothingUnderWay start.bus → NothingWaits bus start → EmptyWindow (rules_of bus) start.bus.log
+    → AllPacketHonest rule bus events start → AreWritten on (rules_of bus) (packet_run bus events start).bus → TestsAgree on (rules_of bus) (packet_run bus events start).bus
 
 -- no reply with either code of a busy port passes the test, on either bus, whatever it answers
 abbrev pub BusyFails : Bus → Type 0

@@ -10,7 +10,7 @@ pub record Name : Type 0 where
 
 -- two names are the same: equal source, tag owner bit and tag
 abbrev pub is_name : Name → Name → Bool
-is_name m n = ((m.source == n.source) && (if m.owner then n.owner else not n.owner)) && (m.tag == n.tag)
+is_name name other = ((name.source == other.source) && (if name.owner then other.owner else not other.owner)) && (name.tag == other.tag)
 
 -- a packet that was sent: with the request whose message, or reply, it is a part of, and the idles of its frame
 pub record Sent : Type 0 where
@@ -26,23 +26,23 @@ pub data Step : Type 0 where
   Whole : List Sent → Step
   Drops : Step
 
--- A packet that is taken to the packets that wait under its name: dropped, with all that wait, where four wait, where its
--- sequence isn't its place, or where it isn't the end and hasn't `unit_size` bytes.
+-- What an end does with a packet, and which packets wait then under its name. It drops the packet and all that wait where four wait, where the
+-- packet's sequence isn't its place, or where the packet isn't the end and hasn't `unit_size` bytes.
 abbrev pub joined : List Sent → Sent → Step × List Sent
-joined taken s =
-    if nat_lt 3 (length taken) || not (s.packet.sequence == length taken) then (Drops, [])
-    else if s.packet.last then (Whole (taken ++ s ∷ []), [])
-    else if not (length s.packet.payload == unit_size) then (Drops, [])
-    else (Waits, taken ++ s ∷ [])
+joined taken sent =
+    if nat_lt 3 (length taken) || not (sent.packet.sequence == length taken) then (Drops, [])
+    else if sent.packet.last then (Whole (taken ++ sent ∷ []), [])
+    else if not (length sent.packet.payload == unit_size) then (Drops, [])
+    else (Waits, taken ++ sent ∷ [])
 
--- a start opens an assembly anew; what is no start needs an open one, and is dropped where none is
+-- a start opens an assembly anew; any other packet needs an open assembly, and is dropped where none is open
 abbrev pub takes : List Sent → Sent → Step × List Sent
-takes [] s = if s.packet.first then joined [] s else (Drops, [])
-takes (t ∷ ts) s = if s.packet.first then joined [] s else joined (t ∷ ts) s
+takes [] sent = if sent.packet.first then joined [] sent else (Drops, [])
+takes (sent ∷ sents) sending = if sending.packet.first then joined [] sending else joined (sent ∷ sents) sending
 
 -- the packets that this one is joined to, if it is taken
 abbrev pub waiting : List Sent → Sent → List Sent
-waiting taken s = if s.packet.first then [] else taken
+waiting taken sent = if sent.packet.first then [] else taken
 
 -- a message is complete
 abbrev pub IsWhole : Step → Type 0
@@ -56,12 +56,12 @@ IsJoined (Whole ss) = Unit {0}
 IsJoined Waits = Unit {0}
 IsJoined Drops = ⊥
 
--- the request of the first packet, in which a message's number stands; n where there is none
+-- the request of the first packet, in which a message's number stands, or `request` where there is no packet
 abbrev pub first_request : ℕ → List Sent → ℕ
-first_request n [] = n
-first_request n (s ∷ ss) = s.request
+first_request request [] = request
+first_request request (sent ∷ sents) = sent.request
 
 -- the bytes of packets, joined
 abbrev pub message_of : List Sent → List ℕ
 message_of [] = []
-message_of (s ∷ ss) = s.packet.payload ++ message_of ss
+message_of (sent ∷ sents) = sent.packet.payload ++ message_of sents

@@ -7,21 +7,21 @@ use Rattle.model_bus.specs.Schedule.{AllHonest}
 use Rattle.model_bus.specs.Start.{NothingUnderWay, EmptyWindow}
 
 -- what holds of the bus in this state, over a port that did this before
-pub record AtMostOnce (b : Rules) (before : List Entry) (s : BusState) : Type 0 where
-  -- the n-th that was carried out is the n-th that was begun
-  pub asked : (n : ℕ) (k : Kept) → slice_get s.carried n ≡ Some k → (slice_get s.begun n ≡ Some k.request.bytes) × (k.request ≡ request_of b n k.request.bytes)
-  -- the n-th reply that the manager took is the one that is kept for the n-th
-  pub replied : (n : ℕ) (reply : List ℕ) → slice_get s.taken n ≡ Some reply → (k : Kept) × (slice_get s.carried n ≡ Some k) × (k.reply ≡ reply)
+pub record AtMostOnce (rules : Rules) (before : List Entry) (state : BusState) : Type 0 where
+  -- the n-th request that was carried out is the n-th that was begun
+  pub asked : (number : ℕ) (entry : Kept) → slice_get state.carried number ≡ Some entry → (slice_get state.begun number ≡ Some entry.request.bytes) × (entry.request ≡ request_of rules number entry.request.bytes)
+  -- the n-th reply that the manager took is the reply that the port keeps for the n-th request
+  pub replied : (number : ℕ) (reply : List ℕ) → slice_get state.taken number ≡ Some reply → (entry : Kept) × (slice_get state.carried number ≡ Some entry) × (entry.reply ≡ reply)
   -- a request whose reply was taken was carried out
-  pub answered : length s.taken ≤ length s.carried
+  pub answered : length state.taken ≤ length state.carried
   -- nothing was carried out that was not begun
-  pub carried : length s.carried ≤ length s.begun
+  pub carried : length state.carried ≤ length state.begun
   -- at most one request is open
-  pub one_open : length s.begun ≤ length s.taken + 1
+  pub one_open : length state.begun ≤ length state.taken + 1
   -- and the port carried nothing else out in the manager's name
-  pub nothing_else : carried_by b.manager s.log ≡ carried_by b.manager before ++ s.carried
+  pub nothing_else : carried_by rules.manager state.log ≡ carried_by rules.manager before ++ state.carried
 
 -- at every event of every honest schedule from a start, whoever takes the manager's place on the way
 abbrev pub AlwaysAtMostOnce : Rules → Type 0
-AlwaysAtMostOnce b = (start : BusState) (events later : List Event) → NothingUnderWay start → EmptyWindow b start.log
-    → AllHonest b (events ++ later) start → AtMostOnce b start.log (run b events start)
+AlwaysAtMostOnce rules = (start : BusState) (events later : List Event) → NothingUnderWay start → EmptyWindow rules start.log
+    → AllHonest rules (events ++ later) start → AtMostOnce rules start.log (run rules events start)

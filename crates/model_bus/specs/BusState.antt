@@ -41,74 +41,74 @@ pub data Event : Type 0 where
   -- the port forgets a requester's window
   IsIdle : (requester : ℕ) → Event
   -- Another manager takes the place of this one, under the same address. Its requests go on from the number that comes
-  -- next, and it has no other knowledge of the bus.
+  -- next, and it knows nothing else of the bus.
   Resumes : Event
 
 -- nothing was begun, over a port that did this before
 abbrev pub opening : List Entry → BusState
 opening before = record { begun = []; carried = []; taken = []; log = before; frames = [] }
 
--- the manager's n-th request
+-- the manager's request of this place
 abbrev pub request_of : Rules → ℕ → List ℕ → Request
-request_of b n bytes = record { requester = b.manager; number = b.number_of n; bytes = bytes }
+request_of rules place bytes = record { requester = rules.manager; number = rules.number_of place; bytes = bytes }
 
 -- the newest request has no reply yet
 abbrev pub is_open : BusState → Bool
-is_open s = nat_lt (length s.taken) (length s.begun)
+is_open state = nat_lt (length state.taken) (length state.begun)
 
--- a frame of this request is sent now
+-- a frame of the request of this place is sent now
 abbrev pub sent : Rules → ℕ → Content → BusState → BusState
-sent b n content s = record s { frames = s.frames ++ record { request = n; idles = idles_of b.manager s.log; content = content } ∷ [] }
+sent rules place content state = record state { frames = state.frames ++ record { request = place; idles = idles_of rules.manager state.log; content = content } ∷ [] }
 
 -- a request is begun, and its frame is sent
 abbrev pub begins : Rules → List ℕ → BusState → BusState
-begins b bytes s = sent b (length s.begun) (Ask bytes) (record s { begun = s.begun ++ bytes ∷ [] })
+begins rules bytes state = sent rules (length state.begun) (Ask bytes) (record state { begun = state.begun ++ bytes ∷ [] })
 
 -- a frame of the open request is sent again, if one is open
 abbrev pub sends_again : Rules → Option (List ℕ) → BusState → BusState
-sends_again b None s = s
-sends_again b (Some bytes) s = sent b (length s.taken) (Ask bytes) s
+sends_again rules None state = state
+sends_again rules (Some bytes) state = sent rules (length state.taken) (Ask bytes) state
 
 -- the port hears a request of the manager, and its reply is sent
 abbrev pub hears : Rules → ℕ → Kept → BusState → BusState
-hears b n k s =
-    let o = outcome b.is_above k.request s.log in
-    sent b n (Reply k.request.number (reply_after o k)) (record s { carried = carried_after o k s.carried; log = log_after o k s.log })
+hears rules place kept state =
+    let o = outcome rules.is_above kept.request state.log in
+    sent rules place (Reply kept.request.number (reply_after o kept)) (record state { carried = carried_after o kept state.carried; log = log_after o kept state.log })
 
--- content comes to the port, which ignores all but requests
+-- content of the request of this place comes to the port, which ignores replies
 abbrev pub comes : Rules → List ℕ → ℕ → Content → BusState → BusState
-comes b answer n (Ask bytes) s = hears b n (record { request = request_of b n bytes; reply = answer }) s
-comes b answer n (Reply number reply) s = s
+comes rules answer place (Ask bytes) state = hears rules place (record { request = request_of rules place bytes; reply = answer }) state
+comes rules answer place (Reply number reply) state = state
 
 -- the manager takes a reply
 abbrev pub takes : List ℕ → BusState → BusState
-takes reply s = record s { taken = s.taken ++ reply ∷ [] }
+takes reply state = record state { taken = state.taken ++ reply ∷ [] }
 
 -- The reply that the manager takes from content: one under the open request's number. A manager that looks at more
 -- than the number takes fewer; busy counts as no reply.
 abbrev pub taken_content : Rules → Content → BusState → Option (List ℕ)
-taken_content b (Ask bytes) s = None
-taken_content b (Reply number None) s = None
-taken_content b (Reply number (Some reply)) s = if is_open s && (number == b.number_of (length s.taken)) then Some reply else None
+taken_content rules (Ask bytes) state = None
+taken_content rules (Reply number None) state = None
+taken_content rules (Reply number (Some reply)) state = if is_open state && (number == rules.number_of (length state.taken)) then Some reply else None
 
 -- the manager takes no reply but from the controller's address
 abbrev pub taken_from : Rules → ℕ → ℕ → List ℕ → BusState → Option (List ℕ)
-taken_from b source number reply s = if source == b.controller then taken_content b (Reply number (Some reply)) s else None
+taken_from rules source number reply state = if source == rules.controller then taken_content rules (Reply number (Some reply)) state else None
 
 -- the manager takes a reply, if there is one
 abbrev pub takes_if : Option (List ℕ) → BusState → BusState
-takes_if None s = s
-takes_if (Some reply) s = takes reply s
+takes_if None state = state
+takes_if (Some reply) state = takes reply state
 
 -- a frame comes to the port, if there is such a frame
 abbrev pub at_port : Rules → List ℕ → Option Frame → BusState → BusState
-at_port b answer None s = s
-at_port b answer (Some f) s = comes b answer f.request f.content s
+at_port rules answer None state = state
+at_port rules answer (Some frame) state = comes rules answer frame.request frame.content state
 
 -- the reply that the manager takes, if this frame comes
 abbrev pub taken_now : Rules → Option Frame → BusState → Option (List ℕ)
-taken_now b None s = None
-taken_now b (Some f) s = taken_content b f.content s
+taken_now rules None state = None
+taken_now rules (Some frame) state = taken_content rules frame.content state
 
 -- the bytes of the request that the port carries out, if this content comes
 abbrev pub new_bytes : Outcome → List ℕ → Option (List ℕ)
@@ -116,28 +116,28 @@ new_bytes (Repeats reply) bytes = None
 new_bytes IsBusy bytes = None
 new_bytes IsNew bytes = Some bytes
 
--- the bytes of the request that the port carries out, if this content of request n comes
+-- the bytes of the request that the port carries out, if this content of the request of this place comes
 abbrev pub carried_content : Rules → ℕ → Content → BusState → Option (List ℕ)
-carried_content b n (Ask bytes) s = new_bytes (outcome b.is_above (request_of b n bytes) s.log) bytes
-carried_content b n (Reply number reply) s = None
+carried_content rules place (Ask bytes) state = new_bytes (outcome rules.is_above (request_of rules place bytes) state.log) bytes
+carried_content rules place (Reply number reply) state = None
 
 -- the bytes of the request that the port carries out, if this frame comes
 abbrev pub carried_now : Rules → Option Frame → BusState → Option (List ℕ)
-carried_now b None s = None
-carried_now b (Some f) s = carried_content b f.request f.content s
+carried_now rules None state = None
+carried_now rules (Some frame) state = carried_content rules frame.request frame.content state
 
 -- the bus after an event
 abbrev pub happens : Rules → BusState → Event → BusState
-happens b s (Begins bytes) = if is_open s then s else begins b bytes s
-happens b s SendsAgain = sends_again b (slice_get s.begun (length s.taken)) s
-happens b s (ReachesPort which answer) = at_port b answer (slice_get s.frames which) s
-happens b s (ReachesManager which) = takes_if (taken_now b (slice_get s.frames which) s) s
-happens b s (OtherAsks request answer) = record s { log = log_with b.is_above (HeardRequest (record { request = request; reply = answer })) s.log }
-happens b s (OtherReplies source number reply) = takes_if (taken_from b source number reply s) s
-happens b s (IsIdle requester) = record s { log = Idled requester ∷ s.log }
-happens b s Resumes = s
+happens rules state (Begins bytes) = if is_open state then state else begins rules bytes state
+happens rules state SendsAgain = sends_again rules (slice_get state.begun (length state.taken)) state
+happens rules state (ReachesPort which answer) = at_port rules answer (slice_get state.frames which) state
+happens rules state (ReachesManager which) = takes_if (taken_now rules (slice_get state.frames which) state) state
+happens rules state (OtherAsks request answer) = record state { log = log_with rules.is_above (HeardRequest (record { request = request; reply = answer })) state.log }
+happens rules state (OtherReplies source number reply) = takes_if (taken_from rules source number reply state) state
+happens rules state (IsIdle requester) = record state { log = Idled requester ∷ state.log }
+happens rules state Resumes = state
 
 -- the state after a schedule, event by event
 abbrev pub run : Rules → List Event → BusState → BusState
-run b [] s = s
-run b (e ∷ es) s = run b es (happens b s e)
+run rules [] state = state
+run rules (event ∷ events) state = run rules events (happens rules state event)

@@ -22,17 +22,17 @@ pub record IpmbHeader : Type 0 where
   pub command : ℕ
 
 -- LUNs are below 4
-pub record IsIpmbHeader (h : IpmbHeader) : Type 0 where
-  pub responder : h.responder_lun < 4
-  pub requester : h.requester_lun < 4
+pub record IsIpmbHeader (header : IpmbHeader) : Type 0 where
+  pub responder : header.responder_lun < 4
+  pub requester : header.requester_lun < 4
 
 -- a request: netFn and rsLUN, rqSeq and rqLUN, command, data
 abbrev pub ipmb_request : IpmbHeader → ℕ → List ℕ → List ℕ
-ipmb_request h number body = (4 * h.net_fn + h.responder_lun) ∷ (4 * number + h.requester_lun) ∷ h.command ∷ body
+ipmb_request header number body = (4 * header.net_fn + header.responder_lun) ∷ (4 * number + header.requester_lun) ∷ header.command ∷ body
 
 -- a reply: the next netFn and rqLUN, the same rqSeq and rsLUN, command, completion code, data
 abbrev pub ipmb_reply : IpmbHeader → ℕ → ℕ → List ℕ → List ℕ
-ipmb_reply h number code body = (4 * (h.net_fn + 1) + h.requester_lun) ∷ (4 * number + h.responder_lun) ∷ h.command ∷ code ∷ body
+ipmb_reply header number code body = (4 * (header.net_fn + 1) + header.requester_lun) ∷ (4 * number + header.responder_lun) ∷ header.command ∷ code ∷ body
 
 -- the bytes are a request's with this rqSeq
 pub record IsIpmbRequest (number : ℕ) (bytes : List ℕ) : Type 0 where
@@ -75,11 +75,11 @@ pub record PldmHeader : Type 0 where
 
 -- a request: 01h, the request bit and the instance, type (with version 00b), command, data; the ignored bit is 0
 abbrev pub pldm_request : PldmHeader → ℕ → List ℕ → List ℕ
-pldm_request h number body = pldm_message_type ∷ (128 + number) ∷ h.pldm_type ∷ h.command ∷ body
+pldm_request header number body = pldm_message_type ∷ (128 + number) ∷ header.pldm_type ∷ header.command ∷ body
 
 -- a reply: 01h, the instance, type, command, completion code, data
 abbrev pub pldm_reply : PldmHeader → ℕ → ℕ → List ℕ → List ℕ
-pldm_reply h number code body = pldm_message_type ∷ number ∷ h.pldm_type ∷ h.command ∷ code ∷ body
+pldm_reply header number code body = pldm_message_type ∷ number ∷ header.pldm_type ∷ header.command ∷ code ∷ body
 
 -- the bytes are a request's with this instance
 pub record IsPldmRequest (number : ℕ) (bytes : List ℕ) : Type 0 where
@@ -116,7 +116,7 @@ request_in source (kind ∷ flags ∷ pldm_type ∷ command ∷ body) =
 request_in source _ = None
 
 -- bytes of a message that is the request, with this ignored bit, from this source
-pub record SpellsRequest (source : ℕ) (r : Request) (bytes : List ℕ) : Type 0 where
+pub record SpellsRequest (source : ℕ) (request : Request) (bytes : List ℕ) : Type 0 where
   pub header : PldmHeader
   pub number : ℕ
   pub ignored : ℕ
@@ -125,11 +125,11 @@ pub record SpellsRequest (source : ℕ) (r : Request) (bytes : List ℕ) : Type 
   pub bit : ignored < 2
   pub of_type : header.pldm_type < 64
   pub spelled : bytes ≡ pldm_message_type ∷ (128 + 32 * ignored + number) ∷ header.pldm_type ∷ header.command ∷ body
-  pub read : r ≡ record { requester = source; number = number; bytes = pldm_request header number body }
+  pub read : request ≡ record { requester = source; number = number; bytes = pldm_request header number body }
 
 -- a request is read in exactly the messages that spell it
 abbrev pub ReadsRequests : Type 0
-ReadsRequests = (source : ℕ) (r : Request) (bytes : List ℕ) → (request_in source bytes ≡ Some r) ↔ SpellsRequest source r bytes
+ReadsRequests = (source : ℕ) (request : Request) (bytes : List ℕ) → (request_in source bytes ≡ Some request) ↔ SpellsRequest source request bytes
 
 -- ---- either
 

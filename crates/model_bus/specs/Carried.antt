@@ -6,17 +6,17 @@ use Rattle.model_bus.specs.Request.{Request, Kept, Entry, Carried, Idled, is_sam
 -- The reply of the carried request that this one repeats: the same request, above whose number stands each number that
 -- was carried between. The carried ones stand newest first; `newer` are the numbers carried between.
 abbrev pub kept_for : (ℕ → ℕ → Bool) → Request → List ℕ → List Kept → Option (List ℕ)
-kept_for is_above r newer [] = None
-kept_for is_above r newer (k ∷ ks) =
-    if is_same r k.request && list_all (is_above k.request.number) newer
-    then Some k.reply
-    else kept_for is_above r (k.request.number ∷ newer) ks
+kept_for is_above request newer [] = None
+kept_for is_above request newer (kept ∷ kepts) =
+    if is_same request kept.request && list_all (is_above kept.request.number) newer
+    then Some kept.reply
+    else kept_for is_above request (kept.request.number ∷ newer) kepts
 
 -- the requesters that had something carried out since their last idle, each once
 abbrev pub requesters : List Entry → List ℕ
 requesters [] = []
-requesters (Carried k ∷ log) = if list_any (λ q. q == k.request.requester) (requesters log) then requesters log else k.request.requester ∷ requesters log
-requesters (Idled p ∷ log) = filter (λ q. not (q == p)) (requesters log)
+requesters (Carried kept ∷ log) = if list_any (λ q. q == kept.request.requester) (requesters log) then requesters log else kept.request.requester ∷ requesters log
+requesters (Idled requester ∷ log) = filter (λ q. not (q == requester)) (requesters log)
 
 -- how many requesters have a window at once
 abbrev pub most_windows : ℕ
@@ -24,11 +24,11 @@ most_windows = 8
 
 -- a requester has no window among these, and they are eight or more
 abbrev pub has_no_slot : ℕ → List ℕ → Bool
-has_no_slot q slots = not (list_any (λ p. p == q) slots) && nat_le most_windows (length slots)
+has_no_slot requester slots = not (list_any (λ p. p == requester) slots) && nat_le most_windows (length slots)
 
 -- a ninth window would be needed
 abbrev pub is_busy : ℕ → List Entry → Bool
-is_busy q log = has_no_slot q (requesters log)
+is_busy requester log = has_no_slot requester (requesters log)
 
 -- what a port does with a request
 pub data Outcome : Type 0 where
@@ -47,25 +47,25 @@ outcome_of None false = IsNew
 
 -- the rule: a repeat first, then busy, else new
 abbrev pub outcome : (ℕ → ℕ → Bool) → Request → List Entry → Outcome
-outcome is_above r log = outcome_of (kept_for is_above r [] (carried_since r.requester log)) (is_busy r.requester log)
+outcome is_above request log = outcome_of (kept_for is_above request [] (carried_since request.requester log)) (is_busy request.requester log)
 
 -- the log after it, where the board's answer would be the reply that is kept
 abbrev pub log_after : Outcome → Kept → List Entry → List Entry
-log_after (Repeats reply) k log = log
-log_after IsBusy k log = log
-log_after IsNew k log = Carried k ∷ log
+log_after (Repeats reply) kept log = log
+log_after IsBusy kept log = log
+log_after IsNew kept log = Carried kept ∷ log
 
 -- the reply that goes out, none where the port is busy
 abbrev pub reply_after : Outcome → Kept → Option (List ℕ)
-reply_after (Repeats reply) k = Some reply
-reply_after IsBusy k = None
-reply_after IsNew k = Some k.reply
+reply_after (Repeats reply) kept = Some reply
+reply_after IsBusy kept = None
+reply_after IsNew kept = Some kept.reply
 
 -- what was carried out, oldest first, after it
 abbrev pub carried_after : Outcome → Kept → List Kept → List Kept
-carried_after (Repeats reply) k ks = ks
-carried_after IsBusy k ks = ks
-carried_after IsNew k ks = ks ++ k ∷ []
+carried_after (Repeats reply) kept ks = ks
+carried_after IsBusy kept ks = ks
+carried_after IsNew kept ks = ks ++ kept ∷ []
 
 -- what a port hears: a request, with the answer that the board would give now, or that a requester is idle
 pub data Heard : Type 0 where
@@ -74,11 +74,11 @@ pub data Heard : Type 0 where
 
 -- the log after one more
 abbrev pub log_with : (ℕ → ℕ → Bool) → Heard → List Entry → List Entry
-log_with is_above (HeardRequest k) log = log_after (outcome is_above k.request log) k log
-log_with is_above (HeardIdle q) log = Idled q ∷ log
+log_with is_above (HeardRequest kept) log = log_after (outcome is_above kept.request log) kept log
+log_with is_above (HeardIdle requester) log = Idled requester ∷ log
 
 -- what a port does with each request of a list that it hears, oldest first
 abbrev pub outcomes : (ℕ → ℕ → Bool) → List Entry → List Heard → List Outcome
 outcomes is_above log [] = []
-outcomes is_above log (HeardRequest k ∷ hs) = outcome is_above k.request log ∷ outcomes is_above (log_with is_above (HeardRequest k) log) hs
-outcomes is_above log (HeardIdle q ∷ hs) = outcomes is_above (Idled q ∷ log) hs
+outcomes is_above log (HeardRequest kept ∷ heards) = outcome is_above kept.request log ∷ outcomes is_above (log_with is_above (HeardRequest kept) log) heards
+outcomes is_above log (HeardIdle requester ∷ heards) = outcomes is_above (Idled requester ∷ log) heards

@@ -7,9 +7,9 @@ use Rattle.model_bus.specs.Schedule.{AllHonest}
 use Rattle.model_bus.specs.Start.{NothingUnderWay, EmptyWindow}
 
 -- the reply that is kept for the n-th request
-pub record IsKeptFor (carried : List Kept) (n : ℕ) (reply : List ℕ) : Type 0 where
+pub record IsKeptFor (carried : List Kept) (request : ℕ) (reply : List ℕ) : Type 0 where
   pub kept : Kept
-  pub at : slice_get carried n ≡ Some kept
+  pub at : slice_get carried request ≡ Some kept
   pub replied : kept.reply ≡ reply
 
 -- no request of the manager moves
@@ -31,7 +31,7 @@ pub record IsCarried (old new : BusState) (bytes reply : List ℕ) : Type 0 wher
   pub taken : new.taken ≡ old.taken
   pub opened : slice_get old.begun (length old.taken) ≡ Some bytes
   pub first : slice_get old.carried (length old.taken) ≡ None
-  pub carried : (k : Kept) × (new.carried ≡ old.carried ++ k ∷ []) × (k.request.bytes ≡ bytes) × (k.reply ≡ reply)
+  pub carried : (entry : Kept) × (new.carried ≡ old.carried ++ entry ∷ []) × (entry.request.bytes ≡ bytes) × (entry.reply ≡ reply)
   pub kept : IsKeptFor new.carried (length old.taken) reply
 
 -- the open request's reply is taken, which is the one that is kept for it
@@ -44,20 +44,20 @@ pub record IsTaken (old new : BusState) (reply : List ℕ) : Type 0 where
 
 -- what each event does
 abbrev pub HasEffect : Rules → BusState → Event → Type 0
-HasEffect b s (Begins bytes) = MatchBool (is_open s) (SameRequests s (happens b s (Begins bytes))) (IsBegun s (happens b s (Begins bytes)) bytes)
-HasEffect b s SendsAgain = SameRequests s (happens b s SendsAgain)
-HasEffect b s (ReachesPort which answer) =
-    let new = happens b s (ReachesPort which answer) in
-    MatchOption (carried_now b (slice_get s.frames which) s) (SameRequests s new) (λ bytes. IsCarried s new bytes answer)
-HasEffect b s (ReachesManager which) =
-    let new = happens b s (ReachesManager which) in
-    MatchOption (taken_now b (slice_get s.frames which) s) (SameRequests s new) (λ reply. IsTaken s new reply)
-HasEffect b s (OtherAsks request answer) = SameRequests s (happens b s (OtherAsks request answer))
-HasEffect b s (OtherReplies source number reply) = SameRequests s (happens b s (OtherReplies source number reply))
-HasEffect b s (IsIdle requester) = SameRequests s (happens b s (IsIdle requester))
-HasEffect b s Resumes = SameRequests s (happens b s Resumes)
+HasEffect rules state (Begins bytes) = MatchBool (is_open state) (SameRequests state (happens rules state (Begins bytes))) (IsBegun state (happens rules state (Begins bytes)) bytes)
+HasEffect rules state SendsAgain = SameRequests state (happens rules state SendsAgain)
+HasEffect rules state (ReachesPort which answer) =
+    let new = happens rules state (ReachesPort which answer) in
+    MatchOption (carried_now rules (slice_get state.frames which) state) (SameRequests state new) (λ bytes. IsCarried state new bytes answer)
+HasEffect rules state (ReachesManager which) =
+    let new = happens rules state (ReachesManager which) in
+    MatchOption (taken_now rules (slice_get state.frames which) state) (SameRequests state new) (λ reply. IsTaken state new reply)
+HasEffect rules state (OtherAsks request answer) = SameRequests state (happens rules state (OtherAsks request answer))
+HasEffect rules state (OtherReplies source number reply) = SameRequests state (happens rules state (OtherReplies source number reply))
+HasEffect rules state (IsIdle requester) = SameRequests state (happens rules state (IsIdle requester))
+HasEffect rules state Resumes = SameRequests state (happens rules state Resumes)
 
 -- of every event of every honest schedule from a start
 abbrev pub EventsHaveEffects : Rules → Type 0
-EventsHaveEffects b = (start : BusState) (events : List Event) (e : Event) → NothingUnderWay start → EmptyWindow b start.log
-    → AllHonest b (events ++ e ∷ []) start → HasEffect b (run b events start) e
+EventsHaveEffects rules = (start : BusState) (events : List Event) (event : Event) → NothingUnderWay start → EmptyWindow rules start.log
+    → AllHonest rules (events ++ event ∷ []) start → HasEffect rules (run rules events start) event

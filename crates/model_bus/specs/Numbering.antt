@@ -34,4 +34,4 @@ smbus manager controller first = record { manager = manager; controller = contro
 
 -- the tag of the manager's n-th request on SMBus
 abbrev pub tag_of : ℕ → ℕ → ℕ
-tag_of first n = (first + n) % tags
+tag_of first request = (first + request) % tags

@@ -18,10 +18,10 @@ unit_size = 64
 -- start, the last is the end.
 abbrev pub IsCutFrom : ℕ → List Packet → List ℕ → Type 0
 IsCutFrom place [] bytes = ⊥
-IsCutFrom place (p ∷ []) bytes = (p.sequence ≡ place) × (p.first ≡ (place == 0)) × (p.last ≡ true) × (p.payload ≡ bytes)
-IsCutFrom place (p ∷ q ∷ ps) bytes =
-    (p.sequence ≡ place) × (p.first ≡ (place == 0)) × (p.last ≡ false) × (length p.payload ≡ unit_size)
-    × (rest : List ℕ) × (bytes ≡ p.payload ++ rest) × IsCutFrom (suc place) (q ∷ ps) rest
+IsCutFrom place (packet ∷ []) bytes = (packet.sequence ≡ place) × (packet.first ≡ (place == 0)) × (packet.last ≡ true) × (packet.payload ≡ bytes)
+IsCutFrom place (packet ∷ next ∷ packets) bytes =
+    (packet.sequence ≡ place) × (packet.first ≡ (place == 0)) × (packet.last ≡ false) × (length packet.payload ≡ unit_size)
+    × (rest : List ℕ) × (bytes ≡ packet.payload ++ rest) × IsCutFrom (suc place) (next ∷ packets) rest
 
 -- a message's packets: at most four
 abbrev pub IsCut : List Packet → List ℕ → Type 0
@@ -29,7 +29,7 @@ IsCut ps bytes = (length ps ≤ 4) × IsCutFrom 0 ps bytes
 
 -- a way to cut messages: what is sent of a message is its cut; of one that can't be cut nothing is sent
 abbrev pub IsCutting : (List ℕ → List Packet) → Type 0
-IsCutting split = (bytes : List ℕ) (p : Packet) → In p (split bytes) → IsCut (split bytes) bytes
+IsCutting split = (bytes : List ℕ) (packet : Packet) → In packet (split bytes) → IsCut (split bytes) bytes
 
 -- the packets of bytes from a place on, at most so many
 abbrev pub packets_from : ℕ → ℕ → List ℕ → List Packet
@@ -45,4 +45,4 @@ packets_of bytes = if nat_le (length bytes) most_message_bytes then packets_from
 
 -- each message of at most `most_message_bytes` has a cut, of packets of at most `unit_size` bytes
 abbrev pub CutsAll : (List ℕ → List Packet) → Type 0
-CutsAll split = (bytes : List ℕ) → length bytes ≤ most_message_bytes → IsCut (split bytes) bytes × ((p : Packet) → In p (split bytes) → length p.payload ≤ unit_size)
+CutsAll split = (bytes : List ℕ) → length bytes ≤ most_message_bytes → IsCut (split bytes) bytes × ((packet : Packet) → In packet (split bytes) → length packet.payload ≤ unit_size)

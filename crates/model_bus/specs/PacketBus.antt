@@ -16,15 +16,15 @@ pub record PacketBus : Type 0 where
 
 -- its rules for whole messages
 abbrev pub rules_of : PacketBus → Rules
-rules_of b = smbus b.manager b.controller b.first
+rules_of bus = smbus bus.manager bus.controller bus.first
 
--- the name of the packets of request n at the port; the tag's owner is the requester
+-- the name of the packets of this request at the port; the requester owns the tag
 abbrev pub request_name : PacketBus → ℕ → Name
-request_name b n = record { source = b.manager; owner = true; tag = tag_of b.first n }
+request_name bus request = record { source = bus.manager; owner = true; tag = tag_of bus.first request }
 
--- the name of the packets of the reply to request n, at the manager
+-- the name of the packets of the reply to this request, at the manager
 abbrev pub reply_name : PacketBus → ℕ → Name
-reply_name b n = record { source = b.controller; owner = false; tag = tag_of b.first n }
+reply_name bus request = record { source = bus.controller; owner = false; tag = tag_of bus.first request }
 
 -- the bus in whole messages, and the packets that wait at either end, under each name
 pub record Ends : Type 0 where
@@ -53,20 +53,20 @@ pub data PacketEvent : Type 0 where
 
 -- the assemblies with one of them changed
 abbrev pub set_at : Name → List Sent → (Name → List Sent) → Name → List Sent
-set_at name taken assemblies n = if is_name n name then taken else assemblies n
+set_at name taken assemblies other = if is_name other name then taken else assemblies other
 
--- a request that is complete at the port, under the number that stands in its first packet; its reply belongs to request n,
--- whose frame's packet completed it
+-- The port hears a request that is complete, under the number in its first packet. The reply belongs to `request`, since a packet of that
+-- request's frame completed the message.
 abbrev pub whole_comes : Rules → List ℕ → ℕ → Step → BusState → BusState
-whole_comes b answer n Waits s = s
-whole_comes b answer n Drops s = s
-whole_comes b answer n (Whole ss) s = hears b n (record { request = request_of b (first_request n ss) (message_of ss); reply = answer }) s
+whole_comes rules answer request Waits state = state
+whole_comes rules answer request Drops state = state
+whole_comes rules answer request (Whole ss) state = hears rules request (record { request = request_of rules (first_request request ss) (message_of ss); reply = answer }) state
 
 -- a reply that is complete at the manager, under the number of its last packet's frame
 abbrev pub whole_returns : Rules → ℕ → Step → BusState → BusState
-whole_returns b number Waits s = s
-whole_returns b number Drops s = s
-whole_returns b number (Whole ss) s = takes_if (taken_content b (Reply number (Some (message_of ss))) s) s
+whole_returns rules number Waits state = state
+whole_returns rules number Drops state = state
+whole_returns rules number (Whole ss) state = takes_if (taken_content rules (Reply number (Some (message_of ss))) state) state
 
 -- the request that another's packet completes: a whole message under a tag of its source's own, if that is a request
 abbrev pub other_request : Name → Step → Option Request
@@ -76,76 +76,76 @@ other_request name (Whole ss) = if name.owner then request_in name.source (messa
 
 -- the port hears a request of another, if there is one; control messages, other types and malformed requests take no window
 abbrev pub hears_other : Rules → List ℕ → Option Request → BusState → BusState
-hears_other b answer None s = s
-hears_other b answer (Some r) s = happens b s (OtherAsks r answer)
+hears_other rules answer None state = state
+hears_other rules answer (Some request) state = happens rules state (OtherAsks request answer)
 
--- the port takes a packet of request n, if there is such a packet
+-- the port takes a packet of this request, if there is such a packet
 abbrev pub port_takes : PacketBus → List ℕ → ℕ → ℕ → Option Packet → Ends → Ends
-port_takes b answer n idles None x = x
-port_takes b answer n idles (Some p) x =
-    let r = takes (x.port (request_name b n)) (record { request = n; idles = idles; packet = p }) in
-    record x { bus = whole_comes (rules_of b) answer n r.0 x.bus; port = set_at (request_name b n) r.1 x.port }
+port_takes bus answer request idles None ends = ends
+port_takes bus answer request idles (Some packet) ends =
+    let r = takes (ends.port (request_name bus request)) (record { request = request; idles = idles; packet = packet }) in
+    record ends { bus = whole_comes (rules_of bus) answer request r.0 ends.bus; port = set_at (request_name bus request) r.1 ends.port }
 
 -- the manager looks only at packets under the open request's tag
 abbrev pub is_awaited : PacketBus → ℕ → BusState → Bool
-is_awaited b n s = is_open s && (tag_of b.first n == tag_of b.first (length s.taken))
+is_awaited bus request state = is_open state && (tag_of bus.first request == tag_of bus.first (length state.taken))
 
--- the manager takes a packet of a reply to request n, if there is such a packet
+-- the manager takes a packet of a reply to this request, if there is such a packet
 abbrev pub manager_takes : PacketBus → ℕ → ℕ → ℕ → Option Packet → Ends → Ends
-manager_takes b number n idles None x = x
-manager_takes b number n idles (Some p) x =
-    let r = takes (x.manager (reply_name b n)) (record { request = n; idles = idles; packet = p }) in
-    record x { bus = whole_returns (rules_of b) number r.0 x.bus; manager = set_at (reply_name b n) r.1 x.manager }
+manager_takes bus number request idles None ends = ends
+manager_takes bus number request idles (Some packet) ends =
+    let r = takes (ends.manager (reply_name bus request)) (record { request = request; idles = idles; packet = packet }) in
+    record ends { bus = whole_returns (rules_of bus) number r.0 ends.bus; manager = set_at (reply_name bus request) r.1 ends.manager }
 
 -- the port takes a packet of another requester
 abbrev pub other_takes : PacketBus → Name → Packet → List ℕ → Ends → Ends
-other_takes b name p answer x =
-    let r = takes (x.port name) (record { request = 0; idles = 0; packet = p }) in
-    record x { bus = hears_other (rules_of b) answer (other_request name r.0) x.bus; port = set_at name r.1 x.port }
+other_takes bus name packet answer ends =
+    let r = takes (ends.port name) (record { request = 0; idles = 0; packet = packet }) in
+    record ends { bus = hears_other (rules_of bus) answer (other_request name r.0) ends.bus; port = set_at name r.1 ends.port }
 
 -- the manager takes a packet of another only under the open request's reply's name
 abbrev pub other_returns : PacketBus → Name → Packet → ℕ → Ends → Ends
-other_returns b name p number x =
-    if is_open x.bus && is_name name (reply_name b (length x.bus.taken)) then manager_takes b number (length x.bus.taken) 0 (Some p) x else x
+other_returns bus name packet number ends =
+    if is_open ends.bus && is_name name (reply_name bus (length ends.bus.taken)) then manager_takes bus number (length ends.bus.taken) 0 (Some packet) ends else ends
 
 -- a packet of this content comes to the port, which ignores packets of anything but a request
 abbrev pub packet_comes : PacketBus → List ℕ → ℕ → ℕ → ℕ → Content → Ends → Ends
-packet_comes b answer place n idles (Ask bytes) x = port_takes b answer n idles (slice_get (b.split bytes) place) x
-packet_comes b answer place n idles (Reply number reply) x = x
+packet_comes bus answer place request idles (Ask bytes) ends = port_takes bus answer request idles (slice_get (bus.split bytes) place) ends
+packet_comes bus answer place request idles (Reply number reply) ends = ends
 
 -- a busy reply is a single packet, a start, so what waited is closed, and it counts as no reply
 abbrev pub packet_returns : PacketBus → ℕ → ℕ → ℕ → Content → Ends → Ends
-packet_returns b place n idles (Ask bytes) x = x
-packet_returns b place n idles (Reply number None) x =
-    if is_awaited b n x.bus then record x { manager = set_at (reply_name b n) [] x.manager } else x
-packet_returns b place n idles (Reply number (Some reply)) x =
-    if is_awaited b n x.bus then manager_takes b number n idles (slice_get (b.split reply) place) x else x
+packet_returns bus place request idles (Ask bytes) ends = ends
+packet_returns bus place request idles (Reply number None) ends =
+    if is_awaited bus request ends.bus then record ends { manager = set_at (reply_name bus request) [] ends.manager } else ends
+packet_returns bus place request idles (Reply number (Some reply)) ends =
+    if is_awaited bus request ends.bus then manager_takes bus number request idles (slice_get (bus.split reply) place) ends else ends
 
 -- a packet of a frame comes to the port, if there is such a frame
 abbrev pub packet_at_port : PacketBus → List ℕ → ℕ → Option Frame → Ends → Ends
-packet_at_port b answer place None x = x
-packet_at_port b answer place (Some f) x = packet_comes b answer place f.request f.idles f.content x
+packet_at_port bus answer place None ends = ends
+packet_at_port bus answer place (Some frame) ends = packet_comes bus answer place frame.request frame.idles frame.content ends
 
 -- a packet of a frame comes to the manager, if there is such a frame
 abbrev pub packet_at_manager : PacketBus → ℕ → Option Frame → Ends → Ends
-packet_at_manager b place None x = x
-packet_at_manager b place (Some f) x = packet_returns b place f.request f.idles f.content x
+packet_at_manager bus place None ends = ends
+packet_at_manager bus place (Some frame) ends = packet_returns bus place frame.request frame.idles frame.content ends
 
 -- both ends after an event
 abbrev pub packet_happens : PacketBus → Ends → PacketEvent → Ends
-packet_happens b x (Plain e) = record x { bus = happens (rules_of b) x.bus e }
-packet_happens b x (PacketReachesPort which place answer) = packet_at_port b answer place (slice_get x.bus.frames which) x
-packet_happens b x (PacketReachesManager which place) = packet_at_manager b place (slice_get x.bus.frames which) x
-packet_happens b x (OtherPacket name packet answer) = other_takes b name packet answer x
-packet_happens b x (OtherReplyPacket name packet number) = other_returns b name packet number x
-packet_happens b x (Closes name) = record x { port = set_at name [] x.port }
-packet_happens b x Clears = record x { manager = λ name. [] }
-packet_happens b x PacketResumes = record x { bus = happens (rules_of b) x.bus Resumes; manager = λ name. [] }
+packet_happens bus ends (Plain event) = record ends { bus = happens (rules_of bus) ends.bus event }
+packet_happens bus ends (PacketReachesPort which place answer) = packet_at_port bus answer place (slice_get ends.bus.frames which) ends
+packet_happens bus ends (PacketReachesManager which place) = packet_at_manager bus place (slice_get ends.bus.frames which) ends
+packet_happens bus ends (OtherPacket name packet answer) = other_takes bus name packet answer ends
+packet_happens bus ends (OtherReplyPacket name packet number) = other_returns bus name packet number ends
+packet_happens bus ends (Closes name) = record ends { port = set_at name [] ends.port }
+packet_happens bus ends Clears = record ends { manager = λ name. [] }
+packet_happens bus ends PacketResumes = record ends { bus = happens (rules_of bus) ends.bus Resumes; manager = λ name. [] }
 
 -- both ends after a schedule, event by event
 abbrev pub packet_run : PacketBus → List PacketEvent → Ends → Ends
-packet_run b [] x = x
-packet_run b (e ∷ es) x = packet_run b es (packet_happens b x e)
+packet_run bus [] ends = ends
+packet_run bus (event ∷ events) ends = packet_run bus events (packet_happens bus ends event)
 
 -- no packet waits
 abbrev pub opening_ends : List Entry → Ends

@@ -13,14 +13,14 @@ use Rattle.model_bus.specs.PacketSchedule.{JoinRule, AllPacketHonest}
 
 -- what an end does with a packet under a name; a frame has no packet at a place past its last
 abbrev pub step_of : (Name → List Sent) → Name → ℕ → ℕ → Option Packet → Step
-step_of assemblies name n idles None = Drops
-step_of assemblies name n idles (Some p) = (takes (assemblies name) (record { request = n; idles = idles; packet = p })).0
+step_of assemblies name request idles None = Drops
+step_of assemblies name request idles (Some packet) = (takes (assemblies name) (record { request = request; idles = idles; packet = packet })).0
 
 -- the request that is complete, if one is
 abbrev pub whole_request : Rules → ℕ → Step → Option Request
-whole_request b n (Whole ss) = Some (request_of b (first_request n ss) (message_of ss))
-whole_request b n Waits = None
-whole_request b n Drops = None
+whole_request rules request (Whole ss) = Some (request_of rules (first_request request ss) (message_of ss))
+whole_request rules request Waits = None
+whole_request rules request Drops = None
 
 -- the reply that is complete, under this number
 abbrev pub whole_reply : ℕ → Step → Option Content
@@ -28,81 +28,81 @@ whole_reply number (Whole ss) = Some (Reply number (Some (message_of ss)))
 whole_reply number Waits = None
 whole_reply number Drops = None
 
--- the request that packet `place` of a frame of request n completes at the port
+-- the request that packet `place` of a frame of this request completes at the port
 abbrev pub completed_request : PacketBus → Ends → ℕ → ℕ → ℕ → Content → Option Request
-completed_request b x place n idles (Ask bytes) = whole_request (rules_of b) n (step_of x.port (request_name b n) n idles (slice_get (b.split bytes) place))
-completed_request b x place n idles (Reply number reply) = None
+completed_request bus ends place request idles (Ask bytes) = whole_request (rules_of bus) request (step_of ends.port (request_name bus request) request idles (slice_get (bus.split bytes) place))
+completed_request bus ends place request idles (Reply number reply) = None
 
--- the reply that packet `place` of a frame of request n completes at the manager
+-- the reply that packet `place` of a frame of this request completes at the manager
 abbrev pub completed_reply : PacketBus → Ends → ℕ → ℕ → ℕ → Content → Option Content
-completed_reply b x place n idles (Ask bytes) = None
-completed_reply b x place n idles (Reply number None) = None
-completed_reply b x place n idles (Reply number (Some reply)) =
-    if is_awaited b n x.bus
-    then whole_reply number (step_of x.manager (reply_name b n) n idles (slice_get (b.split reply) place))
+completed_reply bus ends place request idles (Ask bytes) = None
+completed_reply bus ends place request idles (Reply number None) = None
+completed_reply bus ends place request idles (Reply number (Some reply)) =
+    if is_awaited bus request ends.bus
+    then whole_reply number (step_of ends.manager (reply_name bus request) request idles (slice_get (bus.split reply) place))
     else None
 
 -- what the port carries out of a request that is complete
 abbrev pub carried_of : Rules → Option Request → BusState → Option (List ℕ)
-carried_of b None s = None
-carried_of b (Some r) s = new_bytes (outcome b.is_above r s.log) r.bytes
+carried_of rules None state = None
+carried_of rules (Some request) state = new_bytes (outcome rules.is_above request state.log) request.bytes
 
 -- what the manager takes of a reply that is complete
 abbrev pub taken_of : Rules → Option Content → BusState → Option (List ℕ)
-taken_of b None s = None
-taken_of b (Some content) s = taken_content b content s
+taken_of rules None state = None
+taken_of rules (Some content) state = taken_content rules content state
 
--- the frame of request n holds this request
+-- the request that was read is the one that the frame holds
 abbrev pub HoldsRequest : Rules → ℕ → Content → Request → Type 0
-HoldsRequest b n (Ask bytes) r = r ≡ request_of b n bytes
-HoldsRequest b n (Reply number reply) r = ⊥
+HoldsRequest rules request (Ask bytes) asked = asked ≡ request_of rules request bytes
+HoldsRequest rules request (Reply number reply) asked = ⊥
 
--- Where a request is complete at the port, it is the one that the frame holds. No request of the manager moves, or, where
--- the rule says that it is new, it is the open one, and is carried out for the first time.
-pub record PortEffect (b : Rules) (n : ℕ) (content : Content) (complete : Option Request) (answer : List ℕ) (old new : BusState) : Type 0 where
-  pub as_sent : IfSome complete (HoldsRequest b n content)
-  pub moves : MatchOption (carried_of b complete old) (SameRequests old new) (λ bytes. IsCarried old new bytes answer)
+-- Where a request is complete at the port, the frame holds that request. No request of the manager moves, unless the rule says that the request
+-- is new: then it is the open request, and the port carries it out for the first time.
+pub record PortEffect (rules : Rules) (request : ℕ) (content : Content) (complete : Option Request) (answer : List ℕ) (old new : BusState) : Type 0 where
+  pub as_sent : IfSome complete (HoldsRequest rules request content)
+  pub moves : MatchOption (carried_of rules complete old) (SameRequests old new) (λ bytes. IsCarried old new bytes answer)
 
--- Where a reply is complete at the manager, it is the one that the frame holds. No request moves, or, where the reply has
--- the open request's number, it is taken, and is the one that is kept for it.
-pub record ManagerEffect (b : Rules) (content : Content) (complete : Option Content) (old new : BusState) : Type 0 where
+-- Where a reply is complete at the manager, the frame holds that reply. No request moves, unless the reply has the open request's number: then
+-- the manager takes it, and the port keeps that reply for the request.
+pub record ManagerEffect (rules : Rules) (content : Content) (complete : Option Content) (old new : BusState) : Type 0 where
   pub as_sent : IfSome complete (λ whole. whole ≡ content)
-  pub moves : MatchOption (taken_of b complete old) (SameRequests old new) (λ reply. IsTaken old new reply)
+  pub moves : MatchOption (taken_of rules complete old) (SameRequests old new) (λ reply. IsTaken old new reply)
 
 -- what a packet of a frame does at the port; nothing, if there is no such frame
 abbrev pub FrameAtPort : PacketBus → Ends → ℕ → List ℕ → BusState → Option Frame → Type 0
-FrameAtPort b x place answer new None = SameRequests x.bus new
-FrameAtPort b x place answer new (Some f) = PortEffect (rules_of b) f.request f.content (completed_request b x place f.request f.idles f.content) answer x.bus new
+FrameAtPort bus ends place answer new None = SameRequests ends.bus new
+FrameAtPort bus ends place answer new (Some frame) = PortEffect (rules_of bus) frame.request frame.content (completed_request bus ends place frame.request frame.idles frame.content) answer ends.bus new
 
 -- what a packet of a frame does at the manager; nothing, if there is no such frame
 abbrev pub FrameAtManager : PacketBus → Ends → ℕ → BusState → Option Frame → Type 0
-FrameAtManager b x place new None = SameRequests x.bus new
-FrameAtManager b x place new (Some f) = ManagerEffect (rules_of b) f.content (completed_reply b x place f.request f.idles f.content) x.bus new
+FrameAtManager bus ends place new None = SameRequests ends.bus new
+FrameAtManager bus ends place new (Some frame) = ManagerEffect (rules_of bus) frame.content (completed_reply bus ends place frame.request frame.idles frame.content) ends.bus new
 
 -- what each event does
 abbrev pub HasPacketEffect : PacketBus → Ends → PacketEvent → Type 0
-HasPacketEffect b x (Plain e) = HasEffect (rules_of b) x.bus e
-HasPacketEffect b x (PacketReachesPort which place answer) =
-    FrameAtPort b x place answer (packet_happens b x (PacketReachesPort which place answer)).bus (slice_get x.bus.frames which)
-HasPacketEffect b x (PacketReachesManager which place) =
-    FrameAtManager b x place (packet_happens b x (PacketReachesManager which place)).bus (slice_get x.bus.frames which)
-HasPacketEffect b x (OtherPacket name packet answer) = SameRequests x.bus (packet_happens b x (OtherPacket name packet answer)).bus
-HasPacketEffect b x (OtherReplyPacket name packet number) = SameRequests x.bus (packet_happens b x (OtherReplyPacket name packet number)).bus
-HasPacketEffect b x (Closes name) = SameRequests x.bus (packet_happens b x (Closes name)).bus
-HasPacketEffect b x Clears = SameRequests x.bus (packet_happens b x Clears).bus
-HasPacketEffect b x PacketResumes = SameRequests x.bus (packet_happens b x PacketResumes).bus
+HasPacketEffect bus ends (Plain event) = HasEffect (rules_of bus) ends.bus event
+HasPacketEffect bus ends (PacketReachesPort which place answer) =
+    FrameAtPort bus ends place answer (packet_happens bus ends (PacketReachesPort which place answer)).bus (slice_get ends.bus.frames which)
+HasPacketEffect bus ends (PacketReachesManager which place) =
+    FrameAtManager bus ends place (packet_happens bus ends (PacketReachesManager which place)).bus (slice_get ends.bus.frames which)
+HasPacketEffect bus ends (OtherPacket name packet answer) = SameRequests ends.bus (packet_happens bus ends (OtherPacket name packet answer)).bus
+HasPacketEffect bus ends (OtherReplyPacket name packet number) = SameRequests ends.bus (packet_happens bus ends (OtherReplyPacket name packet number)).bus
+HasPacketEffect bus ends (Closes name) = SameRequests ends.bus (packet_happens bus ends (Closes name)).bus
+HasPacketEffect bus ends Clears = SameRequests ends.bus (packet_happens bus ends Clears).bus
+HasPacketEffect bus ends PacketResumes = SameRequests ends.bus (packet_happens bus ends PacketResumes).bus
 
--- Another's packet that completes no request leaves the bus as it is, its log too: one that waits or is dropped, and one that ends
--- a control message, a message of another type, a malformed request or a reply. One that completes a request is that
+-- Another requester's packet leaves the bus and its log as they are, unless it completes a request: so does a packet that waits or is dropped, and
+-- a packet that ends a control message, a message of another type, a malformed request or a reply. A packet that completes a request is that
 -- requester's asking.
 abbrev pub OthersAsk : Type 0
-OthersAsk = (b : PacketBus) (x : Ends) (name : Name) (packet : Packet) (answer : List ℕ)
-    → let new = (packet_happens b x (OtherPacket name packet answer)).bus in
-    MatchOption (other_request name (takes (x.port name) (record { request = 0; idles = 0; packet = packet })).0) (new ≡ x.bus)
-    (λ r. (r.requester ≡ name.source) × (new ≡ happens (rules_of b) x.bus (OtherAsks r answer)))
+OthersAsk = (bus : PacketBus) (ends : Ends) (name : Name) (packet : Packet) (answer : List ℕ)
+    → let new = (packet_happens bus ends (OtherPacket name packet answer)).bus in
+    MatchOption (other_request name (takes (ends.port name) (record { request = 0; idles = 0; packet = packet })).0) (new ≡ ends.bus)
+    (λ r. (r.requester ≡ name.source) × (new ≡ happens (rules_of bus) ends.bus (OtherAsks r answer)))
 
 -- of every event of every honest schedule of packets, by the rule, from a start
 abbrev pub EventsHavePacketEffects : JoinRule → Type 0
-EventsHavePacketEffects rule = (b : PacketBus) → IsCutting b.split → (start : Ends) (events : List PacketEvent) (e : PacketEvent)
-    → NothingUnderWay start.bus → NothingWaits b start → EmptyWindow (rules_of b) start.bus.log
-    → AllPacketHonest rule b (events ++ e ∷ []) start → HasPacketEffect b (packet_run b events start) e
+EventsHavePacketEffects rule = (bus : PacketBus) → IsCutting bus.split → (start : Ends) (events : List PacketEvent) (e : PacketEvent)
+    → NothingUnderWay start.bus → NothingWaits bus start → EmptyWindow (rules_of bus) start.bus.log
+    → AllPacketHonest rule bus (events ++ e ∷ []) start → HasPacketEffect bus (packet_run bus events start) e

@@ -25,21 +25,21 @@ pub data JoinRule : Type 0 where
 
 -- the rule allows this packet to be taken to those that wait
 abbrev pub MayJoin : JoinRule → Rules → BusState → List Sent → Sent → Type 0
-MayJoin AnyJoin b s taken p = Unit {0}
-MayJoin LiveWhereJoined b s taken p =
-    IsJoined (takes taken p).0 → (t : Sent) → In t (waiting taken p) → (length s.begun ≤ t.request + b.span) × (t.idles ≡ idles_of b.manager s.log)
-MayJoin OneRequestWhereJoined b s taken p = IsJoined (takes taken p).0 → (t : Sent) → In t (waiting taken p) → t.request ≡ p.request
-MayJoin RecentWhereWhole b s taken p = IsWhole (takes taken p).0 → (t : Sent) → In t (waiting taken p) → length s.begun ≤ t.request + b.span
+MayJoin AnyJoin rules state taken sent = Unit {0}
+MayJoin LiveWhereJoined rules state taken sent =
+    IsJoined (takes taken sent).0 → (sending : Sent) → In sending (waiting taken sent) → (length state.begun ≤ sending.request + rules.span) × (sending.idles ≡ idles_of rules.manager state.log)
+MayJoin OneRequestWhereJoined rules state taken sent = IsJoined (takes taken sent).0 → (sending : Sent) → In sending (waiting taken sent) → sending.request ≡ sent.request
+MayJoin RecentWhereWhole rules state taken sent = IsWhole (takes taken sent).0 → (sending : Sent) → In sending (waiting taken sent) → length state.begun ≤ sending.request + rules.span
 
--- the same of a packet of request n, if there is such a packet
+-- the rule allows a packet of this request, if there is such a packet
 abbrev pub PacketMayJoin : JoinRule → Rules → BusState → List Sent → ℕ → ℕ → Option Packet → Type 0
-PacketMayJoin rule b s taken n idles None = Unit {0}
-PacketMayJoin rule b s taken n idles (Some p) = MayJoin rule b s taken (record { request = n; idles = idles; packet = p })
+PacketMayJoin rule rules state taken request idles None = Unit {0}
+PacketMayJoin rule rules state taken request idles (Some packet) = MayJoin rule rules state taken (record { request = request; idles = idles; packet = packet })
 
--- the same of packet `place` of a frame that comes to the port
+-- the rule allows packet `place` of a frame that comes to the port
 abbrev pub JoinsAtPort : JoinRule → PacketBus → Ends → ℕ → ℕ → ℕ → Content → Type 0
-JoinsAtPort rule b x place n idles (Ask bytes) = PacketMayJoin rule (rules_of b) x.bus (x.port (request_name b n)) n idles (slice_get (b.split bytes) place)
-JoinsAtPort rule b x place n idles (Reply number reply) = Unit {0}
+JoinsAtPort rule bus ends place request idles (Ask bytes) = PacketMayJoin rule (rules_of bus) ends.bus (ends.port (request_name bus request)) request idles (slice_get (bus.split bytes) place)
+JoinsAtPort rule bus ends place request idles (Reply number reply) = Unit {0}
 
 -- the event is the same in packets: it brings no frame to an end, and changes nothing that waits
 abbrev pub IsPlain : Event → Type 0
@@ -51,34 +51,34 @@ IsPlain _ = Unit {0}
 -- only packets of live frames are delivered, joined to others at the port by the rule, and nobody else uses
 -- the manager's endpoint, or replies from the controller's
 abbrev pub IsPacketHonest : JoinRule → PacketBus → Ends → PacketEvent → Type 0
-IsPacketHonest rule b x (Plain e) = IsPlain e × IsHonest (rules_of b) x.bus e
-IsPacketHonest rule b x (PacketReachesPort which place answer) =
-    IfSome (slice_get x.bus.frames which) (λ f. IsLive (rules_of b) x.bus f × JoinsAtPort rule b x place f.request f.idles f.content)
-IsPacketHonest rule b x (PacketReachesManager which place) =
-    IfSome (slice_get x.bus.frames which) (IsLive (rules_of b) x.bus)
-IsPacketHonest rule b x (OtherPacket name packet answer) = name.source ≢ b.manager
-IsPacketHonest rule b x (OtherReplyPacket name packet number) = name.source ≢ b.controller
-IsPacketHonest rule b x (Closes name) = Unit {0}
-IsPacketHonest rule b x Clears = Unit {0}
-IsPacketHonest rule b x PacketResumes = IsHonest (rules_of b) x.bus Resumes
+IsPacketHonest rule bus ends (Plain event) = IsPlain event × IsHonest (rules_of bus) ends.bus event
+IsPacketHonest rule bus ends (PacketReachesPort which place answer) =
+    IfSome (slice_get ends.bus.frames which) (λ f. IsLive (rules_of bus) ends.bus f × JoinsAtPort rule bus ends place f.request f.idles f.content)
+IsPacketHonest rule bus ends (PacketReachesManager which place) =
+    IfSome (slice_get ends.bus.frames which) (IsLive (rules_of bus) ends.bus)
+IsPacketHonest rule bus ends (OtherPacket name packet answer) = name.source ≢ bus.manager
+IsPacketHonest rule bus ends (OtherReplyPacket name packet number) = name.source ≢ bus.controller
+IsPacketHonest rule bus ends (Closes name) = Unit {0}
+IsPacketHonest rule bus ends Clears = Unit {0}
+IsPacketHonest rule bus ends PacketResumes = IsHonest (rules_of bus) ends.bus Resumes
 
 -- every event of a schedule of packets is honest, where it happens
 abbrev pub AllPacketHonest : JoinRule → PacketBus → List PacketEvent → Ends → Type 0
-AllPacketHonest rule b [] x = Unit {0}
-AllPacketHonest rule b (e ∷ es) x = IsPacketHonest rule b x e × AllPacketHonest rule b es (packet_happens b x e)
+AllPacketHonest rule bus [] ends = Unit {0}
+AllPacketHonest rule bus (event ∷ events) ends = IsPacketHonest rule bus ends event × AllPacketHonest rule bus events (packet_happens bus ends event)
 
 -- at every event of every honest schedule of packets, by the rule, from a start, whoever takes the manager's place on the way
 abbrev pub AlwaysAtMostOnceInPackets : JoinRule → Type 0
-AlwaysAtMostOnceInPackets rule = (b : PacketBus) → IsCutting b.split → (start : Ends) (events later : List PacketEvent)
-    → NothingUnderWay start.bus → NothingWaits b start → EmptyWindow (rules_of b) start.bus.log
-    → AllPacketHonest rule b (events ++ later) start → AtMostOnce (rules_of b) start.bus.log (packet_run b events start).bus
+AlwaysAtMostOnceInPackets rule = (bus : PacketBus) → IsCutting bus.split → (start : Ends) (events later : List PacketEvent)
+    → NothingUnderWay start.bus → NothingWaits bus start → EmptyWindow (rules_of bus) start.bus.log
+    → AllPacketHonest rule bus (events ++ later) start → AtMostOnce (rules_of bus) start.bus.log (packet_run bus events start).bus
 
--- a schedule that is honest by the one rule is so by the other
+-- a schedule that is honest by the rule is honest by the weaker rule
 abbrev pub RuleImplies : JoinRule → JoinRule → Type 0
-RuleImplies rule weaker = (b : PacketBus) (events : List PacketEvent) (x : Ends) → AllPacketHonest rule b events x → AllPacketHonest weaker b events x
+RuleImplies rule weaker = (bus : PacketBus) (events : List PacketEvent) (ends : Ends) → AllPacketHonest rule bus events ends → AllPacketHonest weaker bus events ends
 
 -- a lab that forgets the manager's window, or puts another in its place, only while no request is open on either bus is
 -- honest in packets, too
 pub record NoneOpenIsPacketHonest : Type 0 where
-  pub idle : (rule : JoinRule) (b : PacketBus) (here : Ends) (there : BusState) (requester : ℕ) → (is_open here.bus || is_open there) ≡ false → IsPacketHonest rule b here (Plain (IsIdle requester))
-  pub resumes : (rule : JoinRule) (b : PacketBus) (here : Ends) (there : BusState) → (is_open here.bus || is_open there) ≡ false → IsPacketHonest rule b here PacketResumes
+  pub idle : (rule : JoinRule) (bus : PacketBus) (here : Ends) (there : BusState) (requester : ℕ) → (is_open here.bus || is_open there) ≡ false → IsPacketHonest rule bus here (Plain (IsIdle requester))
+  pub resumes : (rule : JoinRule) (bus : PacketBus) (here : Ends) (there : BusState) → (is_open here.bus || is_open there) ≡ false → IsPacketHonest rule bus here PacketResumes

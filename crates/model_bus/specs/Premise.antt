@@ -6,8 +6,8 @@ use Rattle.model_bus.specs.Example.{rounds}
 
 -- so many requests are begun, carried out and taken in the end
 abbrev pub Counts : Rules → List Event → ℕ → ℕ → ℕ → Type 0
-Counts b events begun carried taken =
-    let s = run b events (opening []) in
+Counts rules events begun carried taken =
+    let s = run rules events (opening []) in
     (length s.begun ≡ begun) × (length s.carried ≡ carried) × (length s.taken ≡ taken)
 
 -- a copy of request 0 comes after 32 newer requests
@@ -35,7 +35,7 @@ resumed_while_open =
 
 -- the window isn't empty at the start: it holds such a request
 abbrev pub InUseAtStart : Rules → Type 0
-InUseAtStart b =
+InUseAtStart rules =
     let asked : List Event = OtherAsks (record { requester = 44; number = 0; bytes = 7 ∷ [] }) (9 ∷ []) ∷ [] in
-    let s = run b (Begins (7 ∷ []) ∷ ReachesPort 0 (1 ∷ []) ∷ ReachesManager 1 ∷ []) (opening (run b asked (opening [])).log) in
+    let s = run rules (Begins (7 ∷ []) ∷ ReachesPort 0 (1 ∷ []) ∷ ReachesManager 1 ∷ []) (opening (run rules asked (opening [])).log) in
     (length s.carried ≡ 0) × (s.taken ≡ (9 ∷ []) ∷ [])

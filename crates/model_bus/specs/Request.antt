@@ -25,22 +25,22 @@ pub data Entry : Type 0 where
 
 -- two requests are the same: equal requester, number and bytes
 abbrev pub is_same : Request → Request → Bool
-is_same r s = ((r.requester == s.requester) && (r.number == s.number)) && bytes_eq r.bytes s.bytes
+is_same request asked = ((request.requester == asked.requester) && (request.number == asked.number)) && bytes_eq request.bytes asked.bytes
 
 -- what a requester had carried out since its last idle, newest first; a log is newest first too
 abbrev pub carried_since : ℕ → List Entry → List Kept
-carried_since q [] = []
-carried_since q (Carried k ∷ log) = if k.request.requester == q then k ∷ carried_since q log else carried_since q log
-carried_since q (Idled p ∷ log) = if p == q then [] else carried_since q log
+carried_since requester [] = []
+carried_since requester (Carried kept ∷ log) = if kept.request.requester == requester then kept ∷ carried_since requester log else carried_since requester log
+carried_since requester (Idled other ∷ log) = if other == requester then [] else carried_since requester log
 
 -- all that a requester ever had carried out, oldest first
 abbrev pub carried_by : ℕ → List Entry → List Kept
-carried_by q [] = []
-carried_by q (Carried k ∷ log) = if k.request.requester == q then carried_by q log ++ k ∷ [] else carried_by q log
-carried_by q (Idled p ∷ log) = carried_by q log
+carried_by requester [] = []
+carried_by requester (Carried kept ∷ log) = if kept.request.requester == requester then carried_by requester log ++ kept ∷ [] else carried_by requester log
+carried_by requester (Idled other ∷ log) = carried_by requester log
 
 -- how often a requester's window was forgotten
 abbrev pub idles_of : ℕ → List Entry → ℕ
-idles_of q [] = 0
-idles_of q (Carried k ∷ log) = idles_of q log
-idles_of q (Idled p ∷ log) = if p == q then idles_of q log + 1 else idles_of q log
+idles_of requester [] = 0
+idles_of requester (Carried kept ∷ log) = idles_of requester log
+idles_of requester (Idled other ∷ log) = if other == requester then idles_of requester log + 1 else idles_of requester log

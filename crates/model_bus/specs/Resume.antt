@@ -1,4 +1,4 @@
--- Another manager in the place of one: by what it knows it does what the bus says of it.
+-- Another manager in the place of one: it does what the bus says of it, by what it knows.
 use Rattle.std.specs.Prelude.{◌≡◌, ℕ, ◌+◌, ◌%◌, false, List, [], ◌∷◌, ◌++◌, length, drop, slice_get}
 use Rattle.model_bus.specs.Circle.{instances}
 use Rattle.model_bus.specs.Numbering.{Rules, tag_of}
@@ -11,19 +11,19 @@ use Rattle.model_bus.specs.PacketSchedule.{JoinRule, AllPacketHonest}
 
 -- the bus as the new manager knows it, where the old one left it so: of requests and replies only its own
 abbrev pub known_since : BusState → BusState → BusState
-known_since old s = record s { begun = drop (length old.begun) s.begun; taken = drop (length old.taken) s.taken }
+known_since old state = record state { begun = drop (length old.begun) state.begun; taken = drop (length old.taken) state.taken }
 
--- A manager under the rules `own`, that knows this of the bus, does what the bus is said to do: a request is open for it where
--- one is, with the same bytes and number; its next request has the next number; and it takes the same replies.
-pub record ActsAs (own : Rules) (known : BusState) (b : Rules) (s : BusState) : Type 0 where
-  pub opened : is_open known ≡ is_open s
-  pub open_request : slice_get known.begun (length known.taken) ≡ slice_get s.begun (length s.taken)
-  pub open_number : own.number_of (length known.taken) ≡ b.number_of (length s.taken)
-  pub next_number : own.number_of (length known.begun) ≡ b.number_of (length s.begun)
-  pub takes : (content : Content) → taken_content own content known ≡ taken_content b content s
+-- A manager under the rules `own`, which knows this of the bus, does what the bus says of a manager: a request is open for it where one is open on the
+-- bus, with the same bytes and number; its next request has the next number; and it takes the same replies.
+pub record ActsAs (own : Rules) (known : BusState) (rules : Rules) (state : BusState) : Type 0 where
+  pub opened : is_open known ≡ is_open state
+  pub open_request : slice_get known.begun (length known.taken) ≡ slice_get state.begun (length state.taken)
+  pub open_number : own.number_of (length known.taken) ≡ rules.number_of (length state.taken)
+  pub next_number : own.number_of (length known.begun) ≡ rules.number_of (length state.begun)
+  pub takes : (content : Content) → taken_content own content known ≡ taken_content rules content state
 
--- After every resume of an honest schedule the new manager, whose requests count from the number that came next, acts so, and
--- goes on doing so. `bus` gives the rules by the count from which a manager's requests go on.
+-- After every resume of an honest schedule the new manager acts so, and goes on doing so. Its requests count from the number that came next. `bus`
+-- gives the rules by the count from which a manager's requests go on.
 abbrev pub GoesOn : (ℕ → Rules) → Type 0
 GoesOn bus = (first : ℕ) (start : BusState) (events later : List Event) → NothingUnderWay start → EmptyWindow (bus first) start.log
     → AllHonest (bus first) (events ++ Resumes ∷ later) start
@@ -37,17 +37,17 @@ TagsGoOn = (first n later : ℕ) → tag_of ((first + n) % instances) later ≡ 
 
 -- the same in packets, by the rule
 abbrev pub GoesOnInPackets : JoinRule → Type 0
-GoesOnInPackets rule = (b : PacketBus) → IsCutting b.split → (start : Ends) (events later : List PacketEvent)
-    → NothingUnderWay start.bus → NothingWaits b start → EmptyWindow (rules_of b) start.bus.log
-    → AllPacketHonest rule b (events ++ PacketResumes ∷ later) start
-    → let old = packet_run b events start in
-    let s = packet_run b (PacketResumes ∷ later) old in
-    let own : PacketBus = record b { first = (rules_of b).number_of (length old.bus.begun) } in
-    ActsAs (rules_of own) (known_since old.bus s.bus) (rules_of b) s.bus
+GoesOnInPackets rule = (bus : PacketBus) → IsCutting bus.split → (start : Ends) (events later : List PacketEvent)
+    → NothingUnderWay start.bus → NothingWaits bus start → EmptyWindow (rules_of bus) start.bus.log
+    → AllPacketHonest rule bus (events ++ PacketResumes ∷ later) start
+    → let old = packet_run bus events start in
+    let s = packet_run bus (PacketResumes ∷ later) old in
+    let own : PacketBus = record bus { first = (rules_of bus).number_of (length old.bus.begun) } in
+    ActsAs (rules_of own) (known_since old.bus s.bus) (rules_of bus) s.bus
 
 -- while no request is open nothing waits at the manager, so a resume drops nothing
 abbrev pub NothingWaitsWhereClosed : JoinRule → Type 0
-NothingWaitsWhereClosed rule = (b : PacketBus) → IsCutting b.split → (start : Ends) (events : List PacketEvent)
-    → NothingUnderWay start.bus → NothingWaits b start → EmptyWindow (rules_of b) start.bus.log
-    → AllPacketHonest rule b events start → is_open (packet_run b events start).bus ≡ false
-    → (n : ℕ) → (packet_run b events start).manager (reply_name b n) ≡ []
+NothingWaitsWhereClosed rule = (bus : PacketBus) → IsCutting bus.split → (start : Ends) (events : List PacketEvent)
+    → NothingUnderWay start.bus → NothingWaits bus start → EmptyWindow (rules_of bus) start.bus.log
+    → AllPacketHonest rule bus events start → is_open (packet_run bus events start).bus ≡ false
+    → (request : ℕ) → (packet_run bus events start).manager (reply_name bus request) ≡ []

@@ -7,9 +7,9 @@ use Rattle.model_bus.specs.Repeat.{In, AllDifferent}
 -- the list has exactly the requesters of the log, each once, in any order
 pub record AreSlots (slots : List ℕ) (log : List Entry) : Type 0 where
   pub different : AllDifferent slots
-  pub exact : (q : ℕ) → In q slots ↔ In q (requesters log)
+  pub exact : (requester : ℕ) → In requester slots ↔ In requester (requesters log)
 
 -- such a list is as long as any other, and decides who is busy
 abbrev pub SlotsDecide : Type 0
 SlotsDecide = (slots : List ℕ) (log : List Entry) → AreSlots slots log
-    → (length slots ≡ length (requesters log)) × ((q : ℕ) → is_busy q log ≡ has_no_slot q slots)
+    → (length slots ≡ length (requesters log)) × ((requester : ℕ) → is_busy requester log ≡ has_no_slot requester slots)
