@@ -9,11 +9,11 @@ use Rattle.bmc_windows.specs.Keeps.{Reading}
 
 -- the request, by what its bytes say
 abbrev pub request_of : {numbers : ℕ} → Reading → Request numbers → Heard
-request_of reading r = record { requester = r.requester; number = r.number; bytes = reading.request (r.first ∷ r.rest.now) }
+request_of reading request = record { requester = request.requester; number = request.number; bytes = reading.request (request.first ∷ request.rest.now) }
 
 -- with its reply
 abbrev pub kept_of : {numbers : ℕ} → Reading → Request numbers → List ℕ → Kept
-kept_of reading r reply = record { request = request_of reading r; reply = reading.reply reply }
+kept_of reading request reply = record { request = request_of reading request; reply = reading.reply reply }
 
 -- what is found, as the rule has it
 abbrev pub outcome_of_found : {room : ℕ} → Reading → Found room → Outcome

@@ -39,13 +39,13 @@ owner_of held slot = slice_index_or held.owners slot None
 
 -- what a window has under a number
 abbrev pub pair_in : Held → Option ℕ → ℕ → Option Pair
-pair_in held None n = None
-pair_in held (Some slot) n = option_and_then (λ room. pair_at room n) (slice_get held.rooms slot)
+pair_in held None number = None
+pair_in held (Some slot) number = option_and_then (λ room. pair_at room number) (slice_get held.rooms slot)
 
 -- the request and the reply that a pair says
 abbrev pub kept_from : Reading → ℕ → ℕ → Pair → Kept
-kept_from reading requester number p =
-    record { request = record { requester = requester; number = number; bytes = reading.request p.request }; reply = reading.reply p.reply }
+kept_from reading requester number pair =
+    record { request = record { requester = requester; number = number; bytes = reading.request pair.request }; reply = reading.reply pair.reply }
 
 -- a requester's row under a number
 abbrev pub row : Reading → Held → ℕ → ℕ → Option Kept
@@ -54,8 +54,8 @@ row reading held requester number = option_map (kept_from reading requester numb
 -- those that are there
 abbrev pub somes : List (Option ℕ) → List ℕ
 somes [] = []
-somes (None ∷ os) = somes os
-somes (Some q ∷ os) = q ∷ somes os
+somes (None ∷ options) = somes options
+somes (Some q ∷ options) = q ∷ somes options
 
 -- the windows are those that a log of what was carried out, and of idle requesters, leaves
 pub record Keeps (numbers : ℕ) (reading : Reading) (held : Held) (log : List Entry) : Type 0 where

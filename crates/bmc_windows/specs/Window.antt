@@ -9,25 +9,25 @@ pub record Pair : Type 0 where
   pub request : List ℕ
   pub reply : List ℕ
 
--- the places of a window, one for each number, and which of them are in use: bit n is of number n
+-- the places of a window, one for each number, and which of them are in use, a bit for each number
 pub record Room : Type 0 where
   pub used : ℕ
   pub places : List Pair
 
 -- what the window has under a number
 abbrev pub pair_at : Room → ℕ → Option Pair
-pair_at room n = if bit_at room.used n == 1 then slice_get room.places n else None
+pair_at room number = if bit_at room.used number == 1 then slice_get room.places number else None
 
 -- the reply, if the request is of these bytes
 abbrev pub reply_to : List ℕ → Option Pair → Option (List ℕ)
 reply_to bytes None = None
-reply_to bytes (Some p) = if bytes_eq bytes p.request then Some p.reply else None
+reply_to bytes (Some pair) = if bytes_eq bytes pair.request then Some pair.reply else None
 
 -- a request that is carried out is kept at its number, in place of what was there, and the next half of the circle is forgotten
 abbrev pub IsKept : (numbers number : ℕ) → Pair → Room → Room → Type 0
-IsKept numbers number p old new =
-    (n : ℕ) → n < numbers → pair_at new n ≡ (if n == number then Some p else if is_next numbers number n then None else pair_at old n)
+IsKept numbers number pair old new =
+    (place : ℕ) → place < numbers → pair_at new place ≡ (if place == number then Some pair else if is_next numbers number place then None else pair_at old place)
 
 -- nothing is kept
 abbrev pub IsEmpty : ℕ → Room → Type 0
-IsEmpty numbers room = (n : ℕ) → n < numbers → pair_at room n ≡ None
+IsEmpty numbers room = (number : ℕ) → number < numbers → pair_at room number ≡ None

@@ -81,7 +81,8 @@ impl<const NUMBERS: u8, const CAP: usize> Windows<NUMBERS, CAP> {
     /// What is to be done with a request. A repeat is looked for first.
     pub fn find<'a>(&'a self, request: &Request<'_, NUMBERS>) -> Found<'a, CAP>
         ensures { (reading : Reading) (log : List Entry) → Keeps NUMBERS reading self.now log
-            → outcome_of_found reading result ≡ outcome (is_above NUMBERS) (request_of reading request.now) log }
+            → outcome_of_found reading result
+            ≡ outcome (is_above NUMBERS) (request_of reading request.now) log }
     {
         let number = request.number.number();
         match self.slot(request.requester) {
@@ -104,11 +105,14 @@ impl<const NUMBERS: u8, const CAP: usize> Windows<NUMBERS, CAP> {
         requires none { slot_of self.old request.now.requester ≡ None }
         requires room { length request.now.rest.now ≤ CAP }
         requires fits { length reply.now ≤ CAP }
-        ensures carried { (reading : Reading) (log : List Entry) → Keeps NUMBERS reading self.old log
+        ensures carried { (reading : Reading) (log : List Entry)
+            → Keeps NUMBERS reading self.old log
             → outcome (is_above NUMBERS) (request_of reading request.now) log ≡ IsNew
-            → Keeps NUMBERS reading self.new (Carried (kept_of reading request.now reply.now) ∷ log) }
+            → Keeps NUMBERS reading self.new
+            (Carried (kept_of reading request.now reply.now) ∷ log) }
         ensures busy { (reading : Reading) (log : List Entry) → Keeps NUMBERS reading self.old log
-            → outcome (is_above NUMBERS) (request_of reading request.now) log ≡ IsBusy → self.new ≡ self.old }
+            → outcome (is_above NUMBERS) (request_of reading request.now) log ≡ IsBusy
+            → self.new ≡ self.old }
     {
         let number = request.number.number();
         let Some(place) = self.free() else { return };
@@ -123,11 +127,14 @@ impl<const NUMBERS: u8, const CAP: usize> Windows<NUMBERS, CAP> {
     pub fn keep(&mut self, request: &Request<'_, NUMBERS>, reply: &[u8])
         requires room { length request.now.rest.now ≤ CAP }
         requires fits { length reply.now ≤ CAP }
-        ensures carried { (reading : Reading) (log : List Entry) → Keeps NUMBERS reading self.old log
+        ensures carried { (reading : Reading) (log : List Entry)
+            → Keeps NUMBERS reading self.old log
             → outcome (is_above NUMBERS) (request_of reading request.now) log ≡ IsNew
-            → Keeps NUMBERS reading self.new (Carried (kept_of reading request.now reply.now) ∷ log) }
+            → Keeps NUMBERS reading self.new
+            (Carried (kept_of reading request.now reply.now) ∷ log) }
         ensures busy { (reading : Reading) (log : List Entry) → Keeps NUMBERS reading self.old log
-            → outcome (is_above NUMBERS) (request_of reading request.now) log ≡ IsBusy → self.new ≡ self.old }
+            → outcome (is_above NUMBERS) (request_of reading request.now) log ≡ IsBusy
+            → self.new ≡ self.old }
     {
         let number = request.number.number();
         match self.slot(request.requester) {
@@ -141,8 +148,10 @@ impl<const NUMBERS: u8, const CAP: usize> Windows<NUMBERS, CAP> {
 
     /// Forgets a requester's window, and says whether there was one.
     pub fn idle(&mut self, requester: u8) -> bool
-        ensures keeps { (reading : Reading) (log : List Entry) → Keeps NUMBERS reading self.old log → Keeps NUMBERS reading self.new (Idled requester ∷ log) }
-        ensures had { (reading : Reading) (log : List Entry) → Keeps NUMBERS reading self.old log → result ≡ list_any (λ q. q == requester) (requesters log) }
+        ensures keeps { (reading : Reading) (log : List Entry) → Keeps NUMBERS reading self.old log
+            → Keeps NUMBERS reading self.new (Idled requester ∷ log) }
+        ensures had { (reading : Reading) (log : List Entry) → Keeps NUMBERS reading self.old log
+            → result ≡ list_any (λ q. q == requester) (requesters log) }
     {
         match self.slot(requester) {
             Some(slot) => {

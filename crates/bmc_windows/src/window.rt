@@ -112,7 +112,8 @@ impl<const NUMBERS: u8, const CAP: usize> Window<NUMBERS, CAP> {
         requires on { number < NUMBERS }
         requires room { length rest.now ≤ CAP }
         requires fits { length reply.now ≤ CAP }
-        ensures { IsKept NUMBERS number (record { request = first ∷ rest.now; reply = reply.now }) self.old self.new }
+        ensures { IsKept NUMBERS number
+            (record { request = first ∷ rest.now; reply = reply.now }) self.old self.new }
     {
         let used = self.used;
         let forgotten = next_half::<NUMBERS>(number);
