@@ -11,18 +11,18 @@ use Rattle.bmc_core.specs.declared.out.Reason.TheVariants.{Frame, NotOurs, NotRe
 
 -- the address that a message goes to
 abbrev pub goes_to : Msg → ℕ
-goes_to (msg.Request r) = r.header.responder.address
-goes_to (msg.Response r) = r.header.requester.address
+goes_to (msg.Request request) = request.header.responder.address
+goes_to (msg.Response response) = response.header.requester.address
 
--- Nothing is heard in the bytes at this address, for the reason: they have a fault, and it's the first; or they are a message to another
--- address; or a response to this one.
+-- A port at this address hears nothing in the bytes, for the reason: their first fault; or they are a message to another address; or they are a
+-- response to this address.
 abbrev pub IsIgnored : ℕ → List ℕ → Reason → Type 0
 IsIgnored wire bytes (Frame fault) = find (has_fault bytes) faults ≡ Some fault
-IsIgnored wire bytes NotOurs = (m : Msg) × IsMessage m bytes × (goes_to m ≢ wire)
-IsIgnored wire bytes NotRequest = (r : Response) × IsResponse r bytes × (r.header.requester.address ≡ wire)
+IsIgnored wire bytes NotOurs = (message : Msg) × IsMessage message bytes × (goes_to message ≢ wire)
+IsIgnored wire bytes NotRequest = (response : Response) × IsResponse response bytes × (response.header.requester.address ≡ wire)
 IsIgnored wire bytes _ = ⊥
 
--- what is heard at the address: a request to it, or nothing, for a reason
+-- what a port at the address hears in the bytes: a request to the address, or nothing, for a reason
 abbrev pub IsHeard : ℕ → List ℕ → Result Request Reason → Type 0
-IsHeard wire bytes (Ok r) = IsRequest r bytes × (r.header.responder.address ≡ wire)
+IsHeard wire bytes (Ok request) = IsRequest request bytes × (request.header.responder.address ≡ wire)
 IsHeard wire bytes (Err why) = IsIgnored wire bytes why

@@ -19,49 +19,49 @@ use Rattle.bmc_core.specs.IpmbShown.{outcome_at, kept_of, after, answers, deed_o
 
 -- ---- one request
 
--- what comes of the request once this answer is told, with this board
+-- what becomes of the port once it is told this answer to the request, beside this board
 abbrev pub told_deed : PortState → Request → Answered → State → Deed
-told_deed p r a board = record { port = after p r a; board = board; sent = response_after r (reply_after (outcome_at p r) (kept_of r a)) ∷ [] }
+told_deed port request answered board = record { port = after port request answered; board = board; sent = response_after request (reply_after (outcome_at port request) (kept_of request answered)) ∷ [] }
 
--- A request at a port of a board. A new one is answered by the board at that moment, and comes what comes of it once that is told. Of any
--- other the board stays, and comes what comes of it whatever the board would answer.
-pub record IsHeardThenTold (setup : BoardFile) (p : PortState) (before : State) (r : Request) : Type 0 where
-  pub asked : outcome_at p r ≡ IsNew → let given = answer_of setup before (asked_in r) in hears_request setup p before r ≡ told_deed p r given.0 given.1
-  pub settled : outcome_at p r ≢ IsNew → (a : Answered) → hears_request setup p before r ≡ told_deed p r a before
+-- A request comes to a port of a board. The board answers a new request at that moment, and the port does what it does once it is told that
+-- answer. Of any other request the board stays as it was, and the port does the same whatever the board would answer.
+pub record IsHeardThenTold (setup : BoardFile) (port : PortState) (before : State) (request : Request) : Type 0 where
+  pub asked : outcome_at port request ≡ IsNew → let given = answer_of setup before (asked_in request) in hears_request setup port before request ≡ told_deed port request given.0 given.1
+  pub settled : outcome_at port request ≢ IsNew → (answered : Answered) → hears_request setup port before request ≡ told_deed port request answered before
 
 -- ---- lists with no board in them
 
--- What comes to a port: a frame is heard as this, a request is told some answer, or a requester is idle. A new request that is heard and
--- never told is dropped.
+-- What comes to a port: a frame in which it hears this, an answer to a request that it heard, or the news that a requester is idle. A new
+-- request is dropped if the port hears it and is never told its answer.
 pub data Coming : Type 0 where
   Comes : Result Request Reason → Coming
   IsTold : Request → Answered → Coming
   IsIdle : ℕ → Coming
 
--- the port after one more: what is heard alone changes nothing
+-- the port after one more event: a frame that it hears changes nothing by itself
 abbrev pub port_after : PortState → Coming → PortState
-port_after p (Comes heard) = p
-port_after p (IsTold r a) = after p r a
-port_after p (IsIdle requester) = idles requester p
+port_after port (Comes heard) = port
+port_after port (IsTold asking answered) = after port asking answered
+port_after port (IsIdle requester) = idles requester port
 
 -- and after all
 abbrev pub ports_after : PortState → List Coming → PortState
-ports_after p [] = p
-ports_after p (c ∷ cs) = ports_after (port_after p c) cs
+ports_after port [] = port
+ports_after port (coming ∷ comings) = ports_after (port_after port coming) comings
 
--- the requests of the list that were told, and the idle requesters
+-- the requests of the list whose answers the port was told, and the idle requesters
 abbrev pub brought : List Coming → List Brought
 brought [] = []
-brought (Comes heard ∷ cs) = brought cs
-brought (IsTold r a ∷ cs) = HeardRequest (kept_of r a) ∷ brought cs
-brought (IsIdle requester ∷ cs) = HeardIdle requester ∷ brought cs
+brought (Comes heard ∷ comings) = brought comings
+brought (IsTold asking answered ∷ comings) = HeardRequest (kept_of asking answered) ∷ brought comings
+brought (IsIdle requester ∷ comings) = HeardIdle requester ∷ brought comings
 
--- what is done with each request that is told
+-- what the port does with each request whose answer it is told
 abbrev pub done_with_told : PortState → List Coming → List Outcome
-done_with_told p [] = []
-done_with_told p (Comes heard ∷ cs) = done_with_told p cs
-done_with_told p (IsTold r a ∷ cs) = outcome_at p r ∷ done_with_told (after p r a) cs
-done_with_told p (IsIdle requester ∷ cs) = done_with_told (idles requester p) cs
+done_with_told port [] = []
+done_with_told port (Comes heard ∷ comings) = done_with_told port comings
+done_with_told port (IsTold asking answered ∷ comings) = outcome_at port asking ∷ done_with_told (after port asking answered) comings
+done_with_told port (IsIdle requester ∷ comings) = done_with_told (idles requester port) comings
 
 -- a request and the reply to it, none where the port is busy
 pub record Replied : Type 0 where
@@ -70,51 +70,51 @@ pub record Replied : Type 0 where
 
 -- the frame of its response
 abbrev pub response_of : Replied → List ℕ
-response_of x = written (response_after x.request x.reply)
+response_of replied = written (response_after replied.request replied.reply)
 
--- with the reply to a request that isn't new, which is sent when that is heard, before others; a new one has none yet
+-- the replies with that to a request before them: the port sends it when it hears the request, unless the request is new
 abbrev pub settled_then : Request → Outcome → List Replied → List Replied
-settled_then r (Repeats reply) rest = record { request = r; reply = Some reply } ∷ rest
-settled_then r IsBusy rest = record { request = r; reply = None } ∷ rest
-settled_then r IsNew rest = rest
+settled_then request (Repeats reply) rest = record { request = request; reply = Some reply } ∷ rest
+settled_then request IsBusy rest = record { request = request; reply = None } ∷ rest
+settled_then request IsNew rest = rest
 
--- the replies to a list, by the rule
+-- the replies to a list of events, by the rule
 abbrev pub replied : List Entry → List Coming → List Replied
 replied log [] = []
-replied log (Comes (Ok r) ∷ cs) = settled_then r (outcome (is_above sequence_numbers) (heard_in r) log) (replied log cs)
-replied log (Comes (Err why) ∷ cs) = replied log cs
-replied log (IsTold r a ∷ cs) =
-    record { request = r; reply = reply_after (outcome (is_above sequence_numbers) (heard_in r) log) (kept_of r a) } ∷ replied (log_with (is_above sequence_numbers) (HeardRequest (kept_of r a)) log) cs
-replied log (IsIdle requester ∷ cs) = replied (Idled requester ∷ log) cs
+replied log (Comes (Ok r) ∷ comings) = settled_then r (outcome (is_above sequence_numbers) (heard_in r) log) (replied log comings)
+replied log (Comes (Err why) ∷ comings) = replied log comings
+replied log (IsTold asking answered ∷ comings) =
+    record { request = asking; reply = reply_after (outcome (is_above sequence_numbers) (heard_in asking) log) (kept_of asking answered) } ∷ replied (log_with (is_above sequence_numbers) (HeardRequest (kept_of asking answered)) log) comings
+replied log (IsIdle requester ∷ comings) = replied (Idled requester ∷ log) comings
 
--- the frames that a port sends when a request is heard with which this is done
+-- the frames that a port sends when it hears a request, by what the rule does with it
 abbrev pub sent_when_heard : Request → Outcome → List (List ℕ)
-sent_when_heard r (Repeats reply) = written (response_after r (Some reply)) ∷ []
-sent_when_heard r IsBusy = written (response_after r None) ∷ []
-sent_when_heard r IsNew = []
+sent_when_heard request (Repeats reply) = written (response_after request (Some reply)) ∷ []
+sent_when_heard request IsBusy = written (response_after request None) ∷ []
+sent_when_heard request IsNew = []
 
--- and when one more comes
+-- the frames that a port sends at one event
 abbrev pub sent_at : PortState → Coming → List (List ℕ)
-sent_at p (Comes (Ok r)) = sent_when_heard r (outcome_at p r)
-sent_at p (Comes (Err why)) = []
-sent_at p (IsTold r a) = sent (answers p r a)
-sent_at p (IsIdle requester) = []
+sent_at port (Comes (Ok r)) = sent_when_heard r (outcome_at port r)
+sent_at port (Comes (Err why)) = []
+sent_at port (IsTold asking answered) = sent (answers port asking answered)
+sent_at port (IsIdle requester) = []
 
 -- and in all
 abbrev pub all_sent : PortState → List Coming → List (List ℕ)
-all_sent p [] = []
-all_sent p (c ∷ cs) = sent_at p c ++ all_sent (port_after p c) cs
+all_sent port [] = []
+all_sent port (coming ∷ comings) = sent_at port coming ++ all_sent (port_after port coming) comings
 
--- The requests that are carried out, and kept, are the rule's: of what is told, whatever frames are heard between, and whatever is dropped.
--- The port sends, frame for frame, the responses with the rule's replies.
-pub record KeepsTheRule (p : PortState) (cs : List Coming) : Type 0 where
-  pub log : (ports_after p cs).log ≡ logs_with (is_above sequence_numbers) (brought cs) p.log
-  pub done : done_with_told p cs ≡ outcomes (is_above sequence_numbers) p.log (brought cs)
-  pub sent : all_sent p cs ≡ map response_of (replied p.log cs)
+-- The port carries out and keeps the requests of the rule, over the requests whose answers it is told, whatever frames it hears between and
+-- whatever requests are dropped. It sends, frame for frame, the responses with the rule's replies.
+pub record KeepsTheRule (port : PortState) (cs : List Coming) : Type 0 where
+  pub log : (ports_after port cs).log ≡ logs_with (is_above sequence_numbers) (brought cs) port.log
+  pub done : done_with_told port cs ≡ outcomes (is_above sequence_numbers) port.log (brought cs)
+  pub sent : all_sent port cs ≡ map response_of (replied port.log cs)
 
 -- ---- lists at a board
 
--- what happens at a port and its board: a frame is heard as this, a requester is idle, or others leave another state of the board
+-- what happens at a port and its board: the port hears this in a frame, a requester is idle, or others leave another state of the board
 pub data Happening : Type 0 where
   Hears : Result Request Reason → Happening
   Idles : ℕ → Happening
@@ -125,62 +125,62 @@ pub record Ends : Type 0 where
   pub port : PortState
   pub board : State
 
--- both after one more
+-- the port and its board after one more event
 abbrev pub ends_after : BoardFile → Ends → Happening → Ends
-ends_after setup x (Hears heard) = let d = deed_of setup x.port x.board heard in record { port = d.port; board = d.board }
-ends_after setup x (Idles requester) = record { port = idles requester x.port; board = x.board }
-ends_after setup x (Others board) = record { port = x.port; board = board }
+ends_after setup ends (Hears heard) = let d = deed_of setup ends.port ends.board heard in record { port = d.port; board = d.board }
+ends_after setup ends (Idles requester) = record { port = idles requester ends.port; board = ends.board }
+ends_after setup ends (Others board) = record { port = ends.port; board = board }
 
 -- and after all
 abbrev pub all_after : BoardFile → Ends → List Happening → Ends
-all_after setup x [] = x
-all_after setup x (e ∷ es) = all_after setup (ends_after setup x e) es
+all_after setup ends [] = ends
+all_after setup ends (happening ∷ happenings) = all_after setup (ends_after setup ends happening) happenings
 
--- the requests that are heard in a list, each with the board's answer at that moment, and the idle requesters
+-- the requests that the port hears, each with the board's answer at that moment, and the idle requesters
 abbrev pub heard_in_all : BoardFile → Ends → List Happening → List Brought
-heard_in_all setup x [] = []
-heard_in_all setup x (Hears (Ok r) ∷ es) =
-    HeardRequest (kept_of r (answer_of setup x.board (asked_in r)).0) ∷ heard_in_all setup (ends_after setup x (Hears (Ok r))) es
-heard_in_all setup x (Hears (Err why) ∷ es) = heard_in_all setup x es
-heard_in_all setup x (Idles requester ∷ es) = HeardIdle requester ∷ heard_in_all setup (ends_after setup x (Idles requester)) es
-heard_in_all setup x (Others board ∷ es) = heard_in_all setup (ends_after setup x (Others board)) es
+heard_in_all setup ends [] = []
+heard_in_all setup ends (Hears (Ok r) ∷ happenings) =
+    HeardRequest (kept_of r (answer_of setup ends.board (asked_in r)).0) ∷ heard_in_all setup (ends_after setup ends (Hears (Ok r))) happenings
+heard_in_all setup ends (Hears (Err why) ∷ happenings) = heard_in_all setup ends happenings
+heard_in_all setup ends (Idles requester ∷ happenings) = HeardIdle requester ∷ heard_in_all setup (ends_after setup ends (Idles requester)) happenings
+heard_in_all setup ends (Others board ∷ happenings) = heard_in_all setup (ends_after setup ends (Others board)) happenings
 
--- what is done with each request that is heard
+-- what the port does with each request that it hears
 abbrev pub done_in_all : BoardFile → Ends → List Happening → List Outcome
-done_in_all setup x [] = []
-done_in_all setup x (Hears (Ok r) ∷ es) = outcome_at x.port r ∷ done_in_all setup (ends_after setup x (Hears (Ok r))) es
-done_in_all setup x (Hears (Err why) ∷ es) = done_in_all setup x es
-done_in_all setup x (Idles requester ∷ es) = done_in_all setup (ends_after setup x (Idles requester)) es
-done_in_all setup x (Others board ∷ es) = done_in_all setup (ends_after setup x (Others board)) es
+done_in_all setup ends [] = []
+done_in_all setup ends (Hears (Ok r) ∷ happenings) = outcome_at ends.port r ∷ done_in_all setup (ends_after setup ends (Hears (Ok r))) happenings
+done_in_all setup ends (Hears (Err why) ∷ happenings) = done_in_all setup ends happenings
+done_in_all setup ends (Idles requester ∷ happenings) = done_in_all setup (ends_after setup ends (Idles requester)) happenings
+done_in_all setup ends (Others board ∷ happenings) = done_in_all setup (ends_after setup ends (Others board)) happenings
 
--- the requests that are heard
+-- the requests that the port hears
 abbrev pub requests_in : List Happening → List Request
 requests_in [] = []
-requests_in (Hears (Ok r) ∷ es) = r ∷ requests_in es
-requests_in (Hears (Err why) ∷ es) = requests_in es
-requests_in (Idles requester ∷ es) = requests_in es
-requests_in (Others board ∷ es) = requests_in es
+requests_in (Hears (Ok r) ∷ happenings) = r ∷ requests_in happenings
+requests_in (Hears (Err why) ∷ happenings) = requests_in happenings
+requests_in (Idles requester ∷ happenings) = requests_in happenings
+requests_in (Others board ∷ happenings) = requests_in happenings
 
 -- the frames of the responses to these requests with these replies
 abbrev pub responses : List Request → List (Option (List ℕ)) → List (List ℕ)
 responses [] rest = []
-responses (r ∷ rs) [] = []
-responses (r ∷ rs) (reply ∷ rest) = written (response_after r reply) ∷ responses rs rest
+responses (request ∷ requests) [] = []
+responses (request ∷ requests) (reply ∷ rest) = written (response_after request reply) ∷ responses requests rest
 
--- the frames that are sent when one more happens
+-- the frames that the port sends at one event
 abbrev pub sent_when : BoardFile → Ends → Happening → List (List ℕ)
-sent_when setup x (Hears heard) = map written (deed_of setup x.port x.board heard).sent
-sent_when setup x (Idles requester) = []
-sent_when setup x (Others board) = []
+sent_when setup ends (Hears heard) = map written (deed_of setup ends.port ends.board heard).sent
+sent_when setup ends (Idles requester) = []
+sent_when setup ends (Others board) = []
 
 -- and in all
 abbrev pub sent_in_all : BoardFile → Ends → List Happening → List (List ℕ)
-sent_in_all setup x [] = []
-sent_in_all setup x (e ∷ es) = sent_when setup x e ++ sent_in_all setup (ends_after setup x e) es
+sent_in_all setup ends [] = []
+sent_in_all setup ends (happening ∷ happenings) = sent_when setup ends happening ++ sent_in_all setup (ends_after setup ends happening) happenings
 
--- The requests that are carried out are the rule's, of all that are heard, whatever others do to the board between. The port sends, frame
--- for frame, the responses to them with the rule's replies.
-pub record CarriesTheRule (setup : BoardFile) (x : Ends) (es : List Happening) : Type 0 where
-  pub log : (all_after setup x es).port.log ≡ logs_with (is_above sequence_numbers) (heard_in_all setup x es) x.port.log
-  pub done : done_in_all setup x es ≡ outcomes (is_above sequence_numbers) x.port.log (heard_in_all setup x es)
-  pub sent : sent_in_all setup x es ≡ responses (requests_in es) (replies (is_above sequence_numbers) x.port.log (heard_in_all setup x es))
+-- The port carries out the requests of the rule, over all requests that it hears, whatever others do to the board between. It sends, frame for
+-- frame, the responses to the requests with the rule's replies.
+pub record CarriesTheRule (setup : BoardFile) (ends : Ends) (es : List Happening) : Type 0 where
+  pub log : (all_after setup ends es).port.log ≡ logs_with (is_above sequence_numbers) (heard_in_all setup ends es) ends.port.log
+  pub done : done_in_all setup ends es ≡ outcomes (is_above sequence_numbers) ends.port.log (heard_in_all setup ends es)
+  pub sent : sent_in_all setup ends es ≡ responses (requests_in es) (replies (is_above sequence_numbers) ends.port.log (heard_in_all setup ends es))

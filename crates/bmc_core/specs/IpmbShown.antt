@@ -26,7 +26,7 @@ use Rattle.bmc_core.specs.declared.ipmb_port.IpmbPort.{IpmbPort}
 use Rattle.bmc_core.specs.Outs.{sends, done_by, AreRead}
 use Rattle.bmc_core.specs.IpmbHeard.{IsHeard}
 
--- A request is kept as it is. A reply is kept as its frame, and is what stands there beside the addresses and the check bytes.
+-- The windows keep a request as it is, and a reply as its frame: the reply is the frame's bytes without the addresses and the check bytes.
 abbrev pub reading : Reading
 reading = record { request = λ bytes. bytes; reply = λ kept. slice_index kept 1 ∷ drop 4 (take (length kept - 1) kept); same = λ a b. refl }
 
@@ -34,23 +34,23 @@ reading = record { request = λ bytes. bytes; reply = λ kept. slice_index kept 
 abbrev pub whole : Reading
 whole = record { request = λ bytes. bytes; reply = λ kept. kept; same = λ a b. refl }
 
--- what is kept for the request is the frame of a response to it, at whichever address it was heard
-pub record IsAnswered (k : Kept) : Type 0 where
+-- the windows keep, for the request, the frame of a response to it, whichever address the request came to
+pub record IsAnswered (kept : Kept) : Type 0 where
   pub asked : Request
   pub code : ℕ
   pub body : List ℕ
-  pub same : heard_in asked ≡ k.request
-  pub frame : IsResponse (record { header = asked.header; code = code; body = body }) k.reply
+  pub same : heard_in asked ≡ kept.request
+  pub frame : IsResponse (record { header = asked.header; code = code; body = body }) kept.reply
 
 -- the numbers of a header's logical units are below 4
-pub record HasUnits (h : Header) : Type 0 where
-  pub responder : h.responder.lun < 4
-  pub requester : h.requester.lun < 4
+pub record HasUnits (header : Header) : Type 0 where
+  pub responder : header.responder.lun < 4
+  pub requester : header.requester.lun < 4
 
--- all that was carried out is so
+-- the windows keep the frame of a response for each request that was carried out
 abbrev pub AllAnswered : List Entry → Type 0
 AllAnswered [] = Unit {0}
-AllAnswered (Carried k ∷ log) = IsAnswered k × AllAnswered log
+AllAnswered (Carried kept ∷ log) = IsAnswered kept × AllAnswered log
 AllAnswered (Idled requester ∷ log) = AllAnswered log
 
 -- the windows keep frames, each for the request that it answers
@@ -59,134 +59,135 @@ pub record KeepsFrames (windows : Held) : Type 0 where
   pub keeps : Keeps sequence_numbers whole windows log
   pub answered : AllAnswered log
 
--- the windows keep what this log leaves, and frames
+-- the windows keep what this log leaves, and frames of responses alone
 pub record AreOf (windows : Held) (log : List Entry) : Type 0 where
   pub keeps : Keeps sequence_numbers reading windows log
   pub frames : KeepsFrames windows
 
 -- the port has the lab's address, and keeps what the lab's log leaves
-pub record Shows (port : IpmbPort) (p : PortState) : Type 0 where
-  pub wire : port.wire ≡ p.wire
-  pub log : AreOf port.windows p.log
+pub record Shows (port : IpmbPort) (at : PortState) : Type 0 where
+  pub wire : port.wire ≡ at.wire
+  pub log : AreOf port.windows at.log
 
 -- ---- responses
 
 -- the response of this header, code and data, and its frame
 abbrev pub response : Header → ℕ → List ℕ → Response
-response h code body = record { header = h; code = code; body = body }
+response header code body = record { header = header; code = code; body = body }
 
 abbrev pub response_frame : Header → ℕ → List ℕ → List ℕ
-response_frame h code body = written (Tells (response h code body))
+response_frame header code body = written (Tells (response header code body))
 
 -- the response to the request that gives the answer
 abbrev pub response_giving : Request → Answered → Response
-response_giving r a = response r.header a.code a.body
+response_giving request answered = response request.header answered.code answered.body
 
 -- ---- what comes of what is heard
 
 -- the lab's port and the board after it, and what is sent
 abbrev pub deed_of : BoardFile → PortState → State → Result Request Reason → Deed
-deed_of setup p before (Ok r) = hears_request setup p before r
-deed_of setup p before (Err why) = stays p before
+deed_of setup port before (Ok request) = hears_request setup port before request
+deed_of setup port before (Err why) = stays port before
 
 -- what the rule does with a request at the lab's port
 abbrev pub outcome_at : PortState → Request → Outcome
-outcome_at p r = outcome (is_above sequence_numbers) (heard_in r) p.log
+outcome_at port request = outcome (is_above sequence_numbers) (heard_in request) port.log
 
 -- what was done
 abbrev pub done_of : PortState → Result Request Reason → Done
-done_of p (Ok r) = done_by (outcome_at p r)
-done_of p (Err why) = done.Ignored why
+done_of port (Ok request) = done_by (outcome_at port request)
+done_of port (Err why) = done.Ignored why
 
--- the port is then the deed's, the board is the deed's, and the frames are those of what the deed sends, each of which is read as itself
+-- The port and the board are those of the deed, and the port sends the frames of the deed. A reader of each frame's bytes gives the frame's value.
 pub record Does (deed : Deed) (what : Done) (next : IpmbPort) (after : State) (out : Out) : Type 0 where
   pub shows : Shows next deed.port
   pub left : after ≡ deed.board
   pub sent : out ≡ sends (map written deed.sent) what
   pub read : AreRead Ipmb deed.sent
 
--- A port of a board with this setup hears the bytes: for each port of the lab that it shows, the port and the board become those of the lab's
--- deed.
+-- A port of a board with this setup hears the bytes. For each port of the lab that it shows, the port and the board become those of the deed of
+-- the lab's port.
 abbrev pub Hears : BoardFile → IpmbPort → State → List ℕ → Out → IpmbPort → State → Type 0
-Hears setup port before bytes out next after = (p : PortState) → Shows port p → (heard : Result Request Reason) → IsHeard p.wire bytes heard
-    → Does (deed_of setup p before heard) (done_of p heard) next after out
+Hears setup port before bytes out next after = (at : PortState) → Shows port at → (heard : Result Request Reason) → IsHeard at.wire bytes heard
+    → Does (deed_of setup at before heard) (done_of at heard) next after out
 
--- the value is what is sent, alone, and it is read as itself
+-- the port sends the frame of this value alone, and a reader of the frame's bytes gives the value
 abbrev pub IsSent : Value → Done → Out → Type 0
-IsSent v what out = (out ≡ sends (written v ∷ []) what) × AreRead Ipmb (v ∷ [])
+IsSent value what out = (out ≡ sends (written value ∷ []) what) × AreRead Ipmb (value ∷ [])
 
 -- ---- before the board is asked
 
--- a request is new by the frames that the windows keep
+-- the request is new at each log that leaves the frames of the windows
 abbrev pub IsFresh : Held → Request → Type 0
-IsFresh windows r = (log : List Entry) → Keeps sequence_numbers whole windows log → outcome (is_above sequence_numbers) (heard_in r) log ≡ IsNew
+IsFresh windows request = (log : List Entry) → Keeps sequence_numbers whole windows log → outcome (is_above sequence_numbers) (heard_in request) log ≡ IsNew
 
--- a request that isn't new was answered by its response, which is read as itself, and a new one wasn't
+-- the port has answered a request that isn't new by its response, and hasn't answered a new one
 abbrev pub IsSettled : Request → Outcome → Out → Bool → Type 0
-IsSettled r (Repeats reply) out settled = (settled ≡ true) × IsSent (response_after r (Some reply)) done.Repeated out
-IsSettled r IsBusy out settled = (settled ≡ true) × IsSent (response_after r None) done.Busy out
-IsSettled r IsNew out settled = settled ≡ false
+IsSettled request (Repeats reply) out settled = (settled ≡ true) × IsSent (response_after request (Some reply)) done.Repeated out
+IsSettled request IsBusy out settled = (settled ≡ true) × IsSent (response_after request None) done.Busy out
+IsSettled request IsNew out settled = settled ≡ false
 
--- what is to be done next: a new request is to be carried out
+-- what the caller does next: it has a new request carried out
 abbrev pub next_of : Bool → Request → Step Request
-next_of false r = step.Ask r
-next_of true r = step.Done
+next_of false request = step.Ask request
+next_of true request = step.Done
 
--- what is heard at the lab's port is settled, or is to be carried out
+-- the port settles what the lab's port hears, or the caller has it carried out
 abbrev pub Steps : PortState → Result Request Reason → Step Request → Out → Type 0
-Steps p (Ok r) next out = (settled : Bool) × IsSettled r (outcome_at p r) out settled × (next ≡ next_of settled r)
-Steps p (Err why) next out = (next ≡ step.Done) × (out ≡ sends [] (done.Ignored why))
+Steps port (Ok request) next out = (settled : Bool) × IsSettled request (outcome_at port request) out settled × (next ≡ next_of settled request)
+Steps port (Err why) next out = (next ≡ step.Done) × (out ≡ sends [] (done.Ignored why))
 
--- the same of a request that is new, if one is
+-- the caller's next step by a request that is new, if there is one
 abbrev pub step_of : Option Request → Step Request
-step_of (Some r) = step.Ask r
+step_of (Some request) = step.Ask request
 step_of None = step.Done
 
--- Bytes are heard at this address, over these windows: whatever log the windows keep, what is heard is settled, or is to be carried out.
+-- A port at this address with these windows hears the bytes. Whatever log the windows keep, the port settles what it hears, or the caller has it
+-- carried out.
 abbrev pub IsHeardAt : ℕ → Held → List ℕ → Option Request → Out → Type 0
-IsHeardAt wire windows bytes given out = (p : PortState) → AreOf windows p.log → (heard : Result Request Reason) → IsHeard wire bytes heard
-    → Steps p heard (step_of given) out
+IsHeardAt wire windows bytes given out = (port : PortState) → AreOf windows port.log → (heard : Result Request Reason) → IsHeard wire bytes heard
+    → Steps port heard (step_of given) out
 
--- A port hears the bytes up to where the board is to be asked, and stays as it was: for each port of the lab that it shows, what the lab's port
--- hears is settled, or is to be carried out.
+-- A port hears the bytes up to where the caller asks the board, and stays as it was. For each port of the lab that it shows, it settles what the
+-- lab's port hears, or the caller has it carried out.
 pub record IsStep (port : IpmbPort) (bytes : List ℕ) (next : IpmbPort) (out : Out) (given : Step Request) : Type 0 where
-  pub steps : (p : PortState) → Shows port p → (heard : Result Request Reason) → IsHeard p.wire bytes heard → Steps p heard given out
+  pub steps : (at : PortState) → Shows port at → (heard : Result Request Reason) → IsHeard at.wire bytes heard → Steps at heard given out
   pub stays : next ≡ port
 
--- ---- once it answered
+-- ---- once the board answered
 
 -- the request, with the reply that gives the answer
 abbrev pub kept_of : Request → Answered → Kept
-kept_of r a = record { request = heard_in r; reply = spelled Ipmb (heard_in r) a }
+kept_of request answered = record { request = heard_in request; reply = spelled Ipmb (heard_in request) answered }
 
--- the lab's port once the request was answered so: by the rule, which keeps a new one alone
+-- the lab's port once it was told this answer to the request: by the rule it keeps a new request alone
 abbrev pub after : PortState → Request → Answered → PortState
-after p r a = record p { log = log_after (outcome_at p r) (kept_of r a) p.log }
+after port request answered = record port { log = log_after (outcome_at port request) (kept_of request answered) port.log }
 
--- the response that is sent then, and what is sent
+-- the response that the port then sends, and all that it sends
 abbrev pub response_told : PortState → Request → Answered → Value
-response_told p r a = response_after r (reply_after (outcome_at p r) (kept_of r a))
+response_told port request answered = response_after request (reply_after (outcome_at port request) (kept_of request answered))
 
 abbrev pub answers : PortState → Request → Answered → Out
-answers p r a = sends (written (response_told p r a) ∷ []) (done_by (outcome_at p r))
+answers port request answered = sends (written (response_told port request answered) ∷ []) (done_by (outcome_at port request))
 
--- all three where the request is new
+-- the port, the response and all that it sends, where the request is new
 abbrev pub carries : PortState → Request → Answered → PortState
-carries p r a = record p { log = Carried (kept_of r a) ∷ p.log }
+carries port request answered = record port { log = Carried (kept_of request answered) ∷ port.log }
 
 abbrev pub first_response : Request → Answered → Value
-first_response r a = response_after r (Some (kept_of r a).reply)
+first_response request answered = response_after request (Some (kept_of request answered).reply)
 
 abbrev pub first_answer : Request → Answered → Out
-first_answer r a = sends (written (first_response r a) ∷ []) done.Answered
+first_answer request answered = sends (written (first_response request answered) ∷ []) done.Answered
 
--- A new request was answered so: the windows keep both, and the response is sent, which is read as itself.
+-- the windows keep a new request with this answer to it
 abbrev pub IsKept : Held → Request → Answered → Held → Type 0
-IsKept old r a new = (p : PortState) → AreOf old p.log → outcome_at p r ≡ IsNew → IsFresh old r → AreOf new (carries p r a).log
+IsKept old request answered new = (port : PortState) → AreOf old port.log → outcome_at port request ≡ IsNew → IsFresh old request → AreOf new (carries port request answered).log
 
--- A port is told this answer: for each port of the lab that it shows, it becomes the port that the rule leaves, and sends the rule's response,
--- which is read as itself.
-pub record IsTold (port : IpmbPort) (r : Request) (a : Answered) (next : IpmbPort) (out : Out) : Type 0 where
-  pub shows : (p : PortState) → Shows port p → Shows next (after p r a)
-  pub sent : (p : PortState) → Shows port p → out ≡ answers p r a
-  pub read : (p : PortState) → Shows port p → AreRead Ipmb (response_told p r a ∷ [])
+-- A port is told this answer to the request. For each port of the lab that it shows, it then shows the port that the rule leaves. It sends the
+-- rule's response, and a reader of the response's bytes gives that response.
+pub record IsTold (port : IpmbPort) (request : Request) (answered : Answered) (next : IpmbPort) (out : Out) : Type 0 where
+  pub shows : (at : PortState) → Shows port at → Shows next (after at request answered)
+  pub sent : (at : PortState) → Shows port at → out ≡ answers at request answered
+  pub read : (at : PortState) → Shows port at → AreRead Ipmb (response_told at request answered ∷ [])

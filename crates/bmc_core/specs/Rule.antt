@@ -7,13 +7,13 @@ use Rattle.model_bus.specs.Carried.{Heard as Brought, HeardRequest, HeardIdle, o
 -- the log after a list that was brought
 abbrev pub logs_with : (ℕ → ℕ → Bool) → List Brought → List Entry → List Entry
 logs_with above [] log = log
-logs_with above (b ∷ bs) log = logs_with above bs (log_with above b log)
+logs_with above (brought ∷ broughts) log = logs_with above broughts (log_with above brought log)
 
 -- the reply to each request of the list, none where the port is busy
 abbrev pub replies : (ℕ → ℕ → Bool) → List Entry → List Brought → List (Option (List ℕ))
 replies above log [] = []
-replies above log (HeardRequest k ∷ bs) = reply_after (outcome above k.request log) k ∷ replies above (log_with above (HeardRequest k) log) bs
-replies above log (HeardIdle requester ∷ bs) = replies above (Idled requester ∷ log) bs
+replies above log (HeardRequest kept ∷ broughts) = reply_after (outcome above kept.request log) kept ∷ replies above (log_with above (HeardRequest kept) log) broughts
+replies above log (HeardIdle requester ∷ broughts) = replies above (Idled requester ∷ log) broughts
 
 -- a requester has a window
 abbrev pub has_window : ℕ → List Entry → Bool

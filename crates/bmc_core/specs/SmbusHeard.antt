@@ -12,6 +12,7 @@ use Rattle.pldm_base.specs.declared.message.PldmRequest.{PldmRequest}
 use Rattle.pldm_base.specs.Message.{request_in as pldm_request_in, has_fault as has_pldm_fault, faults as pldm_faults}
 use Rattle.record_base.specs.declared.message.Asked.{Asked}
 use Rattle.record_base.specs.declared.message.Answered.{Answered}
+use Rattle.model_bus.specs.Bytes.{control_message_type, pldm_message_type}
 use Rattle.model_bus.specs.Circle.{instances}
 use Rattle.model_bus.specs.Request.{Request as Asking, Kept, Entry}
 use Rattle.model_bus.specs.Numbering.{is_above}
@@ -39,108 +40,108 @@ pub data Heard : Type 0 where
   Control : Envelope → ControlRequest → Heard
   Asks : InMessage → Heard
 
--- a control message, where a request is read in it
+-- what a port hears in a control message, by the request that it is read as, if any
 abbrev pub control_heard : Envelope → Option ControlRequest → Heard
-control_heard e (Some r) = Control e r
-control_heard e None = Ignored reason.NotRequest
+control_heard envelope (Some request) = Control envelope request
+control_heard envelope None = Ignored reason.NotRequest
 
--- a PLDM message, where a request is read in it, or its first fault. One of them is there, in each message of at most 256 bytes.
+-- What a port hears in a PLDM message: the request that it is read as, or its first fault. Each message of at most 256 bytes has one of the two.
 abbrev pub pldm_heard : Envelope → Option PldmRequest → Option PldmFault → Heard
-pldm_heard e (Some r) fault = Asks (record { envelope = e; request = r })
-pldm_heard e None (Some fault) = Ignored (reason.Pldm fault)
-pldm_heard e None None = Ignored reason.NotRequest
+pldm_heard envelope (Some request) fault = Asks (record { envelope = envelope; request = request })
+pldm_heard envelope None (Some fault) = Ignored (reason.Pldm fault)
+pldm_heard envelope None None = Ignored reason.NotRequest
 
--- a message whose sender owns its tag, by its type: 00h control, 01h PLDM
+-- what a port hears in a message whose sender owns its tag, by the message's type: control, or PLDM
 abbrev pub typed_heard : Message → List ℕ → Heard
-typed_heard m [] = Ignored reason.MessageType
-typed_heard m (kind ∷ rest) =
-    if kind == 0 then control_heard m.envelope (control_request_of m.body)
-    else if kind == 1 then pldm_heard m.envelope (pldm_request_in rest) (find (has_pldm_fault rest) pldm_faults)
+typed_heard message [] = Ignored reason.MessageType
+typed_heard message (kind ∷ rest) =
+    if kind == control_message_type then control_heard message.envelope (control_request_of message.body)
+    else if kind == pldm_message_type then pldm_heard message.envelope (pldm_request_in rest) (find (has_pldm_fault rest) pldm_faults)
     else Ignored reason.MessageType
 
--- a whole message
+-- what a port hears in a whole message
 abbrev pub message_heard : Message → Heard
-message_heard m = if m.envelope.tag_owner then typed_heard m m.body else Ignored reason.NotRequest
+message_heard message = if message.envelope.tag_owner then typed_heard message message.body else Ignored reason.NotRequest
 
--- a packet that was dropped for the cause, or for none, at a port that has taken it
+-- what a port that has taken a packet hears in it, by the cause for which it dropped the packet, if any
 abbrev pub part_heard : PortState → Packet → Option DropCause → Heard
-part_heard port p (Some cause) = Ignored (reason.Dropped cause)
-part_heard port p None = if p.end then message_heard (message_of port.kept p) else Waiting
+part_heard port packet (Some cause) = Ignored (reason.Dropped cause)
+part_heard port packet None = if packet.end then message_heard (message_of port.kept packet) else Waiting
 
 -- the port, once a packet to its address was dropped or kept
 abbrev pub with_part : PortState → Packet → PortState
-with_part port p = record port { kept = kept_after port.eid port.kept p }
+with_part port packet = record port { kept = kept_after port.eid port.kept packet }
 
 -- the port, once it has taken a packet
 abbrev pub taken : PortState → Packet → PortState
-taken port p = record port { kept = if p.envelope.destination == port.wire then kept_after port.eid port.kept p else port.kept }
+taken port packet = record port { kept = if packet.envelope.destination == port.wire then kept_after port.eid port.kept packet else port.kept }
 
--- what it hears in the packet
+-- what a port hears in the packet
 abbrev pub heard_in : PortState → Packet → Heard
-heard_in port p = if p.envelope.destination == port.wire then part_heard (with_part port p) p (drop_cause port.eid port.kept p) else Ignored reason.NotOurs
+heard_in port packet = if packet.envelope.destination == port.wire then part_heard (with_part port packet) packet (drop_cause port.eid port.kept packet) else Ignored reason.NotOurs
 
 -- ---- what comes of it
 
 -- the request as windows have it
 abbrev pub asking : InMessage → Asking
-asking m = pldm_heard_in m.envelope.source_eid m.request
+asking message = pldm_heard_in message.envelope.source_eid message.request
 
--- and as the board has it
+-- the request as the board has it
 abbrev pub asked_of : InMessage → Asked
-asked_of m = pldm_asked m.envelope.source_eid m.request
+asked_of asking = pldm_asked asking.envelope.source_eid asking.request
 
--- what the rule does with it after what is in the log: a repeat is looked for first
+-- what the rule does with the request after this log: it looks for a repeat first
 abbrev pub found_in : List Entry → InMessage → Outcome
-found_in log m = outcome (is_above instances) (asking m) log
+found_in log message = outcome (is_above instances) (asking message) log
 
--- and what the port does with it
+-- what the port does with the request
 abbrev pub found : PortState → InMessage → Outcome
-found port m = found_in port.log m
+found port asking = found_in port.log asking
 
 abbrev pub asks_of : InMessage → Outcome → Option InMessage
-asks_of m IsNew = Some m
-asks_of m IsBusy = None
-asks_of m (Repeats reply) = None
+asks_of asking IsNew = Some asking
+asks_of asking IsBusy = None
+asks_of asking (Repeats reply) = None
 
--- the request that the board is asked, if it's a new one
+-- what the board is asked: the request, if it is new
 abbrev pub asks : PortState → Heard → Option InMessage
-asks port (Asks m) = asks_of m (found port m)
+asks port (Asks request) = asks_of request (found port request)
 asks port (Ignored why) = None
 asks port Waiting = None
-asks port (Control e r) = None
+asks port (Control envelope request) = None
 
--- what is done
+-- what the port does with what it heard
 abbrev pub done_of : PortState → Heard → Done
 done_of port (Ignored why) = done.Ignored why
 done_of port Waiting = done.Waiting
-done_of port (Control e r) = done.Control
-done_of port (Asks m) = done_by (found port m)
+done_of port (Control envelope request) = done.Control
+done_of port (Asks request) = done_by (found port request)
 
 -- the packets of a reply to a message of this envelope
 abbrev pub reply_parts : PortState → Envelope → List ℕ → List Value
-reply_parts port e body = map Part (parts_of (record { envelope = reply_envelope port e; body = body }))
+reply_parts port envelope body = map Part (parts_of (record { envelope = reply_envelope port envelope; body = body }))
 
--- the port after it, and what is sent
+-- an effect: the port that it leaves, and the packets that the port sends
 pub record Effect : Type 0 where
   pub port : PortState
   pub sent : List Value
 
 -- the reply of a port that is busy
 abbrev pub busy_reply : InMessage → List ℕ
-busy_reply m = said Smbus (asking m) None
+busy_reply message = said Smbus (asking message) None
 
 -- the request with the reply of this answer
 abbrev pub kept_with : InMessage → Answered → Kept
-kept_with m a = record { request = asking m; reply = spelled Smbus (asking m) a }
+kept_with message answered = record { request = asking message; reply = spelled Smbus (asking message) answered }
 
 abbrev pub asks_effect : PortState → InMessage → Outcome → Kept → Effect
-asks_effect port m o k = record { port = record port { log = log_after o k port.log }; sent = reply_parts port m.envelope (said Smbus (asking m) (reply_after o k)) }
+asks_effect port message outcome kept = record { port = record port { log = log_after outcome kept port.log }; sent = reply_parts port message.envelope (said Smbus (asking message) (reply_after outcome kept)) }
 
--- what comes of what was heard, where the board would give this answer
+-- the effect of what the port heard, where the board would give this answer
 abbrev pub effect : PortState → Heard → Answered → Effect
-effect port (Ignored why) a = record { port = port; sent = [] }
-effect port Waiting a = record { port = port; sent = [] }
-effect port (Control e r) a =
-    let next = record port { eid = eid_after port.eid r.command r.content } in
-    record { port = next; sent = reply_parts next e (control_reply_to port.eid r) }
-effect port (Asks m) a = asks_effect port m (found port m) (kept_with m a)
+effect port (Ignored why) answered = record { port = port; sent = [] }
+effect port Waiting answered = record { port = port; sent = [] }
+effect port (Control envelope request) answered =
+    let next = record port { eid = eid_after port.eid request.command request.content } in
+    record { port = next; sent = reply_parts next envelope (control_reply_to port.eid request) }
+effect port (Asks request) answered = asks_effect port request (found port request) (kept_with request answered)

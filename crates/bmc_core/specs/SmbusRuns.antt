@@ -21,106 +21,107 @@ use Rattle.bmc_core.specs.SmbusHeard.{InMessage, Heard, Ignored, Waiting, Contro
 -- ---- one packet
 
 abbrev pub with_board : State → Effect → Deed
-with_board after e = record { port = e.port; board = after; sent = e.sent }
+with_board after effect = record { port = effect.port; board = after; sent = effect.sent }
 
--- A packet at a port of a board. The new request that it asks is answered by the board at that moment, and comes what comes of it once
--- that is told. Where it asks nothing, the board stays, and comes what comes of it whatever the board would answer.
-pub record IsHeardThenTold (setup : BoardFile) (port : PortState) (before : State) (p : Packet) : Type 0 where
-  pub asked : (m : InMessage) → asks (taken port p) (heard_in port p) ≡ Some m
-      → let given = answer_of setup before (asked_of m) in hears setup port before (Part p) ≡ with_board given.1 (effect (taken port p) (Asks m) given.0)
-  pub settled : asks (taken port p) (heard_in port p) ≡ None → (a : Answered)
-      → hears setup port before (Part p) ≡ with_board before (effect (taken port p) (heard_in port p) a)
+-- A packet comes to a port of a board. The board answers the new request that the packet completes at that moment, and the port does what it does
+-- once it is told that answer. Where the packet completes none, the board stays as it was, and the port does the same whatever the board would
+-- answer.
+pub record IsHeardThenTold (setup : BoardFile) (port : PortState) (before : State) (packet : Packet) : Type 0 where
+  pub asked : (asking : InMessage) → asks (taken port packet) (heard_in port packet) ≡ Some asking
+      → let given = answer_of setup before (asked_of asking) in hears setup port before (Part packet) ≡ with_board given.1 (effect (taken port packet) (Asks asking) given.0)
+  pub settled : asks (taken port packet) (heard_in port packet) ≡ None → (a : Answered)
+      → hears setup port before (Part packet) ≡ with_board before (effect (taken port packet) (heard_in port packet) a)
 
 -- ---- lists with no board in them
 
--- What comes to a port: a packet is heard, a request is told some answer, or a requester is idle. A request that is asked and never told
--- is dropped.
+-- What comes to a port: a packet, an answer to a request that it heard, or the news that a requester is idle. A new request is dropped if the port
+-- hears it and is never told its answer.
 pub data Coming : Type 0 where
   Comes : Packet → Coming
   IsTold : InMessage → Answered → Coming
   IsIdle : ℕ → Coming
 
--- the port that has heard this: as it has taken the packet, where a new request is asked
+-- the port that has heard this: where the board is asked a new request, the port has taken the packet and nothing else
 abbrev pub once_heard : PortState → Heard → Option InMessage → PortState
-once_heard port h (Some m) = port
-once_heard port h None = (effect port h (record { code = 0; body = [] })).port
+once_heard port heard (Some asking) = port
+once_heard port heard None = (effect port heard (record { code = 0; body = [] })).port
 
--- the port after one more
+-- the port after one more event
 abbrev pub port_after : PortState → Coming → PortState
-port_after port (Comes p) = once_heard (taken port p) (heard_in port p) (asks (taken port p) (heard_in port p))
-port_after port (IsTold m a) = (effect port (Asks m) a).port
+port_after port (Comes packet) = once_heard (taken port packet) (heard_in port packet) (asks (taken port packet) (heard_in port packet))
+port_after port (IsTold asking answered) = (effect port (Asks asking) answered).port
 port_after port (IsIdle requester) = idles requester port
 
 -- and after all
 abbrev pub ports_after : PortState → List Coming → PortState
 ports_after port [] = port
-ports_after port (c ∷ cs) = ports_after (port_after port c) cs
+ports_after port (coming ∷ comings) = ports_after (port_after port coming) comings
 
--- the requests of the list that were told, and the idle requesters
+-- the requests of the list whose answers the port was told, and the idle requesters
 abbrev pub brought : List Coming → List Brought
 brought [] = []
-brought (Comes p ∷ cs) = brought cs
-brought (IsTold m a ∷ cs) = HeardRequest (kept_with m a) ∷ brought cs
-brought (IsIdle requester ∷ cs) = HeardIdle requester ∷ brought cs
+brought (Comes packet ∷ comings) = brought comings
+brought (IsTold asking answered ∷ comings) = HeardRequest (kept_with asking answered) ∷ brought comings
+brought (IsIdle requester ∷ comings) = HeardIdle requester ∷ brought comings
 
--- what is done with each request that is told
+-- what the port does with each request whose answer it is told
 abbrev pub done_with_told : PortState → List Coming → List Outcome
 done_with_told port [] = []
-done_with_told port (Comes p ∷ cs) = done_with_told (port_after port (Comes p)) cs
-done_with_told port (IsTold m a ∷ cs) = found port m ∷ done_with_told (port_after port (IsTold m a)) cs
-done_with_told port (IsIdle requester ∷ cs) = done_with_told (port_after port (IsIdle requester)) cs
+done_with_told port (Comes packet ∷ comings) = done_with_told (port_after port (Comes packet)) comings
+done_with_told port (IsTold asking answered ∷ comings) = found port asking ∷ done_with_told (port_after port (IsTold asking answered)) comings
+done_with_told port (IsIdle requester ∷ comings) = done_with_told (port_after port (IsIdle requester)) comings
 
 -- a reply of these bytes, to a message of this envelope
 abbrev pub reply_of : PortState → Envelope → List ℕ → Message
-reply_of port e body = record { envelope = reply_envelope port e; body = body }
+reply_of port envelope body = record { envelope = reply_envelope port envelope; body = body }
 
--- the reply to a request: a kept one, or the board's, or that the port is busy
+-- the reply to a request: a reply that is kept, or the board's, or that of a busy port
 abbrev pub reply_saying : PortState → InMessage → Option (List ℕ) → Message
-reply_saying port m reply = reply_of port m.envelope (said Smbus (asking m) reply)
+reply_saying port message reply = reply_of port message.envelope (said Smbus (asking message) reply)
 
 -- the frames of messages
 abbrev pub all_frames : List Message → List (List ℕ)
 all_frames [] = []
-all_frames (m ∷ ms) = map written (map (λ p. Part p) (parts_of m)) ++ all_frames ms
+all_frames (message ∷ messages) = map written (map (λ p. Part p) (parts_of message)) ++ all_frames messages
 
--- with the reply to a request that isn't new, which is sent when that is heard, before others; a new one has none yet
+-- the replies with that to a request before them: the port sends it when it hears the request, unless the request is new
 abbrev pub settled_then : PortState → InMessage → Outcome → List Message → List Message
-settled_then port m (Repeats reply) rest = reply_saying port m (Some reply) ∷ rest
-settled_then port m IsBusy rest = reply_saying port m None ∷ rest
-settled_then port m IsNew rest = rest
+settled_then port asking (Repeats reply) rest = reply_saying port asking (Some reply) ∷ rest
+settled_then port asking IsBusy rest = reply_saying port asking None ∷ rest
+settled_then port asking IsNew rest = rest
 
--- with the endpoint's reply to a control message, from the identifier that it has then, before others
+-- the replies with the endpoint's to a control message before them, from the identifier that the endpoint has then
 abbrev pub replied_then : PortState → Heard → List Message → List Message
 replied_then port (Ignored why) rest = rest
 replied_then port Waiting rest = rest
-replied_then port (Control e r) rest = reply_of (record port { eid = eid_after port.eid r.command r.content }) e (control_reply_to port.eid r) ∷ rest
-replied_then port (Asks m) rest = settled_then port m (found port m) rest
+replied_then port (Control envelope request) rest = reply_of (record port { eid = eid_after port.eid request.command request.content }) envelope (control_reply_to port.eid request) ∷ rest
+replied_then port (Asks request) rest = settled_then port request (found port request) rest
 
--- the replies to a list, by the rule
+-- the replies to a list of events, by the rule
 abbrev pub replied : PortState → List Coming → List Message
 replied port [] = []
-replied port (Comes p ∷ cs) = replied_then (taken port p) (heard_in port p) (replied (port_after port (Comes p)) cs)
-replied port (IsTold m a ∷ cs) = reply_saying port m (reply_after (found port m) (kept_with m a)) ∷ replied (port_after port (IsTold m a)) cs
-replied port (IsIdle requester ∷ cs) = replied (port_after port (IsIdle requester)) cs
+replied port (Comes packet ∷ comings) = replied_then (taken port packet) (heard_in port packet) (replied (port_after port (Comes packet)) comings)
+replied port (IsTold asking answered ∷ comings) = reply_saying port asking (reply_after (found port asking) (kept_with asking answered)) ∷ replied (port_after port (IsTold asking answered)) comings
+replied port (IsIdle requester ∷ comings) = replied (port_after port (IsIdle requester)) comings
 
--- the frames that a port sends when this is heard, where a new request is asked
+-- the frames that a port sends when it hears this, by the new request that the board is asked, if any
 abbrev pub sent_once_heard : PortState → Heard → Option InMessage → List (List ℕ)
-sent_once_heard port h (Some m) = []
-sent_once_heard port h None = map written (effect port h (record { code = 0; body = [] })).sent
+sent_once_heard port heard (Some asking) = []
+sent_once_heard port heard None = map written (effect port heard (record { code = 0; body = [] })).sent
 
--- and when one more comes
+-- the frames that a port sends at one event
 abbrev pub sent_at : PortState → Coming → List (List ℕ)
-sent_at port (Comes p) = sent_once_heard (taken port p) (heard_in port p) (asks (taken port p) (heard_in port p))
-sent_at port (IsTold m a) = map written (effect port (Asks m) a).sent
+sent_at port (Comes packet) = sent_once_heard (taken port packet) (heard_in port packet) (asks (taken port packet) (heard_in port packet))
+sent_at port (IsTold asking answered) = map written (effect port (Asks asking) answered).sent
 sent_at port (IsIdle requester) = []
 
 -- and in all
 abbrev pub all_sent : PortState → List Coming → List (List ℕ)
 all_sent port [] = []
-all_sent port (c ∷ cs) = sent_at port c ++ all_sent (port_after port c) cs
+all_sent port (coming ∷ comings) = sent_at port coming ++ all_sent (port_after port coming) comings
 
--- The requests that are carried out, and kept, are the rule's: of what is told, whatever packets are heard between, and whatever is dropped.
--- The port sends, frame for frame, the replies by the rule, and the endpoint's to control messages.
+-- The port carries out and keeps the requests of the rule, over the requests whose answers it is told, whatever packets it hears between and
+-- whatever requests are dropped. It sends, frame for frame, the replies of the rule, and the endpoint's to control messages.
 pub record KeepsTheRule (port : PortState) (cs : List Coming) : Type 0 where
   pub log : (ports_after port cs).log ≡ logs_with (is_above instances) (brought cs) port.log
   pub done : done_with_told port cs ≡ outcomes (is_above instances) port.log (brought cs)
@@ -139,73 +140,73 @@ pub record Ends : Type 0 where
   pub port : PortState
   pub board : State
 
--- both after one more
+-- the port and its board after one more event
 abbrev pub ends_after : BoardFile → Ends → Happening → Ends
-ends_after setup x (Hears p) = let d = hears setup x.port x.board (Part p) in record { port = d.port; board = d.board }
-ends_after setup x (Idles requester) = record { port = idles requester x.port; board = x.board }
-ends_after setup x (Others board) = record { port = x.port; board = board }
+ends_after setup ends (Hears packet) = let d = hears setup ends.port ends.board (Part packet) in record { port = d.port; board = d.board }
+ends_after setup ends (Idles requester) = record { port = idles requester ends.port; board = ends.board }
+ends_after setup ends (Others board) = record { port = ends.port; board = board }
 
 -- and after all
 abbrev pub all_after : BoardFile → Ends → List Happening → Ends
-all_after setup x [] = x
-all_after setup x (e ∷ es) = all_after setup (ends_after setup x e) es
+all_after setup ends [] = ends
+all_after setup ends (happening ∷ happenings) = all_after setup (ends_after setup ends happening) happenings
 
--- with what is heard before others: a request, with the board's answer at that moment
+-- the requests with the one that is heard, if any, before them, with the board's answer at that moment
 abbrev pub heard_then : BoardFile → State → Heard → List Brought → List Brought
-heard_then setup before (Asks m) rest = HeardRequest (kept_with m (answer_of setup before (asked_of m)).0) ∷ rest
+heard_then setup before (Asks request) rest = HeardRequest (kept_with request (answer_of setup before (asked_of request)).0) ∷ rest
 heard_then setup before (Ignored why) rest = rest
 heard_then setup before Waiting rest = rest
-heard_then setup before (Control e r) rest = rest
+heard_then setup before (Control envelope request) rest = rest
 
--- the requests that are heard in a list, each with the board's answer at that moment, and the idle requesters
+-- the requests that the port hears, each with the board's answer at that moment, and the idle requesters
 abbrev pub heard_in_all : BoardFile → Ends → List Happening → List Brought
-heard_in_all setup x [] = []
-heard_in_all setup x (Hears p ∷ es) = heard_then setup x.board (heard_in x.port p) (heard_in_all setup (ends_after setup x (Hears p)) es)
-heard_in_all setup x (Idles requester ∷ es) = HeardIdle requester ∷ heard_in_all setup (ends_after setup x (Idles requester)) es
-heard_in_all setup x (Others board ∷ es) = heard_in_all setup (ends_after setup x (Others board)) es
+heard_in_all setup ends [] = []
+heard_in_all setup ends (Hears packet ∷ happenings) = heard_then setup ends.board (heard_in ends.port packet) (heard_in_all setup (ends_after setup ends (Hears packet)) happenings)
+heard_in_all setup ends (Idles requester ∷ happenings) = HeardIdle requester ∷ heard_in_all setup (ends_after setup ends (Idles requester)) happenings
+heard_in_all setup ends (Others board ∷ happenings) = heard_in_all setup (ends_after setup ends (Others board)) happenings
 
--- with what is done with a request before others
+-- what the port does with requests, with the request that is heard, if any, before them
 abbrev pub done_then : PortState → Heard → List Outcome → List Outcome
-done_then port (Asks m) rest = found port m ∷ rest
+done_then port (Asks request) rest = found port request ∷ rest
 done_then port (Ignored why) rest = rest
 done_then port Waiting rest = rest
-done_then port (Control e r) rest = rest
+done_then port (Control envelope request) rest = rest
 
--- what is done with each request that is heard
+-- what the port does with each request that it hears
 abbrev pub done_in_all : BoardFile → Ends → List Happening → List Outcome
-done_in_all setup x [] = []
-done_in_all setup x (Hears p ∷ es) = done_then (taken x.port p) (heard_in x.port p) (done_in_all setup (ends_after setup x (Hears p)) es)
-done_in_all setup x (Idles requester ∷ es) = done_in_all setup (ends_after setup x (Idles requester)) es
-done_in_all setup x (Others board ∷ es) = done_in_all setup (ends_after setup x (Others board)) es
+done_in_all setup ends [] = []
+done_in_all setup ends (Hears packet ∷ happenings) = done_then (taken ends.port packet) (heard_in ends.port packet) (done_in_all setup (ends_after setup ends (Hears packet)) happenings)
+done_in_all setup ends (Idles requester ∷ happenings) = done_in_all setup (ends_after setup ends (Idles requester)) happenings
+done_in_all setup ends (Others board ∷ happenings) = done_in_all setup (ends_after setup ends (Others board)) happenings
 
--- with the reply to what is heard before others: to a request by the rule, with the board's answer at that moment where it's new
+-- the replies with the reply to what is heard before them: to a request by the rule, with the board's answer at that moment to a new one
 abbrev pub answered_then : BoardFile → State → PortState → Heard → List Message → List Message
-answered_then setup before port (Asks m) rest = reply_saying port m (reply_after (found port m) (kept_with m (answer_of setup before (asked_of m)).0)) ∷ rest
-answered_then setup before port (Control e r) rest = replied_then port (Control e r) rest
+answered_then setup before port (Asks request) rest = reply_saying port request (reply_after (found port request) (kept_with request (answer_of setup before (asked_of request)).0)) ∷ rest
+answered_then setup before port (Control envelope request) rest = replied_then port (Control envelope request) rest
 answered_then setup before port (Ignored why) rest = rest
 answered_then setup before port Waiting rest = rest
 
--- the replies to a list
+-- the replies to a list of events
 abbrev pub answered_in_all : BoardFile → Ends → List Happening → List Message
-answered_in_all setup x [] = []
-answered_in_all setup x (Hears p ∷ es) = answered_then setup x.board (taken x.port p) (heard_in x.port p) (answered_in_all setup (ends_after setup x (Hears p)) es)
-answered_in_all setup x (Idles requester ∷ es) = answered_in_all setup (ends_after setup x (Idles requester)) es
-answered_in_all setup x (Others board ∷ es) = answered_in_all setup (ends_after setup x (Others board)) es
+answered_in_all setup ends [] = []
+answered_in_all setup ends (Hears packet ∷ happenings) = answered_then setup ends.board (taken ends.port packet) (heard_in ends.port packet) (answered_in_all setup (ends_after setup ends (Hears packet)) happenings)
+answered_in_all setup ends (Idles requester ∷ happenings) = answered_in_all setup (ends_after setup ends (Idles requester)) happenings
+answered_in_all setup ends (Others board ∷ happenings) = answered_in_all setup (ends_after setup ends (Others board)) happenings
 
--- the frames that are sent when one more happens
+-- the frames that the port sends at one event
 abbrev pub sent_when : BoardFile → Ends → Happening → List (List ℕ)
-sent_when setup x (Hears p) = map written (hears setup x.port x.board (Part p)).sent
-sent_when setup x (Idles requester) = []
-sent_when setup x (Others board) = []
+sent_when setup ends (Hears packet) = map written (hears setup ends.port ends.board (Part packet)).sent
+sent_when setup ends (Idles requester) = []
+sent_when setup ends (Others board) = []
 
 -- and in all
 abbrev pub sent_in_all : BoardFile → Ends → List Happening → List (List ℕ)
-sent_in_all setup x [] = []
-sent_in_all setup x (e ∷ es) = sent_when setup x e ++ sent_in_all setup (ends_after setup x e) es
+sent_in_all setup ends [] = []
+sent_in_all setup ends (happening ∷ happenings) = sent_when setup ends happening ++ sent_in_all setup (ends_after setup ends happening) happenings
 
--- The requests that are carried out are the rule's, of all that are heard, whatever others do to the board between. The port sends, frame
--- for frame, the replies by the rule, and the endpoint's to control messages.
-pub record CarriesTheRule (setup : BoardFile) (x : Ends) (es : List Happening) : Type 0 where
-  pub log : (all_after setup x es).port.log ≡ logs_with (is_above instances) (heard_in_all setup x es) x.port.log
-  pub done : done_in_all setup x es ≡ outcomes (is_above instances) x.port.log (heard_in_all setup x es)
-  pub sent : sent_in_all setup x es ≡ all_frames (answered_in_all setup x es)
+-- The port carries out the requests of the rule, over all requests that it hears, whatever others do to the board between. It sends, frame for
+-- frame, the replies of the rule, and the endpoint's to control messages.
+pub record CarriesTheRule (setup : BoardFile) (ends : Ends) (es : List Happening) : Type 0 where
+  pub log : (all_after setup ends es).port.log ≡ logs_with (is_above instances) (heard_in_all setup ends es) ends.port.log
+  pub done : done_in_all setup ends es ≡ outcomes (is_above instances) ends.port.log (heard_in_all setup ends es)
+  pub sent : sent_in_all setup ends es ≡ all_frames (answered_in_all setup ends es)

@@ -9,6 +9,7 @@ use Rattle.mctp_net.specs.Grammar.{IsPacket, has_fault, faults}
 use Rattle.mctp_net.specs.Places.{seen}
 use Rattle.record_base.specs.declared.message.Answered.{Answered}
 use Rattle.cfg_records.specs.declared.board_file.BoardFile.{BoardFile}
+use Rattle.model_bus.specs.Bytes.{pldm_message_type}
 use Rattle.model_bus.specs.Circle.{instances}
 use Rattle.model_bus.specs.Request.{Kept, Entry, Carried, Idled}
 use Rattle.model_bus.specs.Numbering.{is_above}
@@ -32,14 +33,14 @@ use Rattle.bmc_core.specs.SmbusHeard.{InMessage, Heard, Ignored, Waiting, Contro
 
 -- ---- what a port shows
 
--- How its windows are read: a request is kept behind its type byte, 01h, with its ignored bit 0, and a reply whole.
+-- How the windows keep a request and its reply: the request without its type byte, with the ignored bit 0, and the reply whole.
 abbrev pub pldm_reading : Reading
-pldm_reading = record { request = λ bytes. 1 ∷ bytes; reply = λ bytes. bytes; same = λ a b. refl }
+pldm_reading = record { request = λ bytes. pldm_message_type ∷ bytes; reply = λ bytes. bytes; same = λ a b. refl }
 
 -- each reply that was kept has some bytes
 abbrev pub AreReplies : List Entry → Type 0
 AreReplies [] = Unit {0}
-AreReplies (Carried k ∷ log) = (0 < length k.reply) × AreReplies log
+AreReplies (Carried kept ∷ log) = (0 < length kept.reply) × AreReplies log
 AreReplies (Idled requester ∷ log) = AreReplies log
 
 -- the windows keep what this log leaves
@@ -47,57 +48,59 @@ pub record AreOf (windows : Held) (log : List Entry) : Type 0 where
   pub kept : Keeps instances pldm_reading windows log
   pub replies : AreReplies log
 
--- the port shows this one of the lab
-pub record Shows (port : SmbusPort) (p : PortState) : Type 0 where
-  pub wire : p.wire ≡ port.wire
-  pub eid : p.eid ≡ port.endpoint
-  pub kept : p.kept ≡ seen port.assembler
-  pub log : AreOf port.windows p.log
+-- the port shows this port of the lab
+pub record Shows (port : SmbusPort) (at : PortState) : Type 0 where
+  pub wire : at.wire ≡ port.wire
+  pub eid : at.eid ≡ port.endpoint
+  pub kept : at.kept ≡ seen port.assembler
+  pub log : AreOf port.windows at.log
 
--- ---- what it does with the bytes that it hears
+-- ---- what a port does with the bytes that it hears
 
--- Bytes have a fault, or else are one packet: the relation holds of the port that has taken the packet, and of what this port hears in it.
+-- The bytes have a fault, or they are one packet. The relation holds of the port of the lab that has taken the packet, and of what the port hears.
 pub record Hearing (port : PortState) (bytes : List ℕ) (Holds : PortState → Heard → Type 0) : Type 0 where
   pub faulty : (fault : PacketFault) → find (has_fault bytes) faults ≡ Some fault → Holds port (Ignored (reason.Packet fault))
   pub packet : (p : Packet) → IsPacket p bytes → Holds (taken port p) (heard_in port p)
 
--- the port is then this one, it sends this, each read as itself, and names what was done
-pub record HasEffect (next : SmbusPort) (out : Out) (e : Effect) (what : Done) : Type 0 where
-  pub shows : Shows next e.port
-  pub sent : out ≡ sends (map written e.sent) what
-  pub read : AreRead Smbus e.sent
+-- The port then shows the effect's port, and sends the effect's packets. A reader of each packet's bytes gives the packet. `Out` names what was done.
+pub record HasEffect (next : SmbusPort) (out : Out) (effect : Effect) (what : Done) : Type 0 where
+  pub shows : Shows next effect.port
+  pub sent : out ≡ sends (map written effect.sent) what
+  pub read : AreRead Smbus effect.sent
 
--- what comes of what was heard, where the board would give this answer
+-- the effect of what the port heard, where the board would give this answer
 abbrev pub Ends : SmbusPort → Out → PortState → Heard → Answered → Type 0
-Ends next out port h a = HasEffect next out (effect port h a) (done_of port h)
+Ends next out port heard answered = HasEffect next out (effect port heard answered) (done_of port heard)
 
 -- the request that waits for its answer
 abbrev pub request_in : SmbusPending → InMessage
 request_in pending = record { envelope = pending.envelope; request = record { header = pending.header; body = pending.body } }
 
--- the port is told this answer to a request: for each port of the lab that it shows, the effect is that of the request at the lab's port
+-- A port is told this answer to a request. For each port of the lab that it shows, it has the effect of the request at the lab's port.
 abbrev pub IsTold : SmbusPort → SmbusPending → Answered → SmbusPort → Out → Type 0
-IsTold port pending a next out = (p : PortState) → Shows port p → Ends next out p (Asks (request_in pending)) a
+IsTold port pending answered next out = (at : PortState) → Shows port at → Ends next out at (Asks (request_in pending)) answered
 
--- the request is new, or where none is given, nothing is asked, and of what was heard comes what comes of it, whatever the board would answer
+-- A request that is given is new. Where none is given, the board is asked nothing, and the port has the effect of what it heard, whatever the board
+-- would answer.
 abbrev pub IsGiven : SmbusPort → Out → Option InMessage → PortState → Heard → Type 0
-IsGiven next out (Some m) port h = (asks port h ≡ Some m) × Shows next port
-IsGiven next out None port h = (asks port h ≡ None) × ((a : Answered) → Ends next out port h a)
+IsGiven next out (Some asking) port heard = (asks port heard ≡ Some asking) × Shows next port
+IsGiven next out None port heard = (asks port heard ≡ None) × ((answered : Answered) → Ends next out port heard answered)
 
--- a new request is asked of the board
+-- the caller's next step: it asks the board a new request
 abbrev pub IsStep : SmbusPort → Out → Step SmbusPending → PortState → Heard → Type 0
-IsStep next out (step.Ask pending) port h = IsGiven next out (Some (request_in pending)) port h
-IsStep next out step.Done port h = IsGiven next out None port h
+IsStep next out (step.Ask pending) port heard = IsGiven next out (Some (request_in pending)) port heard
+IsStep next out step.Done port heard = IsGiven next out None port heard
 
--- the port and the board are then those of the deed, it sends what the deed sends, each read as itself, and names what was done
+-- The port and the board are then those of the deed, and the port sends the deed's packets. A reader of each packet's bytes gives the packet. `Out`
+-- names what was done.
 pub record Does (next : SmbusPort) (out : Out) (after : State) (deed : Deed) (what : Done) : Type 0 where
   pub shows : Shows next deed.port
   pub sent : out ≡ sends (map written deed.sent) what
   pub read : AreRead Smbus deed.sent
   pub left : after ≡ deed.board
 
--- A port of a board with this setup hears the bytes, and it and the board do what the lab's do with the packet. Bytes that are none
--- change nothing.
+-- A port of a board with this setup hears the bytes. The port and the board do what the lab's port and board do with the packet. Bytes that are no
+-- packet change nothing.
 pub record HearsBytes (setup : BoardFile) (port : PortState) (before : State) (bytes : List ℕ) (next : SmbusPort) (out : Out) (after : State) : Type 0 where
   pub faulty : (fault : PacketFault) → find (has_fault bytes) faults ≡ Some fault → Does next out after (stays port before) (done.Ignored (reason.Packet fault))
   pub packet : (p : Packet) → IsPacket p bytes → Does next out after (hears setup port before (Part p)) (done_of (taken port p) (heard_in port p))
@@ -106,46 +109,49 @@ pub record HearsBytes (setup : BoardFile) (port : PortState) (before : State) (b
 
 -- the packets of a reply to a message of this envelope, from this place, and their frames
 abbrev pub parts_from : (wire eid : ℕ) → Envelope → List ℕ → List Value
-parts_from wire eid e body = reply_parts (quiet_port wire eid) e body
+parts_from wire eid envelope body = reply_parts (quiet_port wire eid) envelope body
 
 abbrev pub frames_from : (wire eid : ℕ) → Envelope → List ℕ → List (List ℕ)
-frames_from wire eid e body = map written (parts_from wire eid e body)
+frames_from wire eid envelope body = map written (parts_from wire eid envelope body)
 
--- a reply of these bytes is sent from a place to the sender of the envelope's message, each packet read as itself, and this was done
+-- A port sends a reply of these bytes from a place to the sender of the envelope's message, and this was done. A reader of each packet's bytes gives
+-- the packet.
 pub record Replies (at : At) (to : Envelope) (body : List ℕ) (what : Done) (out : Out) : Type 0 where
   pub sent : out ≡ sends (frames_from at.wire at.eid to body) what
   pub read : AreRead Smbus (parts_from at.wire at.eid to body)
 
 -- a new request was kept with its reply
 abbrev pub IsKept : Held → Kept → Held → Type 0
-IsKept old k new = (log : List Entry) → AreOf old log → outcome (is_above instances) k.request log ≡ IsNew → AreOf new (Carried k ∷ log)
+IsKept old kept new = (log : List Entry) → AreOf old log → outcome (is_above instances) kept.request log ≡ IsNew → AreOf new (Carried kept ∷ log)
 
--- The endpoint has this identifier then. Of all that is no request comes what is sent, which is read as itself, and a request is given.
+-- What a port makes of what it heard: it gives a request, and answers a control message. The endpoint then has this identifier. A reader of each
+-- packet's bytes gives the packet.
 abbrev pub HasHeard : (wire eid : ℕ) → Heard → ℕ → Out → Option InMessage → Type 0
 HasHeard wire eid (Ignored why) next out given = (next ≡ eid) × (out ≡ ignored why) × (given ≡ None)
 HasHeard wire eid Waiting next out given = (next ≡ eid) × (out ≡ waiting) × (given ≡ None)
-HasHeard wire eid (Control e r) next out given =
-    (next ≡ eid_after eid r.command r.content) × (out ≡ sends (frames_from wire next e (control_reply_to eid r)) done.Control) × (given ≡ None)
-    × AreRead Smbus (parts_from wire next e (control_reply_to eid r))
-HasHeard wire eid (Asks m) next out given = (next ≡ eid) × (given ≡ Some m)
+HasHeard wire eid (Control envelope request) next out given =
+    (next ≡ eid_after eid request.command request.content) × (out ≡ sends (frames_from wire next envelope (control_reply_to eid request)) done.Control) × (given ≡ None)
+    × AreRead Smbus (parts_from wire next envelope (control_reply_to eid request))
+HasHeard wire eid (Asks request) next out given = (next ≡ eid) × (given ≡ Some request)
 
--- The port hears in a packet its message, if it ends one. Else the endpoint has its identifier still, and comes what is sent.
+-- The port hears in a packet the message that the packet ends, if any. Else the endpoint keeps its identifier, and `Out` has what the port sends.
 abbrev pub IsPart : PortState → Packet → Heard → Out → (whole : Bool) → Type 0
-IsPart port p h out true = h ≡ message_heard (message_of port.kept p)
-IsPart port p h out false = HasHeard port.wire port.eid h port.eid out None
+IsPart port packet heard out true = heard ≡ message_heard (message_of port.kept packet)
+IsPart port packet heard out false = HasHeard port.wire port.eid heard port.eid out None
 
 -- a packet was taken
-pub record HasTaken (port : PortState) (p : Packet) (left : Assemblies) (out : Out) (whole : Bool) : Type 0 where
-  pub kept : left ≡ (taken port p).kept
-  pub heard : IsPart (taken port p) p (heard_in port p) out whole
+pub record HasTaken (port : PortState) (packet : Packet) (left : Assemblies) (out : Out) (whole : Bool) : Type 0 where
+  pub kept : left ≡ (taken port packet).kept
+  pub heard : IsPart (taken port packet) packet (heard_in port packet) out whole
 
--- What was read in bytes: the packet that ends a message, in which this is heard; or else no request is heard, and comes what is sent. What
--- waits then is this.
+-- A port read a packet in the bytes that ends a message, and hears that message; or it hears no request, and `Out` has what the port sends. These
+-- assemblies then wait.
 abbrev pub IsRead : PortState → List ℕ → Assemblies → Out → Option Packet → Type 0
-IsRead port bytes left out (Some p) = Hearing port bytes (λ now h. (now ≡ record port { kept = left }) × (h ≡ message_heard (message_of left p)))
+IsRead port bytes left out (Some packet) = Hearing port bytes (λ now h. (now ≡ record port { kept = left }) × (h ≡ message_heard (message_of left packet)))
 IsRead port bytes left out None = Hearing port bytes (λ now h. (now ≡ record port { kept = left }) × HasHeard port.wire port.eid h port.eid out None)
 
--- a request that repeats another, or for which there's no window, was answered by these packets, each read as itself, and a new one wasn't
+-- The port has answered a request that repeats another, or for which it has no window, by these packets, and hasn't answered a new one. A reader of
+-- each packet's bytes gives the packet.
 abbrev pub IsSettled : Outcome → (busy : List ℕ) → (List ℕ → List Value) → Out → Out → Bool → Type 0
 IsSettled (Repeats reply) busy parts before out settled = (settled ≡ true) × (out ≡ sends (map written (parts reply)) done.Repeated) × AreRead Smbus (parts reply)
 IsSettled IsBusy busy parts before out settled = (settled ≡ true) × (out ≡ sends (map written (parts busy)) done.Busy) × AreRead Smbus (parts busy)

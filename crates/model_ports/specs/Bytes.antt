@@ -18,7 +18,7 @@ use Rattle.model_ports.specs.Wires.{bus_of, bytes_of, asked_from, reply_to, answ
 
 -- ---- requests
 
--- what bytes ask on a bus, where they come from this requester
+-- the request that bytes from this requester are on a bus
 abbrev pub asked_by_bytes : ℕ → Bus → List ℕ → Asked
 asked_by_bytes from on bytes = sent_by from (asked_from (λ other. record { manager = from; controller = from }) on bytes)
 
@@ -27,17 +27,17 @@ abbrev pub Fits : Asked → Type 0
 Fits (Ipmi from net_fn lun command body) = lun < 4
 Fits (Pldm from kind command body) = Unit {0}
 
--- there is the number on the bus
+-- the number is one of the bus's numbers
 abbrev pub IsNumber : Bus → ℕ → Type 0
 IsNumber on number = number < circle_of on
 
 -- a request that a port hears on IPMB
 abbrev pub heard_in : Request → Heard
-heard_in r = record { requester = r.header.requester.address; number = r.header.sequence; bytes = request_bytes r }
+heard_in request = record { requester = request.header.requester.address; number = request.header.sequence; bytes = request_bytes request }
 
 -- a request that a port hears on SMBus, from this endpoint
 abbrev pub pldm_heard_in : ℕ → PldmRequest → Heard
-pldm_heard_in from r = record { requester = from; number = r.header.instance; bytes = pldm_message_type ∷ pldm_request_bytes r }
+pldm_heard_in from request = record { requester = from; number = request.header.instance; bytes = pldm_message_type ∷ pldm_request_bytes request }
 
 -- ---- replies
 
@@ -45,38 +45,38 @@ pldm_heard_in from r = record { requester = from; number = r.header.instance; by
 abbrev pub busy_on : Bus → Told
 busy_on on = record { code = busy_code on; body = [] }
 
--- what a port replies to a request: the reply, or where there is none, that it is busy
+-- what a port replies to a request: the reply, or that it is busy, where there is none
 abbrev pub said : Bus → Heard → Option (List ℕ) → List ℕ
-said on r (Some reply) = reply
-said on r None = reply_to on r.bytes (busy_on on)
+said on heard (Some reply) = reply
+said on heard None = reply_to on heard.bytes (busy_on on)
 
 -- the bytes of a response
 abbrev pub response_bytes : Response → List ℕ
-response_bytes r =
-    packed (r.header.net_fn + 1) r.header.requester.lun ∷ packed r.header.sequence r.header.responder.lun ∷ r.header.command ∷ r.code ∷ r.body
+response_bytes response =
+    packed (response.header.net_fn + 1) response.header.requester.lun ∷ packed response.header.sequence response.header.responder.lun ∷ response.header.command ∷ response.code ∷ response.body
 
 -- the response to a request that gives the answer
 abbrev pub response_to : Request → Told → Response
-response_to r a = record { header = r.header; code = a.code; body = a.body }
+response_to request told = record { header = request.header; code = told.code; body = told.body }
 
--- ---- what holds of them
+-- ---- what holds of these bytes
 
--- a request's bytes are read as that request, from whoever sent it; a reply's as that answer
+-- a reader gives the request of a request's bytes, whoever sent it, and the answer of a reply's bytes
 pub record AreReadBack : Type 0 where
   pub request : (from number : ℕ) (asked : Asked) → Fits asked → asked_by_bytes from (bus_of asked) (bytes_of number asked) ≡ sent_by from asked
-  pub reply : (on : Bus) (bytes : List ℕ) (a : Told) → answered_from on (reply_to on bytes a) ≡ a
+  pub reply : (on : Bus) (bytes : List ℕ) (told : Told) → answered_from on (reply_to on bytes told) ≡ told
 
--- they are a request's and a reply's of the model
+-- the bytes are a request's and a reply's of the model
 pub record AreTheModels : Type 0 where
   pub request : (number : ℕ) (asked : Asked) → Fits asked → IsNumber (bus_of asked) number → IsRequestOn (bus_of asked) number (bytes_of number asked)
-  pub reply : (on : Bus) (number : ℕ) (bytes : List ℕ) (a : Told) → IsRequestOn on number bytes → IsReplyOn on a.code bytes (reply_to on bytes a)
+  pub reply : (on : Bus) (number : ℕ) (bytes : List ℕ) (told : Told) → IsRequestOn on number bytes → IsReplyOn on told.code bytes (reply_to on bytes told)
 
 -- the reply to a request passes the manager's test against it, unless its code is one of a busy port
 abbrev pub Accepts : Type 0
-Accepts = (on : Bus) (number : ℕ) (bytes : List ℕ) (a : Told) → IsRequestOn on number bytes → is_busy_code a.code ≡ false
-    → answers on bytes (reply_to on bytes a) ≡ true
+Accepts = (on : Bus) (number : ℕ) (bytes : List ℕ) (told : Told) → IsRequestOn on number bytes → is_busy_code told.code ≡ false
+    → answers on bytes (reply_to on bytes told) ≡ true
 
--- a reply that passes it has the open request's number
+-- a reply that passes the manager's test has the open request's number
 abbrev pub IsNumbered : Type 0
-IsNumbered = (on : Bus) (m n : ℕ) (opened bytes : List ℕ) (a : Told) → IsRequestOn on m opened → IsRequestOn on n bytes
-    → answers on opened (reply_to on bytes a) ≡ true → n ≡ m
+IsNumbered = (on : Bus) (m n : ℕ) (opened bytes : List ℕ) (told : Told) → IsRequestOn on m opened → IsRequestOn on n bytes
+    → answers on opened (reply_to on bytes told) ≡ true → n ≡ m

@@ -28,42 +28,42 @@ use Rattle.model_ports.specs.PortSteps.{PortState, spelled, asked_in, pldm_asked
 
 -- the reply that the board would give to the request
 abbrev pub answer_to : BoardFile → State → Request → List ℕ
-answer_to setup before r = spelled Ipmb (heard_in r) (answer_of setup before (asked_in r)).0
+answer_to setup before request = spelled Ipmb (heard_in request) (answer_of setup before (asked_in request)).0
 
 -- A request leaves the log that the model's event leaves: another's asking, or a frame of the manager that holds these bytes.
-pub record RequestsAreEvents (setup : BoardFile) (port : PortState) (before : State) (r : Request) (b : Rules) (s : BusState) : Type 0 where
-  pub others : (happens b s (OtherAsks (heard_in r) (answer_to setup before r))).log ≡ (hears_request setup port before r).port.log
-  pub managers : (which : ℕ) (f : Frame) (bytes : List ℕ) → slice_get s.frames which ≡ Some f → f.content ≡ Ask bytes → heard_in r ≡ request_of b f.request bytes
-      → (happens b s (ReachesPort which (answer_to setup before r))).log ≡ (hears_request setup port before r).port.log
+pub record RequestsAreEvents (setup : BoardFile) (port : PortState) (before : State) (request : Request) (rules : Rules) (state : BusState) : Type 0 where
+  pub others : (happens rules state (OtherAsks (heard_in request) (answer_to setup before request))).log ≡ (hears_request setup port before request).port.log
+  pub managers : (which : ℕ) (frame : Frame) (bytes : List ℕ) → slice_get state.frames which ≡ Some frame → frame.content ≡ Ask bytes → heard_in request ≡ request_of rules frame.request bytes
+      → (happens rules state (ReachesPort which (answer_to setup before request))).log ≡ (hears_request setup port before request).port.log
 
--- of every request, where the model's log is the port's
+-- so it is with every request, where the model's log is the port's
 abbrev pub RequestsLeaveLog : Type 0
-RequestsLeaveLog = (setup : BoardFile) (port : PortState) (before : State) (r : Request) (manager controller first : ℕ) (s : BusState) → s.log ≡ port.log
-    → RequestsAreEvents setup port before r (ipmb manager controller first) s
+RequestsLeaveLog = (setup : BoardFile) (port : PortState) (before : State) (request : Request) (manager controller first : ℕ) (state : BusState) → state.log ≡ port.log
+    → RequestsAreEvents setup port before request (ipmb manager controller first) state
 
 -- ---- SMBus
 
--- the reply that the board would give to what is read in a message from this endpoint
+-- the reply that the board would give to the request that a message from this endpoint is read as, if any
 abbrev pub pldm_answer_to : BoardFile → State → ℕ → Option PldmRequest → List ℕ
 pldm_answer_to setup before from None = []
-pldm_answer_to setup before from (Some r) = spelled Smbus (pldm_heard_in from r) (answer_of setup before (pldm_asked from r)).0
+pldm_answer_to setup before from (Some request) = spelled Smbus (pldm_heard_in from request) (answer_of setup before (pldm_asked from request)).0
 
--- the reply that it would give to a message's bytes
+-- the reply that the board would give to a message's bytes
 abbrev pub message_answer_to : BoardFile → State → ℕ → List ℕ → List ℕ
 message_answer_to setup before from [] = []
 message_answer_to setup before from (kind ∷ rest) = pldm_answer_to setup before from (pldm_request_in rest)
 
--- the reply that it would give to the message that the packet ends, if it ends one
+-- the reply that the board would give to the message that the packet ends, if any
 abbrev pub part_answer_to : BoardFile → PortState → State → Packet → List ℕ
-part_answer_to setup port before p =
-    message_answer_to setup before p.envelope.source_eid (message_of (kept_after port.eid port.kept p) p).body
+part_answer_to setup port before packet =
+    message_answer_to setup before packet.envelope.source_eid (message_of (kept_after port.eid port.kept packet) packet).body
 
 -- under which name the packet is sent
 abbrev pub name_in : Packet → Name
-name_in p = seen_name (name_of p.envelope)
+name_in packet = seen_name (name_of packet.envelope)
 
--- The event of a packet, by the cause for which it's dropped, if it is. One that isn't the endpoint's is no event. One for which there
--- is no slot closes the assembly of its name. Any other is taken, by this event.
+-- The event of a packet, by the cause for which the port drops it, if it does. A packet that isn't the endpoint's is no event. A packet for which there
+-- is no slot closes the assembly of its name. This event takes any other packet.
 abbrev pub event_by : Option DropCause → Name → PacketEvent → Option PacketEvent
 event_by (Some NotOurs) name taken = None
 event_by (Some NoSlot) name taken = Some (Closes name)
@@ -73,39 +73,39 @@ event_by (Some OutOfSequence) name taken = Some taken
 event_by (Some UnitSize) name taken = Some taken
 event_by None name taken = Some taken
 
--- both ends after the event, if it's one
+-- both ends after the event, if there is one
 abbrev pub happens_if : PacketBus → Option PacketEvent → Ends → Ends
-happens_if b None x = x
-happens_if b (Some e) x = packet_happens b x e
+happens_if bus None ends = ends
+happens_if bus (Some event) ends = packet_happens bus ends event
 
--- both ends after a packet that came to the port, and that would be taken by this event
+-- both ends after a packet that came to the port, where this event would take it
 abbrev pub after_part : PacketBus → PortState → Packet → PacketEvent → Ends → Ends
-after_part b port p taken x = happens_if b (event_by (drop_cause port.eid port.kept p) (name_in p) taken) x
+after_part bus port packet taken ends = happens_if bus (event_by (drop_cause port.eid port.kept packet) (name_in packet) taken) ends
 
--- the model's port is the lab's: it did the same, and the same waits at it
-pub record IsPortOf (x : Ends) (port : PortState) : Type 0 where
-  pub log : x.bus.log ≡ port.log
-  pub waits : WaitsAlike x.port port.kept
+-- the model's port is the lab's: both did the same, and the same packets wait at both
+pub record IsPortOf (ends : Ends) (port : PortState) : Type 0 where
+  pub log : ends.bus.log ≡ port.log
+  pub waits : WaitsAlike ends.port port.kept
   pub sound : IsSound port.kept
 
 -- The packet is the one at this place of frame `which`, a frame of the manager that holds a PLDM request under its number.
-pub record IsManagersPart (b : PacketBus) (x : Ends) (which place : ℕ) (p : Packet) : Type 0 where
+pub record IsManagersPart (bus : PacketBus) (ends : Ends) (which place : ℕ) (packet : Packet) : Type 0 where
   pub frame : Frame
   pub bytes : List ℕ
-  pub sent : slice_get x.bus.frames which ≡ Some frame
+  pub sent : slice_get ends.bus.frames which ≡ Some frame
   pub asks : frame.content ≡ Ask bytes
-  pub part : slice_get (b.split bytes) place ≡ Some (seen (piece p))
-  pub named : name_in p ≡ request_name b frame.request
-  pub read : request_in b.manager bytes ≡ Some (request_of (rules_of b) frame.request bytes)
+  pub part : slice_get (bus.split bytes) place ≡ Some (seen (piece packet))
+  pub named : name_in packet ≡ request_name bus frame.request
+  pub read : request_in bus.manager bytes ≡ Some (request_of (rules_of bus) frame.request bytes)
 
--- The model's event leaves at its port what a packet of at most 64 bytes leaves at the lab's: the log, and what waits. The packet is
+-- The model's event leaves at its port what a packet of at most 64 bytes leaves at the lab's port: the log, and the packets that wait. The packet is
 -- another requester's, or the manager's, where the event does what it does in each honest schedule.
-pub record PartsAreEvents (setup : BoardFile) (port : PortState) (before : State) (p : Packet) (b : PacketBus) (x : Ends) : Type 0 where
-  pub others : IsPortOf (after_part b port p (OtherPacket (name_in p) (seen (piece p)) (part_answer_to setup port before p)) x) (hears_part setup port before p).port
-  pub managers : (which place : ℕ) → let e = PacketReachesPort which place (part_answer_to setup port before p) in
-      IsManagersPart b x which place p → HasPacketEffect b x e → IsPortOf (after_part b port p e x) (hears_part setup port before p).port
+pub record PartsAreEvents (setup : BoardFile) (port : PortState) (before : State) (packet : Packet) (bus : PacketBus) (ends : Ends) : Type 0 where
+  pub others : IsPortOf (after_part bus port packet (OtherPacket (name_in packet) (seen (piece packet)) (part_answer_to setup port before packet)) ends) (hears_part setup port before packet).port
+  pub managers : (which place : ℕ) → let e = PacketReachesPort which place (part_answer_to setup port before packet) in
+      IsManagersPart bus ends which place packet → HasPacketEffect bus ends e → IsPortOf (after_part bus port packet e ends) (hears_part setup port before packet).port
 
--- of every packet
+-- so it is with every packet
 abbrev pub PartsLeaveLog : Type 0
-PartsLeaveLog = (setup : BoardFile) (port : PortState) (before : State) (p : Packet) (b : PacketBus) (x : Ends) → length p.payload ≤ unit_size → IsPortOf x port
-    → PartsAreEvents setup port before p b x
+PartsLeaveLog = (setup : BoardFile) (port : PortState) (before : State) (packet : Packet) (bus : PacketBus) (ends : Ends) → length packet.payload ≤ unit_size → IsPortOf ends port
+    → PartsAreEvents setup port before packet bus ends

@@ -16,7 +16,7 @@ use Rattle.record_base.specs.declared.message.Answered.{Answered}
 use Rattle.cfg_records.specs.declared.board_file.BoardFile.{BoardFile}
 use Rattle.model_bus.specs.Request.{Request as Heard, Kept, Entry, Idled}
 use Rattle.two_wire.specs.declared.Bus.{Bus}
-use Rattle.model_bus.specs.Bytes.{pldm_message_type}
+use Rattle.model_bus.specs.Bytes.{control_message_type, pldm_message_type}
 use Rattle.model_bus.specs.Circle.{sequence_numbers, instances}
 use Rattle.model_bus.specs.Numbering.{is_above}
 use Rattle.model_bus.specs.Carried.{Outcome, Repeats, IsBusy, IsNew, outcome, log_after, reply_after}
@@ -39,7 +39,7 @@ quiet_port wire eid = record { wire = wire; eid = eid; kept = nothing; log = [] 
 
 -- ---- one request
 
--- what comes of a request: what was done with it, the log and the board after it, and the reply, none where the port is busy
+-- a turn: what a port did with a request, the log and the board after it, and the reply, none where the port is busy
 pub record Turn : Type 0 where
   pub outcome : Outcome
   pub log : List Entry
@@ -48,29 +48,29 @@ pub record Turn : Type 0 where
 
 -- the reply to a request, as bytes
 abbrev pub spelled : Bus → Heard → Answered → List ℕ
-spelled on r a = reply_to on r.bytes (family_answer a)
+spelled on heard answered = reply_to on heard.bytes (family_answer answered)
 
--- the board after it: another only where the request is new
+-- the board after a request: the request changes it only where it is new
 abbrev pub left_by : Outcome → State → State → State
 left_by IsNew after before = after
 left_by IsBusy after before = before
 left_by (Repeats reply) after before = before
 
--- a request of these bytes, which asks this of a board, is carried out, or repeats an earlier one, or finds the port busy
+-- the turn of a request that asks this of a board: the board carries it out, or it repeats an earlier one, or it finds the port busy
 unfoldable pub turn : (ℕ → ℕ → Bool) → Heard → (Answered → List ℕ) → BoardFile → Asked → List Entry → State → Turn
-turn above r spell setup asked log before =
-    let o = outcome above r log in
+turn above heard spell setup asked log before =
+    let o = outcome above heard log in
     let given = answer_of setup before asked in
-    let k : Kept = record { request = r; reply = spell given.0 } in
+    let k : Kept = record { request = heard; reply = spell given.0 } in
     record { outcome = o; log = log_after o k log; left = left_by o given.1 before; replied = reply_after o k }
 
--- a port and the board after something came, and what is sent
+-- a port and the board after something came, and what the port sends
 pub record Deed : Type 0 where
   pub port : PortState
   pub board : State
   pub sent : List Value
 
--- nothing changes, and nothing is sent
+-- nothing changes, and the port sends nothing
 abbrev pub stays : PortState → State → Deed
 stays port before = record { port = port; board = before; sent = [] }
 
@@ -78,106 +78,106 @@ stays port before = record { port = port; board = before; sent = [] }
 
 -- what a request asks of the board
 abbrev pub asked_in : Request → Asked
-asked_in r = Ipmi r.header.requester.address r.header.net_fn r.header.responder.lun r.header.command r.body
+asked_in request = Ipmi request.header.requester.address request.header.net_fn request.header.responder.lun request.header.command request.body
 
--- what comes of a request on IPMB
+-- the turn of a request on IPMB
 abbrev pub request_turn : BoardFile → PortState → State → Request → Turn
-request_turn setup port before r = turn (is_above sequence_numbers) (heard_in r) (spelled Ipmb (heard_in r)) setup (asked_in r) port.log before
+request_turn setup port before request = turn (is_above sequence_numbers) (heard_in request) (spelled Ipmb (heard_in request)) setup (asked_in request) port.log before
 
--- the response to it
+-- the response to a request
 abbrev pub response_after : Request → Option (List ℕ) → Value
-response_after r replied = Tells (response_to r (answered_from Ipmb (said Ipmb (heard_in r) replied)))
+response_after request replied = Tells (response_to request (answered_from Ipmb (said Ipmb (heard_in request) replied)))
 
 -- a request on IPMB comes
 unfoldable pub hears_request : BoardFile → PortState → State → Request → Deed
-hears_request setup port before r =
-    let t = request_turn setup port before r in
-    record { port = record port { log = t.log }; board = t.left; sent = response_after r t.replied ∷ [] }
+hears_request setup port before request =
+    let t = request_turn setup port before request in
+    record { port = record port { log = t.log }; board = t.left; sent = response_after request t.replied ∷ [] }
 
 -- ---- SMBus: messages
 
--- The reply to a message goes to where its last packet came from, with the identifiers exchanged and the message's tag, of which it is
--- no owner.
+-- The reply to a message goes to where the message's last packet came from. Its envelope has the identifiers exchanged, and the message's tag, which
+-- the controller doesn't own.
 abbrev pub reply_envelope : PortState → Envelope → Envelope
-reply_envelope port e = record {
-  destination = e.source;
+reply_envelope port envelope = record {
+  destination = envelope.source;
   source = port.wire;
-  destination_eid = e.source_eid;
+  destination_eid = envelope.source_eid;
   source_eid = port.eid;
   tag_owner = false;
-  tag = e.tag;
+  tag = envelope.tag;
 }
 
 -- the packets of the reply to a message
 abbrev pub replies : PortState → Message → List ℕ → List Value
-replies port m body = map Part (parts_of (record { envelope = reply_envelope port m.envelope; body = body }))
+replies port message body = map Part (parts_of (record { envelope = reply_envelope port message.envelope; body = body }))
 
--- a control message: the endpoint's reply is sent, from the identifier that it has then
+-- a port hears a control message: it sends the endpoint's reply, from the identifier that the endpoint has then
 abbrev pub hears_control : PortState → State → Message → Option ControlRequest → Deed
-hears_control port before m None = stays port before
-hears_control port before m (Some r) =
-    let next = record port { eid = eid_after port.eid r.command r.content } in
-    record { port = next; board = before; sent = replies next m (control_reply_to port.eid r) }
+hears_control port before message None = stays port before
+hears_control port before message (Some request) =
+    let next = record port { eid = eid_after port.eid request.command request.content } in
+    record { port = next; board = before; sent = replies next message (control_reply_to port.eid request) }
 
 -- what a PLDM request asks of the board, from this endpoint
 abbrev pub pldm_asked : ℕ → PldmRequest → Asked
-pldm_asked from r = Pldm from r.header.pldm_type r.header.command r.body
+pldm_asked from request = Pldm from request.header.pldm_type request.header.command request.body
 
--- what comes of a PLDM request
+-- the turn of a PLDM request
 abbrev pub pldm_turn : BoardFile → PortState → State → ℕ → PldmRequest → Turn
-pldm_turn setup port before from r =
-    turn (is_above instances) (pldm_heard_in from r) (spelled Smbus (pldm_heard_in from r)) setup (pldm_asked from r) port.log before
+pldm_turn setup port before from request =
+    turn (is_above instances) (pldm_heard_in from request) (spelled Smbus (pldm_heard_in from request)) setup (pldm_asked from request) port.log before
 
--- a PLDM message
+-- a port hears a PLDM message
 abbrev pub hears_pldm : BoardFile → PortState → State → Message → Option PldmRequest → Deed
-hears_pldm setup port before m None = stays port before
-hears_pldm setup port before m (Some r) =
-    let from = m.envelope.source_eid in
-    let t = pldm_turn setup port before from r in
-    record { port = record port { log = t.log }; board = t.left; sent = replies port m (said Smbus (pldm_heard_in from r) t.replied) }
+hears_pldm setup port before message None = stays port before
+hears_pldm setup port before message (Some request) =
+    let from = message.envelope.source_eid in
+    let t = pldm_turn setup port before from request in
+    record { port = record port { log = t.log }; board = t.left; sent = replies port message (said Smbus (pldm_heard_in from request) t.replied) }
 
--- a message whose sender owns its tag, by its type: 00h control, or PLDM
+-- a port hears a message whose sender owns its tag, by the message's type: control, or PLDM
 abbrev pub hears_typed : BoardFile → PortState → State → Message → List ℕ → Deed
-hears_typed setup port before m [] = stays port before
-hears_typed setup port before m (kind ∷ rest) =
-    if kind == 0 then hears_control port before m (control_request_of m.body)
-    else if kind == pldm_message_type then hears_pldm setup port before m (pldm_request_in rest)
+hears_typed setup port before message [] = stays port before
+hears_typed setup port before message (kind ∷ rest) =
+    if kind == control_message_type then hears_control port before message (control_request_of message.body)
+    else if kind == pldm_message_type then hears_pldm setup port before message (pldm_request_in rest)
     else stays port before
 
--- a whole message comes; a reply is nothing to a port
+-- a port hears a whole message; a reply is nothing to it
 unfoldable pub hears_message : BoardFile → PortState → State → Message → Deed
-hears_message setup port before m = if m.envelope.tag_owner then hears_typed setup port before m m.body else stays port before
+hears_message setup port before message = if message.envelope.tag_owner then hears_typed setup port before message message.body else stays port before
 
 -- ---- SMBus: packets
 
--- a packet was dropped for the cause, or it ended a message, or others are to come
+-- a port has taken a packet: it dropped the packet for the cause, or the packet ended a message, or others are to come
 abbrev pub ends_message : BoardFile → PortState → State → Packet → Option DropCause → Deed
-ends_message setup port before p (Some cause) = stays port before
-ends_message setup port before p None = if p.end then hears_message setup port before (message_of port.kept p) else stays port before
+ends_message setup port before packet (Some cause) = stays port before
+ends_message setup port before packet None = if packet.end then hears_message setup port before (message_of port.kept packet) else stays port before
 
--- a packet comes: it's dropped or kept first
+-- a packet comes: the port drops or keeps it first
 unfoldable pub hears_part : BoardFile → PortState → State → Packet → Deed
-hears_part setup port before p = ends_message setup (record port { kept = kept_after port.eid port.kept p }) before p (drop_cause port.eid port.kept p)
+hears_part setup port before packet = ends_message setup (record port { kept = kept_after port.eid port.kept packet }) before packet (drop_cause port.eid port.kept packet)
 
 -- packets come, one after another
 unfoldable pub hears_parts : BoardFile → PortState → State → List Packet → Deed
 hears_parts setup port before [] = stays port before
-hears_parts setup port before (p ∷ ps) =
-    let first = hears_part setup port before p in
-    let rest = hears_parts setup first.port first.board ps in
+hears_parts setup port before (packet ∷ packets) =
+    let first = hears_part setup port before packet in
+    let rest = hears_parts setup first.port first.board packets in
     record { port = rest.port; board = rest.board; sent = first.sent ++ rest.sent }
 
 -- all packets of a message come, one after another, if they go to the port's address
 abbrev pub hears_all : BoardFile → PortState → State → Message → Deed
-hears_all setup port before m = if m.envelope.destination == port.wire then hears_parts setup port before (parts_of m) else stays port before
+hears_all setup port before message = if message.envelope.destination == port.wire then hears_parts setup port before (parts_of message) else stays port before
 
 -- ---- any frame
 
 -- the port hears the frames to its address, and a response is nothing to it
 abbrev pub hears : BoardFile → PortState → State → Value → Deed
-hears setup port before (Asks r) = if r.header.responder.address == port.wire then hears_request setup port before r else stays port before
-hears setup port before (Tells r) = stays port before
-hears setup port before (Part p) = if p.envelope.destination == port.wire then hears_part setup port before p else stays port before
+hears setup port before (Asks request) = if request.header.responder.address == port.wire then hears_request setup port before request else stays port before
+hears setup port before (Tells response) = stays port before
+hears setup port before (Part packet) = if packet.envelope.destination == port.wire then hears_part setup port before packet else stays port before
 
 -- the port forgets a requester's window
 abbrev pub idles : ℕ → PortState → PortState

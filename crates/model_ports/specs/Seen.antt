@@ -9,24 +9,24 @@ use Rattle.model_bus.specs.Packet.{Packet as ModelPacket}
 use Rattle.model_bus.specs.Assembly.{Name as ModelName, Sent, Step, Waits, Whole, Drops, takes}
 use Rattle.model_bus.specs.PacketBus.{set_at}
 
--- a piece is this packet of the model
+-- the packet of the model that a piece is
 abbrev pub seen : Piece → ModelPacket
-seen p = record { first = p.start; last = p.end; sequence = p.sequence; payload = p.payload }
+seen piece = record { first = piece.start; last = piece.end; sequence = piece.sequence; payload = piece.payload }
 
--- a name is this one of the model
+-- the name of the model that a name is
 abbrev pub seen_name : Name → ModelName
-seen_name n = record { source = n.source_eid; owner = n.tag_owner; tag = n.tag }
+seen_name name = record { source = name.source_eid; owner = name.tag_owner; tag = name.tag }
 
--- the packets that were sent are these pieces
+-- the model's packets are these pieces
 abbrev pub AreSeen : List Sent → List Piece → Type 0
 AreSeen ss ps = map (λ (s : Sent). s.packet) ss ≡ map seen ps
 
--- under each name the same waits in the model and at the assembler
+-- under each name the same packets wait in the model and at the assembler
 abbrev pub WaitsAlike : (ModelName → List Sent) → Assemblies → Type 0
-WaitsAlike port a = (n : Name) → AreSeen (port (seen_name n)) (a.under n)
+WaitsAlike port assemblies = (name : Name) → AreSeen (port (seen_name name)) (assemblies.under name)
 
--- What the model does with a packet, by the cause for which the assembler drops it, if it does: these packets are joined. Of a packet
--- that isn't the endpoint's, and of one for which there is no slot, the model's step says nothing.
+-- What the model does with a packet to which these packets are joined, by the cause for which the assembler drops the packet, if it does. The model's
+-- step says nothing of a packet that isn't the endpoint's, nor of a packet for which there is no slot.
 abbrev pub Agrees : Option DropCause → Bool → List Sent → Step × List Sent → Type 0
 Agrees (Some NotOurs) ends ss step = ⊤
 Agrees (Some NoSlot) ends ss step = ⊤
@@ -37,13 +37,13 @@ Agrees (Some UnitSize) ends ss step = step ≡ (Drops, [])
 Agrees None true ss step = step ≡ (Whole ss, [])
 Agrees None false ss step = step ≡ (Waits, ss)
 
--- What waits in the model after the packet: a packet that isn't the endpoint's is no event, one for which there is no slot closes the
--- assembly of its name, and any other is taken.
+-- The packets that wait in the model after the packet. A packet that isn't the endpoint's is no event; a packet for which there is no slot closes the
+-- assembly of its name; the model takes any other packet.
 abbrev pub model_after : Option DropCause → ModelName → Sent → (ModelName → List Sent) → ModelName → List Sent
-model_after (Some NotOurs) name s port = port
-model_after (Some NoSlot) name s port = set_at name [] port
-model_after (Some NoStart) name s port = set_at name (takes (port name) s).1 port
-model_after (Some TooLong) name s port = set_at name (takes (port name) s).1 port
-model_after (Some OutOfSequence) name s port = set_at name (takes (port name) s).1 port
-model_after (Some UnitSize) name s port = set_at name (takes (port name) s).1 port
-model_after None name s port = set_at name (takes (port name) s).1 port
+model_after (Some NotOurs) name sent port = port
+model_after (Some NoSlot) name sent port = set_at name [] port
+model_after (Some NoStart) name sent port = set_at name (takes (port name) sent).1 port
+model_after (Some TooLong) name sent port = set_at name (takes (port name) sent).1 port
+model_after (Some OutOfSequence) name sent port = set_at name (takes (port name) sent).1 port
+model_after (Some UnitSize) name sent port = set_at name (takes (port name) sent).1 port
+model_after None name sent port = set_at name (takes (port name) sent).1 port

@@ -21,19 +21,19 @@ pub data Value : Type 0 where
 
 -- a value's frame
 abbrev pub written : Value → List ℕ
-written (Asks r) = frame (request_head r) (request_tail r)
-written (Tells r) = frame (response_head r) (response_tail r)
-written (Part p) = with_pec (unchecked p 0)
+written (Asks request) = frame (request_head request) (request_tail request)
+written (Tells response) = frame (response_head response) (response_tail response)
+written (Part packet) = with_pec (unchecked packet 0)
 
 -- the bytes are the value's frame on the bus
 abbrev pub IsFrameOn : Bus → Value → List ℕ → Type 0
-IsFrameOn Ipmb (Asks r) bytes = IsRequest r bytes
-IsFrameOn Ipmb (Tells r) bytes = IsResponse r bytes
-IsFrameOn Ipmb (Part p) bytes = ⊥
-IsFrameOn Smbus (Part p) bytes = IsPacket p bytes
-IsFrameOn Smbus (Asks r) bytes = ⊥
-IsFrameOn Smbus (Tells r) bytes = ⊥
+IsFrameOn Ipmb (Asks request) bytes = IsRequest request bytes
+IsFrameOn Ipmb (Tells response) bytes = IsResponse response bytes
+IsFrameOn Ipmb (Part packet) bytes = ⊥
+IsFrameOn Smbus (Part packet) bytes = IsPacket packet bytes
+IsFrameOn Smbus (Asks request) bytes = ⊥
+IsFrameOn Smbus (Tells response) bytes = ⊥
 
 -- the packets of a message: the runs of its bytes, each in its envelope
 abbrev pub parts_of : Message → List Packet
-parts_of m = map (λ q. record { envelope = m.envelope; start = q.first; end = q.last; sequence = q.sequence; payload = q.payload }) (packets_of m.body)
+parts_of message = map (λ q. record { envelope = message.envelope; start = q.first; end = q.last; sequence = q.sequence; payload = q.payload }) (packets_of message.body)

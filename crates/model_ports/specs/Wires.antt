@@ -21,15 +21,15 @@ bus_of (Pldm from kind command body) = Smbus
 
 -- an answer, in the words of the board
 abbrev pub board_answer : Answered → BoardAnswer
-board_answer a = record { code = a.code; body = a.body }
+board_answer answered = record { code = answered.code; body = answered.body }
 
--- and in those of the buses
+-- an answer, in the words of the buses
 abbrev pub family_answer : BoardAnswer → Answered
-family_answer a = record { code = a.code; body = a.body }
+family_answer board_answer = record { code = board_answer.code; body = board_answer.body }
 
 -- ---- what bytes say
 
--- of a request on IPMB: the netFn and both logical units, and the command
+-- what a request on IPMB says in its bytes: the netFn, both logical units and the command
 abbrev pub ipmb_header_in : List ℕ → IpmbHeader
 ipmb_header_in bytes = record {
   net_fn = slice_index bytes 0 / 4;
@@ -38,15 +38,15 @@ ipmb_header_in bytes = record {
   command = slice_index bytes 2;
 }
 
--- and the sequence number
+-- the sequence number of a request on IPMB
 abbrev pub sequence_in : List ℕ → ℕ
 sequence_in bytes = slice_index bytes 1 / 4
 
--- of a PLDM message: its type and command
+-- what a PLDM message says in its bytes: its type and its command
 abbrev pub pldm_header_in : List ℕ → PldmHeader
 pldm_header_in bytes = record { pldm_type = slice_index bytes 2; command = slice_index bytes 3 }
 
--- and the instance
+-- the instance of a PLDM message
 abbrev pub instance_in : List ℕ → ℕ
 instance_in bytes = slice_index bytes 1 % instances
 
@@ -64,8 +64,8 @@ asked_from at Smbus bytes = let h = pldm_header_in bytes in Pldm (at Smbus).mana
 
 -- the reply with this answer, to the request of these bytes
 abbrev pub reply_to : Bus → List ℕ → Answered → List ℕ
-reply_to Ipmb bytes a = ipmb_reply (ipmb_header_in bytes) (sequence_in bytes) a.code a.body
-reply_to Smbus bytes a = pldm_reply (pldm_header_in bytes) (instance_in bytes) a.code a.body
+reply_to Ipmb bytes answered = ipmb_reply (ipmb_header_in bytes) (sequence_in bytes) answered.code answered.body
+reply_to Smbus bytes answered = pldm_reply (pldm_header_in bytes) (instance_in bytes) answered.code answered.body
 
 -- the answer that the bytes of a reply give
 abbrev pub answered_from : Bus → List ℕ → Answered

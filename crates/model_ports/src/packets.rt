@@ -13,11 +13,17 @@ ghost use Rattle.model_ports.specs.Seen.{seen, seen_name, AreSeen, WaitsAlike, A
 /// A packet's step under its name is the model's, and afterwards the same waits in both under every name. A message that the packet ends
 /// has the same bytes in both.
 pub fn assemblies_agree()
-    ensures step { (own : ℕ) (a : Assemblies) (p : Packet) (s : Sent) (taken : List Sent) → s.packet ≡ seen (piece p)
-        → AreSeen taken (taken_under p a) → Agrees (drop_cause own a p) p.end (waiting taken s ++ s ∷ []) (takes taken s) }
-    ensures waits { (own : ℕ) (a : Assemblies) (p : Packet) (s : Sent) (port : ModelName → List Sent) → s.packet ≡ seen (piece p)
-        → WaitsAlike port a → WaitsAlike (model_after (drop_cause own a p) (seen_name (name_of p.envelope)) s port) (after own a p) }
-    ensures whole { (own : ℕ) (a : Assemblies) (p : Packet) (s : Sent) (taken : List Sent) → s.packet ≡ seen (piece p)
+    ensures step { (own : ℕ) (a : Assemblies) (p : Packet) (s : Sent) (taken : List Sent)
+        → s.packet ≡ seen (piece p)
+        → AreSeen taken (taken_under p a)
+        → Agrees (drop_cause own a p) p.end (waiting taken s ++ s ∷ []) (takes taken s) }
+    ensures waits { (own : ℕ) (a : Assemblies) (p : Packet) (s : Sent)
+        (port : ModelName → List Sent) → s.packet ≡ seen (piece p)
+        → WaitsAlike port a
+        → WaitsAlike (model_after (drop_cause own a p) (seen_name (name_of p.envelope)) s port)
+        (after own a p) }
+    ensures whole { (own : ℕ) (a : Assemblies) (p : Packet) (s : Sent) (taken : List Sent)
+        → s.packet ≡ seen (piece p)
         → AreSeen taken (taken_under p a) → drop_cause own a p ≡ None → p.end ≡ true
         → model_message_of (waiting taken s ++ s ∷ []) ≡ (message_of (after own a p) p).body }
 {}
@@ -25,5 +31,6 @@ pub fn assemblies_agree()
 /// The packets of a message are those of the model's cut, whose unit is the assembler's.
 pub fn cuts_agree()
     ensures unit { model_unit_size ≡ unit_size }
-    ensures cut { (m : Message) (ps : List Packet) → IsCutOf m ps → map (λ (p : Packet). seen (piece p)) ps ≡ packets_of m.body }
+    ensures cut { (m : Message) (ps : List Packet) → IsCutOf m ps
+        → map (λ (p : Packet). seen (piece p)) ps ≡ packets_of m.body }
 {}

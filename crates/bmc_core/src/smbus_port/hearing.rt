@@ -13,14 +13,9 @@ use super::replying::send;
 use crate::out::{Done, Out, Reason};
 use crate::port::At;
 use mctp_net::{Assembler, Endpoint, Envelope, Packet, Taken};
+use model_bus::{CONTROL_MESSAGE_TYPE, PLDM_MESSAGE_TYPE};
 use pldm_base::{PldmBytes, read_pldm};
 use two_wire::Address;
-
-/// The type of a control message (DSP0239, "MCTP message type codes").
-const CONTROL: u8 = 0x00;
-
-/// The type of a PLDM message.
-pub(super) const PLDM: u8 = 0x01;
 
 /// Takes a packet at this two-wire address, and returns whether it ends a message. Where it doesn't, `out` says what was done.
 pub(super) fn take(
@@ -69,11 +64,11 @@ pub(super) fn hear<'a>(
         return None;
     }
     match body {
-        [CONTROL, ..] => {
+        [CONTROL_MESSAGE_TYPE, ..] => {
             control(wire, endpoint, envelope, body, out);
             None
         }
-        [PLDM, bytes @ ..] => pldm(envelope, bytes, out),
+        [PLDM_MESSAGE_TYPE, bytes @ ..] => pldm(envelope, bytes, out),
         _ => {
             out.ignore(Reason::MessageType);
             None

@@ -2,6 +2,7 @@
 ghost use Rattle.std.specs.Prelude.{◌≡◌, ◌<◌, ◌≤◌, ◌∷◌, ◌++◌, length, List, IfOk, IfErr, OnErr};
 ghost use Rattle.two_wire.specs.Sizes.{most_message_bytes};
 ghost use Rattle.pldm_base.specs.Message.{IsHeader, reply_start};
+ghost use Rattle.model_bus.specs.Bytes.{pldm_message_type};
 ghost use Rattle.model_bus.specs.Request.{Entry};
 ghost use Rattle.record_base.specs.declared.message.Answered.{Answered as AnyAnswer};
 ghost use Rattle.bmc_board.specs.Gives.{Gives};
@@ -10,7 +11,6 @@ ghost use Rattle.bmc_core.specs.SmbusHeard.{asking, found_in, busy_reply, kept_w
 ghost use Rattle.bmc_core.specs.SmbusShown.{AreOf, parts_from, IsSettled, IsKept, Replies};
 ghost use Rattle.bmc_core.specs.SmbusServed.{IsAnsweredBy, IsCarriedOut};
 
-use super::hearing::PLDM;
 use super::pending::{INSTANCES, RequestInMessage};
 use crate::out::{Done, Out};
 use crate::port::At;
@@ -18,6 +18,7 @@ use bmc_carry::Carrier;
 use bmc_windows::{Found, Windows};
 use cfg_records::Answered;
 use mctp_net::{Envelope, Message, SomeData, split_into};
+use model_bus::PLDM_MESSAGE_TYPE;
 use pldm_base::{Header, begin_pldm_reply};
 use two_wire::size::MOST_MESSAGE_BYTES;
 use two_wire::{Bytes, Code, code};
@@ -52,10 +53,10 @@ pub(super) fn send(at: &At, to: &Envelope, body: &[u8], out: &mut Out)
 
 /// Replaces the bytes by the start of a reply: all that stands before its data.
 fn begin(header: &Header, code: u8, reply: &mut Reply)
-    ensures started { reply.new ≡ 1 ∷ reply_start header.now code }
+    ensures started { reply.new ≡ pldm_message_type ∷ reply_start header.now code }
     ensures header { IsHeader header.now }
 {
-    reply.replace(&[PLDM]);
+    reply.replace(&[PLDM_MESSAGE_TYPE]);
     begin_pldm_reply(header, code, reply);
 }
 
@@ -173,8 +174,8 @@ fn respond<C: Carrier>(
 /// Leaves the reply to which data were appended, or makes it that of a refusal.
 #[inline(always)]
 fn finish(header: &Header, given: Result<(), Code>, reply: &mut Reply)
-    ensures { (a : AnyAnswer) → Gives given (1 ∷ reply_start header.now 0) reply.old a
-        → reply.new ≡ (1 ∷ reply_start header.now a.code) ++ a.body }
+    ensures { (a : AnyAnswer) → Gives given (pldm_message_type ∷ reply_start header.now 0)
+        reply.old a → reply.new ≡ (pldm_message_type ∷ reply_start header.now a.code) ++ a.body }
 {
     match given {
         Ok(()) => {}
