@@ -18,67 +18,67 @@ pub record Moment (F : Family) : Type 0 where
 
 -- how many requests were answered, on both buses
 abbrev pub answered_in_all : Counts → ℕ
-answered_in_all c = c.ipmb + c.smbus
+answered_in_all counts = counts.ipmb + counts.smbus
 
 module _ (F : Family) (answer : F.Board → F.words.Asked → Answered × F.Board) where
   -- the board answers each request by the command relation
   abbrev pub AnswersByRow : Type 0
-  AnswersByRow = (b : F.Board) (asked : F.words.Asked) → F.Row b asked (answer b asked).0 (answer b asked).1
+  AnswersByRow = (board : F.Board) (asked : F.words.Asked) → F.Row board asked (answer board asked).0 (answer board asked).1
 
   abbrev pub told : Option (Turn F.words) → F.Board → Moment F → Moment F
-  told None b x = record x { board = b }
-  told (Some t) b x = record { turn = t; board = b }
+  told None board moment = record moment { board = board }
+  told (Some turn) board moment = record { turn = turn; board = board }
 
   abbrev pub exchanged : Option (Sending F.words) → Moment F → Moment F
-  exchanged None x = x
-  exchanged (Some s) x = told (reply_of F.words (answer x.board s.asked).0 x.turn.machine) (answer x.board s.asked).1 x
+  exchanged None moment = moment
+  exchanged (Some sending) moment = told (reply_of F.words (answer moment.board sending.asked).0 moment.turn.machine) (answer moment.board sending.asked).1 moment
 
   -- the request is answered, and the reply taken, if one was sent
   abbrev pub one : Moment F → Moment F
-  one x = exchanged x.turn.sends x
+  one moment = exchanged moment.turn.sends moment
 
   -- so many requests are
   abbrev pub clean : ℕ → Moment F → Moment F
-  clean zero x = x
-  clean (suc n) x = clean n (one x)
+  clean zero moment = moment
+  clean (suc count) moment = clean count (one moment)
 
   -- the board's answer to the Get of an operation's record, and to its Set after that
   abbrev pub got : F.Board → F.words.Op → Answered × F.Board
-  got b op = answer b (get_asked F.words (F.words.key_of op))
+  got board op = answer board (get_asked F.words (F.words.key_of op))
 
   abbrev pub did : F.Board → F.words.Op → Answered × F.Board
-  did b op = answer (got b op).1 (set_asked F.words op)
+  did board op = answer (got board op).1 (set_asked F.words op)
 
   -- a step is carried out, and can be undone
-  pub record Goes (b : F.Board) (op : F.words.Op) (after : F.Board) : Type 0 where
-    pub read : (got b op).0.code ≡ success
-    pub can_undo : F.Restorable op (got b op).0.body
-    pub done : (did b op).0.code ≡ success
-    pub left : after ≡ (did b op).1
+  pub record Goes (board : F.Board) (op : F.words.Op) (after : F.Board) : Type 0 where
+    pub read : (got board op).0.code ≡ success
+    pub can_undo : F.Restorable op (got board op).0.body
+    pub done : (did board op).0.code ≡ success
+    pub left : after ≡ (did board op).1
 
   -- all steps are, in order, from the first board to the second
   abbrev pub GoAll : List F.words.Op → F.Board → F.Board → Type 0
-  GoAll [] b c = c ≡ b
-  GoAll (op ∷ ops) b c = (mid : F.Board) × Goes b op mid × GoAll ops mid c
+  GoAll [] board after = after ≡ board
+  GoAll (op ∷ ops) board after = (mid : F.Board) × Goes board op mid × GoAll ops mid after
 
   -- why a step isn't, and how many requests of it were sent
   abbrev pub Sticks : F.Board → F.words.Op → Why → ℕ → Type 0
-  Sticks b op Stop n = ⊥
-  Sticks b op (GetRefused code) n = ((got b op).0.code ≡ code) × (code ≢ success) × (n ≡ 1)
-  Sticks b op NotRestorable n = ((got b op).0.code ≡ success) × (¬ F.Restorable op (got b op).0.body) × (n ≡ 1)
-  Sticks b op (Refused code) n =
-      ((got b op).0.code ≡ success) × F.Restorable op (got b op).0.body × ((did b op).0.code ≡ code) × (code ≢ success) × (n ≡ 2)
+  Sticks board op Stop count = ⊥
+  Sticks board op (GetRefused code) count = ((got board op).0.code ≡ code) × (code ≢ success) × (count ≡ 1)
+  Sticks board op NotRestorable count = ((got board op).0.code ≡ success) × (¬ F.Restorable op (got board op).0.body) × (count ≡ 1)
+  Sticks board op (Refused code) count =
+      ((got board op).0.code ≡ success) × F.Restorable op (got board op).0.body × ((did board op).0.code ≡ code) × (code ≢ success) × (count ≡ 2)
 
-  -- the phase after k steps, where these are left: done, or halted at the first of them
+  -- the phase after `step` steps, where these steps are left: done, or halted at the first of them
   abbrev pub EndsIn : ℕ → List F.words.Op → F.Board → Phase → ℕ → Type 0
-  EndsIn k [] b phase n = (phase ≡ Done) × (n ≡ 0)
-  EndsIn k (op ∷ ops) b phase n = (why : Why) × Sticks b op why n × (phase ≡ Halted k why)
+  EndsIn step [] board phase count = (phase ≡ Done) × (count ≡ 0)
+  EndsIn step (op ∷ ops) board phase count = (why : Why) × Sticks board op why count × (phase ≡ Halted step why)
 
   -- nothing is to be sent any more, and so many requests were answered
-  pub record IsAtRest (x : Moment F) (phase : Phase) (requests : ℕ) : Type 0 where
-    pub rests : x.turn.sends ≡ None
-    pub phase_is : phase_of F.words x.turn.machine ≡ phase
-    pub count : answered_in_all x.turn.machine.counts ≡ requests
+  pub record IsAtRest (moment : Moment F) (phase : Phase) (requests : ℕ) : Type 0 where
+    pub rests : moment.turn.sends ≡ None
+    pub phase_is : phase_of F.words moment.turn.machine ≡ phase
+    pub count : answered_in_all moment.turn.machine.counts ≡ requests
 
   -- A plan that is begun takes two requests for each step that goes, and ends after the last or halts at the first that doesn't. Its
   -- undo takes one for each step that went, and ends with the records of the start.

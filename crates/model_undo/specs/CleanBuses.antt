@@ -20,41 +20,41 @@ module _ (F : Family) (L : Bus → Line) (D : (bus : Bus) → Delivery (L bus)) 
   -- these reach the port one after another, and with the last of them the board becomes the other
   abbrev pub reach_port : (bus : Bus) → List (L bus).Event → F.Board → F.Board → List (Happening F L)
   reach_port bus [] board after = []
-  reach_port bus (e ∷ []) board after = OnBus bus e after ∷ []
-  reach_port bus (e ∷ f ∷ es) board after = OnBus bus e board ∷ reach_port bus (f ∷ es) board after
+  reach_port bus (event ∷ []) board after = OnBus bus event after ∷ []
+  reach_port bus (event ∷ next ∷ events) board after = OnBus bus event board ∷ reach_port bus (next ∷ events) board after
 
   -- the open request reaches the port, and the board answers it
   abbrev pub asks : Part F.words → World F L → List (Happening F L)
-  asks part w =
+  asks part world =
       let bus = bus_at F.words part in
-      let a = answer w.board part.asked in
-      reach_port bus ((D bus).to_port (w.on bus) (W.reply_to bus (bytes_sent F L W (sending F.words part w.machine.counts)) a.0)) w.board a.1
+      let a = answer world.board part.asked in
+      reach_port bus ((D bus).to_port (world.on bus) (W.reply_to bus (bytes_sent F L W (sending F.words part world.machine.counts)) a.0)) world.board a.1
 
   -- what was sent back reaches the manager
   abbrev pub replies : Bus → World F L → List (Happening F L)
-  replies bus w = map (λ (e : (L bus).Event). ToManager bus e) ((D bus).to_manager (w.on bus))
+  replies bus world = map (λ (e : (L bus).Event). ToManager bus e) ((D bus).to_manager (world.on bus))
 
   -- so it goes with the open request, if one is open
   abbrev pub exchange : Stage F.words → World F L → List (Happening F L)
-  exchange (Opened true task part) w = asks part w ++ replies (bus_at F.words part) (run F L W (asks part w) w)
-  exchange _ w = []
+  exchange (Opened true task part) world = asks part world ++ replies (bus_at F.words part) (run F L W (asks part world) world)
+  exchange _ world = []
 
   -- and so with as many requests as this
   abbrev pub exchanges : ℕ → World F L → List (Happening F L)
-  exchanges zero w = []
-  exchanges (suc n) w = exchange w.machine.stage w ++ exchanges n (run F L W (exchange w.machine.stage w) w)
+  exchanges zero world = []
+  exchanges (suc count) world = exchange world.machine.stage world ++ exchanges count (run F L W (exchange world.machine.stage world) world)
 
   -- each request that the manager makes, and each answer to one of a board with valid records, can be sent on its bus
   pub record AllCanBeSent : Type 0 where
     pub requests : (number : ℕ) (asked : F.words.Asked) → IsMade F.words asked → (D (F.words.bus_of asked)).CanSend (W.bytes_of number asked)
-    pub answers : (number : ℕ) (asked : F.words.Asked) (b : F.Board) → AllValid F (F.records b) → IsMade F.words asked
-        → (D (F.words.bus_of asked)).CanSend (W.reply_to (F.words.bus_of asked) (W.bytes_of number asked) (answer b asked).0)
+    pub answers : (number : ℕ) (asked : F.words.Asked) (board : F.Board) → AllValid F (F.records board) → IsMade F.words asked
+        → (D (F.words.bus_of asked)).CanSend (W.reply_to (F.words.bus_of asked) (W.bytes_of number asked) (answer board asked).0)
 
   -- the manager is in the phase, so many requests of it were begun on both buses, and each was answered
-  pub record HasEnded (w : World F L) (phase : Phase) (requests : ℕ) : Type 0 where
-    pub phase_is : phase_of F.words w.machine ≡ phase
-    pub closed : (bus : Bus) → IsClosed ((L bus).requests (w.on bus))
-    pub count : length ((L Ipmb).requests (w.on Ipmb)).begun + length ((L Smbus).requests (w.on Smbus)).begun ≡ requests
+  pub record HasEnded (world : World F L) (phase : Phase) (requests : ℕ) : Type 0 where
+    pub phase_is : phase_of F.words world.machine ≡ phase
+    pub closed : (bus : Bus) → IsClosed ((L bus).requests (world.on bus))
+    pub count : length ((L Ipmb).requests (world.on Ipmb)).begun + length ((L Smbus).requests (world.on Smbus)).begun ≡ requests
 
   -- A plan that is begun takes two requests for each step that goes, and ends after the last or halts at the first that doesn't. Its undo
   -- takes one for each step that went, and ends with the records of the start. Both schedules are honest.

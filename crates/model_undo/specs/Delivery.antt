@@ -20,37 +20,37 @@ pub record Delivery (L : Line) : Type 1 where
 
 -- the place of the newest frame
 abbrev pub newest : BusState → ℕ
-newest s = length s.frames - 1
+newest state = length state.frames - 1
 
 -- in whole messages a frame comes in one event, and has any bytes
-abbrev pub by_message : (b : Rules) → Delivery (whole b)
-by_message b = record {
+abbrev pub by_message : (rules : Rules) → Delivery (whole rules)
+by_message rules = record {
   to_port = λ s answer. ReachesPort (newest s) answer ∷ [];
   to_manager = λ s. ReachesManager (newest s) ∷ [];
-  HasPlace = λ s. is_busy b.manager s.log ≡ false;
+  HasPlace = λ s. is_busy rules.manager s.log ≡ false;
   CanSend = λ bytes. Unit {0};
 }
 
 -- the packets of a frame; one that says that the port is busy counts as none
 abbrev pub packets_of_content : PacketBus → Content → List Packet
-packets_of_content b (Ask bytes) = b.split bytes
-packets_of_content b (Reply number None) = []
-packets_of_content b (Reply number (Some reply)) = b.split reply
+packets_of_content bus (Ask bytes) = bus.split bytes
+packets_of_content bus (Reply number None) = []
+packets_of_content bus (Reply number (Some reply)) = bus.split reply
 
 abbrev pub packets_of_frame : PacketBus → Option Frame → List Packet
-packets_of_frame b None = []
-packets_of_frame b (Some f) = packets_of_content b f.content
+packets_of_frame bus None = []
+packets_of_frame bus (Some frame) = packets_of_content bus frame.content
 
 -- an event for each packet, by its place
 abbrev pub each_place : (ℕ → PacketEvent) → ℕ → List Packet → List PacketEvent
 each_place event place [] = []
-each_place event place (p ∷ ps) = event place ∷ each_place event (suc place) ps
+each_place event place (packet ∷ packets) = event place ∷ each_place event (suc place) packets
 
 -- in packets a frame comes packet by packet, in order; its message can be sent where it can be cut
-abbrev pub by_packets : (b : PacketBus) → Delivery (packets b)
-by_packets b = record {
-  to_port = λ x answer. each_place (λ place. PacketReachesPort (newest x.bus) place answer) 0 (packets_of_frame b (slice_get x.bus.frames (newest x.bus)));
-  to_manager = λ x. each_place (λ place. PacketReachesManager (newest x.bus) place) 0 (packets_of_frame b (slice_get x.bus.frames (newest x.bus)));
-  HasPlace = λ x. is_busy b.manager x.bus.log ≡ false;
-  CanSend = λ bytes. IsCut (b.split bytes) bytes;
+abbrev pub by_packets : (bus : PacketBus) → Delivery (packets bus)
+by_packets bus = record {
+  to_port = λ x answer. each_place (λ place. PacketReachesPort (newest x.bus) place answer) 0 (packets_of_frame bus (slice_get x.bus.frames (newest x.bus)));
+  to_manager = λ x. each_place (λ place. PacketReachesManager (newest x.bus) place) 0 (packets_of_frame bus (slice_get x.bus.frames (newest x.bus)));
+  HasPlace = λ x. is_busy bus.manager x.bus.log ≡ false;
+  CanSend = λ bytes. IsCut (bus.split bytes) bytes;
 }

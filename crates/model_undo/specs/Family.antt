@@ -33,7 +33,7 @@ pub record Family : Type 1 where
 
 -- every record has a value that it can have
 abbrev pub AllValid : (F : Family) → F.Records → Type 0
-AllValid F r = (key : F.words.Key) (v : F.Value) → F.get r key ≡ Some v → F.Valid key v
+AllValid F records = (key : F.words.Key) (value : F.Value) → F.get records key ≡ Some value → F.Valid key value
 
 -- the operation is accepted at these records, and leaves those: its own record is changed, and no other
 pub record SetsTo (F : Family) (op : F.words.Op) (old new : F.Records) : Type 0 where

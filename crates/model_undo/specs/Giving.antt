@@ -26,45 +26,45 @@ module _ (F : Family) (L : Bus → Line) (W : Wires F.words) where
   -- the answer by which a board became another, if a request of the manager was carried out then
   abbrev pub given_by : Bus → Option Exchange → F.Board → F.Board → List (Giving F)
   given_by bus None before after = []
-  given_by bus (Some x) before after = record { before = before; asked = W.asked_from bus x.bytes; answered = W.answered_from bus x.reply; after = after } ∷ []
+  given_by bus (Some exchange) before after = record { before = before; asked = W.asked_from bus exchange.bytes; answered = W.answered_from bus exchange.reply; after = after } ∷ []
 
   -- the answer that the board gives as this happens, if it gives one
   abbrev pub given_at : World F L → Happening F L → List (Giving F)
-  given_at w (OnBus bus e after) = given_by bus ((L bus).carries (w.on bus) e) w.board after
-  given_at w _ = []
+  given_at world (OnBus bus event after) = given_by bus ((L bus).carries (world.on bus) event) world.board after
+  given_at world _ = []
 
   -- all answers that the board gave to the manager in a schedule, in order
   abbrev pub given_in : List (Happening F L) → World F L → List (Giving F)
-  given_in [] w = []
-  given_in (e ∷ es) w = given_at w e ++ given_in es (happens F L W w e)
+  given_in [] world = []
+  given_in (happening ∷ happenings) world = given_at world happening ++ given_in happenings (happens F L W world happening)
 
-  -- one of them is this answer to this request, which the board gave by the command relation at the records after k steps
-  pub record GaveIn (given : List (Giving F)) (plan : List F.words.Op) (start : F.Records) (k : ℕ) (asked : F.words.Asked) (a : Answered) : Type 0 where
+  -- the board gave this answer to this request by the command relation, at the records after `step` steps
+  pub record GaveIn (given : List (Giving F)) (plan : List F.words.Op) (start : F.Records) (step : ℕ) (asked : F.words.Asked) (answered : Answered) : Type 0 where
     pub before : F.Board
     pub after : F.Board
-    pub is_one : Contains given (record { before = before; asked = asked; answered = a; after = after })
-    pub row : F.Row before asked a after
-    pub at : IsAfter F plan start k (F.records before)
+    pub is_one : Contains given (record { before = before; asked = asked; answered = answered; after = after })
+    pub row : F.Row before asked answered after
+    pub at : IsAfter F plan start step (F.records before)
 
   -- the answer that the board gave to the Get of the plan's step k, and to its Set, each at the records after k steps
-  pub record GaveGetIn (given : List (Giving F)) (plan : List F.words.Op) (start : F.Records) (k : ℕ) (a : Answered) : Type 0 where
+  pub record GaveGetIn (given : List (Giving F)) (plan : List F.words.Op) (start : F.Records) (place : ℕ) (answered : Answered) : Type 0 where
     pub op : F.words.Op
-    pub step : slice_get plan k ≡ Some op
-    pub gave : GaveIn given plan start k (get_asked F.words (F.words.key_of op)) a
+    pub step : slice_get plan place ≡ Some op
+    pub gave : GaveIn given plan start place (get_asked F.words (F.words.key_of op)) answered
 
-  pub record GaveSetIn (given : List (Giving F)) (plan : List F.words.Op) (start : F.Records) (k : ℕ) (a : Answered) : Type 0 where
+  pub record GaveSetIn (given : List (Giving F)) (plan : List F.words.Op) (start : F.Records) (place : ℕ) (answered : Answered) : Type 0 where
     pub op : F.words.Op
-    pub step : slice_get plan k ≡ Some op
-    pub gave : GaveIn given plan start k (set_asked F.words op) a
+    pub step : slice_get plan place ≡ Some op
+    pub gave : GaveIn given plan start place (set_asked F.words op) answered
 
   -- what made a plan halt in a schedule from a world: an answer that the board gave in it, or a stop
   abbrev pub CausedIn : List (Happening F L) → World F L → List F.words.Op → F.Records → Phase → Type 0
-  CausedIn events w plan start (Halted k Stop) = AnyMakesStop F L events
-  CausedIn events w plan start (Halted k (Refused code)) = (code ≢ success) × (body : List ℕ) × GaveSetIn (given_in events w) plan start k (record { code = code; body = body })
-  CausedIn events w plan start (Halted k (GetRefused code)) = (code ≢ success) × (body : List ℕ) × GaveGetIn (given_in events w) plan start k (record { code = code; body = body })
-  CausedIn events w plan start (Halted k NotRestorable) =
-      (body : List ℕ) × (got : GaveGetIn (given_in events w) plan start k (record { code = success; body = body })) × (¬ F.Restorable got.op body)
-  CausedIn events w plan start _ = Unit {0}
+  CausedIn events world plan start (Halted step Stop) = AnyMakesStop F L events
+  CausedIn events world plan start (Halted step (Refused code)) = (code ≢ success) × (body : List ℕ) × GaveSetIn (given_in events world) plan start step (record { code = code; body = body })
+  CausedIn events world plan start (Halted step (GetRefused code)) = (code ≢ success) × (body : List ℕ) × GaveGetIn (given_in events world) plan start step (record { code = code; body = body })
+  CausedIn events world plan start (Halted step NotRestorable) =
+      (body : List ℕ) × (got : GaveGetIn (given_in events world) plan start step (record { code = success; body = body })) × (¬ F.Restorable got.op body)
+  CausedIn events world plan start _ = Unit {0}
 
   -- a halt has its cause among the answers of its own schedule
   abbrev pub HaltsByAnswers : Type 0

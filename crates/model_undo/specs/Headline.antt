@@ -20,13 +20,13 @@ MakesStop F L _ = ⊥
 
 abbrev pub AnyMakesStop : (F : Family) (L : Bus → Line) → List (Happening F L) → Type 0
 AnyMakesStop F L [] = ⊥
-AnyMakesStop F L (e ∷ es) = MakesStop F L e ⊎ AnyMakesStop F L es
+AnyMakesStop F L (happening ∷ happenings) = MakesStop F L happening ⊎ AnyMakesStop F L happenings
 
 -- any two Gets of a record, whoever asks them, one at the first board and one at the second, are both answered with 00h and show the same
 -- configuration, or are both refused with the same code
 abbrev pub ShowsSame : (F : Family) → F.Board → F.Board → Type 0
-ShowsSame F b c = (key : F.words.Key) (one other : F.words.Asked) → F.IsGet one key → F.IsGet other key → (shown again : Answered) (b' c' : F.Board)
-    → F.Row b one shown b' → F.Row c other again c'
+ShowsSame F board after = (key : F.words.Key) (one other : F.words.Asked) → F.IsGet one key → F.IsGet other key → (shown again : Answered) (b' c' : F.Board)
+    → F.Row board one shown b' → F.Row after other again c'
     → (again.code ≡ shown.code) × (shown.code ≡ success → F.conf key again.body ≡ F.conf key shown.body)
 
 -- from a board whose records are valid, and a start on both buses, so long as each thing may happen where it does

@@ -6,9 +6,9 @@ use Rattle.model_undo.specs.Words.{is_busy, AreSingle, get_asked, set_asked}
 use Rattle.model_undo.specs.Family.{Family, AllValid, SetsTo}
 
 -- what a Get that is carried out shows: the value that the record has
-pub record Showed (F : Family) (key : F.words.Key) (body : List ℕ) (r : F.Records) : Type 0 where
+pub record Showed (F : Family) (key : F.words.Key) (body : List ℕ) (records : F.Records) : Type 0 where
   pub value : F.Value
-  pub found : F.get r key ≡ Some value
+  pub found : F.get records key ≡ Some value
   pub shows : F.Shows key value body
 
 -- the laws of a family; beside each group, who proves it

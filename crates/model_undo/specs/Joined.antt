@@ -15,56 +15,56 @@ OthersStill bus old new = (other : Bus) → other ≢ bus → SameRequests (old 
 
 -- every request of the manager has its reply
 abbrev pub IsClosed : BusState → Type 0
-IsClosed s = length s.begun ≤ length s.taken
+IsClosed state = length state.begun ≤ length state.taken
 
 -- `first` is the count from which the manager's requests go on, on each bus
 module _ (F : Family) (W : Wires F.words) (first : Bus → ℕ) where
   -- the bytes of the manager's n-th request on a bus, from 0
   abbrev pub request_bytes : Bus → ℕ → F.words.Asked → List ℕ
-  request_bytes bus n asked = W.bytes_of (number_of bus (first bus + n)) asked
+  request_bytes bus count asked = W.bytes_of (number_of bus (first bus + count)) asked
 
   -- the bytes are those of the manager's n-th request on the bus
-  pub record IsWritten (bus : Bus) (n : ℕ) (bytes : List ℕ) : Type 0 where
+  pub record IsWritten (bus : Bus) (count : ℕ) (bytes : List ℕ) : Type 0 where
     pub asked : F.words.Asked
     pub on : F.words.bus_of asked ≡ bus
-    pub spelled : bytes ≡ request_bytes bus n asked
+    pub spelled : bytes ≡ request_bytes bus count asked
 
   -- the reply that is kept answers the request
-  pub record IsAnswered (bus : Bus) (k : Kept) : Type 0 where
+  pub record IsAnswered (bus : Bus) (kept : Kept) : Type 0 where
     pub answered : Answered
-    pub spelled : k.reply ≡ W.reply_to bus k.request.bytes answered
+    pub spelled : kept.reply ≡ W.reply_to bus kept.request.bytes answered
 
   -- the manager's requests on a bus: in order, at most one open, and written as they are asked
-  pub record Orderly (bus : Bus) (s : BusState) : Type 0 where
-    pub answered : length s.taken ≤ length s.carried
-    pub below : length s.carried ≤ length s.begun
-    pub one_open : length s.begun ≤ length s.taken + 1
-    pub written : (n : ℕ) (bytes : List ℕ) → slice_get s.begun n ≡ Some bytes → IsWritten bus n bytes
-    pub replied : (n : ℕ) (k : Kept) → slice_get s.carried n ≡ Some k → IsAnswered bus k
+  pub record Orderly (bus : Bus) (state : BusState) : Type 0 where
+    pub answered : length state.taken ≤ length state.carried
+    pub below : length state.carried ≤ length state.begun
+    pub one_open : length state.begun ≤ length state.taken + 1
+    pub written : (count : ℕ) (bytes : List ℕ) → slice_get state.begun count ≡ Some bytes → IsWritten bus count bytes
+    pub replied : (count : ℕ) (kept : Kept) → slice_get state.carried count ≡ Some kept → IsAnswered bus kept
 
   -- the request is open on its bus, and none on the other
   abbrev pub IsOpen : Part F.words → Bus → BusState → Type 0
-  IsOpen part bus s =
-      (bus ≡ bus_at F.words part → slice_get s.begun (length s.taken) ≡ Some (request_bytes bus (length s.taken) part.asked))
-      × (bus ≢ bus_at F.words part → IsClosed s)
+  IsOpen part bus state =
+      (bus ≡ bus_at F.words part → slice_get state.begun (length state.taken) ≡ Some (request_bytes bus (length state.taken) part.asked))
+      × (bus ≢ bus_at F.words part → IsClosed state)
 
   -- the requests that are open are the stage's
   abbrev pub AreOpen : Stage F.words → Bus → BusState → Type 0
-  AreOpen (Opened heeded task part) bus s = IsOpen part bus s
-  AreOpen AtStart bus s = IsClosed s
-  AreOpen AtEnd bus s = IsClosed s
-  AreOpen (AtHalt k why) bus s = IsClosed s
-  AreOpen AtUndone bus s = IsClosed s
-  AreOpen (AtRefused k code) bus s = IsClosed s
+  AreOpen (Opened heeded task part) bus state = IsOpen part bus state
+  AreOpen AtStart bus state = IsClosed state
+  AreOpen AtEnd bus state = IsClosed state
+  AreOpen (AtHalt step why) bus state = IsClosed state
+  AreOpen AtUndone bus state = IsClosed state
+  AreOpen (AtRefused step code) bus state = IsClosed state
 
   -- the answer in a reply that is kept
   abbrev pub answer_in : Bus → Option Kept → Option Answered
   answer_in bus None = None
-  answer_in bus (Some k) = Some (W.answered_from bus k.reply)
+  answer_in bus (Some kept) = Some (W.answered_from bus kept.reply)
 
   -- the answer that is kept for the open request of a bus
   abbrev pub answer_on : Bus → BusState → Option Answered
-  answer_on bus s = answer_in bus (slice_get s.carried (length s.taken))
+  answer_on bus state = answer_in bus (slice_get state.carried (length state.taken))
 
   -- the answer that is kept for the stage's request
   abbrev pub answer_at : Stage F.words → (Bus → BusState) → Option Answered

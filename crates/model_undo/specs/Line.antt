@@ -55,77 +55,77 @@ is_to_manager_whole (OtherReplies source number reply) = true
 is_to_manager_whole _ = false
 
 abbrev pub carries_whole : Rules → BusState → Event → Option Exchange
-carries_whole b s (ReachesPort which answer) = exchange (carried_now b (slice_get s.frames which) s) answer
-carries_whole b s _ = None
+carries_whole rules state (ReachesPort which answer) = exchange (carried_now rules (slice_get state.frames which) state) answer
+carries_whole rules state _ = None
 
 abbrev pub brings_whole : Rules → BusState → Event → Option (List ℕ)
-brings_whole b s (ReachesManager which) = taken_now b (slice_get s.frames which) s
-brings_whole b s _ = None
+brings_whole rules state (ReachesManager which) = taken_now rules (slice_get state.frames which) state
+brings_whole rules state _ = None
 
 -- a bus in whole messages
 abbrev pub whole : Rules → Line
-whole b = record {
+whole rules = record {
   State = BusState;
   Event = Event;
   requests = λ s. s;
-  IsStart = λ s. NothingUnderWay s × EmptyWindow b s.log;
-  happens = happens b;
-  IsHonest = IsHonest b;
+  IsStart = λ s. NothingUnderWay s × EmptyWindow rules s.log;
+  happens = happens rules;
+  IsHonest = IsHonest rules;
   begins = Begins;
   sends_again = SendsAgain;
   resumes = Resumes;
   IsOutside = IsOutsideWhole;
   is_to_manager = is_to_manager_whole;
-  carries = carries_whole b;
-  brings = brings_whole b;
+  carries = carries_whole rules;
+  brings = brings_whole rules;
 }
 
 -- ---- packets
 
 abbrev pub IsOutsidePackets : PacketEvent → Type 0
-IsOutsidePackets (Plain e) = IsOutsideWhole e
+IsOutsidePackets (Plain event) = IsOutsideWhole event
 IsOutsidePackets PacketResumes = ⊥
 IsOutsidePackets _ = Unit {0}
 
 abbrev pub is_to_manager_packets : PacketEvent → Bool
-is_to_manager_packets (Plain e) = is_to_manager_whole e
+is_to_manager_packets (Plain event) = is_to_manager_whole event
 is_to_manager_packets (PacketReachesManager which place) = true
 is_to_manager_packets (OtherReplyPacket name packet number) = true
 is_to_manager_packets _ = false
 
 -- what a packet of the frame has carried out, if there is such a frame
 abbrev pub carried_at : PacketBus → Ends → ℕ → Option Frame → Option (List ℕ)
-carried_at b x place None = None
-carried_at b x place (Some f) = carried_of (rules_of b) (completed_request b x place f.request f.idles f.content) x.bus
+carried_at bus ends place None = None
+carried_at bus ends place (Some frame) = carried_of (rules_of bus) (completed_request bus ends place frame.request frame.idles frame.content) ends.bus
 
 abbrev pub carries_packets : PacketBus → Ends → PacketEvent → Option Exchange
-carries_packets b x (PacketReachesPort which place answer) = exchange (carried_at b x place (slice_get x.bus.frames which)) answer
-carries_packets b x _ = None
+carries_packets bus ends (PacketReachesPort which place answer) = exchange (carried_at bus ends place (slice_get ends.bus.frames which)) answer
+carries_packets bus ends _ = None
 
 -- the reply that a packet of the frame completes, if there is such a frame
 abbrev pub brought_at : PacketBus → Ends → ℕ → Option Frame → Option (List ℕ)
-brought_at b x place None = None
-brought_at b x place (Some f) = taken_of (rules_of b) (completed_reply b x place f.request f.idles f.content) x.bus
+brought_at bus ends place None = None
+brought_at bus ends place (Some frame) = taken_of (rules_of bus) (completed_reply bus ends place frame.request frame.idles frame.content) ends.bus
 
 abbrev pub brings_packets : PacketBus → Ends → PacketEvent → Option (List ℕ)
-brings_packets b x (PacketReachesManager which place) = brought_at b x place (slice_get x.bus.frames which)
-brings_packets b x _ = None
+brings_packets bus ends (PacketReachesManager which place) = brought_at bus ends place (slice_get ends.bus.frames which)
+brings_packets bus ends _ = None
 
 -- a bus in packets. A message that becomes whole at the port is to have packets of recent requests alone, the least
 -- that can be asked of packets that wait.
 abbrev pub packets : PacketBus → Line
-packets b = record {
+packets bus = record {
   State = Ends;
   Event = PacketEvent;
   requests = λ x. x.bus;
-  IsStart = λ x. NothingUnderWay x.bus × NothingWaits b x × EmptyWindow (rules_of b) x.bus.log;
-  happens = packet_happens b;
-  IsHonest = IsPacketHonest RecentWhereWhole b;
+  IsStart = λ x. NothingUnderWay x.bus × NothingWaits bus x × EmptyWindow (rules_of bus) x.bus.log;
+  happens = packet_happens bus;
+  IsHonest = IsPacketHonest RecentWhereWhole bus;
   begins = λ bytes. Plain (Begins bytes);
   sends_again = Plain SendsAgain;
   resumes = PacketResumes;
   IsOutside = IsOutsidePackets;
   is_to_manager = is_to_manager_packets;
-  carries = carries_packets b;
-  brings = brings_packets b;
+  carries = carries_packets bus;
+  brings = brings_packets bus;
 }

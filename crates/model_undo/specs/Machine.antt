@@ -26,27 +26,27 @@ pub record Counts : Type 0 where
 
 -- the count of a bus
 abbrev pub count_of : Bus → Counts → ℕ
-count_of Ipmb c = c.ipmb
-count_of Smbus c = c.smbus
+count_of Ipmb counts = counts.ipmb
+count_of Smbus counts = counts.smbus
 
 -- one more was answered on the bus
 abbrev pub one_answered : Bus → Counts → Counts
-one_answered Ipmb c = record c { ipmb = suc c.ipmb }
-one_answered Smbus c = record c { smbus = suc c.smbus }
+one_answered Ipmb counts = record counts { ipmb = suc counts.ipmb }
+one_answered Smbus counts = record counts { smbus = suc counts.smbus }
 
 -- What the manager is at. Each is one series of requests.
 pub data Task (M : Words) : Type 0 where
-  -- it gets the record that step k of the plan changes
-  Gets : (k : ℕ) (op : M.Op) → Task M
-  -- it carries step k out, and keeps what undoes it
-  Sets : (k : ℕ) (op : M.Op) (back : M.Op) → Task M
+  -- it gets the record that this step of the plan changes
+  Gets : (step : ℕ) (op : M.Op) → Task M
+  -- it carries this step out, and keeps the operation that undoes it
+  Sets : (step : ℕ) (op : M.Op) (back : M.Op) → Task M
   -- it undoes a step by the first series, and those before it by the rest
   Undoes : (first : M.Series) (rest : List M.Series) → Task M
 
 -- the requests of a task
 abbrev pub series_of : (M : Words) → Task M → M.Series
-series_of M (Gets k op) = M.getting (M.key_of op)
-series_of M (Sets k op back) = M.setting op
+series_of M (Gets step op) = M.getting (M.key_of op)
+series_of M (Sets step op back) = M.setting op
 series_of M (Undoes first rest) = first
 
 -- the one of them that is open, and the data of the replies to those before it
@@ -67,9 +67,9 @@ pub data Stage (M : Words) : Type 0 where
   -- a task's request is open; heeded, or unsettled: then no reply is taken
   Opened : (heeded : Bool) (task : Task M) (part : Part M) → Stage M
   AtEnd : Stage M
-  AtHalt : (k : ℕ) (why : Why) → Stage M
+  AtHalt : (step : ℕ) (why : Why) → Stage M
   AtUndone : Stage M
-  AtRefused : (k : ℕ) (code : ℕ) → Stage M
+  AtRefused : (step code : ℕ) → Stage M
 
 -- a task is begun
 abbrev pub begun : (M : Words) → Task M → Stage M
@@ -103,13 +103,13 @@ pub record Turn (M : Words) : Type 0 where
 -- ---- phases
 
 abbrev pub task_phase : (M : Words) → Task M → Phase
-task_phase M (Gets k op) = Getting k
-task_phase M (Sets k op back) = Setting k
+task_phase M (Gets step op) = Getting step
+task_phase M (Sets step op back) = Setting step
 task_phase M (Undoes first rest) = Undoing (length rest)
 
 abbrev pub task_step : (M : Words) → Task M → ℕ
-task_step M (Gets k op) = k
-task_step M (Sets k op back) = k
+task_step M (Gets step op) = step
+task_step M (Sets step op back) = step
 task_step M (Undoes first rest) = length rest
 
 abbrev pub phase_at : (M : Words) → Stage M → Phase
@@ -117,12 +117,12 @@ phase_at M AtStart = Fresh
 phase_at M (Opened true task part) = task_phase M task
 phase_at M (Opened false task part) = Unsettled (task_step M task)
 phase_at M AtEnd = Done
-phase_at M (AtHalt k why) = Halted k why
+phase_at M (AtHalt step why) = Halted step why
 phase_at M AtUndone = Undone
-phase_at M (AtRefused k code) = UndoRefused k code
+phase_at M (AtRefused step code) = UndoRefused step code
 
 abbrev pub phase_of : (M : Words) → Machine M → Phase
-phase_of M m = phase_at M m.stage
+phase_of M machine = phase_at M machine.stage
 
 -- the bus on which a request is open
 abbrev pub open_bus_at : (M : Words) → Stage M → Option Bus
@@ -130,7 +130,7 @@ open_bus_at M (Opened heeded task part) = Some (bus_at M part)
 open_bus_at M _ = None
 
 abbrev pub open_bus : (M : Words) → Machine M → Option Bus
-open_bus M m = open_bus_at M m.stage
+open_bus M machine = open_bus_at M machine.stage
 
 -- ---- the requests that are sent
 
@@ -145,11 +145,11 @@ sends_at M _ counts = None
 
 -- a stage is entered; its request, if it opens one, wasn't sent again yet
 abbrev pub enters : (M : Words) → Stage M → Machine M → Turn M
-enters M stage m = record { machine = record m { stage = stage; resent = 0 }; sends = sends_at M stage m.counts }
+enters M stage machine = record { machine = record machine { stage = stage; resent = 0 }; sends = sends_at M stage machine.counts }
 
 -- nothing is sent
 abbrev pub rests : (M : Words) → Machine M → Turn M
-rests M m = record { machine = m; sends = None }
+rests M machine = record { machine = machine; sends = None }
 
 -- ---- the calls: none where the phase isn't one for the call, and then nothing changes
 
@@ -159,12 +159,12 @@ first_stage M None = AtEnd
 first_stage M (Some op) = begun M (Gets 0 op)
 
 abbrev pub starts : (M : Words) → Stage M → Machine M → Option (Turn M)
-starts M AtStart m = Some (enters M (first_stage M (slice_get m.plan 0)) m)
-starts M _ m = None
+starts M AtStart machine = Some (enters M (first_stage M (slice_get machine.plan 0)) machine)
+starts M _ machine = None
 
 -- the plan is begun
 abbrev pub start_of : (M : Words) → Machine M → Option (Turn M)
-start_of M m = starts M m.stage m
+start_of M machine = starts M machine.stage machine
 
 -- what undoes is gone through, or there is nothing left
 abbrev pub undo_stage : (M : Words) → List M.Series → Stage M
@@ -172,72 +172,72 @@ undo_stage M [] = AtUndone
 undo_stage M (first ∷ rest) = begun M (Undoes first rest)
 
 abbrev pub undoes : (M : Words) → Stage M → Machine M → Option (Turn M)
-undoes M AtEnd m = Some (enters M (undo_stage M m.undo) m)
-undoes M (AtHalt k why) m = Some (enters M (undo_stage M m.undo) m)
-undoes M _ m = None
+undoes M AtEnd machine = Some (enters M (undo_stage M machine.undo) machine)
+undoes M (AtHalt step why) machine = Some (enters M (undo_stage M machine.undo) machine)
+undoes M _ machine = None
 
 -- the undo is begun, once the plan ended or halted
 abbrev pub undo_of : (M : Words) → Machine M → Option (Turn M)
-undo_of M m = undoes M m.stage m
+undo_of M machine = undoes M machine.stage machine
 
 abbrev pub quiets : (M : Words) → Stage M → Machine M → Option (Turn M)
-quiets M (Opened true task part) m =
-    if nat_lt m.resent m.retries
-    then Some (record { machine = record m { resent = m.resent + 1 }; sends = Some (sending M part m.counts) })
-    else Some (rests M (record m { stage = Opened false task part }))
-quiets M _ m = None
+quiets M (Opened true task part) machine =
+    if nat_lt machine.resent machine.retries
+    then Some (record { machine = record machine { resent = machine.resent + 1 }; sends = Some (sending M part machine.counts) })
+    else Some (rests M (record machine { stage = Opened false task part }))
+quiets M _ machine = None
 
 -- no reply came: the open request is sent again, or it is unsettled
 abbrev pub quiet_of : (M : Words) → Machine M → Option (Turn M)
-quiet_of M m = quiets M m.stage m
+quiet_of M machine = quiets M machine.stage machine
 
 abbrev pub agains : (M : Words) → Stage M → Machine M → Option (Turn M)
-agains M (Opened false task part) m = Some (enters M (Opened true task part) m)
-agains M _ m = None
+agains M (Opened false task part) machine = Some (enters M (Opened true task part) machine)
+agains M _ machine = None
 
 -- the unsettled request is sent again, and heeded again
 abbrev pub again_of : (M : Words) → Machine M → Option (Turn M)
-again_of M m = agains M m.stage m
+again_of M machine = agains M machine.stage machine
 
 abbrev pub stops : (M : Words) → Stage M → Machine M → Option (Turn M)
-stops M (Opened true (Gets k op) part) m = Some (rests M (record m { stopped = true }))
-stops M (Opened true (Sets k op back) part) m = Some (rests M (record m { stopped = true }))
-stops M _ m = None
+stops M (Opened true (Gets step op) part) machine = Some (rests M (record machine { stopped = true }))
+stops M (Opened true (Sets step op back) part) machine = Some (rests M (record machine { stopped = true }))
+stops M _ machine = None
 
 -- the plan is to halt before the next Set
 abbrev pub stop_of : (M : Words) → Machine M → Option (Turn M)
-stop_of M m = stops M m.stage m
+stop_of M machine = stops M machine.stage machine
 
 -- ---- replies
 
 -- after a Get that is carried out: the step's Set, unless it can't be undone or the plan is to stop
 abbrev pub set_stage : (M : Words) → Bool → ℕ → M.Op → Option M.Op → Stage M
-set_stage M stopped k op None = AtHalt k NotRestorable
-set_stage M true k op (Some back) = AtHalt k Stop
-set_stage M false k op (Some back) = begun M (Sets k op back)
+set_stage M stopped step op None = AtHalt step NotRestorable
+set_stage M true step op (Some back) = AtHalt step Stop
+set_stage M false step op (Some back) = begun M (Sets step op back)
 
 -- after a Set that is carried out: the next step's Get, unless the plan ended or is to stop
 abbrev pub next_stage : (M : Words) → Bool → ℕ → Option M.Op → Stage M
-next_stage M stopped k None = AtEnd
-next_stage M true k (Some op) = AtHalt k Stop
-next_stage M false k (Some op) = begun M (Gets k op)
+next_stage M stopped step None = AtEnd
+next_stage M true step (Some op) = AtHalt step Stop
+next_stage M false step (Some op) = begun M (Gets step op)
 
 -- a request of the task was refused
 abbrev pub refused : (M : Words) → ℕ → Task M → Stage M
-refused M code (Gets k op) = AtHalt k (GetRefused code)
-refused M code (Sets k op back) = AtHalt k (Refused code)
+refused M code (Gets step op) = AtHalt step (GetRefused code)
+refused M code (Sets step op back) = AtHalt step (Refused code)
 refused M code (Undoes first rest) = AtRefused (length rest) code
 
 -- the task has another request; a plan that is to stop gets no more
 abbrev pub goes_on : (M : Words) → Bool → Task M → Part M → Stage M
-goes_on M stopped (Gets k op) part = if stopped then AtHalt k Stop else Opened true (Gets k op) part
-goes_on M stopped (Sets k op back) part = Opened true (Sets k op back) part
+goes_on M stopped (Gets step op) part = if stopped then AtHalt step Stop else Opened true (Gets step op) part
+goes_on M stopped (Sets step op back) part = Opened true (Sets step op back) part
 goes_on M stopped (Undoes first rest) part = Opened true (Undoes first rest) part
 
 -- the task is done, and its replies show these data
 abbrev pub finished : (M : Words) → Bool → List M.Op → List ℕ → Task M → Stage M
-finished M stopped plan shown (Gets k op) = set_stage M stopped k op (M.inverse op shown)
-finished M stopped plan shown (Sets k op back) = next_stage M stopped (suc k) (slice_get plan (suc k))
+finished M stopped plan shown (Gets step op) = set_stage M stopped step op (M.inverse op shown)
+finished M stopped plan shown (Sets step op back) = next_stage M stopped (suc step) (slice_get plan (suc step))
 finished M stopped plan shown (Undoes first rest) = undo_stage M rest
 
 -- the task goes on, or is done, after replies with these data
@@ -247,16 +247,16 @@ told_stage M stopped plan task bodies None = finished M stopped plan (M.joined (
 
 -- the data of a task's replies, with this one
 abbrev pub bodies_with : (M : Words) → Answered → Part M → List (List ℕ)
-bodies_with M a part = part.before ++ a.body ∷ []
+bodies_with M answered part = part.before ++ answered.body ∷ []
 
 -- the task's next request after this reply, none where that was its last
 abbrev pub next_asked : (M : Words) → Answered → Task M → Part M → Option M.Asked
-next_asked M a task part = M.next (series_of M task) (bodies_with M a part)
+next_asked M answered task part = M.next (series_of M task) (bodies_with M answered part)
 
 -- the stage after the reply to a task's request
 abbrev pub stage_after : (M : Words) → Bool → List M.Op → Answered → Task M → Part M → Stage M
-stage_after M stopped plan a task part =
-    if a.code == success then told_stage M stopped plan task (bodies_with M a part) (next_asked M a task part) else refused M a.code task
+stage_after M stopped plan answered task part =
+    if answered.code == success then told_stage M stopped plan task (bodies_with M answered part) (next_asked M answered task part) else refused M answered.code task
 
 -- a step is acknowledged with the reply to its last request, and what undoes it is kept
 abbrev pub undo_with : (M : Words) → M.Op → Option M.Asked → List M.Series → List M.Series
@@ -265,22 +265,22 @@ undo_with M back None undo = M.setting back ∷ undo
 
 -- what undoes the acknowledged steps, after the reply
 abbrev pub undo_after : (M : Words) → Answered → Task M → Part M → List M.Series → List M.Series
-undo_after M a (Gets k op) part undo = undo
-undo_after M a (Sets k op back) part undo = if a.code == success then undo_with M back (next_asked M a (Sets k op back) part) undo else undo
-undo_after M a (Undoes first rest) part undo = undo
+undo_after M answered (Gets step op) part undo = undo
+undo_after M answered (Sets step op back) part undo = if answered.code == success then undo_with M back (next_asked M answered (Sets step op back) part) undo else undo
+undo_after M answered (Undoes first rest) part undo = undo
 
 -- the machine takes the reply to the open request
 abbrev pub takes : (M : Words) → Answered → Task M → Part M → Machine M → Turn M
-takes M a task part m =
-    enters M (stage_after M m.stopped m.plan a task part) (record m { undo = undo_after M a task part m.undo; counts = one_answered (bus_at M part) m.counts })
+takes M answered task part machine =
+    enters M (stage_after M machine.stopped machine.plan answered task part) (record machine { undo = undo_after M answered task part machine.undo; counts = one_answered (bus_at M part) machine.counts })
 
 abbrev pub replies : (M : Words) → Answered → Stage M → Machine M → Option (Turn M)
-replies M a (Opened true task part) m = if is_busy a.code then None else Some (takes M a task part m)
-replies M a _ m = None
+replies M answered (Opened true task part) machine = if is_busy answered.code then None else Some (takes M answered task part machine)
+replies M answered _ machine = None
 
 -- the reply to the open request comes: none where it is ignored, and then nothing changes
 abbrev pub reply_of : (M : Words) → Answered → Machine M → Option (Turn M)
-reply_of M a m = replies M a m.stage m
+reply_of M answered machine = replies M answered machine.stage machine
 
 -- ---- a manager that was opened with a plan
 

@@ -8,7 +8,7 @@ use Rattle.model_undo.specs.declared.phase.Phase.TheVariants as phase
 
 -- a byte in two hexadecimal digits, in upper case
 abbrev pub two_digits : ℕ → List ℕ
-two_digits n = digits 16 true (n / 16) ++ digits 16 true (n % 16)
+two_digits code = digits 16 true (code / 16) ++ digits 16 true (code % 16)
 
 -- the name, and the code of a refusal
 abbrev pub why_name : Why → List ℕ
@@ -20,11 +20,11 @@ why_name (why.GetRefused code) = codes "GetRefused " ++ two_digits code
 -- the name, the step, the reason, the code
 abbrev pub phase_name : Phase → List ℕ
 phase_name phase.Fresh = codes "Fresh"
-phase_name (phase.Getting k) = codes "Getting " ++ decimal k
-phase_name (phase.Setting k) = codes "Setting " ++ decimal k
+phase_name (phase.Getting step) = codes "Getting " ++ decimal step
+phase_name (phase.Setting step) = codes "Setting " ++ decimal step
 phase_name phase.Done = codes "Done"
-phase_name (phase.Halted k why) = codes "Halted " ++ (decimal k ++ (codes " " ++ why_name why))
-phase_name (phase.Unsettled k) = codes "Unsettled " ++ decimal k
-phase_name (phase.Undoing k) = codes "Undoing " ++ decimal k
+phase_name (phase.Halted step why) = codes "Halted " ++ (decimal step ++ (codes " " ++ why_name why))
+phase_name (phase.Unsettled step) = codes "Unsettled " ++ decimal step
+phase_name (phase.Undoing step) = codes "Undoing " ++ decimal step
 phase_name phase.Undone = codes "Undone"
-phase_name (phase.UndoRefused k code) = codes "UndoRefused " ++ (decimal k ++ (codes " " ++ two_digits code))
+phase_name (phase.UndoRefused step code) = codes "UndoRefused " ++ (decimal step ++ (codes " " ++ two_digits code))

@@ -32,56 +32,56 @@ pub data DeskEvent (F : Family) : Type 0 where
 module _ (F : Family) where
   -- a call that may open a request, which has no reply yet
   abbrev pub opens : Option (Turn F.words) → Desk F → Desk F
-  opens None w = w
-  opens (Some t) w = record w { machine = t.machine; reply = None }
+  opens None desk = desk
+  opens (Some turn) desk = record desk { machine = turn.machine; reply = None }
 
   -- a call that opens none
   abbrev pub stays : Option (Turn F.words) → Desk F → Desk F
-  stays None w = w
-  stays (Some t) w = record w { machine = t.machine }
+  stays None desk = desk
+  stays (Some turn) desk = record desk { machine = turn.machine }
 
   abbrev pub resumes : ℕ → Stage F.words → Desk F → Desk F
-  resumes retries AtEnd w = record w { machine = resumed F.words retries (list_of F.words w.machine) }
-  resumes retries (AtHalt k why) w = record w { machine = resumed F.words retries (list_of F.words w.machine) }
-  resumes retries _ w = w
+  resumes retries AtEnd desk = record desk { machine = resumed F.words retries (list_of F.words desk.machine) }
+  resumes retries (AtHalt step why) desk = record desk { machine = resumed F.words retries (list_of F.words desk.machine) }
+  resumes retries _ desk = desk
 
   abbrev pub carries : Stage F.words → Option Answered → Answered → F.Board → Desk F → Desk F
-  carries (Opened heeded task part) None a after w = record w { reply = Some a; board = after }
-  carries _ _ a after w = w
+  carries (Opened heeded task part) None answered after desk = record desk { reply = Some answered; board = after }
+  carries _ _ answered after desk = desk
 
   abbrev pub takes : Option Answered → Desk F → Desk F
-  takes None w = w
-  takes (Some a) w = opens (reply_of F.words a w.machine) w
+  takes None desk = desk
+  takes (Some answered) desk = opens (reply_of F.words answered desk.machine) desk
 
   abbrev pub happens : Desk F → DeskEvent F → Desk F
-  happens w Starts = opens (start_of F.words w.machine) w
-  happens w Quiets = stays (quiet_of F.words w.machine) w
-  happens w Stops = stays (stop_of F.words w.machine) w
-  happens w GoesAgain = stays (again_of F.words w.machine) w
-  happens w Undoes = opens (undo_of F.words w.machine) w
-  happens w (Resumes retries) = resumes retries w.machine.stage w
-  happens w (Carries a after) = carries w.machine.stage w.reply a after w
-  happens w Takes = takes w.reply w
-  happens w (Elsewhere after) = record w { board = after }
+  happens desk Starts = opens (start_of F.words desk.machine) desk
+  happens desk Quiets = stays (quiet_of F.words desk.machine) desk
+  happens desk Stops = stays (stop_of F.words desk.machine) desk
+  happens desk GoesAgain = stays (again_of F.words desk.machine) desk
+  happens desk Undoes = opens (undo_of F.words desk.machine) desk
+  happens desk (Resumes retries) = resumes retries desk.machine.stage desk
+  happens desk (Carries answered after) = carries desk.machine.stage desk.reply answered after desk
+  happens desk Takes = takes desk.reply desk
+  happens desk (Elsewhere after) = record desk { board = after }
 
   -- the board answers the open request by the command relation
   abbrev pub Answers : Stage F.words → F.Board → Answered → F.Board → Type 0
-  Answers (Opened heeded task part) b a after = F.Row b part.asked a after
-  Answers _ b a after = Unit {0}
+  Answers (Opened heeded task part) board answered after = F.Row board part.asked answered after
+  Answers _ board answered after = Unit {0}
 
   -- and nothing else changes a record
   abbrev pub May : Desk F → DeskEvent F → Type 0
-  May w (Carries a after) = Answers w.machine.stage w.board a after
-  May w (Elsewhere after) = F.records after ≡ F.records w.board
-  May w _ = Unit {0}
+  May desk (Carries answered after) = Answers desk.machine.stage desk.board answered after
+  May desk (Elsewhere after) = F.records after ≡ F.records desk.board
+  May desk _ = Unit {0}
 
   abbrev pub run : List (DeskEvent F) → Desk F → Desk F
-  run [] w = w
-  run (e ∷ es) w = run es (happens w e)
+  run [] desk = desk
+  run (desk_event ∷ desk_events) desk = run desk_events (happens desk desk_event)
 
   abbrev pub AllMay : List (DeskEvent F) → Desk F → Type 0
-  AllMay [] w = Unit {0}
-  AllMay (e ∷ es) w = May w e × AllMay es (happens w e)
+  AllMay [] desk = Unit {0}
+  AllMay (desk_event ∷ desk_events) desk = May desk desk_event × AllMay desk_events (happens desk desk_event)
 
   abbrev pub at_desk : List F.words.Op → ℕ → F.Board → Desk F
   at_desk plan retries board = record { machine = opened F.words plan retries; reply = None; board = board }

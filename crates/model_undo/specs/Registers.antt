@@ -31,18 +31,18 @@ pub record Board : Type 0 where
 
 -- the low half is at most the high one, and both are bytes
 abbrev pub IsValid : Halves → Type 0
-IsValid v = (v.low ≤ v.high) × (v.high < 256)
+IsValid halves = (halves.low ≤ halves.high) × (halves.high < 256)
 
 abbrev pub is_valid : Halves → Bool
-is_valid v = nat_le v.low v.high && nat_lt v.high 256
+is_valid halves = nat_le halves.low halves.high && nat_lt halves.high 256
 
 -- the register with the halves written
 abbrev pub written : Write → Halves → Halves
-written w v = record { low = unwrap_or w.low v.low; high = unwrap_or w.high v.high }
+written write halves = record { low = unwrap_or write.low halves.low; high = unwrap_or write.high halves.high }
 
 -- the data of a Get
 abbrev pub shown : ℕ → Halves → ℕ → List ℕ
-shown register v requests = if register == 2 then v.high ∷ requests ∷ [] else v.high ∷ v.low ∷ requests ∷ []
+shown register halves requests = if register == 2 then halves.high ∷ requests ∷ [] else halves.high ∷ halves.low ∷ requests ∷ []
 
 -- what of them is configuration
 abbrev pub configuration : List ℕ → List ℕ
@@ -61,41 +61,41 @@ inverse_of_high register None high old = Some (record { register = register; low
 inverse_of_high register (Some new) high old = None
 
 abbrev pub inverse : Write → List ℕ → Option Write
-inverse w (high ∷ requests ∷ []) = inverse_of_high w.register w.low w.high high
-inverse w (high ∷ low ∷ requests ∷ []) = Some (record { register = w.register; low = back w.low low; high = back w.high high })
-inverse w _ = None
+inverse write (high ∷ requests ∷ []) = inverse_of_high write.register write.low write.high high
+inverse write (high ∷ low ∷ requests ∷ []) = Some (record { register = write.register; low = back write.low low; high = back write.high high })
+inverse write _ = None
 
 -- the data show each half that is written
 abbrev pub IsRestorable : Write → List ℕ → Type 0
-IsRestorable w (high ∷ requests ∷ []) = w.low ≡ None
-IsRestorable w (high ∷ low ∷ requests ∷ []) = Unit {0}
-IsRestorable w _ = ⊥
+IsRestorable write (high ∷ requests ∷ []) = write.low ≡ None
+IsRestorable write (high ∷ low ∷ requests ∷ []) = Unit {0}
+IsRestorable write _ = ⊥
 
 abbrev pub replied : ℕ → List ℕ → Answered
 replied code body = record { code = code; body = body }
 
 abbrev pub get_answer : ℕ → Option Halves → ℕ → Answered
 get_answer register None requests = replied not_present []
-get_answer register (Some v) requests = replied success (shown register v requests)
+get_answer register (Some halves) requests = replied success (shown register halves requests)
 
 -- what a Set replies, and the registers after it
 abbrev pub set_answer : Write → Option Halves → List Halves → Answered × List Halves
-set_answer w None registers = (replied not_present [], registers)
-set_answer w (Some v) registers =
-    if is_valid (written w v) then (replied success [], slice_set registers w.register (written w v)) else (replied invalid_data_field [], registers)
+set_answer write None registers = (replied not_present [], registers)
+set_answer write (Some halves) registers =
+    if is_valid (written write halves) then (replied success [], slice_set registers write.register (written write halves)) else (replied invalid_data_field [], registers)
 
 -- what the board replies to a request, and its registers after it
 abbrev pub answer : Board → Asked → Answered × List Halves
-answer b (AskGet register) = (get_answer register (slice_get b.registers register) b.requests, b.registers)
-answer b (AskSet w) = set_answer w (slice_get b.registers w.register) b.registers
+answer board (AskGet register) = (get_answer register (slice_get board.registers register) board.requests, board.registers)
+answer board (AskSet write) = set_answer write (slice_get board.registers write.register) board.registers
 
 -- each request is counted
 abbrev pub Row : Board → Asked → Answered → Board → Type 0
-Row b asked a after = (a ≡ (answer b asked).0) × (after ≡ record { registers = (answer b asked).1; requests = suc b.requests })
+Row board asked answered after = (answered ≡ (answer board asked).0) × (after ≡ record { registers = (answer board asked).1; requests = suc board.requests })
 
 abbrev pub register_of : Asked → ℕ
 register_of (AskGet register) = register
-register_of (AskSet w) = w.register
+register_of (AskSet write) = write.register
 
 -- what a manager says of them
 abbrev pub register_words : Words
@@ -140,15 +140,15 @@ given (Some x) = 1
 
 abbrev pub bytes_of : ℕ → Asked → List ℕ
 bytes_of number (AskGet register) = number ∷ 0 ∷ register ∷ []
-bytes_of number (AskSet w) = number ∷ 1 ∷ w.register ∷ given w.low ∷ unwrap_or w.low 0 ∷ given w.high ∷ unwrap_or w.high 0 ∷ []
+bytes_of number (AskSet write) = number ∷ 1 ∷ write.register ∷ given write.low ∷ unwrap_or write.low 0 ∷ given write.high ∷ unwrap_or write.high 0 ∷ []
 
 abbrev pub if_given : ℕ → ℕ → Option ℕ
 if_given zero x = None
-if_given (suc n) x = Some x
+if_given (suc count) x = Some x
 
 abbrev pub asked_from : List ℕ → Asked
 asked_from (number ∷ zero ∷ register ∷ []) = AskGet register
-asked_from (number ∷ suc n ∷ register ∷ a ∷ low ∷ b ∷ high ∷ []) = AskSet (record { register = register; low = if_given a low; high = if_given b high })
+asked_from (number ∷ suc count ∷ register ∷ a ∷ low ∷ b ∷ high ∷ []) = AskSet (record { register = register; low = if_given a low; high = if_given b high })
 asked_from _ = AskGet 0
 
 abbrev pub number_in : List ℕ → ℕ
@@ -166,7 +166,7 @@ read_half (Some x) = refl
 -- what was written is read
 pub read_back : (number : ℕ) (asked : Asked) → asked_from (bytes_of number asked) ≡ asked
 read_back number (AskGet register) = refl
-read_back number (AskSet w) = λ i. AskSet (record { register = w.register; low = read_half w.low i; high = read_half w.high i })
+read_back number (AskSet write) = λ i. AskSet (record { register = write.register; low = read_half write.low i; high = read_half write.high i })
 
 abbrev pub wires : Wires register_words
 wires = record {

@@ -18,7 +18,7 @@ pub record UndoList (M : Words) : Type 0 where
 
 -- the list of a manager
 abbrev pub list_of : (M : Words) → Machine M → UndoList M
-list_of M m = record { series = m.undo; next = record { ipmb = number_of Ipmb m.counts.ipmb; smbus = number_of Smbus m.counts.smbus } }
+list_of M machine = record { series = machine.undo; next = record { ipmb = number_of Ipmb machine.counts.ipmb; smbus = number_of Smbus machine.counts.smbus } }
 
 -- the manager that goes on from it: halted after as many steps as the list undoes, as if it was to stop
 abbrev pub resumed : (M : Words) → ℕ → UndoList M → Machine M
@@ -51,35 +51,35 @@ pub record NumberedRequest (M : Words) : Type 0 where
 
 module _ (M : Words) where
   abbrev pub turn_of : Call → Machine M → Option (Turn M)
-  turn_of CallStart m = start_of M m
-  turn_of CallQuiet m = quiet_of M m
-  turn_of CallStop m = stop_of M m
-  turn_of CallAgain m = again_of M m
-  turn_of CallUndo m = undo_of M m
-  turn_of (Replies a) m = reply_of M a m
+  turn_of CallStart machine = start_of M machine
+  turn_of CallQuiet machine = quiet_of M machine
+  turn_of CallStop machine = stop_of M machine
+  turn_of CallAgain machine = again_of M machine
+  turn_of CallUndo machine = undo_of M machine
+  turn_of (Replies answered) machine = reply_of M answered machine
 
   -- the machine after it
   abbrev pub after : Option (Turn M) → Machine M → Machine M
-  after None m = m
-  after (Some t) m = t.machine
+  after None machine = machine
+  after (Some turn) machine = turn.machine
 
   abbrev pub request_of : Sending M → NumberedRequest M
-  request_of s = record { bus = s.bus; number = number_of s.bus s.count; asked = s.asked }
+  request_of sending = record { bus = sending.bus; number = number_of sending.bus sending.count; asked = sending.asked }
 
   -- the request that goes out then
   abbrev pub goes_out : Option (Turn M) → Option (NumberedRequest M)
   goes_out None = None
-  goes_out (Some t) = option_map request_of t.sends
+  goes_out (Some turn) = option_map request_of turn.sends
 
   -- the phase after each call, and the request that goes out
   abbrev pub trace : List Call → Machine M → List (Phase × Option (NumberedRequest M))
-  trace [] m = []
-  trace (c ∷ cs) m = (phase_of M (after (turn_of c m) m), goes_out (turn_of c m)) ∷ trace cs (after (turn_of c m) m)
+  trace [] machine = []
+  trace (call ∷ calls) machine = (phase_of M (after (turn_of call machine) machine), goes_out (turn_of call machine)) ∷ trace calls (after (turn_of call machine) machine)
 
   -- the plan ended or halted
   abbrev pub IsOver : Phase → Type 0
   IsOver Done = Unit {0}
-  IsOver (Halted k why) = Unit {0}
+  IsOver (Halted step why) = Unit {0}
   IsOver _ = ⊥
 
   -- a manager that goes on from a list is halted after as many steps as the list undoes, with no request open, and gives that list
@@ -87,5 +87,5 @@ module _ (M : Words) where
   pub record GoesOnAlike : Type 0 where
     pub halted : (retries : ℕ) (list : UndoList M) → phase_of M (resumed M retries list) ≡ Halted (length list.series) Stop
     pub none_open : (retries : ℕ) (list : UndoList M) → open_bus M (resumed M retries list) ≡ None
-    pub same_list : (retries : ℕ) (m : Machine M) → list_of M (resumed M retries (list_of M m)) ≡ list_of M m
-    pub alike : (m : Machine M) → IsOver (phase_of M m) → (calls : List Call) → trace (CallUndo ∷ calls) (resumed M m.retries (list_of M m)) ≡ trace (CallUndo ∷ calls) m
+    pub same_list : (retries : ℕ) (machine : Machine M) → list_of M (resumed M retries (list_of M machine)) ≡ list_of M machine
+    pub alike : (machine : Machine M) → IsOver (phase_of M machine) → (calls : List Call) → trace (CallUndo ∷ calls) (resumed M machine.retries (list_of M machine)) ≡ trace (CallUndo ∷ calls) machine

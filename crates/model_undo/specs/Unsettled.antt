@@ -8,30 +8,30 @@ use Rattle.model_undo.specs.Resume.{Call, CallQuiet, turn_of, after}
 module _ (M : Words) where
   -- the machine after calls and replies
   abbrev pub run : List Call → Machine M → Machine M
-  run [] m = m
-  run (c ∷ cs) m = run cs (after M (turn_of M c m) m)
+  run [] machine = machine
+  run (call ∷ calls) machine = run calls (after M (turn_of M call machine) machine)
 
   -- the request that goes out, if one does
   abbrev pub listed : Option (Sending M) → List (Sending M)
   listed None = []
-  listed (Some s) = s ∷ []
+  listed (Some sending) = sending ∷ []
 
   abbrev pub sent_by : Option (Turn M) → List (Sending M)
   sent_by None = []
-  sent_by (Some t) = listed t.sends
+  sent_by (Some turn) = listed turn.sends
 
   -- all requests that go out, in order; one that is sent again stands there again
   abbrev pub sent_in : List Call → Machine M → List (Sending M)
-  sent_in [] m = []
-  sent_in (c ∷ cs) m = sent_by (turn_of M c m) ++ sent_in cs (after M (turn_of M c m) m)
+  sent_in [] machine = []
+  sent_in (call ∷ calls) machine = sent_by (turn_of M call machine) ++ sent_in calls (after M (turn_of M call machine) machine)
 
   -- the open request isn't unsettled
   abbrev pub IsAwaited : Machine M → Type 0
-  IsAwaited m = (k : ℕ) → phase_of M m ≢ Unsettled k
+  IsAwaited machine = (step : ℕ) → phase_of M machine ≢ Unsettled step
 
   -- A request came to be unsettled among the calls, and still is. A call or a reply that isn't `quiet` opened it, or `again` had it heeded again:
   -- it was sent then. Until `quiet` gave it up, it was sent again so often, and nothing else was sent.
-  pub record IsGivenUp (m : Machine M) (calls : List Call) (k : ℕ) : Type 0 where
+  pub record IsGivenUp (machine : Machine M) (calls : List Call) (step : ℕ) : Type 0 where
     pub before : List Call
     pub opener : Call
     pub between : List Call
@@ -39,12 +39,12 @@ module _ (M : Words) where
     pub all : calls ≡ before ++ (opener ∷ (between ++ (CallQuiet ∷ later)))
     pub request : Sending M
     pub opens : opener ≢ CallQuiet
-    pub sent : sent_by (turn_of M opener (run before m)) ≡ request ∷ []
-    pub sent_again : sent_in between (run (before ++ opener ∷ []) m) ≡ replicate m.retries request
-    pub awaited : IsAwaited (run (before ++ opener ∷ between) m)
-    pub unsettled : phase_of M (run (before ++ (opener ∷ (between ++ (CallQuiet ∷ [])))) m) ≡ Unsettled k
+    pub sent : sent_by (turn_of M opener (run before machine)) ≡ request ∷ []
+    pub sent_again : sent_in between (run (before ++ opener ∷ []) machine) ≡ replicate machine.retries request
+    pub awaited : IsAwaited (run (before ++ opener ∷ between) machine)
+    pub unsettled : phase_of M (run (before ++ (opener ∷ (between ++ (CallQuiet ∷ [])))) machine) ≡ Unsettled step
 
   -- so it is of a machine that had no request open, whatever it is called and whatever replies come: that is how it begins with a plan, and how
   -- it goes on from a list
   abbrev pub UnsettledByQuiet : Type 0
-  UnsettledByQuiet = (m : Machine M) → open_bus M m ≡ None → (calls : List Call) (k : ℕ) → phase_of M (run calls m) ≡ Unsettled k → IsGivenUp m calls k
+  UnsettledByQuiet = (machine : Machine M) → open_bus M machine ≡ None → (calls : List Call) (step : ℕ) → phase_of M (run calls machine) ≡ Unsettled step → IsGivenUp machine calls step

@@ -8,8 +8,8 @@ use Rattle.model_undo.specs.Words.{Words}
 
 -- the number of a count: a sequence number on IPMB, an instance on SMBus
 abbrev pub number_of : Bus → ℕ → ℕ
-number_of Ipmb n = n % sequence_numbers
-number_of Smbus n = n % instances
+number_of Ipmb count = count % sequence_numbers
+number_of Smbus count = count % instances
 
 -- a manager makes the series: it gets a record, or carries an operation out
 abbrev pub IsSeries : (M : Words) → M.Series → Type 0
@@ -35,4 +35,4 @@ pub record Wires (M : Words) : Type 0 where
   pub answered_from : Bus → List ℕ → Answered
   -- what was written is read, of the requests that a manager makes
   pub same : (number : ℕ) (asked : M.Asked) → IsMade M asked → asked_from (M.bus_of asked) (bytes_of number asked) ≡ asked
-  pub same_reply : (bus : Bus) (bytes : List ℕ) (a : Answered) → answered_from bus (reply_to bus bytes a) ≡ a
+  pub same_reply : (bus : Bus) (bytes : List ℕ) (answered : Answered) → answered_from bus (reply_to bus bytes answered) ≡ answered

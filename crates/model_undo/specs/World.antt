@@ -15,10 +15,10 @@ States L = (bus : Bus) → (L bus).State
 
 -- the buses with one of them changed
 abbrev pub update : (L : Bus → Line) (bus : Bus) → (L bus).State → States L → States L
-update L Ipmb s on Ipmb = s
-update L Ipmb s on Smbus = on Smbus
-update L Smbus s on Ipmb = on Ipmb
-update L Smbus s on Smbus = s
+update L Ipmb state on Ipmb = state
+update L Ipmb state on Smbus = on Smbus
+update L Smbus state on Ipmb = on Ipmb
+update L Smbus state on Smbus = state
 
 pub record World (F : Family) (L : Bus → Line) : Type 0 where
   pub machine : Machine F.words
@@ -45,96 +45,96 @@ pub data Happening (F : Family) (L : Bus → Line) : Type 0 where
 module _ (F : Family) (L : Bus → Line) (W : Wires F.words) where
   -- the bytes of a request that is sent
   abbrev pub bytes_sent : Sending F.words → List ℕ
-  bytes_sent s = W.bytes_of (number_of s.bus s.count) s.asked
+  bytes_sent sending = W.bytes_of (number_of sending.bus sending.count) sending.asked
 
   -- a request is begun, if one is sent
   abbrev pub begins : Option (Sending F.words) → States L → States L
   begins None on = on
-  begins (Some s) on = update L s.bus ((L s.bus).happens (on s.bus) ((L s.bus).begins (bytes_sent s))) on
+  begins (Some sending) on = update L sending.bus ((L sending.bus).happens (on sending.bus) ((L sending.bus).begins (bytes_sent sending))) on
 
   -- the open request is sent again, if one is sent
   abbrev pub sends_again : Option (Sending F.words) → States L → States L
   sends_again None on = on
-  sends_again (Some s) on = update L s.bus ((L s.bus).happens (on s.bus) (L s.bus).sends_again) on
+  sends_again (Some sending) on = update L sending.bus ((L sending.bus).happens (on sending.bus) (L sending.bus).sends_again) on
 
   -- a call that may open a request
   abbrev pub opens : Option (Turn F.words) → World F L → World F L
-  opens None w = w
-  opens (Some t) w = record w { machine = t.machine; on = begins t.sends w.on }
+  opens None world = world
+  opens (Some turn) world = record world { machine = turn.machine; on = begins turn.sends world.on }
 
   -- a call that may send the open request again
   abbrev pub repeats : Option (Turn F.words) → World F L → World F L
-  repeats None w = w
-  repeats (Some t) w = record w { machine = t.machine; on = sends_again t.sends w.on }
+  repeats None world = world
+  repeats (Some turn) world = record world { machine = turn.machine; on = sends_again turn.sends world.on }
 
   -- another manager is in the place of this one
   abbrev pub replaced : ℕ → World F L → World F L
-  replaced retries w = record w { machine = resumed F.words retries (list_of F.words w.machine); on = λ bus. (L bus).happens (w.on bus) (L bus).resumes }
+  replaced retries world = record world { machine = resumed F.words retries (list_of F.words world.machine); on = λ bus. (L bus).happens (world.on bus) (L bus).resumes }
 
   abbrev pub resumes : ℕ → Stage F.words → World F L → World F L
-  resumes retries AtEnd w = replaced retries w
-  resumes retries (AtHalt k why) w = replaced retries w
-  resumes retries _ w = w
+  resumes retries AtEnd world = replaced retries world
+  resumes retries (AtHalt step why) world = replaced retries world
+  resumes retries _ world = world
 
   -- something happens on a bus
   abbrev pub moved : (bus : Bus) → (L bus).Event → World F L → States L
-  moved bus e w = update L bus ((L bus).happens (w.on bus) e) w.on
+  moved bus event world = update L bus ((L bus).happens (world.on bus) event) world.on
 
   -- the manager takes the reply that came, unless it ignores it
   abbrev pub answered : (bus : Bus) → (L bus).Event → Option (Turn F.words) → World F L → World F L
-  answered bus e None w = w
-  answered bus e (Some t) w = record w { machine = t.machine; on = begins t.sends (moved bus e w) }
+  answered bus event None world = world
+  answered bus event (Some turn) world = record world { machine = turn.machine; on = begins turn.sends (moved bus event world) }
 
   abbrev pub brought : (bus : Bus) → (L bus).Event → Option (List ℕ) → World F L → World F L
-  brought bus e None w = record w { on = moved bus e w }
-  brought bus e (Some reply) w = answered bus e (reply_of F.words (W.answered_from bus reply) w.machine) w
+  brought bus event None world = record world { on = moved bus event world }
+  brought bus event (Some reply) world = answered bus event (reply_of F.words (W.answered_from bus reply) world.machine) world
 
   -- the manager looks at what comes on the bus of its open request, while that is heeded
   abbrev pub looks : (bus : Bus) → (L bus).Event → Bool → World F L → World F L
-  looks bus e false w = w
-  looks bus e true w = brought bus e ((L bus).brings (w.on bus) e) w
+  looks bus event false world = world
+  looks bus event true world = brought bus event ((L bus).brings (world.on bus) event) world
 
   abbrev pub returns : (bus : Bus) → (L bus).Event → Stage F.words → World F L → World F L
-  returns bus e (Opened true task part) w = looks bus e (same_bus bus (bus_at F.words part)) w
-  returns bus e _ w = w
+  returns bus event (Opened true task part) world = looks bus event (same_bus bus (bus_at F.words part)) world
+  returns bus event _ world = world
 
   -- the world after it
   abbrev pub happens : World F L → Happening F L → World F L
-  happens w Start = opens (start_of F.words w.machine) w
-  happens w Quiet = repeats (quiet_of F.words w.machine) w
-  happens w Stop = opens (stop_of F.words w.machine) w
-  happens w Again = repeats (again_of F.words w.machine) w
-  happens w Undo = opens (undo_of F.words w.machine) w
-  happens w (Resume retries) = resumes retries w.machine.stage w
-  happens w (ToManager bus e) = returns bus e w.machine.stage w
-  happens w (OnBus bus e after) = record w { on = moved bus e w; board = after }
-  happens w (OnBench after) = record w { board = after }
+  happens world Start = opens (start_of F.words world.machine) world
+  happens world Quiet = repeats (quiet_of F.words world.machine) world
+  happens world Stop = opens (stop_of F.words world.machine) world
+  happens world Again = repeats (again_of F.words world.machine) world
+  happens world Undo = opens (undo_of F.words world.machine) world
+  happens world (Resume retries) = resumes retries world.machine.stage world
+  happens world (ToManager bus event) = returns bus event world.machine.stage world
+  happens world (OnBus bus event after) = record world { on = moved bus event world; board = after }
+  happens world (OnBench after) = record world { board = after }
 
   -- a request of the manager that is carried out is answered by the command relation; nothing else changes a record
   abbrev pub BoardMay : Bus → Option Exchange → F.Board → F.Board → Type 0
   BoardMay bus None board after = F.records after ≡ F.records board
-  BoardMay bus (Some x) board after = (a : Answered) × (x.reply ≡ W.reply_to bus x.bytes a) × F.Row board (W.asked_from bus x.bytes) a after
+  BoardMay bus (Some exchange) board after = (answered : Answered) × (exchange.reply ≡ W.reply_to bus exchange.bytes answered) × F.Row board (W.asked_from bus exchange.bytes) answered after
 
   -- what happens on a bus is none of the manager's doing, and honest there
   abbrev pub IsHonestOn : (bus : Bus) → (L bus).Event → World F L → Type 0
-  IsHonestOn bus e w = (L bus).IsOutside e × (L bus).IsHonest (w.on bus) e
+  IsHonestOn bus event world = (L bus).IsOutside event × (L bus).IsHonest (world.on bus) event
 
   -- it may happen here
   abbrev pub May : World F L → Happening F L → Type 0
-  May w (ToManager bus e) = IsHonestOn bus e w × ((L bus).is_to_manager e ≡ true)
-  May w (OnBus bus e after) = IsHonestOn bus e w × ((L bus).is_to_manager e ≡ false) × BoardMay bus ((L bus).carries (w.on bus) e) w.board after
-  May w (OnBench after) = F.records after ≡ F.records w.board
-  May w _ = Unit {0}
+  May world (ToManager bus event) = IsHonestOn bus event world × ((L bus).is_to_manager event ≡ true)
+  May world (OnBus bus event after) = IsHonestOn bus event world × ((L bus).is_to_manager event ≡ false) × BoardMay bus ((L bus).carries (world.on bus) event) world.board after
+  May world (OnBench after) = F.records after ≡ F.records world.board
+  May world _ = Unit {0}
 
   -- the world after a schedule
   abbrev pub run : List (Happening F L) → World F L → World F L
-  run [] w = w
-  run (e ∷ es) w = run es (happens w e)
+  run [] world = world
+  run (happening ∷ happenings) world = run happenings (happens world happening)
 
   -- each may happen where it does
   abbrev pub AllMay : List (Happening F L) → World F L → Type 0
-  AllMay [] w = Unit {0}
-  AllMay (e ∷ es) w = May w e × AllMay es (happens w e)
+  AllMay [] world = Unit {0}
+  AllMay (happening ∷ happenings) world = May world happening × AllMay happenings (happens world happening)
 
 -- a manager that was opened with a plan, between these buses and this board
 abbrev pub opening : (F : Family) (L : Bus → Line) → List F.words.Op → ℕ → States L → F.Board → World F L

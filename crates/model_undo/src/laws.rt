@@ -33,27 +33,31 @@ pub fn records_stand()
 /// cause that it names. SMBus goes in whole messages, or in packets, cut in any way that a receiver can join.
 pub fn phases_stand()
     ensures messages { (at : Bus → Addresses) → AlwaysStands registers (in_messages at) wires }
-    ensures packets { (at : Bus → Addresses) (split : List ℕ → List Packet) → IsCutting split → AlwaysStands registers (with_packets at split) wires }
+    ensures packets { (at : Bus → Addresses) (split : List ℕ → List Packet) → IsCutting split
+        → AlwaysStands registers (with_packets at split) wires }
 {}
 
 /// A halt has its cause in its own schedule. Refused, GetRefused and NotRestorable come only where the board gave that answer to the Set or to the
 /// Get of that step, at the records after the steps before it; Stop comes only where the manager was told to stop, or another went on from its list.
 pub fn halts_by_given_answers()
     ensures messages { (at : Bus → Addresses) → HaltsByAnswers registers (in_messages at) wires }
-    ensures packets { (at : Bus → Addresses) (split : List ℕ → List Packet) → IsCutting split → HaltsByAnswers registers (with_packets at split) wires }
+    ensures packets { (at : Bus → Addresses) (split : List ℕ → List Packet) → IsCutting split
+        → HaltsByAnswers registers (with_packets at split) wires }
 {}
 
 /// Once a plan is undone, and at every moment from then on, every record is what it was before the plan, and each Get that is carried out,
 /// whoever asks it, shows the same configuration.
 pub fn undone_is_for_good()
     ensures messages { (at : Bus → Addresses) → UndoneForGood registers (in_messages at) wires }
-    ensures packets { (at : Bus → Addresses) (split : List ℕ → List Packet) → IsCutting split → UndoneForGood registers (with_packets at split) wires }
+    ensures packets { (at : Bus → Addresses) (split : List ℕ → List Packet) → IsCutting split
+        → UndoneForGood registers (with_packets at split) wires }
 {}
 
 /// A plan halts because of a stop only where it was stopped, or where another manager went on from its list.
 pub fn stops_only_if_told()
     ensures messages { (at : Bus → Addresses) → StopsOnlyIfTold registers (in_messages at) wires }
-    ensures packets { (at : Bus → Addresses) (split : List ℕ → List Packet) → IsCutting split → StopsOnlyIfTold registers (with_packets at split) wires }
+    ensures packets { (at : Bus → Addresses) (split : List ℕ → List Packet) → IsCutting split
+        → StopsOnlyIfTold registers (with_packets at split) wires }
 {}
 
 /// A manager that goes on from a list is halted after as many steps as the list undoes, with no request open, and gives that same list. From
@@ -72,14 +76,23 @@ pub fn unsettled_only_by_quiet()
 /// halts at the first step whose Get is refused, whose Get shows what can't be restored, or whose Set is refused. Its undo takes one request
 /// for each step that was done, and ends with the records of the start. This knows no bus.
 pub fn plans_run_clean()
-    ensures { (answer : Board → Asked → Answered × Board) → AnswersByRow registers answer → AlwaysRunsClean registers answer }
+    ensures { (answer : Board → Asked → Answered × Board) → AnswersByRow registers answer
+        → AlwaysRunsClean registers answer }
 {}
 
 /// Over two buses that lose nothing a plan runs just so: each request is delivered once, each reply is delivered once, nobody else asks, and such a
 /// schedule is honest. The port of each bus is to have a place for the manager at the start, and what is sent in packets is to be cut: what the
 /// registers say is.
 pub fn plans_run_clean_over_buses()
-    ensures messages { (at : Bus → Addresses) (answer : Board → Asked → Answered × Board) → AnswersByRow registers answer → AlwaysRunsOverBuses registers (in_messages at) (messages_come at) wires answer }
-    ensures packets { (at : Bus → Addresses) (split : List ℕ → List Packet) → IsCutting split → (answer : Board → Asked → Answered × Board) → AnswersByRow registers answer → AlwaysRunsOverBuses registers (with_packets at split) (packets_come at split) wires answer }
-    ensures cut { (at : Bus → Addresses) (answer : Board → Asked → Answered × Board) → AnswersByRow registers answer → AllCanBeSent registers (with_packets at packets_of) (packets_come at packets_of) wires answer }
+    ensures messages { (at : Bus → Addresses) (answer : Board → Asked → Answered × Board)
+        → AnswersByRow registers answer
+        → AlwaysRunsOverBuses registers (in_messages at) (messages_come at) wires answer }
+    ensures packets { (at : Bus → Addresses) (split : List ℕ → List Packet) → IsCutting split
+        → (answer : Board → Asked → Answered × Board) → AnswersByRow registers answer
+        → AlwaysRunsOverBuses registers (with_packets at split) (packets_come at split) wires
+        answer }
+    ensures cut { (at : Bus → Addresses) (answer : Board → Asked → Answered × Board)
+        → AnswersByRow registers answer
+        → AllCanBeSent registers (with_packets at packets_of) (packets_come at packets_of) wires
+        answer }
 {}
