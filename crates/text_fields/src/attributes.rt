@@ -104,7 +104,10 @@ pub fn are_indexes(value: &Value, most: usize, count: usize) -> bool
 
 /// Whether the value has indexes of the item's values, at most one for each.
 pub fn are_own_indexes(item: &Table, value: &Value) -> bool
-    ensures { result ≡ are_indexes (length (members_in Field.Values (table_view item.now))) (length (members_in Field.Values (table_view item.now))) (or_none (members (view value.now))) }
+    ensures { result ≡ are_indexes
+        (length (members_in Field.Values (table_view item.now)))
+        (length (members_in Field.Values (table_view item.now)))
+        (or_none (members (view value.now))) }
 {
     let count = members_in(item, Field::Values).len();
     are_indexes(value, count, count)

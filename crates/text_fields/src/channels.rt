@@ -40,7 +40,8 @@ pub fn accesses(value: &Value) -> Option<[u8; 2]>
 
 /// Two limits for the stores of a channel.
 pub fn limits(value: &Value) -> Option<[u8; 2]>
-    ensures made { is_some result ≡ passes (list_all (is_between 1 5)) (bytes_in 2 (view value.now)) }
+    ensures made { is_some result
+        ≡ passes (list_all (is_between 1 5)) (bytes_in 2 (view value.now)) }
     ensures held { IfSome result (λ pair. bytes_in 2 (view value.now) ≡ Some pair) }
     ensures valid { IfSome result (λ pair. list_all (is_between 1 5) pair ≡ true) }
 {
@@ -86,7 +87,8 @@ fn all_may_do(values: &[Value]) -> bool
 
 /// Whether the value is an array that says what each of so many users may do.
 pub fn are_user_bytes(value: &Value, users: usize) -> bool
-    ensures { result ≡ ((length (or_none (members (view value.now))) == users) && list_all may_do (or_none (members (view value.now)))) }
+    ensures { result ≡ ((length (or_none (members (view value.now))) == users)
+        && list_all may_do (or_none (members (view value.now)))) }
 {
     match members(value) {
         Some(values) => values.len() == users && all_may_do(values),

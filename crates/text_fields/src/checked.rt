@@ -29,7 +29,8 @@ impl<'a> Checked<'a> {
         ensures rows { IfOk result (λ item. item.rows.now ≡ rows.now) }
         ensures ok { IfOk result (λ item. table_view item.table.now ≡ table_view table.now) }
         ensures sound { IfOk result (λ _. field_faults rows.now (table_view table.now) ≡ []) }
-        ensures err { IfErr result (λ why. first (field_faults rows.now (table_view table.now)) ≡ Some why) }
+        ensures err { IfErr result
+            (λ why. first (field_faults rows.now (table_view table.now)) ≡ Some why) }
     {
         match first_fault(rows, table) {
             Some(fault) => Err(fault),
@@ -50,9 +51,12 @@ impl<'a> Checked<'a> {
     pub fn value(&self, field: Field) -> &'a Value
         requires { is_always_there (row_of field self.now.rows.now) ≡ true }
         ensures found { in_field field (table_view self.now.table.now) ≡ Some (view result.now) }
-        ensures listed { members_in field (table_view self.now.table.now) ≡ or_none (members (view result.now)) }
-        ensures typed { has_type (shape_of (row_of field self.now.rows.now)) (view result.now) ≡ true }
-        ensures within { is_in_range (table_view self.now.table.now) (shape_of (row_of field self.now.rows.now)) (view result.now) ≡ true }
+        ensures listed { members_in field (table_view self.now.table.now)
+            ≡ or_none (members (view result.now)) }
+        ensures typed { has_type (shape_of (row_of field self.now.rows.now)) (view result.now)
+            ≡ true }
+        ensures within { is_in_range (table_view self.now.table.now)
+            (shape_of (row_of field self.now.rows.now)) (view result.now) ≡ true }
     {
         value_in(self.table, field)
     }

@@ -163,9 +163,13 @@ pub fn boot_flags(value: &Value) -> Option<BootFlags>
 
 /// The masks of the sensor that the table is.
 fn masks(item: &Table) -> Option<ThresholdMasks>
-    ensures made { is_some result ≡ are_masks (number_in Field.Readable (table_view item.now)) (number_in Field.Settable (table_view item.now)) }
-    ensures readable { IfSome result (λ masks. number_in Field.Readable (table_view item.now) ≡ Some masks.readable) }
-    ensures settable { IfSome result (λ masks. number_in Field.Settable (table_view item.now) ≡ Some masks.settable) }
+    ensures made { is_some result ≡ are_masks
+        (number_in Field.Readable (table_view item.now))
+        (number_in Field.Settable (table_view item.now)) }
+    ensures readable { IfSome result
+        (λ masks. number_in Field.Readable (table_view item.now) ≡ Some masks.readable) }
+    ensures settable { IfSome result
+        (λ masks. number_in Field.Settable (table_view item.now) ≡ Some masks.settable) }
 {
     let (Some(readable), Some(settable)) = (
         number(item, Field::Readable),
@@ -181,9 +185,12 @@ fn masks(item: &Table) -> Option<ThresholdMasks>
 
 /// The thresholds that the value is, of the sensor that the table is.
 pub fn thresholds(item: &Table, value: &Value) -> Option<Thresholds>
-    ensures made { is_some result ≡ is_in_range (table_view item.now) Shape.Thresholds (view value.now) }
-    ensures readable { IfSome result (λ t. number_in Field.Readable (table_view item.now) ≡ Some t.masks.readable) }
-    ensures settable { IfSome result (λ t. number_in Field.Settable (table_view item.now) ≡ Some t.masks.settable) }
+    ensures made { is_some result
+        ≡ is_in_range (table_view item.now) Shape.Thresholds (view value.now) }
+    ensures readable { IfSome result
+        (λ t. number_in Field.Readable (table_view item.now) ≡ Some t.masks.readable) }
+    ensures settable { IfSome result
+        (λ t. number_in Field.Settable (table_view item.now) ≡ Some t.masks.settable) }
     ensures values { IfSome result (λ t. bytes_in 6 (view value.now) ≡ Some t.values) }
 {
     let Some(masks) = masks(item) else {
@@ -260,7 +267,8 @@ fn all_records(values: &[Value]) -> bool
 
 /// Whether the array that the value is has at most so many members, each of which is a sensor data record.
 fn are_records(value: &Value, most: usize) -> bool
-    ensures { result ≡ (nat_le (length (or_none (members (view value.now)))) most && list_all (λ text. is_some (record_in text)) (or_none (members (view value.now)))) }
+    ensures { result ≡ (nat_le (length (or_none (members (view value.now)))) most
+        && list_all (λ text. is_some (record_in text)) (or_none (members (view value.now)))) }
 {
     match members(value) {
         Some(values) => values.len() <= most && all_records(values),
@@ -271,7 +279,8 @@ fn are_records(value: &Value, most: usize) -> bool
 /// The settings of a watchdog timer that the value is.
 pub fn watchdog(value: &Value) -> Option<Watchdog>
     ensures made { is_some result ≡ passes are_settings (naturals_in 4 (view value.now)) }
-    ensures held { IfSome result (λ watchdog. naturals_in 4 (view value.now) ≡ Some (settings watchdog)) }
+    ensures held { IfSome result
+        (λ watchdog. naturals_in 4 (view value.now) ≡ Some (settings watchdog)) }
 {
     let Some(numbers) = naturals::<4>(value) else {
         return None;
@@ -316,7 +325,9 @@ fn are_offsets(value: &Value) -> bool
 /// The change of parameter 3 that the value is.
 fn valid_bit_clearing(value: &Value) -> Option<BootChange>
     ensures made { is_some result ≡ passes are_five_bits (bytes_in 1 (view value.now)) }
-    ensures held { IfSome result (λ change. (byte : ℕ) × (change ≡ BootChange.ValidBitClearing byte) × (bytes_in 1 (view value.now) ≡ Some (byte ∷ []))) }
+    ensures held { IfSome result (λ change. (byte : ℕ)
+        × (change ≡ BootChange.ValidBitClearing byte)
+        × (bytes_in 1 (view value.now) ≡ Some (byte ∷ []))) }
 {
     let Some(bytes) = bytes::<1>(value) else {
         return None;
@@ -331,7 +342,9 @@ fn valid_bit_clearing(value: &Value) -> Option<BootChange>
 /// The change of parameter 4 that the value is: a mask, and the bits that are written.
 fn info_acknowledge(value: &Value) -> Option<BootChange>
     ensures made { is_some result ≡ is_some (bytes_in 2 (view value.now)) }
-    ensures held { IfSome result (λ change. (masked : MaskedBits) × (change ≡ BootChange.InfoAcknowledge masked) × (bytes_in 2 (view value.now) ≡ Some (masked.mask ∷ masked.bits ∷ []))) }
+    ensures held { IfSome result (λ change. (masked : MaskedBits)
+        × (change ≡ BootChange.InfoAcknowledge masked)
+        × (bytes_in 2 (view value.now) ≡ Some (masked.mask ∷ masked.bits ∷ []))) }
 {
     let Some(bytes) = bytes::<2>(value) else {
         return None;
@@ -344,7 +357,8 @@ fn info_acknowledge(value: &Value) -> Option<BootChange>
 pub fn boot_change(parameter: BootParameter, value: &Value) -> Option<BootChange>
     ensures made { is_some result ≡ are_boot_data parameter (view value.now) }
     ensures changed { IfSome result (λ change. parameter_of change ≡ parameter) }
-    ensures held { IfSome result (λ change. bytes_in (length (change_bytes change)) (view value.now) ≡ Some (change_bytes change)) }
+    ensures held { IfSome result (λ change.
+        bytes_in (length (change_bytes change)) (view value.now) ≡ Some (change_bytes change)) }
 {
     match parameter {
         BootParameter::ValidBitClearing => valid_bit_clearing(value),

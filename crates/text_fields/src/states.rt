@@ -93,7 +93,8 @@ fn can_all_be(lists: &[Value], states: &[Value]) -> bool
 
 /// Whether the value has a state for each of the item's fields, which can be in it.
 pub fn are_present(item: &Table, value: &Value) -> bool
-    ensures { result ≡ are_present (members_in Field.States (table_view item.now)) (or_none (members (view value.now))) }
+    ensures { result ≡ are_present (members_in Field.States (table_view item.now))
+        (or_none (members (view value.now))) }
 {
     can_all_be(members_in(item, Field::States), members_of(value))
 }

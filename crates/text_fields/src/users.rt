@@ -56,7 +56,8 @@ fn all_names(values: &[Value]) -> bool
 
 /// Whether each of the values is a name, and the first an empty one.
 fn all_named(values: &[Value]) -> bool
-    ensures { result ≡ (begins_unnamed (map view values.now) && list_all (λ value. is_some (name_of (view value))) values.now) }
+    ensures { result ≡ (begins_unnamed (map view values.now)
+        && list_all (λ value. is_some (name_of (view value))) values.now) }
 {
     begins_unnamed(values) && all_names(values)
 }
