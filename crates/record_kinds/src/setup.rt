@@ -25,10 +25,16 @@ pub struct Setup {
 }
 
 impl Model for Setup {
+    ghost use Rattle.std.specs.Coded.{codes};
+    ghost use Rattle.record_base.specs.UsersLaws.{AreUsers-prop};
+    ghost use Rattle.record_base.specs.AttributesLaws.{AreInPlace-prop};
     ghost use Rattle.cfg_records.specs.declared.board_file.BoardFile.{BoardFile};
-    ghost use Rattle.record_kinds.specs.Places.{ArePlaces};
 
     ghost Value = { BoardFile };
+
+    ghost coded = { Prim.hlevel (AreUsers-prop, AreInPlace-prop, codes) };
+
+    ghost use Rattle.record_kinds.specs.Places.{ArePlaces};
 
     ghost view = { λ s. s.file.value };
 
