@@ -33,11 +33,11 @@ module _ (F : Family) (answer : F.Board → F.words.Asked → Answered × F.Boar
   exchanged None moment = moment
   exchanged (Some sending) moment = told (reply_of F.words (answer moment.board sending.asked).0 moment.turn.machine) (answer moment.board sending.asked).1 moment
 
-  -- the request is answered, and the reply taken, if one was sent
+  -- the board answers the request, and the manager takes the reply, if a request was sent
   abbrev pub one : Moment F → Moment F
   one moment = exchanged moment.turn.sends moment
 
-  -- so many requests are
+  -- so many requests are answered, one after another
   abbrev pub clean : ℕ → Moment F → Moment F
   clean zero moment = moment
   clean (suc count) moment = clean count (one moment)
@@ -49,19 +49,19 @@ module _ (F : Family) (answer : F.Board → F.words.Asked → Answered × F.Boar
   abbrev pub did : F.Board → F.words.Op → Answered × F.Board
   did board op = answer (got board op).1 (set_asked F.words op)
 
-  -- a step is carried out, and can be undone
+  -- the board carries a step out, and the step can be undone
   pub record Goes (board : F.Board) (op : F.words.Op) (after : F.Board) : Type 0 where
     pub read : (got board op).0.code ≡ success
     pub can_undo : F.Restorable op (got board op).0.body
     pub done : (did board op).0.code ≡ success
     pub left : after ≡ (did board op).1
 
-  -- all steps are, in order, from the first board to the second
+  -- the board carries all steps out, in order, and becomes the second board; each step can be undone
   abbrev pub GoAll : List F.words.Op → F.Board → F.Board → Type 0
   GoAll [] board after = after ≡ board
   GoAll (op ∷ ops) board after = (mid : F.Board) × Goes board op mid × GoAll ops mid after
 
-  -- why a step isn't, and how many requests of it were sent
+  -- why the board doesn't carry a step out so, and how many requests of the step were sent
   abbrev pub Sticks : F.Board → F.words.Op → Why → ℕ → Type 0
   Sticks board op Stop count = ⊥
   Sticks board op (GetRefused code) count = ((got board op).0.code ≡ code) × (code ≢ success) × (count ≡ 1)
@@ -74,14 +74,14 @@ module _ (F : Family) (answer : F.Board → F.words.Asked → Answered × F.Boar
   EndsIn step [] board phase count = (phase ≡ Done) × (count ≡ 0)
   EndsIn step (op ∷ ops) board phase count = (why : Why) × Sticks board op why count × (phase ≡ Halted step why)
 
-  -- nothing is to be sent any more, and so many requests were answered
+  -- the manager sends no more requests, and so many were answered
   pub record IsAtRest (moment : Moment F) (phase : Phase) (requests : ℕ) : Type 0 where
     pub rests : moment.turn.sends ≡ None
     pub phase_is : phase_of F.words moment.turn.machine ≡ phase
     pub count : answered_in_all moment.turn.machine.counts ≡ requests
 
-  -- A plan that is begun takes two requests for each step that goes, and ends after the last or halts at the first that doesn't. Its
-  -- undo takes one for each step that went, and ends with the records of the start.
+  -- A plan that is begun takes two requests for each step that the board carries out. It ends after the last step, or halts at the first that the
+  -- board doesn't carry out. Its undo takes one request for each step that was carried out, and ends with the records of the start.
   pub record RunsClean (plan : List F.words.Op) (board : F.Board) (begun : Moment F) : Type 0 where
     pub steps : List F.words.Op
     pub rest : List F.words.Op
@@ -99,7 +99,7 @@ module _ (F : Family) (answer : F.Board → F.words.Asked → Answered × F.Boar
         IsAtRest y Undone (length steps + length steps + more + length steps) × (F.records y.board ≡ F.records board))
     pub undo_is_taken : let x = clean (length steps + length steps + more) begun in undo_of F.words x.turn.machine ≢ None
 
-  -- so does every plan, at every board of valid records
+  -- so it is with every plan, at every board of valid records
   abbrev pub AlwaysRunsClean : Type 0
   AlwaysRunsClean = (plan : List F.words.Op) (retries : ℕ) (board : F.Board) → AllValid F (F.records board)
       → IfSome (start_of F.words (opened F.words plan retries)) (λ t. RunsClean plan board (record { turn = t; board = board }))

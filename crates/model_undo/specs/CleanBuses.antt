@@ -1,4 +1,4 @@
--- A plan over two buses that lose nothing, and on which nobody else asks: each request is delivered once, and so is each reply.
+-- A plan over two buses that lose nothing, and on which nobody else asks: each request and each reply is delivered once.
 use Rattle.std.specs.Prelude.{◌≡◌, ℕ, zero, suc, ◌+◌, true, List, [], ◌∷◌, ◌++◌, length, map}
 use Rattle.two_wire.specs.declared.Bus.{Bus}
 use Rattle.two_wire.specs.declared.Bus.TheVariants.{Ipmb, Smbus}
@@ -17,7 +17,7 @@ use Rattle.model_undo.specs.Headline.{IsStart}
 use Rattle.model_undo.specs.Clean.{GoAll, EndsIn}
 
 module _ (F : Family) (L : Bus → Line) (D : (bus : Bus) → Delivery (L bus)) (W : Wires F.words) (answer : F.Board → F.words.Asked → Answered × F.Board) where
-  -- these reach the port one after another, and with the last of them the board becomes the other
+  -- these events reach the port one after another, and with the last of them the board becomes the other
   abbrev pub reach_port : (bus : Bus) → List (L bus).Event → F.Board → F.Board → List (Happening F L)
   reach_port bus [] board after = []
   reach_port bus (event ∷ []) board after = OnBus bus event after ∷ []
@@ -30,21 +30,21 @@ module _ (F : Family) (L : Bus → Line) (D : (bus : Bus) → Delivery (L bus)) 
       let a = answer world.board part.asked in
       reach_port bus ((D bus).to_port (world.on bus) (W.reply_to bus (bytes_sent F L W (sending F.words part world.machine.counts)) a.0)) world.board a.1
 
-  -- what was sent back reaches the manager
+  -- the reply that the port sent reaches the manager
   abbrev pub replies : Bus → World F L → List (Happening F L)
   replies bus world = map (λ (e : (L bus).Event). ToManager bus e) ((D bus).to_manager (world.on bus))
 
-  -- so it goes with the open request, if one is open
+  -- the open request reaches the port, and its reply the manager, if a request is open
   abbrev pub exchange : Stage F.words → World F L → List (Happening F L)
   exchange (Opened true task part) world = asks part world ++ replies (bus_at F.words part) (run F L W (asks part world) world)
   exchange _ world = []
 
-  -- and so with as many requests as this
+  -- so many requests and their replies, one after another
   abbrev pub exchanges : ℕ → World F L → List (Happening F L)
   exchanges zero world = []
   exchanges (suc count) world = exchange world.machine.stage world ++ exchanges count (run F L W (exchange world.machine.stage world) world)
 
-  -- each request that the manager makes, and each answer to one of a board with valid records, can be sent on its bus
+  -- each request that the manager makes, and each answer to it of a board with valid records, can be sent on its bus
   pub record AllCanBeSent : Type 0 where
     pub requests : (number : ℕ) (asked : F.words.Asked) → IsMade F.words asked → (D (F.words.bus_of asked)).CanSend (W.bytes_of number asked)
     pub answers : (number : ℕ) (asked : F.words.Asked) (board : F.Board) → AllValid F (F.records board) → IsMade F.words asked
@@ -56,8 +56,9 @@ module _ (F : Family) (L : Bus → Line) (D : (bus : Bus) → Delivery (L bus)) 
     pub closed : (bus : Bus) → IsClosed ((L bus).requests (world.on bus))
     pub count : length ((L Ipmb).requests (world.on Ipmb)).begun + length ((L Smbus).requests (world.on Smbus)).begun ≡ requests
 
-  -- A plan that is begun takes two requests for each step that goes, and ends after the last or halts at the first that doesn't. Its undo
-  -- takes one for each step that went, and ends with the records of the start. Both schedules are honest.
+  -- A plan that is begun takes two requests for each step that the board carries out. It ends after the last step, or halts at the first that the
+  -- board doesn't carry out. Its undo takes one request for each step that was carried out, and ends with the records of the start. Both schedules
+  -- are honest.
   pub record RunsOverBuses (plan : List F.words.Op) (opened : World F L) : Type 0 where
     pub steps : List F.words.Op
     pub rest : List F.words.Op
@@ -76,7 +77,7 @@ module _ (F : Family) (L : Bus → Line) (D : (bus : Bus) → Delivery (L bus)) 
         let u = run F L W (Undo ∷ exchanges (length steps) (happens F L W w Undo)) w in
         HasEnded u Undone (length steps + length steps + more + length steps) × (F.records u.board ≡ F.records opened.board)
 
-  -- so does every plan, from a start on both buses where each port has a place for the manager
+  -- so it is with every plan, from a start on both buses where each port has a place for the manager
   abbrev pub AlwaysRunsOverBuses : Type 0
   AlwaysRunsOverBuses = AllCanBeSent → (plan : List F.words.Op) (retries : ℕ) (on : States L) (board : F.Board) → IsStart F L W on board → ((bus : Bus) → (D bus).HasPlace (on bus))
       → RunsOverBuses plan (opening F L plan retries on board)

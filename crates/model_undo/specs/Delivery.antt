@@ -7,7 +7,7 @@ use Rattle.model_bus.specs.Packet.{Packet, IsCut}
 use Rattle.model_bus.specs.PacketBus.{PacketBus, PacketEvent, PacketReachesPort, PacketReachesManager}
 use Rattle.model_undo.specs.Line.{Line, whole, packets}
 
--- what brings the newest frame to its end, all of it and once
+-- the events that bring the newest frame to its end, whole and once
 pub record Delivery (L : Line) : Type 1 where
   -- a request's frame to the port, where the board would answer so
   pub to_port : L.State → List ℕ → List L.Event
@@ -31,7 +31,7 @@ by_message rules = record {
   CanSend = λ bytes. Unit {0};
 }
 
--- the packets of a frame; one that says that the port is busy counts as none
+-- the packets of a frame; a frame which says that the port is busy counts as none
 abbrev pub packets_of_content : PacketBus → Content → List Packet
 packets_of_content bus (Ask bytes) = bus.split bytes
 packets_of_content bus (Reply number None) = []

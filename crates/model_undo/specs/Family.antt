@@ -1,11 +1,11 @@
--- A family of kinds of record, and the board that keeps the records: all that an undo needs to know of them.
+-- A family of kinds of record, and the board that keeps the records: all that an undo needs to know of kinds and board.
 use Rattle.std.specs.Prelude.{◌≡◌, ℕ, List, Option, Some}
 use Rattle.model_bus.specs.Answered.{Answered}
 use Rattle.model_undo.specs.Words.{Words}
 
 -- what a family says
 pub record Family : Type 1 where
-  -- what a manager says of it
+  -- the words of the manager that changes the records
   pub words : Words
   -- the values that records have
   pub Value : Type 0
@@ -15,11 +15,11 @@ pub record Family : Type 1 where
   pub put : Records → words.Key → Value → Records
   -- the record can have the value
   pub Valid : words.Key → Value → Type 0
-  -- the operation is accepted at the first value, and makes it the second
+  -- the operation is accepted at the first value, and makes the second of it
   pub Sets : words.Op → Value → Value → Type 0
   -- a Get of the record replies these data at this value, for some state of what isn't configuration
   pub Shows : words.Key → Value → List ℕ → Type 0
-  -- what of the data of the record's Get is configuration
+  -- the configuration in the data of the record's Get
   pub conf : words.Key → List ℕ → List ℕ
   -- the operation can be undone from these data of its record's Get
   pub Restorable : words.Op → List ℕ → Type 0
@@ -35,7 +35,7 @@ pub record Family : Type 1 where
 abbrev pub AllValid : (F : Family) → F.Records → Type 0
 AllValid F records = (key : F.words.Key) (value : F.Value) → F.get records key ≡ Some value → F.Valid key value
 
--- the operation is accepted at these records, and leaves those: its own record is changed, and no other
+-- the operation is accepted at these records, and leaves those: it changes its own record, and no other
 pub record SetsTo (F : Family) (op : F.words.Op) (old new : F.Records) : Type 0 where
   pub before : F.Value
   pub after : F.Value

@@ -46,7 +46,7 @@ module _ (F : Family) (L : Bus → Line) (W : Wires F.words) where
     pub row : F.Row before asked answered after
     pub at : IsAfter F plan start step (F.records before)
 
-  -- the answer that the board gave to the Get of the plan's step k, and to its Set, each at the records after k steps
+  -- the answer that the board gave to the Get of this step of the plan, and to its Set, each at the records after the steps before it
   pub record GaveGetIn (given : List (Giving F)) (plan : List F.words.Op) (start : F.Records) (place : ℕ) (answered : Answered) : Type 0 where
     pub op : F.words.Op
     pub step : slice_get plan place ≡ Some op

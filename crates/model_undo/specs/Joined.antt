@@ -19,11 +19,11 @@ IsClosed state = length state.begun ≤ length state.taken
 
 -- `first` is the count from which the manager's requests go on, on each bus
 module _ (F : Family) (W : Wires F.words) (first : Bus → ℕ) where
-  -- the bytes of the manager's n-th request on a bus, from 0
+  -- the bytes of the manager's request of this count on a bus, from 0
   abbrev pub request_bytes : Bus → ℕ → F.words.Asked → List ℕ
   request_bytes bus count asked = W.bytes_of (number_of bus (first bus + count)) asked
 
-  -- the bytes are those of the manager's n-th request on the bus
+  -- the bytes are those of the manager's request of this count on the bus
   pub record IsWritten (bus : Bus) (count : ℕ) (bytes : List ℕ) : Type 0 where
     pub asked : F.words.Asked
     pub on : F.words.bus_of asked ≡ bus
@@ -71,7 +71,7 @@ module _ (F : Family) (W : Wires F.words) (first : Bus → ℕ) where
   answer_at (Opened heeded task part) on = answer_on (bus_at F.words part) (on (bus_at F.words part))
   answer_at _ on = None
 
-  -- what is sent as a stage is entered: its request is begun, if it has one
+  -- the manager enters a stage: it begins the stage's request, if the stage has one
   abbrev pub Enters : Stage F.words → (Bus → BusState) → (Bus → BusState) → Type 0
   Enters (Opened heeded task part) old new =
       let bus = bus_at F.words part in

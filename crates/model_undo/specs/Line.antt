@@ -1,4 +1,4 @@
--- A bus as a manager sees it: what can happen on it, and what that does to the manager's requests.
+-- A bus as a manager sees it: what can happen on the bus, and what each event does to the manager's requests.
 use Rattle.std.specs.Prelude.{ℕ, Bool, true, false, List, Option, Some, None, slice_get}
 use Rattle.model_bus.specs.Numbering.{Rules}
 use Rattle.model_bus.specs.BusState.{BusState, Frame, Event, Begins, SendsAgain, ReachesPort, ReachesManager, OtherReplies, Resumes, carried_now, taken_now, happens}
@@ -20,10 +20,10 @@ pub record Line : Type 1 where
   pub requests : State → BusState
   -- nothing is under way at this moment
   pub IsStart : State → Type 0
-  -- what the event makes of the bus, and that it is honest there
+  -- the bus after the event, and whether the event is honest there
   pub happens : State → Event → State
   pub IsHonest : State → Event → Type 0
-  -- what the manager does: it begins a request, sends the open one again, or gives its place to another
+  -- what the manager does: it begins a request, sends the open request again, or gives its place to another manager
   pub begins : List ℕ → Event
   pub sends_again : Event
   pub resumes : Event
@@ -36,7 +36,7 @@ pub record Line : Type 1 where
   -- the reply that the event brings the manager, if it brings one whole
   pub brings : State → Event → Option (List ℕ)
 
--- with this answer
+-- the exchange of the request that is carried out, if any, with this answer
 abbrev pub exchange : Option (List ℕ) → List ℕ → Option Exchange
 exchange None reply = None
 exchange (Some bytes) reply = Some (record { bytes = bytes; reply = reply })
@@ -93,7 +93,7 @@ is_to_manager_packets (PacketReachesManager which place) = true
 is_to_manager_packets (OtherReplyPacket name packet number) = true
 is_to_manager_packets _ = false
 
--- what a packet of the frame has carried out, if there is such a frame
+-- the request that a packet of the frame has carried out, if there is such a frame
 abbrev pub carried_at : PacketBus → Ends → ℕ → Option Frame → Option (List ℕ)
 carried_at bus ends place None = None
 carried_at bus ends place (Some frame) = carried_of (rules_of bus) (completed_request bus ends place frame.request frame.idles frame.content) ends.bus
@@ -111,8 +111,8 @@ abbrev pub brings_packets : PacketBus → Ends → PacketEvent → Option (List 
 brings_packets bus ends (PacketReachesManager which place) = brought_at bus ends place (slice_get ends.bus.frames which)
 brings_packets bus ends _ = None
 
--- a bus in packets. A message that becomes whole at the port is to have packets of recent requests alone, the least
--- that can be asked of packets that wait.
+-- A bus in packets. The packets of a message that becomes whole at the port must be of recent requests alone. No premise on packets that wait asks
+-- less.
 abbrev pub packets : PacketBus → Line
 packets bus = record {
   State = Ends;

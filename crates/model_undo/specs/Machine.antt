@@ -18,8 +18,8 @@ same_bus Ipmb Smbus = false
 same_bus Smbus Ipmb = false
 same_bus Smbus Smbus = true
 
--- How many of the manager's requests were answered on each bus. So it is the number of the open one, counted from 0, and,
--- where none is open, of the next.
+-- How many of the manager's requests were answered on each bus. So the count is the number of the open request, counted from 0, or of the next
+-- request where none is open.
 pub record Counts : Type 0 where
   pub ipmb : ℕ
   pub smbus : ℕ
@@ -34,13 +34,13 @@ abbrev pub one_answered : Bus → Counts → Counts
 one_answered Ipmb counts = record counts { ipmb = suc counts.ipmb }
 one_answered Smbus counts = record counts { smbus = suc counts.smbus }
 
--- What the manager is at. Each is one series of requests.
+-- A task of the manager: one series of requests.
 pub data Task (M : Words) : Type 0 where
   -- it gets the record that this step of the plan changes
   Gets : (step : ℕ) (op : M.Op) → Task M
   -- it carries this step out, and keeps the operation that undoes it
   Sets : (step : ℕ) (op : M.Op) (back : M.Op) → Task M
-  -- it undoes a step by the first series, and those before it by the rest
+  -- it undoes a step by the first series, and the steps before that by the rest
   Undoes : (first : M.Series) (rest : List M.Series) → Task M
 
 -- the requests of a task
@@ -49,7 +49,7 @@ series_of M (Gets step op) = M.getting (M.key_of op)
 series_of M (Sets step op back) = M.setting op
 series_of M (Undoes first rest) = first
 
--- the one of them that is open, and the data of the replies to those before it
+-- the open request of a task, and the data of the replies to the requests before it
 pub record Part (M : Words) : Type 0 where
   pub asked : M.Asked
   pub before : List (List ℕ)
@@ -57,7 +57,7 @@ pub record Part (M : Words) : Type 0 where
 abbrev pub first_part : (M : Words) → Task M → Part M
 first_part M task = record { asked = M.first (series_of M task); before = [] }
 
--- its bus
+-- the bus of the open request
 abbrev pub bus_at : (M : Words) → Part M → Bus
 bus_at M part = M.bus_of part.asked
 
@@ -81,7 +81,7 @@ pub record Machine (M : Words) : Type 0 where
   -- how often the frames of a request may be sent again
   pub retries : ℕ
   pub stage : Stage M
-  -- it is to stop before the next step, or before the Set of this one
+  -- it is to stop before the next step, or before the Set of this step
   pub stopped : Bool
   -- how often the open request's frames were sent again, since it was opened or heeded again
   pub resent : ℕ
@@ -95,7 +95,7 @@ pub record Sending (M : Words) : Type 0 where
   pub count : ℕ
   pub asked : M.Asked
 
--- what becomes of the machine, and the request that is sent then
+-- the machine after a call or a reply, and the request that it then sends
 pub record Turn (M : Words) : Type 0 where
   pub machine : Machine M
   pub sends : Option (Sending M)
@@ -138,7 +138,7 @@ open_bus M machine = open_bus_at M machine.stage
 abbrev pub sending : (M : Words) → Part M → Counts → Sending M
 sending M part counts = record { bus = bus_at M part; count = count_of (bus_at M part) counts; asked = part.asked }
 
--- what is sent as a stage is entered
+-- the request that the manager sends as it enters a stage
 abbrev pub sends_at : (M : Words) → Stage M → Counts → Option (Sending M)
 sends_at M (Opened heeded task part) counts = Some (sending M part counts)
 sends_at M _ counts = None
@@ -166,7 +166,7 @@ starts M _ machine = None
 abbrev pub start_of : (M : Words) → Machine M → Option (Turn M)
 start_of M machine = starts M machine.stage machine
 
--- what undoes is gone through, or there is nothing left
+-- the manager goes through the series that undo, or none is left
 abbrev pub undo_stage : (M : Words) → List M.Series → Stage M
 undo_stage M [] = AtUndone
 undo_stage M (first ∷ rest) = begun M (Undoes first rest)
@@ -187,7 +187,7 @@ quiets M (Opened true task part) machine =
     else Some (rests M (record machine { stage = Opened false task part }))
 quiets M _ machine = None
 
--- no reply came: the open request is sent again, or it is unsettled
+-- no reply came: the manager sends the open request again, or the request is unsettled
 abbrev pub quiet_of : (M : Words) → Machine M → Option (Turn M)
 quiet_of M machine = quiets M machine.stage machine
 
@@ -195,7 +195,7 @@ abbrev pub agains : (M : Words) → Stage M → Machine M → Option (Turn M)
 agains M (Opened false task part) machine = Some (enters M (Opened true task part) machine)
 agains M _ machine = None
 
--- the unsettled request is sent again, and heeded again
+-- the manager sends the unsettled request again, and heeds it again
 abbrev pub again_of : (M : Words) → Machine M → Option (Turn M)
 again_of M machine = agains M machine.stage machine
 
@@ -258,12 +258,12 @@ abbrev pub stage_after : (M : Words) → Bool → List M.Op → Answered → Tas
 stage_after M stopped plan answered task part =
     if answered.code == success then told_stage M stopped plan task (bodies_with M answered part) (next_asked M answered task part) else refused M answered.code task
 
--- a step is acknowledged with the reply to its last request, and what undoes it is kept
+-- the reply to a step's last request acknowledges the step, and the manager keeps the series that undoes it
 abbrev pub undo_with : (M : Words) → M.Op → Option M.Asked → List M.Series → List M.Series
 undo_with M back (Some asked) undo = undo
 undo_with M back None undo = M.setting back ∷ undo
 
--- what undoes the acknowledged steps, after the reply
+-- the series that undo the acknowledged steps, after the reply
 abbrev pub undo_after : (M : Words) → Answered → Task M → Part M → List M.Series → List M.Series
 undo_after M answered (Gets step op) part undo = undo
 undo_after M answered (Sets step op back) part undo = if answered.code == success then undo_with M back (next_asked M answered (Sets step op back) part) undo else undo

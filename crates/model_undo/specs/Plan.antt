@@ -31,13 +31,13 @@ Stands F plan start (UndoRefused step code) records = ⊥
 abbrev pub Gave : (F : Family) → F.words.Asked → Answered → F.Records → Type 0
 Gave F asked answered records = (board : F.Board) × (after : F.Board) × (F.records board ≡ records) × F.Row board asked answered after
 
--- the board gave this reply to the Get of the plan's step k at these records
+-- the board gave this reply to the Get of this step of the plan at these records
 pub record GaveGet (F : Family) (plan : List F.words.Op) (place : ℕ) (answered : Answered) (records : F.Records) : Type 0 where
   pub op : F.words.Op
   pub step : slice_get plan place ≡ Some op
   pub gave : Gave F (get_asked F.words (F.words.key_of op)) answered records
 
--- the same of the Set of the step
+-- the board gave this reply to the Set of this step of the plan at these records
 pub record GaveSet (F : Family) (plan : List F.words.Op) (place : ℕ) (answered : Answered) (records : F.Records) : Type 0 where
   pub op : F.words.Op
   pub step : slice_get plan place ≡ Some op

@@ -24,6 +24,10 @@ abbrev pub bus_name : Bus → List ℕ
 bus_name Ipmb = codes "ipmb"
 bus_name Smbus = codes "smbus"
 
+-- noise has at most so many bytes, as many as a frame
+abbrev pub most_noise : ℕ
+most_noise = 80
+
 -- so many bytes at most, and at least one
 pub record AreSome (most : ℕ) (bytes : List ℕ) : Type 0 where
   pub some : 0 < length bytes
@@ -31,24 +35,24 @@ pub record AreSome (most : ℕ) (bytes : List ℕ) : Type 0 where
 
 -- The bytes of a request without addresses and checksums: an even netFn with the responder's logical unit, rqSeq with the requester's,
 -- cmd, and 0 to `most_ipmi_request_data` bytes of data. It comes from an even address.
-pub record IsRequest (r : OtherRequest) (bytes : List ℕ) : Type 0 where
-  pub all : bytes ≡ packed r.net_fn r.responder ∷ packed r.sequence r.requester.lun ∷ r.command ∷ r.body
-  pub net_fn : r.net_fn % 2 ≡ 0
-  pub responder : r.responder < 4
-  pub requester : r.requester.lun < 4
-  pub few : length r.body ≤ most_ipmi_request_data
-  pub address : r.requester.address % 2 ≡ 0
+pub record IsRequest (request : OtherRequest) (bytes : List ℕ) : Type 0 where
+  pub all : bytes ≡ packed request.net_fn request.responder ∷ packed request.sequence request.requester.lun ∷ request.command ∷ request.body
+  pub net_fn : request.net_fn % 2 ≡ 0
+  pub responder : request.responder < 4
+  pub requester : request.requester.lun < 4
+  pub few : length request.body ≤ most_ipmi_request_data
+  pub address : request.requester.address % 2 ≡ 0
 
 -- the words say the event
 abbrev pub Say : List (List ℕ) → Event → Type 0
 Say words (Calls call) = words ≡ call_name call ∷ []
 Say words (ToBmc number) = (digits : List ℕ) × (words ≡ codes "to-bmc" ∷ digits ∷ []) × IsNumber 9 digits number
 Say words (ToMgr number) = (digits : List ℕ) × (words ≡ codes "to-mgr" ∷ digits ∷ []) × IsNumber 9 digits number
-Say words (OtherIpmb r) =
-    (from digits bytes : List ℕ) × (words ≡ codes "other" ∷ codes "ipmb" ∷ from ∷ digits ∷ []) × IsByte from r.requester.address × AreBytes digits bytes × IsRequest r bytes
-Say words (OtherSmbus m) =
-    (from digits : List ℕ) × (words ≡ codes "other" ∷ codes "smbus" ∷ from ∷ digits ∷ []) × IsByte from m.from × AreBytes digits m.body × AreSome most_message_bytes m.body
-Say words (Noise on bytes) = (digits : List ℕ) × (words ≡ codes "noise" ∷ bus_name on ∷ digits ∷ []) × AreBytes digits bytes × AreSome 80 bytes
+Say words (OtherIpmb request) =
+    (from digits bytes : List ℕ) × (words ≡ codes "other" ∷ codes "ipmb" ∷ from ∷ digits ∷ []) × IsByte from request.requester.address × AreBytes digits bytes × IsRequest request bytes
+Say words (OtherSmbus message) =
+    (from digits : List ℕ) × (words ≡ codes "other" ∷ codes "smbus" ∷ from ∷ digits ∷ []) × IsByte from message.from × AreBytes digits message.body × AreSome most_message_bytes message.body
+Say words (Noise on bytes) = (digits : List ℕ) × (words ≡ codes "noise" ∷ bus_name on ∷ digits ∷ []) × AreBytes digits bytes × AreSome most_noise bytes
 Say words (Idle on requester) = (from : List ℕ) × (words ≡ codes "idle" ∷ bus_name on ∷ from ∷ []) × IsByte from requester
 Say words (Scan sensor reading) = (first second : List ℕ) × (words ≡ codes "scan" ∷ first ∷ second ∷ []) × IsByte first sensor × IsByte second reading
 Say words Tick = words ≡ codes "tick" ∷ []

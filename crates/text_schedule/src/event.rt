@@ -4,6 +4,9 @@ use ipmb_frame::{Party, Sequence};
 use two_wire::size::{MOST_IPMI_REQUEST_DATA, MOST_MESSAGE_BYTES};
 use two_wire::{Bus, Bytes, Lun, NetFn};
 
+/// The most bytes of noise: as many as a frame has.
+pub const MOST_NOISE: usize = 80;
+
 /// A call of the manager.
 #[derive(Clone, Copy, Debug, PartialEq, Eq)]
 pub enum Call {
@@ -51,7 +54,7 @@ pub enum Event {
     /// All packets of somebody else's message come to the controller.
     OtherSmbus(OtherMessage),
     /// Both ends hear bytes that are no frame.
-    Noise(Bus, Octets<80>),
+    Noise(Bus, Octets<{ MOST_NOISE }>),
     /// The controller's port forgets the window of this requester.
     Idle(Bus, u8),
     /// A sensor's reading is taken.
