@@ -1,4 +1,4 @@
--- What is wrong with an event, which a lab doesn't take then.
+-- What is wrong with an event: a lab takes no event that has a fault.
 use Rattle.std.specs.Prelude.{◌≡◌, ℕ, ◌+◌, Bool, true, false, not, ◌==◌, nat_le, ◌&&◌, ◌||◌, List, [], ◌∷◌, length, find, Option, Some, None, if◌then◌else◌, slice_get}
 use Rattle.std.specs.Option.{is_none}
 use Rattle.two_wire.specs.declared.Bus.{Bus}
@@ -33,27 +33,27 @@ check fault holds = record { fault = fault; holds = holds }
 -- the first of the faults that an event has
 abbrev pub first_of : List Check → Option Fault
 first_of [] = None
-first_of (c ∷ cs) = if c.holds then Some c.fault else first_of cs
+first_of (check ∷ checks) = if check.holds then Some check.fault else first_of checks
 
--- both are the same way
+-- two ways are the same
 abbrev pub same_way : Way → Way → Bool
 same_way ToPort ToPort = true
 same_way ToManager ToManager = true
 same_way ToOthers ToOthers = true
 same_way _ _ = false
 
--- the bus of the open request is this
+-- the open request is on this bus
 abbrev pub is_open_bus : Bus → Option Bus → Bool
 is_open_bus on None = false
 is_open_bus on (Some other) = same_bus on other
 
--- how many requests a machine began on a bus: those that were answered, and the open one
+-- how many requests a machine began on a bus: the requests that were answered, and the open request
 abbrev pub begun_on : (M : Words) → Bus → Machine M → ℕ
-begun_on M on m = count_of on m.counts + (if is_open_bus on (open_bus M m) then 1 else 0)
+begun_on M on machine = count_of on machine.counts + (if is_open_bus on (open_bus M machine) then 1 else 0)
 
 -- a request of the manager is open, on either bus
 abbrev pub has_open : (M : Words) → Machine M → Bool
-has_open M m = not (is_none (open_bus M m))
+has_open M machine = not (is_none (open_bus M machine))
 
 -- the address or endpoint is the manager's or the controller's
 abbrev pub is_own : Bus → Names → ℕ → Bool
@@ -62,7 +62,7 @@ is_own on names from = from == own_on on names || from == peer_on on names
 -- the PLDM request, if there is one, has a command that sets the configuration
 abbrev pub pldm_changes : ℕ → Option PldmRequest → Bool
 pldm_changes from None = false
-pldm_changes from (Some r) = is_changing (pldm_asked from r)
+pldm_changes from (Some request) = is_changing (pldm_asked from request)
 
 -- a message from this endpoint is such a request
 abbrev pub message_changes : ℕ → List ℕ → Bool
@@ -79,36 +79,37 @@ is_frame Ipmb bytes = is_none (find (has_frame_fault bytes) frame_faults)
 is_frame Smbus bytes = is_none (find (has_packet_fault bytes) packet_faults)
 
 module _ (P : Plans) where
-  -- fewer newer requests than the span were begun on its bus, and the manager's window there wasn't forgotten since it was sent
+  -- the manager began fewer requests on the frame's bus behind the frame's own than the span, and since the frame was sent the port didn't forget
+  -- the manager's window there
   abbrev pub is_live : Lab P → LabFrame → Bool
-  is_live x f = nat_le (begun_on P.words f.on x.manager.machine) (f.request + span_of f.on) && f.idles == idles_on P f.on x
+  is_live lab frame = nat_le (begun_on P.words frame.on lab.manager.machine) (frame.request + span_of frame.on) && frame.idles == idles_on P frame.on lab
 
-  -- as many frames were sent as a lab sends at most
+  -- the lab sent as many frames as it can
   abbrev pub is_full : Lab P → Bool
-  is_full x = nat_le most_frames (length x.frames)
+  is_full lab = nat_le most_frames (length lab.frames)
 
-  -- the faults of a delivery to an end, of the frame, if there is one
+  -- the faults of a delivery of the frame to an end, by whether there is such a frame
   abbrev pub delivery : Way → Lab P → Option LabFrame → List Check
-  delivery way x None = check NoFrame true ∷ []
-  delivery way x (Some f) = check WrongWay (not (same_way f.way way)) ∷ check Aged (not (is_live x f)) ∷ check Room (is_full x) ∷ []
+  delivery way lab None = check NoFrame true ∷ []
+  delivery way lab (Some frame) = check WrongWay (not (same_way frame.way way)) ∷ check Aged (not (is_live lab frame)) ∷ check Room (is_full lab) ∷ []
 
   -- the faults of each event, in their order
   abbrev pub checks : Lab P → Event → List Check
-  checks x (Calls call) = check Room (is_full x) ∷ []
-  checks x (ToBmc number) = delivery ToPort x (slice_get x.frames number)
-  checks x (ToMgr number) = delivery ToManager x (slice_get x.frames number)
-  checks x (OtherIpmb r) = check Changing (is_changing (asked_in r)) ∷ check Impersonates (is_own Ipmb x.manager.names r.header.requester.address) ∷ check Room (is_full x) ∷ []
-  checks x (OtherSmbus m) =
-      check Changing (message_changes m.envelope.source_eid m.body) ∷ check Impersonates (is_own Smbus x.manager.names m.envelope.source_eid) ∷ check Room (is_full x) ∷ []
-  checks x (Noise on bytes) = check Forged (is_frame on bytes) ∷ []
-  checks x (Idles on requester) = check StillOpen (requester == own_on on x.manager.names && has_open P.words x.manager.machine) ∷ []
-  checks x (OnBench activity) = []
+  checks lab (Calls call) = check Room (is_full lab) ∷ []
+  checks lab (ToBmc number) = delivery ToPort lab (slice_get lab.frames number)
+  checks lab (ToMgr number) = delivery ToManager lab (slice_get lab.frames number)
+  checks lab (OtherIpmb request) = check Changing (is_changing (asked_in request)) ∷ check Impersonates (is_own Ipmb lab.manager.names request.header.requester.address) ∷ check Room (is_full lab) ∷ []
+  checks lab (OtherSmbus message) =
+      check Changing (message_changes message.envelope.source_eid message.body) ∷ check Impersonates (is_own Smbus lab.manager.names message.envelope.source_eid) ∷ check Room (is_full lab) ∷ []
+  checks lab (Noise on bytes) = check Forged (is_frame on bytes) ∷ []
+  checks lab (Idles on requester) = check StillOpen (requester == own_on on lab.manager.names && has_open P.words lab.manager.machine) ∷ []
+  checks lab (OnBench activity) = []
 
   -- the first fault of an event
   abbrev pub fault_of : Lab P → Event → Option Fault
-  fault_of x e = first_of (checks x e)
+  fault_of lab event = first_of (checks lab event)
 
   -- the lab takes every event of a schedule, where it happens
   abbrev pub AllTaken : BoardFile → List Event → Lab P → Type 0
-  AllTaken setup [] x = Unit {0}
-  AllTaken setup (e ∷ es) x = (fault_of x e ≡ None) × AllTaken setup es (step P setup x e)
+  AllTaken setup [] lab = Unit {0}
+  AllTaken setup (event ∷ events) lab = (fault_of lab event ≡ None) × AllTaken setup events (step P setup lab event)

@@ -23,57 +23,57 @@ use Rattle.model_lab.specs.declared.fault.Fault.{Fault}
 use Rattle.model_lab.specs.declared.fault.Fault.TheVariants.{Room}
 use Rattle.model_lab.specs.Faults.{begun_on, fault_of}
 
--- neither the manager nor the controller is known so on the bus
+-- the byte on this bus is neither the manager's nor the controller's
 abbrev pub IsAnother : Bus → Names → ℕ → Type 0
 IsAnother on names from = (from ≢ own_on on names) × (from ≢ peer_on on names)
 
 -- a PLDM message from this endpoint is no request whose command sets the configuration
 abbrev pub ChangesNothing : ℕ → List ℕ → Type 0
-ChangesNothing from body = (rest : List ℕ) (r : PldmRequest) → body ≡ pldm_message_type ∷ rest → IsRequest r rest → is_changing (pldm_asked from r) ≡ false
+ChangesNothing from body = (rest : List ℕ) (request : PldmRequest) → body ≡ pldm_message_type ∷ rest → IsRequest request rest → is_changing (pldm_asked from request) ≡ false
 
 -- the bytes are no frame of the bus
 abbrev pub IsNoFrame : Bus → List ℕ → Type 0
-IsNoFrame Ipmb bytes = (m : Msg) → ¬ IsMessage m bytes
-IsNoFrame Smbus bytes = (p : Packet) → ¬ IsPacket p bytes
+IsNoFrame Ipmb bytes = (message : Msg) → ¬ IsMessage message bytes
+IsNoFrame Smbus bytes = (packet : Packet) → ¬ IsPacket packet bytes
 
 module _ (P : Plans) where
-  -- fewer newer requests of the manager than the span were begun on the frame's bus, and the manager's window there wasn't forgotten
-  -- since it was sent
-  pub record IsLive (x : Lab P) (f : LabFrame) : Type 0 where
-    pub recent : begun_on P.words f.on x.manager.machine ≤ f.request + span_of f.on
-    pub remembered : f.idles ≡ idles_on P f.on x
+  -- the manager began fewer requests on the frame's bus behind the frame's own than the span, and since the frame was sent the port didn't forget
+  -- the manager's window there
+  pub record IsLive (lab : Lab P) (frame : LabFrame) : Type 0 where
+    pub recent : begun_on P.words frame.on lab.manager.machine ≤ frame.request + span_of frame.on
+    pub remembered : frame.idles ≡ idles_on P frame.on lab
 
-  -- the frame of this number was sent, it's live, and it's delivered to the end for which it is meant
-  pub record IsDelivered (way : Way) (x : Lab P) (number : ℕ) : Type 0 where
+  -- the frame of this number was sent and is live, and the event delivers it to the end for which it is meant
+  pub record IsDelivered (way : Way) (lab : Lab P) (number : ℕ) : Type 0 where
     pub frame : LabFrame
-    pub sent : slice_get x.frames number ≡ Some frame
+    pub sent : slice_get lab.frames number ≡ Some frame
     pub meant : frame.way ≡ way
-    pub live : IsLive x frame
+    pub live : IsLive lab frame
 
-  -- Only live frames that were sent are delivered, to the end for which they are meant. No other requester's message changes the
-  -- configuration, or comes from the manager's or the controller's address. Noise reads as no frame. The manager's window isn't
-  -- forgotten while a request of it is open.
+  -- The links deliver only live frames that were sent, to the end for which they are meant. No other requester's message changes the
+  -- configuration, or comes from the manager's or the controller's address. Noise reads as no frame. The port doesn't forget the manager's window
+  -- while a request of the manager is open.
   abbrev pub IsHonest : Lab P → Event → Type 0
-  IsHonest x (Calls call) = Unit {0}
-  IsHonest x (ToBmc number) = IsDelivered ToPort x number
-  IsHonest x (ToMgr number) = IsDelivered ToManager x number
-  IsHonest x (OtherIpmb r) = (is_changing (asked_in r) ≡ false) × IsAnother Ipmb x.manager.names r.header.requester.address
-  IsHonest x (OtherSmbus m) = ChangesNothing m.envelope.source_eid m.body × IsAnother Smbus x.manager.names m.envelope.source_eid
-  IsHonest x (Noise on bytes) = IsNoFrame on bytes
-  IsHonest x (Idles on requester) = requester ≡ own_on on x.manager.names → open_bus P.words x.manager.machine ≡ None
-  IsHonest x (OnBench activity) = Unit {0}
+  IsHonest lab (Calls call) = Unit {0}
+  IsHonest lab (ToBmc number) = IsDelivered ToPort lab number
+  IsHonest lab (ToMgr number) = IsDelivered ToManager lab number
+  IsHonest lab (OtherIpmb request) = (is_changing (asked_in request) ≡ false) × IsAnother Ipmb lab.manager.names request.header.requester.address
+  IsHonest lab (OtherSmbus message) = ChangesNothing message.envelope.source_eid message.body × IsAnother Smbus lab.manager.names message.envelope.source_eid
+  IsHonest lab (Noise on bytes) = IsNoFrame on bytes
+  IsHonest lab (Idles on requester) = requester ≡ own_on on lab.manager.names → open_bus P.words lab.manager.machine ≡ None
+  IsHonest lab (OnBench activity) = Unit {0}
 
   -- noise is bytes
   abbrev pub HasBytes : Event → Type 0
   HasBytes (Noise on bytes) = All (λ b. b < 256) bytes
   HasBytes _ = Unit {0}
 
-  -- every event of a schedule is honest, where it happens; what isn't bytes is no noise
+  -- every event of a schedule is honest, where it happens; only noise that is bytes counts
   abbrev pub AllHonest : BoardFile → List Event → Lab P → Type 0
-  AllHonest setup [] x = Unit {0}
-  AllHonest setup (e ∷ es) x = (HasBytes e → IsHonest x e) × AllHonest setup es (step P setup x e)
+  AllHonest setup [] lab = Unit {0}
+  AllHonest setup (event ∷ events) lab = (HasBytes event → IsHonest lab event) × AllHonest setup events (step P setup lab event)
 
   -- a lab takes honest events alone, and refuses an honest one only for want of room
   pub record FaultsAreBreaches : Type 0 where
-    pub taken : (x : Lab P) (e : Event) → HasBytes e → fault_of P x e ≡ None → IsHonest x e
-    pub refused : (x : Lab P) (e : Event) (fault : Fault) → HasBytes e → fault_of P x e ≡ Some fault → (fault ≡ Room) ⊎ (¬ IsHonest x e)
+    pub taken : (lab : Lab P) (event : Event) → HasBytes event → fault_of P lab event ≡ None → IsHonest lab event
+    pub refused : (lab : Lab P) (event : Event) (fault : Fault) → HasBytes event → fault_of P lab event ≡ Some fault → (fault ≡ Room) ⊎ (¬ IsHonest lab event)

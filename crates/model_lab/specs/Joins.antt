@@ -1,4 +1,4 @@
--- That no packet joins one that has waited too long: a count of requests.
+-- That no packet joins a packet that has waited too long, by a count of requests.
 use Rattle.std.specs.Prelude.{◌≡◌, ◌+◌, ◌≤◌, false, List, [], ◌∷◌, None, slice_get, IfSome}
 use Rattle.two_wire.specs.declared.Bus.TheVariants.{Smbus}
 use Rattle.mctp_net.specs.Assembly.{drop_cause}
@@ -10,20 +10,20 @@ use Rattle.model_lab.specs.Lab.{Event, ToBmc, Lab, step}
 use Rattle.model_lab.specs.Faults.{begun_on}
 
 module _ (P : Plans) where
-  -- A packet that is no start, and that the port takes, joins packets of the request whose start came last under its tag. No more newer
-  -- requests of the manager than the span were begun on SMBus.
+  -- A packet that the port takes and that is no start joins packets of the request whose start came last under its tag. Since that request no
+  -- more requests of the manager than the span were begun on SMBus.
   abbrev pub JoinsLive : Lab P → Value → Type 0
-  JoinsLive x (Asks r) = Unit {0}
-  JoinsLive x (Tells r) = Unit {0}
-  JoinsLive x (Part p) = p.start ≡ false → p.envelope.destination ≡ x.smbus.wire → drop_cause x.smbus.eid x.smbus.kept p ≡ None
-      → begun_on P.words Smbus x.manager.machine ≤ x.opened p.envelope.tag + span_of Smbus
+  JoinsLive lab (Asks request) = Unit {0}
+  JoinsLive lab (Tells response) = Unit {0}
+  JoinsLive lab (Part packet) = packet.start ≡ false → packet.envelope.destination ≡ lab.smbus.wire → drop_cause lab.smbus.eid lab.smbus.kept packet ≡ None
+      → begun_on P.words Smbus lab.manager.machine ≤ lab.opened packet.envelope.tag + span_of Smbus
 
-  -- the event brings the port no packet that joins one which has waited longer
+  -- the event brings the port no packet that joins a packet which has waited longer
   abbrev pub IsJoinLive : Lab P → Event → Type 0
-  IsJoinLive x (ToBmc number) = IfSome (slice_get x.frames number) (λ f. JoinsLive x f.value)
-  IsJoinLive x _ = Unit {0}
+  IsJoinLive lab (ToBmc number) = IfSome (slice_get lab.frames number) (λ f. JoinsLive lab f.value)
+  IsJoinLive lab _ = Unit {0}
 
-  -- no event of a schedule does, where it happens
+  -- no event of a schedule brings such a packet, where it happens
   abbrev pub AllJoinLive : BoardFile → List Event → Lab P → Type 0
-  AllJoinLive setup [] x = Unit {0}
-  AllJoinLive setup (e ∷ es) x = IsJoinLive x e × AllJoinLive setup es (step P setup x e)
+  AllJoinLive setup [] lab = Unit {0}
+  AllJoinLive setup (event ∷ events) lab = IsJoinLive lab event × AllJoinLive setup events (step P setup lab event)

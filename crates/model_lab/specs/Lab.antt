@@ -18,8 +18,8 @@ use Rattle.undo_plans.specs.declared.names.Names.{Names}
 use Rattle.text_schedule.specs.declared.event.Call.{Call}
 use Rattle.model_lab.specs.ManagerSteps.{own_on, Plans, ManagerState, ManagerDeed, Sent, called, manager_hears}
 
--- A frame that was sent. Its request is the count of the manager's request that it carries; a reply has that of the frame whose
--- delivery brought it. `idles` counts how often the manager's window had been forgotten on its bus when it was sent.
+-- A frame that was sent. `request` is the count of the manager's request that the frame carries; a reply has the request of the frame whose
+-- delivery brought it. `idles` counts how often the port had forgotten the manager's window on the frame's bus when the frame was sent.
 pub record LabFrame : Type 0 where
   pub on : Bus
   pub way : Way
@@ -43,7 +43,7 @@ pub data Event : Type 0 where
   Noise : (on : Bus) (bytes : List ℕ) → Event
   -- the port forgets a requester's window
   Idles : (on : Bus) (requester : ℕ) → Event
-  -- on the bench: what isn't configuration becomes this
+  -- on the bench: the board's activity becomes this
   OnBench : Activity → Event
 
 module _ (P : Plans) where
@@ -58,81 +58,81 @@ module _ (P : Plans) where
 
   -- the port on a bus
   abbrev pub port_on : Bus → Lab → PortState
-  port_on Ipmb x = x.ipmb
-  port_on Smbus x = x.smbus
+  port_on Ipmb lab = lab.ipmb
+  port_on Smbus lab = lab.smbus
 
-  -- with another port there
+  -- the lab with another port on a bus
   abbrev pub with_port : Bus → PortState → Lab → Lab
-  with_port Ipmb port x = record x { ipmb = port }
-  with_port Smbus port x = record x { smbus = port }
+  with_port Ipmb port lab = record lab { ipmb = port }
+  with_port Smbus port lab = record lab { smbus = port }
 
   -- how often the manager's window was forgotten on a bus
   abbrev pub idles_on : Bus → Lab → ℕ
-  idles_on on x = idles_of (own_on on x.manager.names) (port_on on x).log
+  idles_on on lab = idles_of (own_on on lab.manager.names) (port_on on lab).log
 
   -- a frame that is sent now
   abbrev pub frame_now : Bus → Way → ℕ → Lab → Value → LabFrame
-  frame_now on way request x value = record { on = on; way = way; request = request; idles = idles_on on x; value = value }
+  frame_now on way request lab value = record { on = on; way = way; request = request; idles = idles_on on lab; value = value }
 
   -- frames are sent
   abbrev pub with_frames : Bus → Way → ℕ → List Value → Lab → Lab
-  with_frames on way request values x = record x { frames = x.frames ++ map (frame_now on way request x) values }
+  with_frames on way request values lab = record lab { frames = lab.frames ++ map (frame_now on way request lab) values }
 
   -- ---- the manager
 
   -- the manager sends, if it does
   abbrev pub sends : Option Sent → Lab → Lab
-  sends None x = x
-  sends (Some s) x = with_frames s.on ToPort s.request s.values x
+  sends None lab = lab
+  sends (Some sent) lab = with_frames sent.on ToPort sent.request sent.values lab
 
   -- the manager went on
   abbrev pub manager_does : ManagerDeed P → Lab → Lab
-  manager_does d x = sends d.sent (record x { manager = d.manager })
+  manager_does deed lab = sends deed.sent (record lab { manager = deed.manager })
 
-  -- it was called, in a phase for the call or not
+  -- the manager was called, in a phase for the call or not
   abbrev pub call_does : Option (ManagerDeed P) → Lab → Lab
-  call_does None x = x
-  call_does (Some d) x = manager_does d x
+  call_does None lab = lab
+  call_does (Some deed) lab = manager_does deed lab
 
   -- ---- the port
 
   -- what a port did, and the frames that it sent
   abbrev pub port_does : Bus → Way → ℕ → Deed → Lab → Lab
-  port_does on way request d x = with_frames on way request d.sent (with_port on d.port (record x { board = d.board }))
+  port_does on way request deed lab = with_frames on way request deed.sent (with_port on deed.port (record lab { board = deed.board }))
 
-  -- a packet of a request comes: under its tag that is the last, if it's a start
+  -- a packet of a request comes: a start makes its request the last under the packet's tag
   abbrev pub opens : Value → ℕ → Lab → Lab
-  opens (Asks r) request x = x
-  opens (Tells r) request x = x
-  opens (Part p) request x =
-      if p.start && is_ours x.smbus.eid p then record x { opened = λ tag. if tag == p.envelope.tag then request else x.opened tag } else x
+  opens (Asks asked) request lab = lab
+  opens (Tells response) request lab = lab
+  opens (Part packet) request lab =
+      if packet.start && is_ours lab.smbus.eid packet then record lab { opened = λ tag. if tag == packet.envelope.tag then request else lab.opened tag } else lab
 
 module _ (P : Plans) (setup : BoardFile) where
   -- a frame comes to the port, if there is such a frame
   abbrev pub delivered : Option LabFrame → Lab P → Lab P
-  delivered None x = x
-  delivered (Some f) x = port_does P f.on ToManager f.request (hears setup (port_on P f.on x) x.board f.value) (opens P f.value f.request x)
+  delivered None lab = lab
+  delivered (Some frame) lab = port_does P frame.on ToManager frame.request (hears setup (port_on P frame.on lab) lab.board frame.value) (opens P frame.value frame.request lab)
 
   -- a frame comes to the manager, if there is such a frame
   abbrev pub returned : Option LabFrame → Lab P → Lab P
-  returned None x = x
-  returned (Some f) x = manager_does P (manager_hears P f.value x.manager) x
+  returned None lab = lab
+  returned (Some frame) lab = manager_does P (manager_hears P frame.value lab.manager) lab
 
   -- the lab after an event
   unfoldable pub step : Lab P → Event → Lab P
-  step x (Calls call) = call_does P (called P call x.manager) x
-  step x (ToBmc number) = delivered (slice_get x.frames number) x
-  step x (ToMgr number) = returned (slice_get x.frames number) x
-  step x (OtherIpmb r) = port_does P Ipmb ToOthers 0 (hears setup x.ipmb x.board (Asks r)) x
-  step x (OtherSmbus m) = port_does P Smbus ToOthers 0 (hears_all setup x.smbus x.board m) x
-  step x (Noise on bytes) = x
-  step x (Idles on requester) = with_port P on (idles requester (port_on P on x)) x
-  step x (OnBench activity) = record x { board = state x.board.records activity }
+  step lab (Calls call) = call_does P (called P call lab.manager) lab
+  step lab (ToBmc number) = delivered (slice_get lab.frames number) lab
+  step lab (ToMgr number) = returned (slice_get lab.frames number) lab
+  step lab (OtherIpmb request) = port_does P Ipmb ToOthers 0 (hears setup lab.ipmb lab.board (Asks request)) lab
+  step lab (OtherSmbus message) = port_does P Smbus ToOthers 0 (hears_all setup lab.smbus lab.board message) lab
+  step lab (Noise on bytes) = lab
+  step lab (Idles on requester) = with_port P on (idles requester (port_on P on lab)) lab
+  step lab (OnBench activity) = record lab { board = state lab.board.records activity }
 
   -- the lab after events
   unfoldable pub run : List Event → Lab P → Lab P
-  run [] x = x
-  run (e ∷ es) x = run es (step x e)
+  run [] lab = lab
+  run (event ∷ events) lab = run events (step lab event)
 
   -- a lab as it begins: a board that has heard nothing, and a manager with a plan
   abbrev pub opening : Names → List P.words.Op → (retries : ℕ) → Lab P

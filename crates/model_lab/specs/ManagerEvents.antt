@@ -24,7 +24,7 @@ use Rattle.model_ports.specs.Bytes.{response_bytes}
 use Rattle.model_lab.specs.ManagerSteps.{Plans, ManagerState, ManagerDeed, is_answer, rests, taken_or, heeded_on, open_count, open_bytes, hears_response, hears_packet}
 use Rattle.model_ports.specs.PortEvents.{name_in}
 
--- the bytes are a reply's that says that the port is busy
+-- the bytes are a reply which says that the port is busy
 abbrev pub SaysBusy : Bus → List ℕ → Type 0
 SaysBusy kind bytes = (code : ℕ) × (request : List ℕ) × (is_busy_code code ≡ true) × IsReplyOn kind code request bytes
 
@@ -34,73 +34,74 @@ HoldsReply kind bytes (Ask asked) = ⊥
 HoldsReply kind bytes (Reply number (Some reply)) = bytes ≡ reply
 HoldsReply kind bytes (Reply number None) = SaysBusy kind bytes
 
--- the packet is the one at this place of the reply that the frame holds; that the port is busy is said in one packet
+-- the packet stands at this place of the reply that the frame holds; a port says in one packet that it is busy
 abbrev pub HoldsPart : PacketBus → ℕ → Packet → Content → Type 0
-HoldsPart b place p (Ask asked) = ⊥
-HoldsPart b place p (Reply number (Some reply)) = slice_get (b.split reply) place ≡ Some (seen (piece p))
-HoldsPart b place p (Reply number None) = (p.start ≡ true) × (p.end ≡ true) × (p.sequence ≡ 0) × SaysBusy Smbus p.payload
+HoldsPart bus place packet (Ask asked) = ⊥
+HoldsPart bus place packet (Reply number (Some reply)) = slice_get (bus.split reply) place ≡ Some (seen (piece packet))
+HoldsPart bus place packet (Reply number None) = (packet.start ≡ true) × (packet.end ≡ true) × (packet.sequence ≡ 0) × SaysBusy Smbus packet.payload
 
--- under which name the packets come of the reply to the request of this count
+-- the name under which the packets of the reply to the request of this count come
 abbrev pub name_awaited : Names → ℕ → Name
 name_awaited names count = record { source_eid = names.peer_eid; tag_owner = false; tag = count % tags }
 
--- the response is what frame `which` holds, a live one, and comes from the controller to the manager
-pub record IsRepliesResponse (names : Names) (b : Rules) (s : BusState) (which : ℕ) (r : Response) : Type 0 where
+-- the response is the reply in frame `which`, which is live, and goes from the controller to the manager
+pub record IsRepliesResponse (names : Names) (rules : Rules) (state : BusState) (which : ℕ) (response : Response) : Type 0 where
   pub frame : Frame
-  pub sent : slice_get s.frames which ≡ Some frame
-  pub live : IsLive b s frame
-  pub held : HoldsReply Ipmb (response_bytes r) frame.content
-  pub answers : is_answer names r ≡ true
+  pub sent : slice_get state.frames which ≡ Some frame
+  pub live : IsLive rules state frame
+  pub held : HoldsReply Ipmb (response_bytes response) frame.content
+  pub answers : is_answer names response ≡ true
 
--- the packet is the one at this place of frame `which`, a live one, and comes from the controller to the manager
-pub record IsRepliesPart (names : Names) (b : PacketBus) (x : Ends) (which place : ℕ) (p : Packet) : Type 0 where
+-- the packet stands at this place of frame `which`, which is live, and goes from the controller to the manager
+pub record IsRepliesPart (names : Names) (bus : PacketBus) (ends : Ends) (which place : ℕ) (packet : Packet) : Type 0 where
   pub frame : Frame
-  pub sent : slice_get x.bus.frames which ≡ Some frame
-  pub live : IsLive (rules_of b) x.bus frame
-  pub held : HoldsPart b place p frame.content
-  pub named : name_in p ≡ reply_name b frame.request
-  pub destination : p.envelope.destination ≡ names.own_wire
-  pub source : p.envelope.source ≡ names.peer_wire
-  pub ours : is_ours names.own_eid p ≡ true
+  pub sent : slice_get ends.bus.frames which ≡ Some frame
+  pub live : IsLive (rules_of bus) ends.bus frame
+  pub held : HoldsPart bus place packet frame.content
+  pub named : name_in packet ≡ reply_name bus frame.request
+  pub destination : packet.envelope.destination ≡ names.own_wire
+  pub source : packet.envelope.source ≡ names.peer_wire
+  pub ours : is_ours names.own_eid packet ≡ true
 
 module _ (P : Plans) where
   -- the manager takes the reply of these bytes, if there is one
   abbrev pub takes_if : Bus → Option (List ℕ) → ManagerState P → ManagerDeed P
-  takes_if on None m = rests P m
-  takes_if on (Some reply) m = taken_or P m (reply_of P.words (answered_from on reply) m.machine)
+  takes_if on None manager = rests P manager
+  takes_if on (Some reply) manager = taken_or P manager (reply_of P.words (answered_from on reply) manager.machine)
 
   -- the manager's open request on the bus is heeded, and the model's has its bytes
-  pub record IsOpenOn (on : Bus) (m : ManagerState P) (open_part : TaskPart P.words) (s : BusState) : Type 0 where
-    pub heeded : heeded_on P on m.machine.stage ≡ Some open_part
-    pub opened : slice_get s.begun (length s.taken) ≡ Some (open_bytes P on m open_part)
+  pub record IsOpenOn (on : Bus) (manager : ManagerState P) (open_part : TaskPart P.words) (state : BusState) : Type 0 where
+    pub heeded : heeded_on P on manager.machine.stage ≡ Some open_part
+    pub opened : slice_get state.begun (length state.taken) ≡ Some (open_bytes P on manager open_part)
 
-  -- The packets that wait at the model's manager wait at the lab's, under every name, all of the open request, which has the count
-  -- and the controller of the model.
-  pub record IsManagerOf (m : ManagerState P) (b : PacketBus) (x : Ends) : Type 0 where
-    pub waits : WaitsAlike x.manager m.joined
-    pub alone : open_beside (name_awaited m.names (open_count P Smbus m)) m.joined ≡ 0
-    pub counted : open_count P Smbus m ≡ b.first + length x.bus.taken
-    pub controller : b.controller ≡ m.names.peer_eid
+  -- Under every name the packets that wait at the model's manager wait at the lab's. All of them are of the open request, which has the model's count
+  -- and controller.
+  pub record IsManagerOf (manager : ManagerState P) (bus : PacketBus) (ends : Ends) : Type 0 where
+    pub waits : WaitsAlike ends.manager manager.joined
+    pub alone : open_beside (name_awaited manager.names (open_count P Smbus manager)) manager.joined ≡ 0
+    pub counted : open_count P Smbus manager ≡ bus.first + length ends.bus.taken
+    pub controller : bus.controller ≡ manager.names.peer_eid
 
   -- the manager takes the reply that the model's event brings, if it brings one
   abbrev pub BringsResponse : ManagerState P → Rules → BusState → ℕ → Response → Type 0
-  BringsResponse m b s which r = hears_response P r m ≡ takes_if Ipmb (brings_whole b s (ReachesManager which)) m
+  BringsResponse manager rules state which response = hears_response P response manager ≡ takes_if Ipmb (brings_whole rules state (ReachesManager which)) manager
 
-  -- The same of a packet. Then at both the same waits, and that is of the open request alone, or nothing waits where a reply was brought.
-  pub record BringsPart (m : ManagerState P) (b : PacketBus) (x : Ends) (which place : ℕ) (p : Packet) : Type 0 where
+  -- The manager takes the reply that the model's event of a packet brings, if it brings one. Then the same packets wait at both, of the open request
+  -- alone; or no packet waits, where the event brought a reply.
+  pub record BringsPart (manager : ManagerState P) (bus : PacketBus) (ends : Ends) (which place : ℕ) (packet : Packet) : Type 0 where
     pub joined : Assemblies
-    pub deed : hears_packet P p m ≡ takes_if Smbus (brings_packets b x (PacketReachesManager which place)) (record m { joined = joined })
-    pub waits : WaitsAlike (packet_happens b x (PacketReachesManager which place)).manager joined
-    pub alone : open_beside (name_awaited m.names (open_count P Smbus m)) joined ≡ 0
-    pub none_left : IfSome (brings_packets b x (PacketReachesManager which place)) (λ reply. joined.open_count ≡ 0)
+    pub deed : hears_packet P packet manager ≡ takes_if Smbus (brings_packets bus ends (PacketReachesManager which place)) (record manager { joined = joined })
+    pub waits : WaitsAlike (packet_happens bus ends (PacketReachesManager which place)).manager joined
+    pub alone : open_beside (name_awaited manager.names (open_count P Smbus manager)) joined ≡ 0
+    pub none_left : IfSome (brings_packets bus ends (PacketReachesManager which place)) (λ reply. joined.open_count ≡ 0)
 
-  -- What comes of a live reply, where the manager's test takes what the model takes and the event does what it does in each honest
-  -- schedule. While no request is heeded on the bus nothing comes of anything.
+  -- What a live reply makes of the manager, where the manager's test takes the replies that the model takes, and the event does what it does in each
+  -- honest schedule. While the manager heeds no request on the bus, no reply changes it.
   pub record RepliesAreBrought : Type 0 where
-    pub responses : (m : ManagerState P) (open_part : TaskPart P.words) (b : Rules) (s : BusState) (which : ℕ) (r : Response) → TestsAgree Ipmb b s
-        → IsOpenOn Ipmb m open_part s → IsRepliesResponse m.names b s which r → BringsResponse m b s which r
-    pub parts : (m : ManagerState P) (open_part : TaskPart P.words) (b : PacketBus) (x : Ends) (which place : ℕ) (p : Packet) → TestsAgree Smbus (rules_of b) x.bus
-        → HasPacketEffect b x (PacketReachesManager which place) → IsOpenOn Smbus m open_part x.bus → IsManagerOf m b x → IsRepliesPart m.names b x which place p
-        → BringsPart m b x which place p
-    pub unheeded_response : (m : ManagerState P) (r : Response) → heeded_on P Ipmb m.machine.stage ≡ None → hears_response P r m ≡ rests P m
-    pub unheeded_part : (m : ManagerState P) (p : Packet) → heeded_on P Smbus m.machine.stage ≡ None → hears_packet P p m ≡ rests P m
+    pub responses : (manager : ManagerState P) (open_part : TaskPart P.words) (rules : Rules) (state : BusState) (which : ℕ) (response : Response) → TestsAgree Ipmb rules state
+        → IsOpenOn Ipmb manager open_part state → IsRepliesResponse manager.names rules state which response → BringsResponse manager rules state which response
+    pub parts : (manager : ManagerState P) (open_part : TaskPart P.words) (bus : PacketBus) (ends : Ends) (which place : ℕ) (packet : Packet) → TestsAgree Smbus (rules_of bus) ends.bus
+        → HasPacketEffect bus ends (PacketReachesManager which place) → IsOpenOn Smbus manager open_part ends.bus → IsManagerOf manager bus ends → IsRepliesPart manager.names bus ends which place packet
+        → BringsPart manager bus ends which place packet
+    pub unheeded_response : (manager : ManagerState P) (response : Response) → heeded_on P Ipmb manager.machine.stage ≡ None → hears_response P response manager ≡ rests P manager
+    pub unheeded_part : (manager : ManagerState P) (packet : Packet) → heeded_on P Smbus manager.machine.stage ≡ None → hears_packet P packet manager ≡ rests P manager

@@ -23,12 +23,12 @@ use Rattle.model_lab.specs.ManagerWords.{manager_words}
 use Rattle.model_ports.specs.Values.{Value, Asks, Tells, Part, parts_of}
 use Rattle.model_ports.specs.Bytes.{response_bytes}
 
--- by which the manager is known as a requester on a bus
+-- the byte by which a port knows the manager as a requester on a bus
 abbrev pub own_on : Bus → Names → ℕ
 own_on Ipmb names = names.own_address
 own_on Smbus names = names.own_eid
 
--- and the controller
+-- the byte by which the manager knows the controller on a bus
 abbrev pub peer_on : Bus → Names → ℕ
 peer_on Ipmb names = names.peer_address
 peer_on Smbus names = names.peer_eid
@@ -81,42 +81,42 @@ pub record Sent : Type 0 where
 
 -- the response goes from the controller to the manager
 abbrev pub is_answer : Names → Response → Bool
-is_answer names r = r.header.requester.address == names.own_address && r.header.responder.address == names.peer_address
+is_answer names response = response.header.requester.address == names.own_address && response.header.responder.address == names.peer_address
 
 -- the packet goes from the controller to the manager, under the tag of the request of this count
 abbrev pub is_part : Names → ℕ → Packet → Bool
-is_part names count p =
-    (p.envelope.destination == names.own_wire && p.envelope.source == names.peer_wire)
-    && (p.envelope.source_eid == names.peer_eid && (not p.envelope.tag_owner && p.envelope.tag == count % tags))
+is_part names count packet =
+    (packet.envelope.destination == names.own_wire && packet.envelope.source == names.peer_wire)
+    && (packet.envelope.source_eid == names.peer_eid && (not packet.envelope.tag_owner && packet.envelope.tag == count % tags))
 
 module _ (P : Plans) where
-  -- a manager: its machine, the names, those that its list of requests that undo has, and the packets that wait at it
+  -- a manager: its machine, its names, the names in its list of requests that undo, and the packets that wait at it
   pub record ManagerState : Type 0 where
     pub machine : Machine P.words
     pub names : Names
     pub listed : Option Names
     pub joined : Assemblies
 
-  -- the manager after a call or a frame, and what it sends then
+  -- the manager after a call or a frame, and the frames that it sends then
   pub record ManagerDeed : Type 0 where
     pub manager : ManagerState
     pub sent : Option Sent
 
-  -- nothing is sent
+  -- the manager sends nothing
   abbrev pub rests : ManagerState → ManagerDeed
-  rests m = record { manager = m; sent = None }
+  rests manager = record { manager = manager; sent = None }
 
   -- the frames of a request
   abbrev pub sent_of : Names → Sending P.words → Sent
-  sent_of names s = record { on = s.bus; request = s.count; values = values_of names s.count (P.asked s.asked) }
+  sent_of names sending = record { on = sending.bus; request = sending.count; values = values_of names sending.count (P.asked sending.asked) }
 
   -- the machine goes on
   abbrev pub goes_on : ManagerState → Turn P.words → ManagerDeed
-  goes_on m t = record { manager = record m { machine = t.machine }; sent = option_map (sent_of m.names) t.sends }
+  goes_on manager turn = record { manager = record manager { machine = turn.machine }; sent = option_map (sent_of manager.names) turn.sends }
 
   -- ---- calls
 
-  -- what a call makes of the machine: none where the phase isn't one for the call
+  -- the machine after a call: none where the phase isn't one for the call
   abbrev pub turn_of : Call → Machine P.words → Option (Turn P.words)
   turn_of Start machine = start_of P.words machine
   turn_of Quiet machine = quiet_of P.words machine
@@ -124,14 +124,14 @@ module _ (P : Plans) where
   turn_of Again machine = again_of P.words machine
   turn_of Undo machine = undo_of P.words machine
 
-  -- as the undo begins, the packets that wait are dropped
+  -- the manager drops the packets that wait as the undo begins
   abbrev pub waits_after : Call → Assemblies → Assemblies
   waits_after Undo joined = nothing
   waits_after _ joined = joined
 
   -- the manager is called: none where the phase isn't one for the call, and then nothing changes
   unfoldable pub called : Call → ManagerState → Option ManagerDeed
-  called call m = option_map (goes_on (record m { joined = waits_after call m.joined })) (turn_of call m.machine)
+  called call manager = option_map (goes_on (record manager { joined = waits_after call manager.joined })) (turn_of call manager.machine)
 
   -- ---- frames
 
@@ -140,55 +140,55 @@ module _ (P : Plans) where
   heeded_on on (Opened true task part) = if same_bus on (bus_at P.words part) then Some part else None
   heeded_on on _ = None
 
-  -- the number of requests that were answered on a bus, which is the open one's count
+  -- the number of requests that were answered on a bus, which is the count of the open request
   abbrev pub open_count : Bus → ManagerState → ℕ
-  open_count on m = count_of on m.machine.counts
+  open_count on manager = count_of on manager.machine.counts
 
   -- the bytes of the open request
   abbrev pub open_bytes : Bus → ManagerState → TaskPart P.words → List ℕ
-  open_bytes on m part = bytes_of (number_of on (open_count on m)) (P.asked part.asked)
+  open_bytes on manager part = bytes_of (number_of on (open_count on manager)) (P.asked part.asked)
 
-  -- a reply is taken by the machine, or ignored
+  -- the machine takes a reply, or ignores it
   abbrev pub taken_or : ManagerState → Option (Turn P.words) → ManagerDeed
-  taken_or m None = rests m
-  taken_or m (Some t) = goes_on m t
+  taken_or manager None = rests manager
+  taken_or manager (Some turn) = goes_on manager turn
 
-  -- the bytes of a reply come while the request is open, if one is: they are taken where they pass the test
+  -- the bytes of a reply come while this request is open, if one is: the machine takes them where they pass the test
   abbrev pub tested : Bus → List ℕ → ManagerState → Option (TaskPart P.words) → ManagerDeed
-  tested on reply m None = rests m
-  tested on reply m (Some part) =
-      if answers on (open_bytes on m part) reply
-      then taken_or m (reply_of P.words (answered_from on reply) m.machine)
-      else rests m
+  tested on reply manager None = rests manager
+  tested on reply manager (Some part) =
+      if answers on (open_bytes on manager part) reply
+      then taken_or manager (reply_of P.words (answered_from on reply) manager.machine)
+      else rests manager
 
   -- the bytes of a reply from the controller come
   abbrev pub hears_reply : Bus → List ℕ → ManagerState → ManagerDeed
-  hears_reply on reply m = tested on reply m (heeded_on on m.machine.stage)
+  hears_reply on reply manager = tested on reply manager (heeded_on on manager.machine.stage)
 
   -- a response comes
   unfoldable pub hears_response : Response → ManagerState → ManagerDeed
-  hears_response r m = if is_answer m.names r then hears_reply Ipmb (response_bytes r) m else rests m
+  hears_response response manager = if is_answer manager.names response then hears_reply Ipmb (response_bytes response) manager else rests manager
 
-  -- a packet was dropped for the cause, or it ended a message, or others are to come
+  -- the manager has taken a packet: it dropped the packet for the cause, or the packet ended a message, or others are to come
   abbrev pub ends_reply : Packet → Option DropCause → ManagerState → ManagerDeed
-  ends_reply p (Some cause) m = rests m
-  ends_reply p None m = if p.end then hears_reply Smbus (message_of m.joined p).body m else rests m
+  ends_reply packet (Some cause) manager = rests manager
+  ends_reply packet None manager = if packet.end then hears_reply Smbus (message_of manager.joined packet).body manager else rests manager
 
-  -- a packet is joined to those that wait, and ends a reply or not
+  -- the manager joins a packet to those that wait, and the packet ends a reply or not
   abbrev pub joins : Packet → ManagerState → ManagerDeed
-  joins p m = ends_reply p (drop_cause m.names.own_eid m.joined p) (record m { joined = kept_after m.names.own_eid m.joined p })
+  joins packet manager = ends_reply packet (drop_cause manager.names.own_eid manager.joined packet) (record manager { joined = kept_after manager.names.own_eid manager.joined packet })
 
   -- a packet comes while the request is open, if one is
   abbrev pub joins_for : Packet → ManagerState → Option (TaskPart P.words) → ManagerDeed
-  joins_for p m None = rests m
-  joins_for p m (Some part) = if is_part m.names (open_count Smbus m) p then joins p m else rests m
+  joins_for packet manager None = rests manager
+  joins_for packet manager (Some part) = if is_part manager.names (open_count Smbus manager) packet then joins packet manager else rests manager
 
   -- a packet comes
   unfoldable pub hears_packet : Packet → ManagerState → ManagerDeed
-  hears_packet p m = joins_for p m (heeded_on Smbus m.machine.stage)
+  hears_packet packet manager = joins_for packet manager (heeded_on Smbus manager.machine.stage)
 
   -- a frame comes; a request is nothing to the manager
   abbrev pub manager_hears : Value → ManagerState → ManagerDeed
-  manager_hears (Asks r) m = rests m
-  manager_hears (Tells r) m = hears_response r m
-  manager_hears (Part p) m = hears_packet p m
+  manager_hears (Asks request) manager = rests manager
+  manager_hears (Tells response) manager = hears_response response manager
+  manager_hears (Part packet) manager = hears_packet packet manager

@@ -14,8 +14,8 @@ use Rattle.model_bus.specs.Addresses.{Addresses}
 abbrev pub from_manager : (Bus → Addresses) → Asked → Asked
 from_manager at asked = sent_by (at (bus_of asked)).manager asked
 
--- The words of a manager with these addresses; it knows no board's file. A Get and a Set are one request each, which shows what its
--- reply shows.
+-- The words of a manager with these addresses, which knows no board's file. A Get and a Set are one request each, and show what the request's reply
+-- shows.
 abbrev pub manager_words : (Bus → Addresses) → Words
 manager_words at = record {
   Key = Key;

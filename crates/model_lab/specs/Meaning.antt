@@ -30,38 +30,38 @@ other_wire = 0x42
 
 -- somebody else's request goes to the controller
 abbrev pub request_of : Names → OtherRequest → Request
-request_of names r = record {
+request_of names other_request = record {
   header = record {
-    responder = record { address = names.peer_address; lun = r.responder };
-    requester = r.requester;
-    net_fn = r.net_fn;
-    sequence = r.sequence;
-    command = r.command;
+    responder = record { address = names.peer_address; lun = other_request.responder };
+    requester = other_request.requester;
+    net_fn = other_request.net_fn;
+    sequence = other_request.sequence;
+    command = other_request.command;
   };
-  body = r.body;
+  body = other_request.body;
 }
 
--- and so does somebody else's message, under tag 0, which the sender owns
+-- somebody else's message goes to the controller, under tag 0, which the sender owns
 abbrev pub message_of : Names → OtherMessage → Message
-message_of names m = record {
+message_of names message = record {
   envelope = record {
     destination = names.peer_wire;
     source = other_wire;
     destination_eid = names.peer_eid;
-    source_eid = m.from;
+    source_eid = message.from;
     tag_owner = true;
     tag = 0;
   };
-  body = m.body;
+  body = message.body;
 }
 
--- the event is this one, where the board of this file is in this state
+-- the event of the lab's model, where the board of this file is in this state
 abbrev pub event_of : Names → BoardFile → State → Event → LabEvent
 event_of names file before (event.Calls call) = Calls call
 event_of names file before (event.ToBmc number) = ToBmc number
 event_of names file before (event.ToMgr number) = ToMgr number
-event_of names file before (event.OtherIpmb r) = OtherIpmb (request_of names r)
-event_of names file before (event.OtherSmbus m) = OtherSmbus (message_of names m)
+event_of names file before (event.OtherIpmb request) = OtherIpmb (request_of names request)
+event_of names file before (event.OtherSmbus message) = OtherSmbus (message_of names message)
 event_of names file before (event.Noise on bytes) = Noise on bytes
 event_of names file before (event.Idle on requester) = Idles on requester
 event_of names file before (event.Scan sensor reading) = OnBench (scan file sensor reading before)

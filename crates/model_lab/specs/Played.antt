@@ -17,7 +17,7 @@ use Rattle.model_lab.specs.Meaning.{lab_names, event_of}
 abbrev pub plans : Plans
 plans = board_plans lab_names
 
--- what is told of a lab
+-- what a play tells of a lab
 pub record Told : Type 0 where
   pub start : Key → Option (List ℕ)
   pub records : Key → Option (List ℕ)
@@ -25,7 +25,7 @@ pub record Told : Type 0 where
   pub frames : List LabFrame
   pub undo : List Asked
 
--- how a play ends: with all events, or at the event of a place, counted from 1, which has the fault and isn't taken
+-- how a play ends: after all events, or at the event of this place, counted from 1, which has the fault and isn't taken
 pub data Ending : Type 0 where
   Whole : Told → Ending
   Stops : Fault → (place : ℕ) → Told → Ending
@@ -33,39 +33,39 @@ pub data Ending : Type 0 where
 module _ (file : BoardFile) where
   -- the fault of an event
   abbrev pub fault_at : Lab plans → Event → Option Fault
-  fault_at x e = fault_of plans x (event_of lab_names file x.board e)
+  fault_at lab event = fault_of plans lab (event_of lab_names file lab.board event)
 
   -- the lab after an event
   abbrev pub happens : Event → Lab plans → Lab plans
-  happens e x = step plans file x (event_of lab_names file x.board e)
+  happens event lab = step plans file lab (event_of lab_names file lab.board event)
 
   -- the lab after events
   abbrev pub after : List Event → Lab plans → Lab plans
-  after [] x = x
-  after (e ∷ es) x = after es (happens e x)
+  after [] lab = lab
+  after (event ∷ events) lab = after events (happens event lab)
 
   -- no event has a fault, where it happens
   abbrev pub AreTaken : List Event → Lab plans → Type 0
-  AreTaken [] x = Unit {0}
-  AreTaken (e ∷ es) x = (fault_at x e ≡ None) × AreTaken es (happens e x)
+  AreTaken [] lab = Unit {0}
+  AreTaken (event ∷ events) lab = (fault_at lab event ≡ None) × AreTaken events (happens event lab)
 
-  -- what is told of a lab that began so
+  -- what a play tells of a lab that began so
   abbrev pub told_of : Lab plans → Lab plans → Told
-  told_of first x = record {
+  told_of first lab = record {
     start = first.board.records;
-    records = x.board.records;
-    phase = phase_of plans.words x.manager.machine;
-    frames = x.frames;
-    undo = x.manager.machine.undo;
+    records = lab.board.records;
+    phase = phase_of plans.words lab.manager.machine;
+    frames = lab.frames;
+    undo = lab.manager.machine.undo;
   }
 
-  -- the events are taken up to the first that has a fault, and what is told is that of the lab after those before it
+  -- the play takes the events up to the first that has a fault, and tells of the lab after the events before that
   abbrev pub PlaysFrom : Lab plans → List Event → Ending → Type 0
   PlaysFrom first events (Whole told) = AreTaken events first × (told ≡ told_of first (after events first))
   PlaysFrom first events (Stops fault place told) =
-      (before : List Event) × (rest : List Event) × (e : Event) × (events ≡ before ++ e ∷ rest) × (place ≡ length before + 1) × AreTaken before first
-      × (fault_at (after before first) e ≡ Some fault) × (told ≡ told_of first (after before first))
+      (before : List Event) × (rest : List Event) × (event : Event) × (events ≡ before ++ event ∷ rest) × (place ≡ length before + 1) × AreTaken before first
+      × (fault_at (after before first) event ≡ Some fault) × (told ≡ told_of first (after before first))
 
-  -- from a lab as it begins
+  -- the play begins with a lab as it begins
   abbrev pub IsPlayed : List Op → (retries : ℕ) → List Event → Ending → Type 0
   IsPlayed steps retries events ending = PlaysFrom (opening plans file lab_names steps retries) events ending

@@ -1,11 +1,11 @@
--- What a run is, step by step: what is needed of a definition that doesn't unfold by itself.
+-- What a run is, step by step: the facts that proofs need of a definition that doesn't unfold by itself.
 use Rattle.std.specs.Prelude.{◌≡◌, List, [], ◌∷◌, ◌++◌}
 use Rattle.cfg_records.specs.declared.board_file.BoardFile.{BoardFile}
 use Rattle.model_lab.specs.ManagerSteps.{Plans}
 use Rattle.model_lab.specs.Lab.{Event, Lab, step, run}
 
--- a run goes event by event, and what comes of a schedule goes on with the next
+-- a run goes event by event, and the run of two schedules is that of the second after that of the first
 pub record RunsBy (P : Plans) (setup : BoardFile) : Type 0 where
-  pub none : (x : Lab P) → run P setup [] x ≡ x
-  pub one : (e : Event) (es : List Event) (x : Lab P) → run P setup (e ∷ es) x ≡ run P setup es (step P setup x e)
-  pub more : (es more : List Event) (x : Lab P) → run P setup (es ++ more) x ≡ run P setup more (run P setup es x)
+  pub none : (lab : Lab P) → run P setup [] lab ≡ lab
+  pub one : (event : Event) (es : List Event) (lab : Lab P) → run P setup (event ∷ es) lab ≡ run P setup es (step P setup lab event)
+  pub more : (es more : List Event) (lab : Lab P) → run P setup (es ++ more) lab ≡ run P setup more (run P setup es lab)

@@ -1,4 +1,4 @@
--- The manager's requests are read back from their bytes, and answers from those of a reply.
+-- A reader gives the manager's requests back from their bytes, and an answer from the bytes of a reply.
 use Rattle.std.proofs.Common.{◌≡◌, ℕ, ◌+◌, ◌*◌, ◌/◌, ◌%◌, List, refl, sym, subst, arith, inl, inr}
 use Rattle.std.proofs.lemmas.Option.{none-some}
 use Rattle.two_wire.specs.declared.Bus.{Bus}
@@ -23,7 +23,7 @@ of_nobody : (at : Bus → Addresses) (asked : Asked) → IsFromNobody asked → 
 of_nobody at (Ipmi from net_fn lun command body) is = (refl, is.1)
 of_nobody at (Pldm from kind command body) is = refl
 
--- so is each Get and Set that it makes
+-- each Get and Set that the manager makes is such a request
 made_so : (at : Bus → Addresses) (series : Asked) → IsSeries (manager_words at) series → IsManagers at series
 made_so at series (inl is) = subst (IsManagers at) (sym is.1) (of_nobody at (get_asked is.0) (gets_are_read is.0).from_nobody)
 made_so at series (inr is) = subst (IsManagers at) (sym is.1) (of_nobody at (set_asked is.0) (sets_are_read is.0).from_nobody)
@@ -32,7 +32,7 @@ one_of : (at : Bus → Addresses) (series asked : Asked) → IsManagers at serie
 one_of at series asked is (inl same) = subst (IsManagers at) (sym same) is
 one_of at series asked is (inr another) = absurd (none-some asked another.1)
 
--- and so is each request
+-- each request that the manager makes is such a request
 pub managers : (at : Bus → Addresses) (asked : Asked) → IsMade (manager_words at) asked → IsManagers at asked
 managers at asked made = one_of at made.0 asked (made_so at made.0 made.1) made.2
 

@@ -38,6 +38,8 @@ pub fn replies_are_brought()
 
 /// A play ends in one way.
 pub fn one_ending()
-    ensures { (file : BoardFile) (steps : List Op) (retries : ℕ) (events : List Event) (ending other : Ending)
-        → IsPlayed file steps retries events ending → IsPlayed file steps retries events other → ending ≡ other }
+    ensures { (file : BoardFile) (steps : List Op) (retries : ℕ) (events : List Event)
+        (ending other : Ending)
+        → IsPlayed file steps retries events ending → IsPlayed file steps retries events other
+        → ending ≡ other }
 {}
