@@ -1,5 +1,5 @@
 -- A port on IPMB that has a request carried out hears it, and then is told the answer.
-use Rattle.std.proofs.Common.{◌≡◌, ℕ, Bool, true, false, List, Option, Some, Result, Ok, Err, refl, sym, ap, subst}
+use Rattle.std.proofs.Common.{◌≡◌, ℕ, false, List, Option, Some, Result, Ok, Err, refl, sym, ap, subst}
 use Rattle.ipmb_frame.specs.declared.message.Request.{Request}
 use Rattle.record_base.specs.declared.message.Asked.{Asked}
 use Rattle.record_base.specs.declared.message.Answered.{Answered}
@@ -14,6 +14,8 @@ use Rattle.bmc_windows.specs.Keeps.{Held}
 use Rattle.model_ports.specs.PortSteps.{PortState, asked_in}
 use Rattle.bmc_core.specs.declared.out.Out.{Out}
 use Rattle.bmc_core.specs.declared.out.Reason.{Reason}
+use Rattle.bmc_core.specs.declared.step.Served.{Served}
+use Rattle.bmc_core.specs.declared.step.Served.TheVariants.{CarriedOut, NothingAsked}
 use Rattle.bmc_core.specs.declared.step.Step.TheVariants as step
 use Rattle.bmc_core.specs.declared.ipmb_port.IpmbPort.{IpmbPort}
 use Rattle.bmc_core.specs.IpmbHeard.{IsHeard}
@@ -67,10 +69,10 @@ module _ (port : IpmbPort) (bytes : List ℕ) where
       }
 
 -- a port that has a board alone carry requests out hears as one of that board
-pub alone_hears : {S E : Type 0} {g h : _} (records : S → Records) (port next : IpmbPort) (bytes : List ℕ) (before after : Board S g h) (out : Out) (result : Result Bool E)
+pub alone_hears : {S E : Type 0} {g h : _} (records : S → Records) (port next : IpmbPort) (bytes : List ℕ) (before after : Board S g h) (out : Out) (result : Result Served E)
     → Serves (λ asked answered now. IsAnswered records before asked answered now) (λ (why : E) (now : Board S g h). ⊥) port bytes before result next out after
     → Hears before.setup port (state_of records before) bytes out next (state_of records after) × (after.setup ≡ before.setup)
-alone_hears records port next bytes before after out (Ok true) done =
+alone_hears records port next bytes before after out (Ok CarriedOut) done =
     let given : Given = given_by records before (asked_in done.pending) in
     let reply : done.answered ≡ given.0 = ap (λ (g : Given). g.0) done.carried.answer in
     let left : state_of records after ≡ given.1 = ap (λ (g : Given). g.1) done.carried.answer in
@@ -79,7 +81,7 @@ alone_hears records port next bytes before after out (Ok true) done =
           (ipmb_asked before.setup (state_of records before) port done.between next bytes done.heard out done.pending done.asks told),
       done.carried.setup,
     )
-alone_hears {S} {E} {g} {h} records port next bytes before after out (Ok false) done = (
+alone_hears {S} {E} {g} {h} records port next bytes before after out (Ok NothingAsked) done = (
   subst (λ (now : Board S g h). Hears before.setup port (state_of records before) bytes out next (state_of records now)) (sym done.1)
       (ipmb_settled before.setup (state_of records before) port next bytes out done.0),
   ap (λ (now : Board S g h). now.setup) done.1,

@@ -1,5 +1,5 @@
 -- A port on the System Management Bus that has a request carried out hears it, and then is told the answer.
-use Rattle.std.proofs.Common.{◌≡◌, ℕ, Bool, true, false, List, Option, Some, None, Result, Ok, Err, refl, sym, ◌∙◌, ap, subst}
+use Rattle.std.proofs.Common.{◌≡◌, ℕ, List, Option, Some, None, Result, Ok, Err, refl, sym, ◌∙◌, ap, subst}
 use Rattle.mctp_net.specs.declared.packet.Packet.{Packet}
 use Rattle.mctp_net.specs.Assembly.{message_of}
 use Rattle.mctp_net.specs.Places.{seen}
@@ -16,6 +16,8 @@ use Rattle.bmc_windows.specs.Keeps.{Held}
 use Rattle.model_ports.specs.PortSteps.{PortState}
 use Rattle.bmc_core.specs.declared.out.Out.{Out}
 use Rattle.bmc_core.specs.declared.out.Done.TheVariants as what
+use Rattle.bmc_core.specs.declared.step.Served.{Served}
+use Rattle.bmc_core.specs.declared.step.Served.TheVariants.{CarriedOut, NothingAsked}
 use Rattle.bmc_core.specs.declared.step.Step.TheVariants as step
 use Rattle.bmc_core.specs.declared.smbus_port.SmbusPort.{SmbusPort}
 use Rattle.bmc_core.specs.declared.smbus_port.pending.SmbusPending.{SmbusPending}
@@ -117,10 +119,10 @@ module _ (port now : SmbusPort) (bytes : List ℕ) (packet : Packet) (body : Lis
       }
 
 -- a port that has a board alone carry requests out hears as one of that board
-pub alone_hears : {S E : Type 0} {g h : _} (records : S → Records) (port next : SmbusPort) (bytes : List ℕ) (before after : Board S g h) (out : Out) (result : Result Bool E)
+pub alone_hears : {S E : Type 0} {g h : _} (records : S → Records) (port next : SmbusPort) (bytes : List ℕ) (before after : Board S g h) (out : Out) (result : Result Served E)
     → Serves (λ asked answered now. IsAnswered records before asked answered now) (λ (why : E) (now : Board S g h). ⊥) port bytes before result next out after
     → ((p : PortState) → Shows port p → HearsBytes before.setup p (state_of records before) bytes next out (state_of records after)) × (after.setup ≡ before.setup)
-alone_hears records port next bytes before after out (Ok true) done =
+alone_hears records port next bytes before after out (Ok CarriedOut) done =
     let given : Given = given_by records before (asked_of (request_in done.pending)) in
     let reply : done.answered ≡ given.0 = ap (λ (g : Given). g.0) done.carried.answer in
     let left : state_of records after ≡ given.1 = ap (λ (g : Given). g.1) done.carried.answer in
@@ -129,7 +131,7 @@ alone_hears records port next bytes before after out (Ok true) done =
           (smbus_asked before.setup (state_of records before) port done.between next bytes done.heard out done.pending done.asks told p shows),
       done.carried.setup,
     )
-alone_hears {S} {E} {g} {h} records port next bytes before after out (Ok false) done = (
+alone_hears {S} {E} {g} {h} records port next bytes before after out (Ok NothingAsked) done = (
   λ p shows. subst (λ (now : Board S g h). HearsBytes before.setup p (state_of records before) bytes next out (state_of records now)) (sym done.1)
       (smbus_settled before.setup (state_of records before) port next bytes out done.0 p shows),
   ap (λ (now : Board S g h). now.setup) done.1,

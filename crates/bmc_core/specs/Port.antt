@@ -1,5 +1,5 @@
 -- The port of either bus.
-use Rattle.std.specs.Prelude.{◌≡◌, ℕ, List, Bool, Result}
+use Rattle.std.specs.Prelude.{◌≡◌, ℕ, List, Result}
 use Rattle.two_wire.specs.declared.Bus.{Bus}
 use Rattle.two_wire.specs.declared.Bus.TheVariants as bus
 use Rattle.cfg_records.specs.declared.board_file.BoardFile.{BoardFile}
@@ -9,6 +9,7 @@ use Rattle.bmc_board.specs.State.{State}
 use Rattle.bmc_board.specs.Answer.{answer_of}
 use Rattle.model_ports.specs.PortSteps.{PortState, asked_in}
 use Rattle.bmc_core.specs.declared.out.Out.{Out}
+use Rattle.bmc_core.specs.declared.step.Served.{Served}
 use Rattle.bmc_core.specs.declared.step.Step.{Step}
 use Rattle.bmc_core.specs.declared.step.Step.TheVariants.{Ask, Done}
 use Rattle.bmc_core.specs.declared.port.Port.{Port}
@@ -27,59 +28,59 @@ bus_of (Smbus port) = bus.Smbus
 
 -- it shows this port of the lab
 abbrev pub Shows : Port → PortState → Type 0
-Shows (Ipmb port) p = ipmb.Shows port p
-Shows (Smbus port) p = smbus.Shows port p
+Shows (Ipmb port) at = ipmb.Shows port at
+Shows (Smbus port) at = smbus.Shows port at
 
 -- A port of a board with this setup hears the bytes. For each port of the lab that it shows, the port and the board become what the lab's port
 -- and board become, and the port sends what the lab's port sends.
 abbrev pub Hears : BoardFile → Port → State → List ℕ → Out → Port → State → Type 0
 Hears setup (Ipmb port) before bytes out (Ipmb next) after = ipmb.Hears setup port before bytes out next after
-Hears setup (Smbus port) before bytes out (Smbus next) after = (p : PortState) → smbus.Shows port p → smbus.HearsBytes setup p before bytes next out after
+Hears setup (Smbus port) before bytes out (Smbus next) after = (at : PortState) → smbus.Shows port at → smbus.HearsBytes setup at before bytes next out after
 Hears setup _ before bytes out _ after = ⊥
 
 -- ---- in two steps, with the board between
 
 -- the bus of the port that heard a request
 abbrev pub bus_asked : Pending → Bus
-bus_asked (pending.Ipmb r) = bus.Ipmb
-bus_asked (pending.Smbus m) = bus.Smbus
+bus_asked (pending.Ipmb request) = bus.Ipmb
+bus_asked (pending.Smbus request) = bus.Smbus
 
 -- what a request asks of the board
 abbrev pub asked_of : Pending → Asked
-asked_of (pending.Ipmb r) = asked_in r
-asked_of (pending.Smbus m) = smbus_heard.asked_of (smbus.request_in m)
+asked_of (pending.Ipmb request) = asked_in request
+asked_of (pending.Smbus request) = smbus_heard.asked_of (smbus.request_in request)
 
--- a request that is asked is of this bus
+-- the request that the board is to be asked came over this bus
 abbrev pub IsOn : Bus → Step Pending → Type 0
 IsOn on (Ask asked) = bus_asked asked ≡ on
 IsOn on Done = Unit {0}
 
--- A port hears the bytes up to where the board is to be asked. A port on IPMB stays as it was, and one on the System Management Bus has
--- taken the packet.
+-- A port hears the bytes up to where the caller asks the board. A port on IPMB stays as it was, and a port on the System Management Bus has taken
+-- the packet.
 abbrev pub IsStep : Port → List ℕ → Port → Out → Step Pending → Type 0
-IsStep (Ipmb port) bytes (Ipmb next) out (Ask (pending.Ipmb r)) = ipmb.IsStep port bytes next out (Ask r)
+IsStep (Ipmb port) bytes (Ipmb next) out (Ask (pending.Ipmb request)) = ipmb.IsStep port bytes next out (Ask request)
 IsStep (Ipmb port) bytes (Ipmb next) out Done = ipmb.IsStep port bytes next out Done
-IsStep (Smbus port) bytes (Smbus next) out (Ask (pending.Smbus m)) = (p : PortState) → smbus.Shows port p → smbus.Hearing p bytes (smbus.IsStep next out (Ask m))
-IsStep (Smbus port) bytes (Smbus next) out Done = (p : PortState) → smbus.Shows port p → smbus.Hearing p bytes (smbus.IsStep next out Done)
+IsStep (Smbus port) bytes (Smbus next) out (Ask (pending.Smbus request)) = (at : PortState) → smbus.Shows port at → smbus.Hearing at bytes (smbus.IsStep next out (Ask request))
+IsStep (Smbus port) bytes (Smbus next) out Done = (at : PortState) → smbus.Shows port at → smbus.Hearing at bytes (smbus.IsStep next out Done)
 IsStep _ bytes _ out _ = ⊥
 
 -- a port is told this answer to a request
 abbrev pub IsTold : Port → Pending → Answered → Port → Out → Type 0
-IsTold (Ipmb port) (pending.Ipmb r) a (Ipmb next) out = ipmb.IsTold port r a next out
-IsTold (Smbus port) (pending.Smbus m) a (Smbus next) out = smbus.IsTold port m a next out
-IsTold _ _ a _ out = ⊥
+IsTold (Ipmb port) (pending.Ipmb request) answered (Ipmb next) out = ipmb.IsTold port request answered next out
+IsTold (Smbus port) (pending.Smbus request) answered (Smbus next) out = smbus.IsTold port request answered next out
+IsTold _ _ answered _ out = ⊥
 
--- A port of a board that hears the bytes, and is told the board's answer at that moment to what is asked, has heard them as a whole; and
--- where nothing is asked, it has when they are heard, and the board stays.
+-- A port of a board hears the bytes, and the caller asks the board and tells the port the board's answer at that moment: so the port has heard
+-- the bytes as a whole. Where the bytes ask nothing, it has heard them at once, and the board stays as it was.
 pub record IsHeardThenTold (setup : BoardFile) (port : Port) (before : State) (bytes : List ℕ) : Type 0 where
   pub asked : (between next : Port) (first out : Out) (asked : Pending) → IsStep port bytes between first (Ask asked)
       → let given = answer_of setup before (asked_of asked) in IsTold between asked given.0 next out → Hears setup port before bytes out next given.1
   pub settled : (next : Port) (out : Out) → IsStep port bytes next out Done → Hears setup port before bytes out next before
 
--- ---- in one step, with something beside it that carries requests out
+-- ---- in one step, with a carrier beside it
 
--- A port took the bytes. It asked nothing; or what carries requests out carried out what the bytes ask, and the port was told the answer; or
--- that was refused, and the port was told no answer.
-abbrev pub Serves : {K E : Type 0} → (Asked → Answered → K → Type 0) → (E → K → Type 0) → Port → List ℕ → K → Result Bool E → Port → Out → K → Type 0
+-- A port took the bytes, with a carrier beside it. The bytes asked nothing; or the carrier carried out their request, and the port was told the
+-- answer; or the carrier refused the request, and the port was told no answer.
+abbrev pub Serves : {K E : Type 0} → (Asked → Answered → K → Type 0) → (E → K → Type 0) → Port → List ℕ → K → Result Served E → Port → Out → K → Type 0
 Serves carries refuses port bytes before result next out after =
     ServesBy (λ between heard step. IsStep port bytes between heard step) IsTold asked_of carries refuses before result next out after

@@ -15,7 +15,7 @@ mod pending;
 mod replying;
 
 use crate::out::{Out, Reason};
-use crate::step::Step;
+use crate::step::{Served, Step};
 use bmc_board::Board;
 use bmc_carry::{Alone, Carrier};
 use cfg_records::{Answered, Store};
@@ -104,15 +104,15 @@ impl IpmbPort {
         kept: &mut C::Kept,
         bytes: &[u8],
         out: &mut Out,
-    ) -> Result<bool, C::Refusal>
+    ) -> Result<Served, C::Refusal>
         ensures { Serves (C.carries carrier.now kept.old) (C.refuses carrier.now kept.old)
             self.old bytes.now kept.old result self.new out.new kept.new }
     {
         let Some(request) = heard(self.wire, &self.windows, bytes, out) else {
-            return Ok(false);
+            return Ok(Served::NothingAsked);
         };
         match carry_out(&mut self.windows, carrier, kept, &request, out) {
-            Ok(()) => Ok(true),
+            Ok(()) => Ok(Served::CarriedOut),
             Err(why) => Err(why),
         }
     }

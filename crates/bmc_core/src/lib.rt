@@ -12,4 +12,4 @@ pub use ipmb_port::{IpmbPending, IpmbPort};
 pub use out::{Done, Frames, Out, Reason};
 pub use port::{At, Pending, Port};
 pub use smbus_port::{SmbusPending, SmbusPort};
-pub use step::Step;
+pub use step::{Served, Step};

@@ -11,7 +11,7 @@ pub mod laws;
 use crate::ipmb_port::{IpmbPending, IpmbPort};
 use crate::out::Out;
 use crate::smbus_port::{SmbusPending, SmbusPort};
-use crate::step::Step;
+use crate::step::{Served, Step};
 use bmc_board::Board;
 use bmc_carry::Carrier;
 use cfg_records::{Answered, Asked, Store};
@@ -73,7 +73,7 @@ impl Port {
         kept: &mut C::Kept,
         bytes: &[u8],
         out: &mut Out,
-    ) -> Result<bool, C::Refusal>
+    ) -> Result<Served, C::Refusal>
         ensures served { Serves (C.carries carrier.now kept.old) (C.refuses carrier.now kept.old)
             self.old bytes.now kept.old result self.new out.new kept.new }
         ensures bus { bus_of self.new ≡ bus_of self.old }

@@ -17,7 +17,7 @@ mod replying;
 
 use crate::out::{Out, Reason};
 use crate::port::At;
-use crate::step::Step;
+use crate::step::{Served, Step};
 use bmc_board::Board;
 use bmc_carry::{Alone, Carrier};
 use cfg_records::{Answered, Store};
@@ -172,12 +172,12 @@ impl SmbusPort {
         kept: &mut C::Kept,
         bytes: &[u8],
         out: &mut Out,
-    ) -> Result<bool, C::Refusal>
+    ) -> Result<Served, C::Refusal>
         ensures { Serves (C.carries carrier.now kept.old) (C.refuses carrier.now kept.old)
             self.old bytes.now kept.old result self.new out.new kept.new }
     {
         let Some(packet) = read(self.wire, &self.endpoint, &mut self.assembler, bytes, out) else {
-            return Ok(false);
+            return Ok(Served::NothingAsked);
         };
         let Some(request) = heard(
             self.wire,
@@ -187,7 +187,7 @@ impl SmbusPort {
             self.assembler.body(&packet),
             out,
         ) else {
-            return Ok(false);
+            return Ok(Served::NothingAsked);
         };
         let at = At {
             wire: self.wire,
@@ -202,7 +202,7 @@ impl SmbusPort {
             &request,
             out,
         ) {
-            Ok(()) => Ok(true),
+            Ok(()) => Ok(Served::CarriedOut),
             Err(why) => Err(why),
         }
     }

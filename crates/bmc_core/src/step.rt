@@ -9,3 +9,12 @@ pub enum Step<P> {
     /// Nothing. The caller's `Out` says what was done.
     Done,
 }
+
+/// What came of bytes that a port heard with a carrier beside it. The caller's `Out` says what the port did.
+#[derive(Clone, Copy, Debug, PartialEq, Eq)]
+pub enum Served {
+    /// The bytes were a new request, and the carrier carried it out.
+    CarriedOut,
+    /// The bytes asked nothing of the carrier.
+    NothingAsked,
+}

@@ -1,10 +1,12 @@
 -- What a port of a worker takes by a call of the shared board.
 use Rattle.std.specs.Prelude.{Result, Ok, Err, IfOk, IfErr, OnOk, OnErr}
-use Rattle.std.proofs.Common.{◌≡◌, ℕ, List, [], ◌∷◌, Bool, true, false, refl, sym, ap, subst}
+use Rattle.std.proofs.Common.{◌≡◌, ℕ, List, [], ◌∷◌, true, refl, sym, ap, subst}
 use Rattle.record_base.specs.declared.message.Asked.{Asked}
 use Rattle.bmc_carry.specs.Carrying.{IsCarried}
 use Rattle.bmc_core.specs.declared.out.Out.{Out}
 use Rattle.bmc_core.specs.declared.port.Port.{Port}
+use Rattle.bmc_core.specs.declared.step.Served.{Served}
+use Rattle.bmc_core.specs.declared.step.Served.TheVariants.{CarriedOut, NothingAsked}
 use Rattle.bmc_core.specs.Port.{asked_of, Serves}
 use Rattle.bmc_history.specs.declared.event.Call.{Call}
 use Rattle.bmc_history.specs.declared.event.Call.TheVariants.{Exchanged}
@@ -18,26 +20,26 @@ use Rattle.bmc_ports.proofs.Turning.{settled, asked}
 
 module _ {J : Type 0} {g : _} (port next : Port) (frame : List ℕ) (seat now : Seat J g) (out : Out) where
   -- the port served the frame by a call of the shared board, if it made one
-  abbrev pub ServesBy : Result Bool PeriodFull → Type 0
+  abbrev pub ServesBy : Result Served PeriodFull → Type 0
   ServesBy result =
       Serves (λ asked answered later. HasCalled seat asked answered later) (λ (why : PeriodFull) (later : Seat J g). HasFoundNoRoom seat later) port frame seat result next out now
 
   -- it takes the frame
-  pub takes : (has_asked : Bool) → ServesBy (Ok has_asked) → Takes Turns (frame ∷ []) port next seat.calls.items now.calls.items
-  takes true done =
+  pub takes : (served : Served) → ServesBy (Ok served) → Takes Turns (frame ∷ []) port next seat.calls.items now.calls.items
+  takes CarriedOut done =
       let call : Call = Exchanged (asked_of done.pending) done.answered in
       asked port frame done.between next done.heard done.pending seat.calls.items now.calls.items (Ok tt) done.asks
       (call ∷ [], done.carried.gained, (done.answered, out, refl, done.told)) tt tt
-  takes false done = subst (λ (calls : List Call). Takes Turns (frame ∷ []) port next seat.calls.items calls) (sym (ap (λ (s : Seat J g). s.calls.items) done.1)) (settled port frame next out seat.calls.items done.0)
+  takes NothingAsked done = subst (λ (calls : List Call). Takes Turns (frame ∷ []) port next seat.calls.items calls) (sym (ap (λ (s : Seat J g). s.calls.items) done.1)) (settled port frame next out seat.calls.items done.0)
 
   -- the seat is marked as it was, and has its number
-  pub mark_left : (has_asked : Bool) → ServesBy (Ok has_asked) → now.refused ≡ seat.refused
-  mark_left true done = done.carried.mark
-  mark_left false done = ap (λ (s : Seat J g). s.refused) done.1
+  pub mark_left : (served : Served) → ServesBy (Ok served) → now.refused ≡ seat.refused
+  mark_left CarriedOut done = done.carried.mark
+  mark_left NothingAsked done = ap (λ (s : Seat J g). s.refused) done.1
 
-  pub number_left : (has_asked : Bool) → ServesBy (Ok has_asked) → now.number ≡ seat.number
-  number_left true done = done.carried.number
-  number_left false done = ap (λ (s : Seat J g). s.number) done.1
+  pub number_left : (served : Served) → ServesBy (Ok served) → now.number ≡ seat.number
+  number_left CarriedOut done = done.carried.number
+  number_left NothingAsked done = ap (λ (s : Seat J g). s.number) done.1
 
   -- or it drops the request
   pub drops : (why : PeriodFull) → ServesBy (Err why) → Takes Full (frame ∷ []) port next seat.calls.items now.calls.items

@@ -6,7 +6,7 @@ ghost use Rattle.bmc_ports.specs.declared.worker.End.TheVariants.{Turns, Full};
 
 use crate::caller::Caller;
 use crate::gate::Gate;
-use bmc_core::{Out, Port};
+use bmc_core::{Out, Port, Served};
 use bmc_history::{Opening, PeriodFull, Seat, Shared};
 use bmc_links::{Heard, Link};
 use cfg_records::Store;
@@ -61,8 +61,8 @@ impl<'a, G: Gate> Desk<'a, G> {
     }
 
     /// Passes the gate behind an exchange, if there was one, which passed it before.
-    fn pass_behind(&mut self, has_asked: bool, port: u8) {
-        if has_asked {
+    fn pass_behind(&mut self, served: Served, port: u8) {
+        if served == Served::CarriedOut {
             self.gate.pass(port, self.passed.wrapping_add(1));
             self.passed = self.passed.wrapping_add(2);
         }
@@ -90,9 +90,9 @@ fn take_frame<J: Opening, S: Store + Drop, L: Link, G: Gate, R: Wait>(
 {
     let caller = Caller::new(rt, shared, desk.gate, desk.passed);
     match port.serve(&caller, seat, frame, &mut desk.out) {
-        Ok(has_asked) => {
+        Ok(served) => {
             send_all(link, desk.out.frames.as_slice());
-            desk.pass_behind(has_asked, seat.number());
+            desk.pass_behind(served, seat.number());
             Ok(())
         }
         Err(full) => Err(full),

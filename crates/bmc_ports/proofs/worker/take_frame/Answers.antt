@@ -2,13 +2,13 @@ use Rattle.bmc_ports.proofs.Calling.{takes, mark_left, number_left, drops}
 use Rattle.bmc_ports.proofs.worker.take_frame.Goals as goal
 
 pub returns-in-Ok-clause-takes : goal.returns-in-Ok-clause-takes
-returns-in-Ok-clause-takes g c = takes c.args.port.now c.serve.new.self c.args.frame.now c.args.seat.now c.serve.new.kept c.serve.new.out c.in-Ok.has_asked c.in-Ok.ensures.served
+returns-in-Ok-clause-takes g c = takes c.args.port.now c.serve.new.self c.args.frame.now c.args.seat.now c.serve.new.kept c.serve.new.out c.in-Ok.served c.in-Ok.ensures.served
 
 pub returns-in-Ok-clause-mark : goal.returns-in-Ok-clause-mark
-returns-in-Ok-clause-mark g c = mark_left c.args.port.now c.serve.new.self c.args.frame.now c.args.seat.now c.serve.new.kept c.serve.new.out c.in-Ok.has_asked c.in-Ok.ensures.served
+returns-in-Ok-clause-mark g c = mark_left c.args.port.now c.serve.new.self c.args.frame.now c.args.seat.now c.serve.new.kept c.serve.new.out c.in-Ok.served c.in-Ok.ensures.served
 
 pub returns-in-Ok-clause-number : goal.returns-in-Ok-clause-number
-returns-in-Ok-clause-number g c = number_left c.args.port.now c.serve.new.self c.args.frame.now c.args.seat.now c.serve.new.kept c.serve.new.out c.in-Ok.has_asked c.in-Ok.ensures.served
+returns-in-Ok-clause-number g c = number_left c.args.port.now c.serve.new.self c.args.frame.now c.args.seat.now c.serve.new.kept c.serve.new.out c.in-Ok.served c.in-Ok.ensures.served
 
 pub returns-in-Err-clause-takes : goal.returns-in-Err-clause-takes
 returns-in-Err-clause-takes g c = drops c.args.port.now c.serve.new.self c.args.frame.now c.args.seat.now c.serve.new.kept c.serve.new.out c.in-Err.full c.in-Err.ensures.served
