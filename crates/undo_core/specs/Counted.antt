@@ -10,7 +10,7 @@ use Rattle.undo_core.specs.declared.sending.Counts.{Counts}
 
 -- the machine's counts
 abbrev pub counts_of : Counts → MachineCounts
-counts_of c = record { ipmb = c.ipmb; smbus = c.smbus }
+counts_of counts = record { ipmb = counts.ipmb; smbus = counts.smbus }
 
 -- the frames of the request that follows so many
 abbrev pub values_at : Names → Counts → Asked → List Value

@@ -1,4 +1,4 @@
--- What is seen of a manager over a list of calls and of bytes that it hears; and that a manager which goes on from a list is seen alike.
+-- What a manager shows over a list of calls and of bytes that it hears; and that a manager which goes on from a list shows the same.
 use Rattle.std.specs.Prelude.{◌≡◌, ℕ, ◌<◌, List, [], ◌∷◌, All, map, Option, Some, None, option_map}
 use Rattle.two_wire.specs.declared.Bus.{Bus}
 use Rattle.undo_plans.specs.declared.names.Names.{Names}
@@ -19,63 +19,63 @@ pub data Input : Type 0 where
   Calls : Call → Input
   Hears : (on : Bus) (bytes : List ℕ) → Input
 
--- what is heard is bytes
+-- the manager hears bytes alone
 abbrev pub HasBytes : Input → Type 0
 HasBytes (Calls call) = Unit {0}
 HasBytes (Hears on bytes) = All (λ b. b < 256) bytes
 
--- frames that are sent, and their bus
+-- frames that the manager sends, and their bus
 pub record Frames : Type 0 where
   pub on : Bus
   pub frames : List (List ℕ)
 
--- what is seen of a manager after it: its phase, and what it sends
+-- what a manager shows after an input: its phase, and the frames that it sends
 pub record Seen : Type 0 where
   pub phase : Phase
   pub sent : Option Frames
 
 module _ (names : Names) where
   -- A manager hears bytes: the value of which they are the frame. Where they are no frame nothing changes, and nothing is sent.
-  pub record HearsBytes (on : Bus) (bytes : List ℕ) (s : ManagerState (board_plans names)) (d : ManagerDeed (board_plans names)) : Type 0 where
-    pub frame : (v : Value) → IsFrameOn on v bytes → d ≡ manager_hears (board_plans names) v s
-    pub none : ((v : Value) → ¬ IsFrameOn on v bytes) → d ≡ rests (board_plans names) s
+  pub record HearsBytes (on : Bus) (bytes : List ℕ) (state : ManagerState (board_plans names)) (deed : ManagerDeed (board_plans names)) : Type 0 where
+    pub frame : (value : Value) → IsFrameOn on value bytes → deed ≡ manager_hears (board_plans names) value state
+    pub none : ((value : Value) → ¬ IsFrameOn on value bytes) → deed ≡ rests (board_plans names) state
 
   -- a call in a wrong phase changes nothing
   abbrev pub or_rests : Option (ManagerDeed (board_plans names)) → ManagerState (board_plans names) → ManagerDeed (board_plans names)
-  or_rests None s = rests (board_plans names) s
-  or_rests (Some d) s = d
+  or_rests None state = rests (board_plans names) state
+  or_rests (Some deed) state = deed
 
-  -- what comes of it
+  -- the deed of a manager at an input
   abbrev pub IsDeed : Input → ManagerState (board_plans names) → ManagerDeed (board_plans names) → Type 0
-  IsDeed (Calls call) s d = d ≡ or_rests (called (board_plans names) call s) s
-  IsDeed (Hears on bytes) s d = HearsBytes on bytes s d
+  IsDeed (Calls call) state deed = deed ≡ or_rests (called (board_plans names) call state) state
+  IsDeed (Hears on bytes) state deed = HearsBytes on bytes state deed
 
-  -- the manager is then as what comes of it, and sends that
-  pub record Comes (i : Input) (s : ManagerState (board_plans names)) (m : Manager) (sent : Option SentFrames) : Type 0 where
+  -- the manager then shows the deed's manager, and sends the deed's frames
+  pub record Comes (input : Input) (state : ManagerState (board_plans names)) (manager : Manager) (sent : Option SentFrames) : Type 0 where
     pub deed : ManagerDeed (board_plans names)
-    pub is : IsDeed i s deed
-    pub does : Does names m sent deed
+    pub is : IsDeed input state deed
+    pub does : Does names manager sent deed
 
   abbrev pub frames_of : Sent → Frames
   frames_of sent = record { on = sent.on; frames = map written sent.values }
 
   abbrev pub seen_of : ManagerDeed (board_plans names) → Seen
-  seen_of d = record { phase = phase_of (words_of names) d.manager.machine; sent = option_map frames_of d.sent }
+  seen_of deed = record { phase = phase_of (words_of names) deed.manager.machine; sent = option_map frames_of deed.sent }
 
-  -- this is seen, one after another
+  -- the manager shows this at the inputs, one after another
   abbrev pub Course : List Input → ManagerState (board_plans names) → List Seen → Type 0
-  Course [] s [] = Unit {0}
-  Course (i ∷ is) s (o ∷ os) = (d : ManagerDeed (board_plans names)) × IsDeed i s d × (o ≡ seen_of d) × Course is d.manager os
-  Course _ s _ = ⊥
+  Course [] state [] = Unit {0}
+  Course (input ∷ inputs) state (seen ∷ seens) = (deed : ManagerDeed (board_plans names)) × IsDeed input state deed × (seen ≡ seen_of deed) × Course inputs deed.manager seens
+  Course _ state _ = ⊥
 
   -- the manager that goes on from the list of another, under its names and with its retries
   abbrev pub resumes : ManagerState (board_plans names) → ManagerState (board_plans names)
-  resumes s = record { machine = resumed (words_of names) s.machine.retries (list_of (words_of names) s.machine); names = s.names; listed = s.listed; joined = nothing }
+  resumes state = record { machine = resumed (words_of names) state.machine.retries (list_of (words_of names) state.machine); names = state.names; listed = state.listed; joined = nothing }
 
-  -- Of each manager one thing is seen, whatever comes to it. Where a list was taken from a manager whose plan ended or halted, the one that
-  -- goes on from it is seen alike from `undo` on: in the same phases, and sending the same frames.
+  -- The inputs of a manager determine what it shows. Where a list was taken from a manager whose plan ended or halted, the manager that goes on from
+  -- that list shows the same from `undo` on: it is in the same phases, and sends the same frames.
   pub record GoesOnOverFrames : Type 0 where
-    pub some : (s : ManagerState (board_plans names)) (inputs : List Input) → All HasBytes inputs → (seen : List Seen) × Course inputs s seen
-    pub one : (s : ManagerState (board_plans names)) (inputs : List Input) → All HasBytes inputs → (a b : List Seen) → Course inputs s a → Course inputs s b → a ≡ b
-    pub alike : (s : ManagerState (board_plans names)) → IsOver (words_of names) (phase_of (words_of names) s.machine) → (inputs : List Input) → All HasBytes inputs
-        → (seen : List Seen) → Course (Calls Undo ∷ inputs) s seen → Course (Calls Undo ∷ inputs) (resumes s) seen
+    pub some : (state : ManagerState (board_plans names)) (inputs : List Input) → All HasBytes inputs → (seen : List Seen) × Course inputs state seen
+    pub one : (state : ManagerState (board_plans names)) (inputs : List Input) → All HasBytes inputs → (a b : List Seen) → Course inputs state a → Course inputs state b → a ≡ b
+    pub alike : (state : ManagerState (board_plans names)) → IsOver (words_of names) (phase_of (words_of names) state.machine) → (inputs : List Input) → All HasBytes inputs
+        → (seen : List Seen) → Course (Calls Undo ∷ inputs) state seen → Course (Calls Undo ∷ inputs) (resumes state) seen

@@ -1,4 +1,4 @@
--- A manager's request and the reply to it as the frames of their bus, lists of bytes: as what these are read, and what comes of them.
+-- A manager's request and the reply to it as the frames of their bus, lists of bytes: the values that a reader gives of them, and what they do.
 use Rattle.std.specs.Prelude.{◌≡◌, ℕ, ◌%◌, ◌<◌, ◌≤◌, false, true, List, [], ◌∷◌, ◌++◌, length, map, Option, Some, None}
 use Rattle.std.specs.List.{AllZip}
 use Rattle.two_wire.specs.declared.Bus.{Bus}
@@ -29,7 +29,7 @@ use Rattle.undo_core.specs.Shown.{words_of, own}
 
 -- ---- frames
 
--- one to four frames are read as these values, and as no others
+-- a reader of one to four frames gives these values, and no others
 pub record AreReadAs (on : Bus) (values : List Value) (frames : List (List ℕ)) : Type 0 where
   pub some : 0 < length frames
   pub few : length frames ≤ 4
@@ -40,7 +40,7 @@ pub record AreReadAs (on : Bus) (values : List Value) (frames : List (List ℕ))
 
 -- an even byte
 abbrev pub IsAddress : ℕ → Type 0
-IsAddress n = (n < 256) × (n % 2 ≡ 0)
+IsAddress address = (address < 256) × (address % 2 ≡ 0)
 
 -- the addresses are even bytes, and the identifiers are bytes
 pub record AreNames (names : Names) : Type 0 where
@@ -56,10 +56,10 @@ abbrev pub CanBeAsked : Asked → Type 0
 CanBeAsked (Ipmi from net_fn lun command body) = (net_fn < 64) × (net_fn % 2 ≡ 0) × (lun < 4) × (length body ≤ most_ipmi_request_data)
 CanBeAsked (Pldm from kind command body) = (kind < 64) × (length body ≤ most_pldm_request_data)
 
--- and the reply with this answer
+-- the reply with this answer fits the frames of its bus
 abbrev pub CanBeTold : Bus → Answered → Type 0
-CanBeTold Ipmb a = length a.body ≤ most_ipmi_reply_data
-CanBeTold Smbus a = length a.body ≤ most_pldm_reply_data
+CanBeTold Ipmb answered = length answered.body ≤ most_ipmi_reply_data
+CanBeTold Smbus answered = length answered.body ≤ most_pldm_reply_data
 
 -- ---- a request
 
@@ -78,13 +78,13 @@ pub record IsControllers (names : Names) (count : ℕ) (asked : Asked) (port : P
   pub eid : port.eid ≡ names.peer_eid
   pub slot : 1 < length (values_of names count asked) → open_beside (name_asked names count) port.kept < most_assemblies
 
--- the request of this count, as it's known at a port: by the manager's name, its number and its bytes
+-- the request of this count, as a port knows it: by the manager's name, the request's number and its bytes
 abbrev pub heard_as : Names → ℕ → Asked → Heard
 heard_as names count asked =
     let number = number_of (bus_of asked) count in
     record { requester = own_on (bus_of asked) names; number = number; bytes = bytes_of number asked }
 
--- what comes of that request at a port: the outcome, the log, the board and the reply
+-- the turn of that request at a port: the outcome, the log, the board and the reply
 abbrev pub turn_at : BoardFile → PortState → State → Names → ℕ → Asked → Turn
 turn_at setup port before names count asked =
     let r = heard_as names count asked in
@@ -93,12 +93,12 @@ turn_at setup port before names count asked =
 -- a port hears values, one after another
 abbrev pub hears_each : BoardFile → PortState → State → List Value → Deed
 hears_each setup port before [] = stays port before
-hears_each setup port before (v ∷ vs) =
-    let first = hears setup port before v in
-    let rest = hears_each setup first.port first.board vs in
+hears_each setup port before (value ∷ values) =
+    let first = hears setup port before value in
+    let rest = hears_each setup first.port first.board values in
     record { port = rest.port; board = rest.board; sent = first.sent ++ rest.sent }
 
--- ---- the reply to it
+-- ---- the reply to a request
 
 -- the message of a reply to the manager's request of this count
 abbrev pub reply_message : Names → ℕ → List ℕ → Message
@@ -116,7 +116,7 @@ reply_message names count body = record {
 
 -- the frames of the reply with this answer: one on IPMB, and on SMBus the packets of a message under the count's tag
 abbrev pub values_told : Names → ℕ → Asked → Answered → List Value
-values_told names count (Ipmi from net_fn lun command body) a = Tells (record {
+values_told names count (Ipmi from net_fn lun command body) answered = Tells (record {
   header = record {
     responder = record { address = names.peer_address; lun = lun };
     requester = record { address = names.own_address; lun = 0 };
@@ -124,8 +124,8 @@ values_told names count (Ipmi from net_fn lun command body) a = Tells (record {
     sequence = number_of Ipmb count;
     command = command;
   };
-  code = a.code;
-  body = a.body;
+  code = answered.code;
+  body = answered.body;
 }) ∷ []
 values_told names count (Pldm from kind command body) a =
     map Part (parts_of (reply_message names count (reply_to Smbus (bytes_of (number_of Smbus count) (Pldm from kind command body)) a)))
@@ -135,7 +135,7 @@ pub record ManagerDeeds (names : Names) : Type 0 where
   pub manager : ManagerState (board_plans names)
   pub sent : List Sent
 
--- what is sent, as a list
+-- the frames that a manager sends, as a list
 abbrev pub sent_list : Option Sent → List Sent
 sent_list None = []
 sent_list (Some sent) = sent ∷ []
@@ -145,47 +145,47 @@ deeds_of names deed = record { manager = deed.manager; sent = sent_list deed.sen
 
 -- a manager hears values, one after another
 abbrev pub manager_hears_each : (names : Names) → List Value → ManagerState (board_plans names) → ManagerDeeds names
-manager_hears_each names [] m = record { manager = m; sent = [] }
-manager_hears_each names (v ∷ vs) m =
-    let first = manager_hears (board_plans names) v m in
-    let rest = manager_hears_each names vs first.manager in
+manager_hears_each names [] manager = record { manager = manager; sent = [] }
+manager_hears_each names (value ∷ values) manager =
+    let first = manager_hears (board_plans names) value manager in
+    let rest = manager_hears_each names values first.manager in
     record { manager = rest.manager; sent = sent_list first.sent ++ rest.sent }
 
 -- The manager's request of this count is open and heeded. Where the reply comes in several packets, there is a slot for it.
-pub record IsAwaiting (names : Names) (count : ℕ) (asked : Asked) (a : Answered) (m : ManagerState (board_plans names)) : Type 0 where
-  pub named : m.names ≡ names
+pub record IsAwaiting (names : Names) (count : ℕ) (asked : Asked) (answered : Answered) (manager : ManagerState (board_plans names)) : Type 0 where
+  pub named : manager.names ≡ names
   pub part : TaskPart (words_of names)
-  pub heeded : heeded_on (board_plans names) (bus_of asked) m.machine.stage ≡ Some part
+  pub heeded : heeded_on (board_plans names) (bus_of asked) manager.machine.stage ≡ Some part
   pub is : part.asked ≡ asked
-  pub counted : open_count (board_plans names) (bus_of asked) m ≡ count
-  pub slot : 1 < length (values_told names count asked a) → open_beside (name_awaited names count) m.joined < most_assemblies
+  pub counted : open_count (board_plans names) (bus_of asked) manager ≡ count
+  pub slot : 1 < length (values_told names count asked answered) → open_beside (name_awaited names count) manager.joined < most_assemblies
 
--- ---- what holds of them
+-- ---- what holds of requests and replies
 
--- The frames of the manager's request are read as its values alone. The port that hears them does what comes of that request, and sends
--- the values of the reply, whatever its answer is.
+-- A reader of the frames of the manager's request gives the request's values alone. The port that hears them takes the turn of that request, and
+-- sends the values of the reply, whatever its answer is.
 pub record IsHeardAsAsked (names : Names) (count : ℕ) (asked : Asked) (setup : BoardFile) (port : PortState) (before : State) : Type 0 where
   pub read : AreReadAs (bus_of asked) (values_of names count asked) (map written (values_of names count asked))
   pub log : (hears_each setup port before (values_of names count asked)).port.log ≡ (turn_at setup port before names count asked).log
   pub board : (hears_each setup port before (values_of names count asked)).board ≡ (turn_at setup port before names count asked).left
-  pub sent : (a : Answered) → let r = heard_as names count asked in
-      said (bus_of asked) r (turn_at setup port before names count asked).replied ≡ reply_to (bus_of asked) r.bytes a
-      → (hears_each setup port before (values_of names count asked)).sent ≡ values_told names count asked a
+  pub sent : (answered : Answered) → let r = heard_as names count asked in
+      said (bus_of asked) r (turn_at setup port before names count asked).replied ≡ reply_to (bus_of asked) r.bytes answered
+      → (hears_each setup port before (values_of names count asked)).sent ≡ values_told names count asked answered
 
--- of every request, in one to four frames, at every port of the controller
+-- so it is with every request, in one to four frames, at every port of the controller
 abbrev pub RequestsAreHeard : Type 0
 RequestsAreHeard = (names : Names) (count : ℕ) (asked : Asked) (setup : BoardFile) (port : PortState) (before : State) → AreNames names → CanBeAsked asked
     → IsControllers names count asked port → IsHeardAsAsked names count asked setup port before
 
--- The frames of the reply are read as its values alone. The manager that hears them takes that answer, and sends nothing before the last.
--- The machine takes each answer but one with a code of a busy port.
-pub record IsTakenAsTold (names : Names) (count : ℕ) (asked : Asked) (a : Answered) (m : ManagerState (board_plans names)) : Type 0 where
-  pub read : AreReadAs (bus_of asked) (values_told names count asked a) (map written (values_told names count asked a))
+-- A reader of the frames of the reply gives the reply's values alone. The manager that hears them takes that answer, and sends nothing before the
+-- last. The machine takes each answer, unless its code is that of a busy port.
+pub record IsTakenAsTold (names : Names) (count : ℕ) (asked : Asked) (answered : Answered) (manager : ManagerState (board_plans names)) : Type 0 where
+  pub read : AreReadAs (bus_of asked) (values_told names count asked answered) (map written (values_told names count asked answered))
   pub joined : Assemblies
-  pub taken : manager_hears_each names (values_told names count asked a) m
-      ≡ deeds_of names (taken_or (board_plans names) (record m { joined = joined }) (reply_of (words_of names) a m.machine))
+  pub taken : manager_hears_each names (values_told names count asked answered) manager
+      ≡ deeds_of names (taken_or (board_plans names) (record manager { joined = joined }) (reply_of (words_of names) answered manager.machine))
 
--- of every reply, in one to four frames, while its request is open
+-- so it is with every reply, in one to four frames, while its request is open
 abbrev pub RepliesAreTaken : Type 0
-RepliesAreTaken = (names : Names) (count : ℕ) (asked : Asked) (a : Answered) (m : ManagerState (board_plans names)) → AreNames names → CanBeAsked asked
-    → CanBeTold (bus_of asked) a → IsAwaiting names count asked a m → IsTakenAsTold names count asked a m
+RepliesAreTaken = (names : Names) (count : ℕ) (asked : Asked) (answered : Answered) (manager : ManagerState (board_plans names)) → AreNames names → CanBeAsked asked
+    → CanBeTold (bus_of asked) answered → IsAwaiting names count asked answered manager → IsTakenAsTold names count asked answered manager

@@ -41,82 +41,82 @@ AreOthers names (Some listed) = listed ≢ names
 abbrev pub backs : Names → List Asked → List Asked
 backs names requests = map (own names) (reverse requests)
 
--- a task of the machine is this one, of the plan, with these requests that undo
+-- a task of the manager is this task of the machine, of the plan, with these requests that undo
 abbrev pub IsTask : (names : Names) → List Op → List Asked → Task → machine.Task (words_of names) → Type 0
-IsTask names plan requests (task.Gets k) (machine.Gets j op) = (j ≡ k) × (slice_get plan k ≡ Some op)
-IsTask names plan requests (task.Sets k back) (machine.Sets j op undo) = (j ≡ k) × (slice_get plan k ≡ Some op) × (own names back ≡ (words_of names).setting undo)
-IsTask names plan requests (task.Undoes k) (machine.Undoes first rest) = (k < length requests) × (backs names (take (suc k) requests) ≡ first ∷ rest)
+IsTask names plan requests (task.Gets step) (machine.Gets place op) = (place ≡ step) × (slice_get plan step ≡ Some op)
+IsTask names plan requests (task.Sets step back) (machine.Sets place op undo) = (place ≡ step) × (slice_get plan step ≡ Some op) × (own names back ≡ (words_of names).setting undo)
+IsTask names plan requests (task.Undoes step) (machine.Undoes first rest) = (step < length requests) × (backs names (take (suc step) requests) ≡ first ∷ rest)
 IsTask names plan requests _ _ = ⊥
 
--- a stage of the machine is this one
+-- a stage of the manager is this stage of the machine
 abbrev pub IsStage : (names : Names) → List Op → List Asked → Stage → machine.Stage (words_of names) → Type 0
 IsStage names plan requests stage.AtStart machine.AtStart = Unit {0}
 IsStage names plan requests (stage.Opened heeded task asked) (machine.Opened heeds of part) =
     (heeds ≡ heeded) × IsTask names plan requests task of × (part ≡ machine.first_part (words_of names) of) × (own names asked ≡ part.asked)
 IsStage names plan requests stage.AtEnd machine.AtEnd = Unit {0}
-IsStage names plan requests (stage.AtHalt k why) (machine.AtHalt j cause) = (j ≡ k) × (cause ≡ why)
+IsStage names plan requests (stage.AtHalt step why) (machine.AtHalt place cause) = (place ≡ step) × (cause ≡ why)
 IsStage names plan requests stage.AtUndone machine.AtUndone = Unit {0}
-IsStage names plan requests (stage.AtRefused k code) (machine.AtRefused j number) = (j ≡ k) × (number ≡ code)
+IsStage names plan requests (stage.AtRefused step code) (machine.AtRefused place number) = (place ≡ step) × (number ≡ code)
 IsStage names plan requests _ _ = ⊥
 
--- this holds of each task of the machine that is this one
+-- this holds of each task of the machine that the task is
 abbrev pub ForTask : Task → ((names : Names) → machine.Task (words_of names) → Type 0) → Type 0
 ForTask task Holds = (names : Names) (plan : List Op) (requests : List Asked) (of : machine.Task (words_of names)) → IsTask names plan requests task of → Holds names of
 
--- this holds of each stage of the machine that is this one
+-- this holds of each stage of the machine that the stage is
 abbrev pub ForStage : Stage → ((names : Names) → machine.Stage (words_of names) → Type 0) → Type 0
 ForStage stage Holds = (names : Names) (plan : List Op) (requests : List Asked) (at : machine.Stage (words_of names)) → IsStage names plan requests stage at → Holds names at
 
 -- the manager shows this machine, and these packets wait at it
-pub record Shows (names : Names) (m : Manager) (s : ManagerState (board_plans names)) : Type 0 where
-  pub named : m.names ≡ names
-  pub is_named : s.names ≡ names
-  pub listed : s.listed ≡ m.undo.names
-  pub plan : s.machine.plan ≡ m.steps
-  pub retries : s.machine.retries ≡ m.retries
-  pub stage : IsStage names m.steps m.undo.requests m.stage s.machine.stage
-  pub stopped : s.machine.stopped ≡ m.stopped
-  pub resent : s.machine.resent ≡ m.resent
-  pub undo : s.machine.undo ≡ backs names m.undo.requests
-  pub counts : s.machine.counts ≡ counts_of m.counts
-  pub sequence : m.undo.next.ipmb ≡ number_of Ipmb m.counts.ipmb
-  pub instance : m.undo.next.smbus ≡ number_of Smbus m.counts.smbus
-  pub joined : s.joined ≡ seen m.joined
+pub record Shows (names : Names) (manager : Manager) (state : ManagerState (board_plans names)) : Type 0 where
+  pub named : manager.names ≡ names
+  pub is_named : state.names ≡ names
+  pub listed : state.listed ≡ manager.undo.names
+  pub plan : state.machine.plan ≡ manager.steps
+  pub retries : state.machine.retries ≡ manager.retries
+  pub stage : IsStage names manager.steps manager.undo.requests manager.stage state.machine.stage
+  pub stopped : state.machine.stopped ≡ manager.stopped
+  pub resent : state.machine.resent ≡ manager.resent
+  pub undo : state.machine.undo ≡ backs names manager.undo.requests
+  pub counts : state.machine.counts ≡ counts_of manager.counts
+  pub sequence : manager.undo.next.ipmb ≡ number_of Ipmb manager.counts.ipmb
+  pub instance : manager.undo.next.smbus ≡ number_of Smbus manager.counts.smbus
+  pub joined : state.joined ≡ seen manager.joined
 
--- The manager sends what the machine sends: on its bus, as that request, the frames of its values. Each frame is read as its value.
+-- The manager sends what the machine sends: the frames of its values, on its bus, as that request. A reader of each frame gives its value.
 abbrev pub IsSent : Option Sent → Option AllSent → Type 0
-IsSent (Some r) (Some s) =
-    (r.bus ≡ s.on) × (r.request ≡ s.request) × (r.frames.items ≡ map written s.values)
-    × AllZip (IsFrameOn s.on) s.values r.frames.items
+IsSent (Some sent) (Some all_sent) =
+    (sent.bus ≡ all_sent.on) × (sent.request ≡ all_sent.request) × (sent.frames.items ≡ map written all_sent.values)
+    × AllZip (IsFrameOn all_sent.on) all_sent.values sent.frames.items
 IsSent None None = Unit {0}
 IsSent _ _ = ⊥
 
--- the manager is then the deed's, and sends what the deed sends
+-- the manager then shows the deed's manager, and sends what the deed sends
 abbrev pub Does : (names : Names) → Manager → Option Sent → ManagerDeed (board_plans names) → Type 0
-Does names m sent deed = Shows names m deed.manager × IsSent sent deed.sent
+Does names manager sent deed = Shows names manager deed.manager × IsSent sent deed.sent
 
 -- this holds of each machine that the manager shows
 abbrev pub ForShown : Manager → ((names : Names) → ManagerState (board_plans names) → Type 0) → Type 0
-ForShown m Holds = (names : Names) (s : ManagerState (board_plans names)) → Shows names m s → Holds names s
+ForShown manager Holds = (names : Names) (state : ManagerState (board_plans names)) → Shows names manager state → Holds names state
 
--- whatever machine the manager showed, the manager is then the deed's, and sends what the deed sends
+-- Whatever machine the manager showed, it then shows the deed's manager, and sends what the deed sends.
 abbrev pub DoesAs : ((names : Names) → ManagerState (board_plans names) → ManagerDeed (board_plans names)) → Manager → Manager → Option Sent → Type 0
 DoesAs deed old new sent = ForShown old (λ names s. Does names new sent (deed names s))
 
--- a call is the deed, or it is refused where there is none, and then nothing changes
+-- a call has the effect of the deed; where there is no deed, the call is refused and changes nothing
 abbrev pub IsCalled : (names : Names) → ManagerState (board_plans names) → Manager → Result (Option Sent) WrongPhase → Option (ManagerDeed (board_plans names)) → Type 0
-IsCalled names before m (Ok sent) (Some deed) = Does names m sent deed
-IsCalled names before m (Err wrong) None = Shows names m before
-IsCalled names before m _ _ = ⊥
+IsCalled names before manager (Ok sent) (Some deed) = Does names manager sent deed
+IsCalled names before manager (Err wrong) None = Shows names manager before
+IsCalled names before manager _ _ = ⊥
 
 -- whatever machine the manager showed, the call is the machine's
 abbrev pub Calls : Call → Manager → Manager → Result (Option Sent) WrongPhase → Type 0
 Calls call old new result = ForShown old (λ names s. IsCalled names s new result (called (board_plans names) call s))
 
--- whatever machine the manager showed, a reply that passed the test is taken as the machine takes it
+-- whatever machine the manager showed, it takes a reply that passed the test as the machine takes the reply
 abbrev pub Takes : Answered → Manager → Manager → Option Sent → Type 0
-Takes a = DoesAs (λ names s. taken_or (board_plans names) s (reply_of (words_of names) a s.machine))
+Takes answered = DoesAs (λ names s. taken_or (board_plans names) s (reply_of (words_of names) answered s.machine))
 
--- the reply of the controller is taken where it passed the test against the open request
+-- the manager takes the controller's reply where the reply passed the test against the open request
 abbrev pub taken_if : (names : Names) → Bool → Answered → ManagerState (board_plans names) → ManagerDeed (board_plans names)
-taken_if names passes a s = if passes then taken_or (board_plans names) s (reply_of (words_of names) a s.machine) else rests (board_plans names) s
+taken_if names passes answered state = if passes then taken_or (board_plans names) state (reply_of (words_of names) answered state.machine) else rests (board_plans names) state

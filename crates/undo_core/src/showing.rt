@@ -65,8 +65,8 @@ impl Manager {
         self.resent
     }
 
-    /// The requests that undo the steps that were done, the numbers of the next requests, and the names: those of the manager, or where it went
-    /// on from a list those that this list had.
+    /// The requests that undo the steps that were done, the numbers of the next requests, and the names: those of the manager, or, where the manager
+    /// went on from a list, those of that list.
     pub fn undo_list(&self) -> &UndoList
         ensures requests { ForShown self.now (λ names s.
             backs names result.now.requests ≡ s.machine.undo) }
