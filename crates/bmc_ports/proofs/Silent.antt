@@ -12,7 +12,8 @@ use Rattle.model_ports.specs.PortSteps.{PortState, idles}
 use Rattle.bmc_ports.specs.declared.silence.Silence.{Silence}
 use Rattle.bmc_ports.specs.Since.{CountsOn, Hearing, most_turns}
 use Rattle.bmc_ports.specs.Senders.{IsFrom, IsHeardFrom}
-use Rattle.bmc_ports.specs.Silence.{CountsAll, idles_all, requesters, silent_among, silent_turns}
+use Rattle.model_bus.specs.Request.{requester_bytes}
+use Rattle.bmc_ports.specs.Silence.{CountsAll, idles_all, silent_among, silent_turns}
 use Rattle.bmc_ports.proofs.Since.{counts_anew, counts_other, counts_quiet}
 
 module _ (on : Bus) (who before after : ℕ) where
@@ -29,7 +30,7 @@ module _ (on : Bus) (who before after : ℕ) where
   stayed_away (Some frame) away more = counts_other (IsFrom on who) before after frame away more
 
 module _ (on : Bus) (heard : Hearing) (before mid after : Silence)
-    (more : (who : ℕ) → who < requesters → silent_turns mid who ≡ min (silent_turns before who + 1) most_turns) where
+    (more : (who : ℕ) → who < requester_bytes → silent_turns mid who ≡ min (silent_turns before who + 1) most_turns) where
   -- nobody's frame came
   pub counts_nobody : ((who : ℕ) → (let none : Option ℕ = None in none ≡ Some who) ↔ IsHeardFrom on who heard) → CountsAll on before (heard ∷ []) mid
   counts_nobody nobody who within =

@@ -2,6 +2,7 @@
 use Rattle.std.specs.Prelude.{◌≡◌, ◌<◌, ◌==◌, ℕ, List, [], ◌∷◌, Option, Some, None, slice_index}
 use Rattle.std.specs.List.{filter, range_with_len}
 use Rattle.two_wire.specs.declared.Bus.{Bus}
+use Rattle.model_bus.specs.Request.{requester_bytes}
 use Rattle.model_ports.specs.PortSteps.{PortState, idles}
 use Rattle.bmc_core.specs.declared.port.Port.{Port}
 use Rattle.bmc_core.specs.Port.{Shows}
@@ -9,17 +10,13 @@ use Rattle.bmc_ports.specs.declared.silence.Silence.{Silence}
 use Rattle.bmc_ports.specs.Since.{Hearing, CountsOn}
 use Rattle.bmc_ports.specs.Senders.{IsFrom}
 
--- requesters are told apart by a byte
-abbrev pub requesters : ℕ
-requesters = 256
-
 -- in how many turns in a row, up to now, nothing came from a requester
 abbrev pub silent_turns : Silence → (who : ℕ) → ℕ
 silent_turns silence who = slice_index silence.turns who
 
 -- each requester's turns are counted on by these turns of a port on this bus
 abbrev pub CountsAll : Bus → (before : Silence) → List Hearing → (after : Silence) → Type 0
-CountsAll on before heard after = (who : ℕ) → who < requesters → CountsOn (IsFrom on who) (silent_turns before who) heard (silent_turns after who)
+CountsAll on before heard after = (who : ℕ) → who < requester_bytes → CountsOn (IsFrom on who) (silent_turns before who) heard (silent_turns after who)
 
 -- they are where there is a least number of turns, and else stay as they were
 abbrev pub AreCounted : (least : Option ℕ) → Bus → (before : Silence) → List Hearing → (after : Silence) → Type 0
@@ -38,4 +35,4 @@ idles_all (who ∷ later) port = idles_all later (idles who port)
 -- The port forgot those that were silent for just the least number of turns, where there is one, and nothing else changed.
 abbrev pub Forgets : (least : Option ℕ) → Silence → (before after : Port) → Type 0
 Forgets None silence before after = after ≡ before
-Forgets (Some least) silence before after = (p : PortState) → Shows before p → Shows after (idles_all (silent_among requesters least silence) p)
+Forgets (Some least) silence before after = (at : PortState) → Shows before at → Shows after (idles_all (silent_among requester_bytes least silence) at)

@@ -3,14 +3,13 @@ ghost use Rattle.std.specs.Prelude.{◌≡◌, ◌≢◌, ◌<◌, ◌==◌, ◌
 ghost use Rattle.model_ports.specs.PortSteps.{PortState, idles};
 ghost use Rattle.bmc_core.specs.Port.{Shows, bus_of};
 ghost use Rattle.bmc_ports.specs.Since.{most_turns};
-ghost use Rattle.bmc_ports.specs.Silence.{AreCounted, CountsAll, Forgets, idles_all, requesters, silent_among, silent_turns};
+ghost use Rattle.model_bus.specs.Request.{requester_bytes};
+ghost use Rattle.bmc_ports.specs.Silence.{AreCounted, CountsAll, Forgets, idles_all, silent_among, silent_turns};
 
 use crate::sender::heard_from;
 use bmc_core::Port;
+use model_bus::REQUESTERS;
 use two_wire::{Bus, Frame};
-
-/// Requesters are told apart by a byte.
-const REQUESTERS: usize = 256;
 
 /// In how many turns in a row, up to now, nothing came from each requester. The largest number stands for itself and all above it.
 #[derive(Drop)]
@@ -21,7 +20,7 @@ pub struct Silence {
 impl Silence {
     /// That of a port that made no turn yet.
     pub(crate) fn new() -> Self
-        ensures { (who : ℕ) → who < requesters → silent_turns result who ≡ 0 }
+        ensures { (who : ℕ) → who < requester_bytes → silent_turns result who ≡ 0 }
     {
         Silence {
             turns: [0; REQUESTERS],
@@ -30,7 +29,7 @@ impl Silence {
 
     /// Counts a turn more for each requester.
     fn count_more(&mut self)
-        ensures { (who : ℕ) → who < requesters
+        ensures { (who : ℕ) → who < requester_bytes
             → silent_turns self.new who ≡ min (silent_turns self.old who + 1) most_turns }
     {
         for who in 0..REQUESTERS {
@@ -83,7 +82,7 @@ fn forget_one(port: &mut Port, silence: &Silence, turns: u32, who: u8)
 /// Has a port forget all that were silent for just so many turns.
 fn forget_all(port: &mut Port, silence: &Silence, turns: u32)
     ensures forgets { (p : PortState) → Shows port.old p
-        → Shows port.new (idles_all (silent_among requesters turns silence.now) p) }
+        → Shows port.new (idles_all (silent_among requester_bytes turns silence.now) p) }
     ensures bus { bus_of port.new ≡ bus_of port.old }
 {
     for who in 0..REQUESTERS {

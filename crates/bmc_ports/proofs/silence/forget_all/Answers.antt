@@ -1,7 +1,8 @@
 use Rattle.std.proofs.Common.{◌≡◌, ◌∙◌, subst, sym, ℕ, List, refl, arith}
 use Rattle.model_ports.specs.PortSteps.{PortState}
 use Rattle.bmc_core.specs.Port.{Shows}
-use Rattle.bmc_ports.specs.Silence.{idles_all, requesters, silent_among}
+use Rattle.model_bus.specs.Request.{requester_bytes}
+use Rattle.bmc_ports.specs.Silence.{idles_all, silent_among}
 use Rattle.bmc_ports.proofs.Silent.{among_none, forgets_more}
 use Rattle.bmc_ports.proofs.silence.forget_all.Goals as goal
 
@@ -22,7 +23,7 @@ loop-who-preserved c = record {
 
 pub returns-clause-forgets : goal.returns-clause-forgets
 returns-clause-forgets c =
-    let end : c.loop-who.who ≡ requesters = omega arith in
+    let end : c.loop-who.who ≡ requester_bytes = omega arith in
     λ p shows.
     subst (λ (who : ℕ). Shows c.loop-who.port (idles_all (silent_among who c.args.turns c.args.silence.now) p)) end
     (c.loop-who.invariant.forgets p shows)
