@@ -24,19 +24,19 @@ pub record StartsValid (setup : BoardFile) (at : Bus → Addresses) : Type 0 whe
 
 -- what happens on a bus has another's request carried out, or none
 abbrev pub IsOthers : (setup : BoardFile) (at : Bus → Addresses) (L : Bus → Line) (bus : Bus) → (L bus).Event → World (family setup at) L → Type 0
-IsOthers setup at L bus e w = IsHonestOn (family setup at) L (wires at) bus e w × ((L bus).is_to_manager e ≡ false) × ((L bus).carries (w.on bus) e ≡ None)
+IsOthers setup at L bus event world = IsHonestOn (family setup at) L (wires at) bus event world × ((L bus).is_to_manager event ≡ false) × ((L bus).carries (world.on bus) event ≡ None)
 
 -- another's request may be answered by the board at any moment, where its command sets no configuration
 abbrev pub QuietMay : BoardFile → (Bus → Addresses) → (Bus → Line) → Type 0
-QuietMay setup at L = (bus : Bus) (e : (L bus).Event) (w : World (family setup at) L) (asked : Asked) (a : BoardAnswer) (after : State)
-    → IsOthers setup at L bus e w → is_changing asked ≡ false → Row setup w.board asked a after → May (family setup at) L (wires at) w (OnBus bus e after)
+QuietMay setup at L = (bus : Bus) (event : (L bus).Event) (world : World (family setup at) L) (asked : Asked) (board_answer : BoardAnswer) (after : State)
+    → IsOthers setup at L bus event world → is_changing asked ≡ false → Row setup world.board asked board_answer after → May (family setup at) L (wires at) world (OnBus bus event after)
 
 -- what happens on a bus has the manager's request carried out, with this reply
 abbrev pub IsManagers : (setup : BoardFile) (at : Bus → Addresses) (L : Bus → Line) (bus : Bus) → (L bus).Event → World (family setup at) L → Exchange → Type 0
-IsManagers setup at L bus e w x = IsHonestOn (family setup at) L (wires at) bus e w × ((L bus).is_to_manager e ≡ false) × ((L bus).carries (w.on bus) e ≡ Some x)
+IsManagers setup at L bus event world exchange = IsHonestOn (family setup at) L (wires at) bus event world × ((L bus).is_to_manager event ≡ false) × ((L bus).carries (world.on bus) event ≡ Some exchange)
 
 -- the manager's request may be answered as the board answers it
 abbrev pub AnswersMay : BoardFile → (Bus → Addresses) → (Bus → Line) → Type 0
-AnswersMay setup at L = (bus : Bus) (e : (L bus).Event) (w : World (family setup at) L) (x : Exchange) → IsManagers setup at L bus e w x
-    → let given = answer setup w.board (asked_from at bus x.bytes) in
-    x.reply ≡ reply_to bus x.bytes given.0 → May (family setup at) L (wires at) w (OnBus bus e given.1)
+AnswersMay setup at L = (bus : Bus) (event : (L bus).Event) (world : World (family setup at) L) (exchange : Exchange) → IsManagers setup at L bus event world exchange
+    → let given = answer setup world.board (asked_from at bus exchange.bytes) in
+    exchange.reply ≡ reply_to bus exchange.bytes given.0 → May (family setup at) L (wires at) world (OnBus bus event given.1)
