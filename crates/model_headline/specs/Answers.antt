@@ -24,23 +24,23 @@ module _ (setup : BoardFile) (names : Names) where
 
   -- As a lab goes from one to the other, a port carries out a request of the manager that asks this. The board answers it so by the
   -- command relation, and the reply is kept.
-  pub record Answers (x y : Lab (board_plans names)) (asked : Asked) (a : Answered) : Type 0 where
+  pub record Answers (lab next : Lab (board_plans names)) (asked : Asked) (answered : Answered) : Type 0 where
     pub bus : Bus
     pub kept : Kept
-    pub carried : (port_on (board_plans names) bus y).log ≡ Carried kept ∷ (port_on (board_plans names) bus x).log
+    pub carried : (port_on (board_plans names) bus next).log ≡ Carried kept ∷ (port_on (board_plans names) bus lab).log
     pub from_manager : kept.request.requester ≡ own_on bus names
     pub asks : asked_from (addresses names) bus kept.request.bytes ≡ asked
-    pub replies : kept.reply ≡ reply_to bus kept.request.bytes a
-    pub row : Board.Row x.board asked a y.board
+    pub replies : kept.reply ≡ reply_to bus kept.request.bytes answered
+    pub row : Board.Row lab.board asked answered next.board
 
-  -- What made a plan halt after k steps, in a run whose answers at the records after k steps are `Gave k`: the answer that was given in it
-  -- to the Get or to the Set of step k, or a stop.
+  -- Why a plan halted after `step` steps, in a run whose answers at the records after so many steps are `Gave step`: the answer that was given
+  -- to the Get or to the Set of that step, or a stop.
   abbrev pub CausedBy : (Gave : ℕ → Asked → Answered → Type 0) → (stopped : Type 0) → List Op → Phase → Type 0
-  CausedBy Gave stopped plan (Halted k Stop) = stopped
-  CausedBy Gave stopped plan (Halted k (Refused code)) =
-      (op : Op) × (body : List ℕ) × (slice_get plan k ≡ Some op) × Gave k (set_asked Board.words op) (record { code = code; body = body }) × (code ≢ success)
-  CausedBy Gave stopped plan (Halted k (GetRefused code)) =
-      (op : Op) × (body : List ℕ) × (slice_get plan k ≡ Some op) × Gave k (get_asked Board.words (Board.words.key_of op)) (record { code = code; body = body }) × (code ≢ success)
-  CausedBy Gave stopped plan (Halted k NotRestorable) =
-      (op : Op) × (body : List ℕ) × (slice_get plan k ≡ Some op) × Gave k (get_asked Board.words (Board.words.key_of op)) (record { code = success; body = body }) × (¬ Board.Restorable op body)
+  CausedBy Gave stopped plan (Halted step Stop) = stopped
+  CausedBy Gave stopped plan (Halted step (Refused code)) =
+      (op : Op) × (body : List ℕ) × (slice_get plan step ≡ Some op) × Gave step (set_asked Board.words op) (record { code = code; body = body }) × (code ≢ success)
+  CausedBy Gave stopped plan (Halted step (GetRefused code)) =
+      (op : Op) × (body : List ℕ) × (slice_get plan step ≡ Some op) × Gave step (get_asked Board.words (Board.words.key_of op)) (record { code = code; body = body }) × (code ≢ success)
+  CausedBy Gave stopped plan (Halted step NotRestorable) =
+      (op : Op) × (body : List ℕ) × (slice_get plan step ≡ Some op) × Gave step (get_asked Board.words (Board.words.key_of op)) (record { code = success; body = body }) × (¬ Board.Restorable op body)
   CausedBy Gave stopped plan _ = Unit {0}

@@ -1,4 +1,4 @@
--- What comes of a clean schedule: each frame that is sent is delivered once and in order, and nobody else sends any.
+-- What comes of a clean schedule: it delivers each frame that is sent once and in order, and nobody else sends a frame.
 use Rattle.std.specs.Prelude.{◌≡◌, ℕ, ◌+◌, ◌≤◌, List, ◌++◌, length, None}
 use Rattle.two_wire.specs.declared.Bus.TheVariants.{Ipmb, Smbus}
 use Rattle.record_base.specs.declared.op.Op.{Op}
@@ -30,7 +30,7 @@ module _ (setup : BoardFile) (names : Names) (plan : List Op) (retries : ℕ) wh
     pub closed : open_bus (F setup names).words (after setup names plan retries events).manager.machine ≡ None
 
   -- A plan takes two requests for each of its first steps, which the board accepts and which can be undone. It is done after the last, or
-  -- halts at the first other step, as soon as the step's Get is refused, or shows what can't be restored, or its Set is refused. Then the
+  -- halts at the first other step, as soon as the step's Get is refused or shows data that can't be restored, or its Set is refused. Then the
   -- records are those after these steps. Its undo takes one request for each of them, and leaves the records of the start.
   pub record RunsOnCleanLink : Type 0 where
     pub steps : List Op

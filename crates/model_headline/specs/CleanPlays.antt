@@ -16,10 +16,10 @@ use Rattle.model_headline.specs.Tied.{F}
 use Rattle.model_headline.specs.CleanLink.{RunsOnCleanLink}
 
 module _ (file : BoardFile) where
-  -- the lab's events that a schedule's are, from a lab on
+  -- the lab's events of a schedule's events, from a lab on
   abbrev pub events_from : List Event → Lab plans → List lab.Event
-  events_from [] x = []
-  events_from (e ∷ es) x = event_of lab_names file x.board e ∷ events_from es (happens file e x)
+  events_from [] lab = []
+  events_from (event ∷ events) lab = event_of lab_names file lab.board event ∷ events_from events (happens file event lab)
 
 module _ (file : BoardFile) (plan : List Op) (retries : ℕ) where
   abbrev pub first : Lab plans
@@ -35,7 +35,7 @@ module _ (file : BoardFile) (plan : List Op) (retries : ℕ) where
       (told : Told) × (ending ≡ Whole told) × (told.phase ≡ runs.phase) × (begun_by events ≡ length runs.steps + length runs.steps + runs.more)
       × IsAfter (F file lab_names) plan told.start (length runs.steps) told.records
 
-  -- it took all events, and tells that the plan is undone, and the records of the start
+  -- the play took all events, and tells that the plan is undone, and the records of the start
   abbrev pub TellsUndo : RunsOnCleanLink file lab_names plan retries → List Event → Ending → Type 0
   TellsUndo runs events ending =
       (told : Told) × (ending ≡ Whole told) × (told.phase ≡ Undone) × (begun_by events ≡ length runs.steps + length runs.steps + runs.more + length runs.steps)
@@ -54,7 +54,7 @@ module _ (file : BoardFile) (plan : List Op) (retries : ℕ) where
     pub ran : StartsClean events → TellsRun runs events ending
     pub undone : UndoesClean events → TellsUndo runs events ending
 
-  -- A plan of at most `most_steps` has clean schedules, one that starts it and one that undoes it too; and every play of one ends so.
+  -- A plan of at most `most_steps` has clean schedules: one starts the plan, and one starts and undoes it. Every play of a clean schedule ends so.
   pub record PlaysRunClean : Type 0 where
     pub can_run : (events : List Event) × StartsClean events
     pub can_undo : (events : List Event) × UndoesClean events

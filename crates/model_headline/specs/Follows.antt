@@ -25,28 +25,28 @@ use Rattle.model_headline.specs.Tied.{P, F, L, W, IsTied, world_of, Goes}
 module _ (setup : BoardFile) (names : Names) (plan : List Op) (start : Records) where
   -- what holds of the model's world at every moment
   abbrev pub Holds : World (F setup names) (L setup names) → Type 0
-  Holds w = WorldHolds (F setup names) (is_family setup (addresses names)) (L setup names) (packet_lines (addresses names) packets_of packets_cut) (W setup names) (λ bus. 0) plan start w
+  Holds world = WorldHolds (F setup names) (is_family setup (addresses names)) (L setup names) (packet_lines (addresses names) packets_of packets_cut) (W setup names) (λ bus. 0) plan start world
 
-  -- what is asked of an event is enough: where a lab shows a world, it shows another after the event, to which that one goes
+  -- The premises on an event are enough: where a lab shows a world, the lab after the event shows a world to which that world goes.
   abbrev pub IsFollowed : Lab (P setup names) → Event → Type 0
-  IsFollowed x e = (on : States (L setup names)) → IsTied setup names x on → Holds (world_of setup names x on) → Goes setup names x on (step (P setup names) setup x e)
+  IsFollowed lab event = (on : States (L setup names)) → IsTied setup names lab on → Holds (world_of setup names lab on) → Goes setup names lab on (step (P setup names) setup lab event)
 
   -- each call of the manager is followed
   abbrev pub CallsAreFollowed : Type 0
-  CallsAreFollowed = (x : Lab (P setup names)) (call : Call) → IsFollowed x (Calls call)
+  CallsAreFollowed = (lab : Lab (P setup names)) (call : Call) → IsFollowed lab (Calls call)
 
   -- each live frame that comes to the manager is followed
   abbrev pub RepliesAreFollowed : Type 0
-  RepliesAreFollowed = (x : Lab (P setup names)) (number : ℕ) → IsDelivered (P setup names) ToManager x number → IsFollowed x (ToMgr number)
+  RepliesAreFollowed = (lab : Lab (P setup names)) (number : ℕ) → IsDelivered (P setup names) ToManager lab number → IsFollowed lab (ToMgr number)
 
   -- each live frame of the manager that comes to the port is followed, unless it joins another request's assembly
   abbrev pub RequestsAreFollowed : Type 0
-  RequestsAreFollowed = (x : Lab (P setup names)) (number : ℕ) → IsDelivered (P setup names) ToPort x number → IsOwn (P setup names) x (ToBmc number) → IsFollowed x (ToBmc number)
+  RequestsAreFollowed = (lab : Lab (P setup names)) (number : ℕ) → IsDelivered (P setup names) ToPort lab number → IsOwn (P setup names) lab (ToBmc number) → IsFollowed lab (ToBmc number)
 
-  -- so is each honest event that is none of the manager's
+  -- each honest event that isn't the manager's is followed
   pub record OthersAreFollowed : Type 0 where
-    pub requests : (x : Lab (P setup names)) (r : Request) → IsHonest (P setup names) x (OtherIpmb r) → IsFollowed x (OtherIpmb r)
-    pub messages : (x : Lab (P setup names)) (m : Message) → IsHonest (P setup names) x (OtherSmbus m) → IsFollowed x (OtherSmbus m)
-    pub noise : (x : Lab (P setup names)) (bus : Bus) (bytes : List ℕ) → IsFollowed x (Noise bus bytes)
-    pub idles : (x : Lab (P setup names)) (bus : Bus) (requester : ℕ) → IsHonest (P setup names) x (Idles bus requester) → IsFollowed x (Idles bus requester)
-    pub bench : (x : Lab (P setup names)) (activity : Activity) → IsFollowed x (OnBench activity)
+    pub requests : (lab : Lab (P setup names)) (request : Request) → IsHonest (P setup names) lab (OtherIpmb request) → IsFollowed lab (OtherIpmb request)
+    pub messages : (lab : Lab (P setup names)) (message : Message) → IsHonest (P setup names) lab (OtherSmbus message) → IsFollowed lab (OtherSmbus message)
+    pub noise : (lab : Lab (P setup names)) (bus : Bus) (bytes : List ℕ) → IsFollowed lab (Noise bus bytes)
+    pub idles : (lab : Lab (P setup names)) (bus : Bus) (requester : ℕ) → IsHonest (P setup names) lab (Idles bus requester) → IsFollowed lab (Idles bus requester)
+    pub bench : (lab : Lab (P setup names)) (activity : Activity) → IsFollowed lab (OnBench activity)

@@ -12,23 +12,23 @@ module _ (at : Bus → Addresses) where
   abbrev pub M : Words
   M = manager_words at
 
-  -- each of these series is one that a manager makes
+  -- a manager makes each of these series
   abbrev pub AllSeries : List Asked → Type 0
   AllSeries [] = Unit {0}
-  AllSeries (s ∷ ss) = IsSeries M s × AllSeries ss
+  AllSeries (asked ∷ askeds) = IsSeries M asked × AllSeries askeds
 
-  -- so are those that a task goes over later
+  -- a manager makes the series that a task goes over later
   abbrev pub TaskMade : Task M → Type 0
-  TaskMade (Gets k op) = Unit {0}
-  TaskMade (Sets k op back) = Unit {0}
+  TaskMade (Gets step op) = Unit {0}
+  TaskMade (Sets step op back) = Unit {0}
   TaskMade (Undoes first rest) = AllSeries rest
 
-  -- and so is the request that is open
+  -- a manager makes the request that is open
   abbrev pub StageMade : Stage M → Type 0
   StageMade (Opened heeded task part) = IsMade M part.asked × TaskMade task
   StageMade _ = Unit {0}
 
-  -- the open request is one that a manager makes, and so are those that undo
-  pub record MachineMade (m : Machine M) : Type 0 where
-    pub stage : StageMade m.stage
-    pub undo : AllSeries m.undo
+  -- a manager makes the open request and the requests that undo
+  pub record MachineMade (machine : Machine M) : Type 0 where
+    pub stage : StageMade machine.stage
+    pub undo : AllSeries machine.undo

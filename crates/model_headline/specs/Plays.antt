@@ -1,4 +1,4 @@
--- What a play tells, where no packet that it delivers joins one that has waited too long.
+-- What a play tells, where no packet that it delivers joins a packet that has waited too long.
 use Rattle.std.specs.Prelude.{◌≡◌, ℕ, ◌+◌, ◌-◌, List, [], ◌∷◌, ◌++◌, length, take, Option, Some, None}
 use Rattle.record_base.specs.declared.message.Asked.{Asked}
 use Rattle.record_base.specs.declared.op.Op.{Op}
@@ -21,37 +21,37 @@ use Rattle.model_lab.specs.Played.{plans, Told, Ending, Whole, Stops, happens, a
 use Rattle.model_headline.specs.Answers.{Answers, CausedBy}
 use Rattle.model_headline.specs.Tied.{F}
 
--- the events that a play took: all, or those before the one that has a fault
+-- the events that a play took: all, or the events before the first that has a fault
 abbrev pub taken_by : List Event → Ending → List Event
 taken_by events (Whole told) = events
 taken_by events (Stops fault place told) = take (place - 1) events
 
--- what it tells
+-- what a play tells, however it ends
 abbrev pub told_by : Ending → Told
 told_by (Whole told) = told
 told_by (Stops fault place told) = told
 
 module _ (file : BoardFile) where
-  -- the event brings the port no packet that joins one which waited while eight or more newer requests were begun on SMBus
+  -- the event brings the port no packet that joins a packet which waited while eight or more newer requests were begun on SMBus
   abbrev pub KeepsPremise : Lab plans → Event → Type 0
-  KeepsPremise x e = IsJoinLive plans x (event_of lab_names file x.board e)
+  KeepsPremise lab event = IsJoinLive plans lab (event_of lab_names file lab.board event)
 
-  -- no event does, where it happens
+  -- no event brings the port such a packet, where it happens
   abbrev pub AllKeepPremise : List Event → Lab plans → Type 0
-  AllKeepPremise [] x = Unit {0}
-  AllKeepPremise (e ∷ es) x = KeepsPremise x e × AllKeepPremise es (happens file e x)
+  AllKeepPremise [] lab = Unit {0}
+  AllKeepPremise (event ∷ events) lab = KeepsPremise lab event × AllKeepPremise events (happens file event lab)
 
   -- no packet that an event delivers to the port joins an assembly that another request's packet opened, where it happens
   abbrev pub AreOwn : List Event → Lab plans → Type 0
-  AreOwn [] x = Unit {0}
-  AreOwn (e ∷ es) x = IsOwn plans x (event_of lab_names file x.board e) × AreOwn es (happens file e x)
+  AreOwn [] lab = Unit {0}
+  AreOwn (event ∷ events) lab = IsOwn plans lab (event_of lab_names file lab.board event) × AreOwn events (happens file event lab)
 
-  -- this is told of the premise on packets: every event keeps it, or the one of this place, counted from 1, is the first that doesn't
+  -- the play tells this of the premise on packets: every event keeps it, or the event of this place, counted from 1, is the first that breaks it
   abbrev pub TellsPremise : List Event → Lab plans → Option ℕ → Type 0
-  TellsPremise events x None = AllKeepPremise events x
-  TellsPremise events x (Some place) =
-      (before : List Event) × (rest : List Event) × (e : Event) × (events ≡ before ++ e ∷ rest) × (place ≡ length before + 1) × AllKeepPremise before x
-      × (¬ KeepsPremise (after file before x) e)
+  TellsPremise events lab None = AllKeepPremise events lab
+  TellsPremise events lab (Some place) =
+      (before : List Event) × (rest : List Event) × (event : Event) × (events ≡ before ++ event ∷ rest) × (place ≡ length before + 1) × AllKeepPremise before lab
+      × (¬ KeepsPremise (after file before lab) event)
 
 module _ (file : BoardFile) (plan : List Op) (retries : ℕ) where
   -- the lab as it begins, and after events
@@ -67,14 +67,14 @@ module _ (file : BoardFile) (plan : List Op) (retries : ℕ) where
   UndoneForGood taken = (events later rest : List Event) → taken ≡ (events ++ later) ++ rest → phase_after events ≡ Undone
       → ((lab_after (events ++ later)).board.records ≡ (lab_after []).board.records) × ShowsSame (F file lab_names) (lab_after []).board (lab_after (events ++ later)).board
 
-  -- at an event that was taken the board answered the manager so, at the records after the plan's first k steps
-  pub record GaveIn (taken : List Event) (k : ℕ) (asked : Asked) (a : Answered) : Type 0 where
+  -- at an event that was taken the board answered the manager so, at the records after the plan's first `step` steps
+  pub record GaveIn (taken : List Event) (step : ℕ) (asked : Asked) (answered : Answered) : Type 0 where
     pub before : List Event
     pub event : Event
     pub later : List Event
     pub all : taken ≡ before ++ event ∷ later
-    pub answers : Answers file lab_names (lab_after before) (happens file event (lab_after before)) asked a
-    pub at : IsAfter (F file lab_names) plan (lab_after []).board.records k (lab_after before).board.records
+    pub answers : Answers file lab_names (lab_after before) (happens file event (lab_after before)) asked answered
+    pub at : IsAfter (F file lab_names) plan (lab_after []).board.records step (lab_after before).board.records
 
   -- The phase says what the records are, so an undone plan leaves those of the start, and UndoRefused isn't told. So it does at each
   -- event from the one on at which the plan was undone. A plan that halted has its cause in the events that were taken: the answer that
@@ -85,7 +85,7 @@ module _ (file : BoardFile) (plan : List Op) (retries : ℕ) where
     pub for_good : UndoneForGood taken
     pub halts : CausedBy file lab_names (GaveIn taken) (In (Calls Stop) taken) plan told.phase
 
-  -- so it is where no packet of the events taken joins one that has waited so long
+  -- so it is where no packet of the events taken joins a packet that has waited so long
   abbrev pub StandsIfKept : List Event → Ending → Type 0
   StandsIfKept events ending = AllKeepPremise file (taken_by events ending) (lab_after []) → ToldStands (taken_by events ending) (told_by ending)
 
@@ -93,6 +93,6 @@ module _ (file : BoardFile) (plan : List Op) (retries : ℕ) where
   abbrev pub StandsIfOwn : List Event → Ending → Type 0
   StandsIfOwn events ending = AreOwn file (taken_by events ending) (lab_after []) → ToldStands (taken_by events ending) (told_by ending)
 
-  -- and so it is of every play
+  -- so it is with every play
   abbrev pub PlaysStand : Type 0
   PlaysStand = (events : List Event) (ending : Ending) → IsPlayed file plan retries events ending → StandsIfKept events ending × StandsIfOwn events ending

@@ -29,7 +29,7 @@ module _ (setup : BoardFile) (names : Names) (plan : List Op) (retries : ℕ) wh
   abbrev pub after : List Event → Lab (P setup names)
   after events = run (P setup names) setup events first
 
-  -- the phase of its manager then
+  -- the phase of the lab's manager after events
   abbrev pub phase_after : List Event → Phase
   phase_after events = phase_of (F setup names).words (after events).manager.machine
 
@@ -50,18 +50,18 @@ module _ (setup : BoardFile) (names : Names) (plan : List Op) (retries : ℕ) wh
   abbrev pub StandsAfter : List Event → Type 0
   StandsAfter events = Stands (F setup names) plan first.board.records (phase_after events) (after events).board.records
 
-  -- at an event of the schedule the board answered the manager so, at the records after the plan's first k steps
-  pub record GaveIn (events : List Event) (k : ℕ) (asked : Asked) (a : Answered) : Type 0 where
+  -- at an event of the schedule the board answered the manager so, at the records after so many of the plan's first steps
+  pub record GaveIn (events : List Event) (place : ℕ) (asked : Asked) (answered : Answered) : Type 0 where
     pub before : List Event
     pub event : Event
     pub later : List Event
     pub all : events ≡ before ++ event ∷ later
-    pub answers : Answers setup names (after before) (step (P setup names) setup (after before) event) asked a
-    pub at : IsAfter (F setup names) plan first.board.records k (after before).board.records
+    pub answers : Answers setup names (after before) (step (P setup names) setup (after before) event) asked answered
+    pub at : IsAfter (F setup names) plan first.board.records place (after before).board.records
 
-  -- what holds of every good schedule
+  -- what holds of every schedule that keeps the premises
   module _ (Good : List Event → Type 0) where
-    -- so it is after each, and so at each of its events, since what it begins with is such a schedule too
+    -- so it is after each such schedule, and at each of its events, since each beginning of the schedule is such a schedule too
     abbrev pub AlwaysStands : Type 0
     AlwaysStands = (events : List Event) → Good events → StandsAfter events
 
@@ -80,8 +80,8 @@ module _ (setup : BoardFile) (names : Names) (plan : List Op) (retries : ℕ) wh
       pub undone : UndoneForGood
       pub halts : HaltsByAnswers
 
-  -- What the premises have to do with one another. Where each event is honest, no packet joins one that has waited so long exactly where
-  -- none joins an assembly that another request's packet opened. What a lab takes is honest.
+  -- How the premises hang together. Where each event is honest, no packet joins a packet that has waited so long exactly where no packet joins an
+  -- assembly that another request's packet opened. Each event that a lab takes is honest.
   pub record PremisesAgree : Type 0 where
     pub own : (events : List Event) → IsTrusted events → AllOwn (P setup names) setup events first
     pub live : (events : List Event) → IsHonestAndOwn events → AllJoinLive (P setup names) setup events first

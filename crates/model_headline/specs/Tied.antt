@@ -78,52 +78,52 @@ module _ (setup : BoardFile) (names : Names) where
   -- ---- frames
 
   -- the model's frame `which` is of the same request, and was sent as many idles after the start
-  pub record IsOf (frames : List Frame) (f : LabFrame) (which : ℕ) (g : Frame) : Type 0 where
-    pub sent : slice_get frames which ≡ Some g
-    pub request : g.request ≡ f.request
-    pub idles : g.idles ≡ f.idles
+  pub record IsOf (frames : List Frame) (lab_frame : LabFrame) (which : ℕ) (frame : Frame) : Type 0 where
+    pub sent : slice_get frames which ≡ Some frame
+    pub request : frame.request ≡ lab_frame.request
+    pub idles : frame.idles ≡ lab_frame.idles
 
   -- the value is a request of the manager on IPMB, which the model's frame holds
-  pub record HoldsAsked (frames : List Frame) (f : LabFrame) : Type 0 where
+  pub record HoldsAsked (frames : List Frame) (lab_frame : LabFrame) : Type 0 where
     pub which : ℕ
     pub frame : Frame
-    pub is_of : IsOf frames f which frame
+    pub is_of : IsOf frames lab_frame which frame
     pub asked : Request
-    pub value : f.value ≡ Asks asked
+    pub value : lab_frame.value ≡ Asks asked
     pub bytes : List ℕ
     pub asks : frame.content ≡ Ask bytes
     pub heard : heard_in asked ≡ request_of ipmb_bus frame.request bytes
     pub to_port : asked.header.responder.address ≡ names.peer_address
     pub read : asked_from (addresses names) Ipmb bytes ≡ asked_in asked
-    -- what a response to it says
+    -- what a response to the request says
     pub number : ℕ
     pub spelled : IsRequestOn Ipmb number bytes
-    pub responds : (a : Answered) → response_bytes (response_to asked a) ≡ reply_to Ipmb bytes a
+    pub responds : (answered : Answered) → response_bytes (response_to asked answered) ≡ reply_to Ipmb bytes answered
     pub from_manager : asked.header.requester.address ≡ names.own_address
 
   -- the value is a response to the manager on IPMB, which the model's frame holds
-  pub record HoldsTold (frames : List Frame) (f : LabFrame) : Type 0 where
+  pub record HoldsTold (frames : List Frame) (lab_frame : LabFrame) : Type 0 where
     pub which : ℕ
     pub frame : Frame
-    pub is_of : IsOf frames f which frame
+    pub is_of : IsOf frames lab_frame which frame
     pub told : Response
-    pub value : f.value ≡ Tells told
+    pub value : lab_frame.value ≡ Tells told
     pub held : HoldsReply Ipmb (response_bytes told) frame.content
     pub answers : is_answer names told ≡ true
 
   -- the value is a packet of a request of the manager on SMBus, which the model's frame holds
-  pub record HoldsAskedPart (x : Ends) (f : LabFrame) : Type 0 where
+  pub record HoldsAskedPart (ends : Ends) (frame : LabFrame) : Type 0 where
     pub which : ℕ
     pub place : ℕ
     pub packet : Packet
-    pub value : f.value ≡ Part packet
-    pub part : IsManagersPart smbus_bus x which place packet
-    pub request : part.frame.request ≡ f.request
-    pub idles : part.frame.idles ≡ f.idles
+    pub value : frame.value ≡ Part packet
+    pub part : IsManagersPart smbus_bus ends which place packet
+    pub request : part.frame.request ≡ frame.request
+    pub idles : part.frame.idles ≡ frame.idles
     pub small : length packet.payload ≤ unit_size
     pub to_port : packet.envelope.destination ≡ names.peer_wire
     pub from_manager : packet.envelope.source ≡ names.own_wire
-    -- what the message asks, and what a reply to it says
+    -- what the message asks, and what a reply to the message says
     pub asked : PldmRequest
     pub rest : List ℕ
     pub typed : part.bytes ≡ 1 ∷ rest
@@ -134,78 +134,78 @@ module _ (setup : BoardFile) (names : Names) where
     pub spelled : IsRequestOn Smbus number part.bytes
 
   -- the value is a packet of a reply to the manager on SMBus, which the model's frame holds
-  pub record HoldsToldPart (frames : List Frame) (f : LabFrame) : Type 0 where
+  pub record HoldsToldPart (frames : List Frame) (lab_frame : LabFrame) : Type 0 where
     pub which : ℕ
     pub place : ℕ
     pub frame : Frame
-    pub is_of : IsOf frames f which frame
+    pub is_of : IsOf frames lab_frame which frame
     pub packet : Packet
-    pub value : f.value ≡ Part packet
+    pub value : lab_frame.value ≡ Part packet
     pub held : HoldsPart smbus_bus place packet frame.content
     pub named : name_in packet ≡ reply_name smbus_bus frame.request
     pub destination : packet.envelope.destination ≡ names.own_wire
     pub source : packet.envelope.source ≡ names.peer_wire
     pub ours : is_ours names.own_eid packet ≡ true
 
-  -- or it comes from another endpoint than the controller's, as it does once somebody set that one's identifier
-  pub record ComesFromAnother (f : LabFrame) : Type 0 where
+  -- the packet comes from another endpoint than the controller's, as it does once somebody set the controller's identifier
+  pub record ComesFromAnother (frame : LabFrame) : Type 0 where
     pub packet : Packet
-    pub value : f.value ≡ Part packet
+    pub value : frame.value ≡ Part packet
     pub source : (packet.envelope.source_eid == names.peer_eid) ≡ false
 
   -- the frame is one of the model's, by the end to which it goes
   abbrev pub IsHeldBy : Way → Bus → States L → LabFrame → Type 0
-  IsHeldBy ToPort Ipmb on f = HoldsAsked (on Ipmb).frames f
-  IsHeldBy ToPort Smbus on f = HoldsAskedPart (on Smbus) f
-  IsHeldBy ToManager Ipmb on f = HoldsTold (on Ipmb).frames f
-  IsHeldBy ToManager Smbus on f = HoldsToldPart (on Smbus).bus.frames f ⊎ ComesFromAnother f
-  IsHeldBy ToOthers bus on f = Unit {0}
+  IsHeldBy ToPort Ipmb on frame = HoldsAsked (on Ipmb).frames frame
+  IsHeldBy ToPort Smbus on frame = HoldsAskedPart (on Smbus) frame
+  IsHeldBy ToManager Ipmb on frame = HoldsTold (on Ipmb).frames frame
+  IsHeldBy ToManager Smbus on frame = HoldsToldPart (on Smbus).bus.frames frame ⊎ ComesFromAnother frame
+  IsHeldBy ToOthers bus on frame = Unit {0}
 
   abbrev pub IsHeld : States L → LabFrame → Type 0
-  IsHeld on f = IsHeldBy f.way f.on on f
+  IsHeld on frame = IsHeldBy frame.way frame.on on frame
 
   -- ---- what the ports did
 
   -- the reply that is kept answers the request
   abbrev pub IsAnswer : Bus → Kept → Type 0
-  IsAnswer bus k = (a : Answered) × (k.reply ≡ reply_to bus k.request.bytes a)
+  IsAnswer bus kept = (answered : Answered) × (kept.reply ≡ reply_to bus kept.request.bytes answered)
 
   abbrev pub EntryAnswers : Bus → Entry → Type 0
-  EntryAnswers bus (Carried k) = IsAnswer bus k
+  EntryAnswers bus (Carried kept) = IsAnswer bus kept
   EntryAnswers bus (Idled requester) = Unit {0}
 
   -- ---- the tie
 
-  pub record IsTied (x : Lab P) (on : States L) : Type 0 where
-    pub named : x.manager.names ≡ names
-    pub ipmb_wire : x.ipmb.wire ≡ names.peer_address
-    pub smbus_wire : x.smbus.wire ≡ names.peer_wire
-    pub ipmb_log : (on Ipmb).log ≡ x.ipmb.log
-    pub smbus_port : IsPortOf (on Smbus) x.smbus
-    pub waits : WaitsAlike (on Smbus).manager x.manager.joined
-    pub alone : open_beside (name_awaited names (open_count P Smbus x.manager)) x.manager.joined ≡ 0
-    pub counted : (bus : Bus) → count_of bus x.manager.machine.counts ≡ length (requests on bus).taken
+  pub record IsTied (lab : Lab P) (on : States L) : Type 0 where
+    pub named : lab.manager.names ≡ names
+    pub ipmb_wire : lab.ipmb.wire ≡ names.peer_address
+    pub smbus_wire : lab.smbus.wire ≡ names.peer_wire
+    pub ipmb_log : (on Ipmb).log ≡ lab.ipmb.log
+    pub smbus_port : IsPortOf (on Smbus) lab.smbus
+    pub waits : WaitsAlike (on Smbus).manager lab.manager.joined
+    pub alone : open_beside (name_awaited names (open_count P Smbus lab.manager)) lab.manager.joined ≡ 0
+    pub counted : (bus : Bus) → count_of bus lab.manager.machine.counts ≡ length (requests on bus).taken
     pub written : (bus : Bus) → AreWritten bus (rules_on bus) (requests on bus)
     pub answered : (bus : Bus) → Each (EntryAnswers bus) (requests on bus).log
-    pub made : MachineMade (addresses names) x.manager.machine
-    pub frames : Each (IsHeld on) x.frames
-    -- what waits of the manager's at the port is of the request whose start came last under its tag
-    pub opened : (n : ℕ) (t : Sent) → In t ((on Smbus).port (request_name smbus_bus n)) → t.request ≡ x.opened (n % tags)
+    pub made : MachineMade (addresses names) lab.manager.machine
+    pub frames : Each (IsHeld on) lab.frames
+    -- the manager's packets that wait at the port are of the request whose start came last under their tag
+    pub opened : (count : ℕ) (sent : Sent) → In sent ((on Smbus).port (request_name smbus_bus count)) → sent.request ≡ lab.opened (count % tags)
 
   -- the model's world of a lab
   abbrev pub world_of : Lab P → States L → World F L
-  world_of x on = record { machine = x.manager.machine; on = on; board = x.board }
+  world_of lab on = record { machine = lab.manager.machine; on = on; board = lab.board }
 
-  -- the lab gave the manager the answer as it went from one to the other
-  pub record IsGiven (x y : Lab P) (g : Giving F) : Type 0 where
-    pub before : g.before ≡ x.board
-    pub answers : Answers setup names x y g.asked g.answered
+  -- the lab gave the manager the answer as it went from the one state to the other
+  pub record IsGiven (lab next : Lab P) (given : Giving F) : Type 0 where
+    pub before : given.before ≡ lab.board
+    pub answers : Answers setup names lab next given.asked given.answered
 
-  -- what the lab does, the model's world does in so many steps, and gives no answer but the lab's
-  pub record Goes (x : Lab P) (on : States L) (y : Lab P) : Type 0 where
+  -- the model's world does in these steps what the lab does, and gives no answer but the lab's
+  pub record Goes (lab : Lab P) (on : States L) (next : Lab P) : Type 0 where
     pub happenings : List (Happening F L)
     pub left : States L
-    pub may : AllMay F L W happenings (world_of x on)
-    pub reaches : run F L W happenings (world_of x on) ≡ world_of y left
-    pub gives : Each (IsGiven x y) (given_in F L W happenings (world_of x on))
-    pub tied : IsTied y left
+    pub may : AllMay F L W happenings (world_of lab on)
+    pub reaches : run F L W happenings (world_of lab on) ≡ world_of next left
+    pub gives : Each (IsGiven lab next) (given_in F L W happenings (world_of lab on))
+    pub tied : IsTied next left

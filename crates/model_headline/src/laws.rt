@@ -14,24 +14,28 @@ ghost use Rattle.model_headline.specs.CleanPlays.{PlaysRunClean};
 
 /// Where the manager is called, the model's world goes on to one that the lab shows then. So it is in each phase, also where the call is refused.
 pub fn calls_are_followed()
-    ensures { (setup : BoardFile) (names : Names) (plan : List Op) (start : Records) → CallsAreFollowed setup names plan start }
+    ensures { (setup : BoardFile) (names : Names) (plan : List Op) (start : Records)
+        → CallsAreFollowed setup names plan start }
 {}
 
 /// Where a live frame comes to the manager, whole on IPMB or a packet on SMBus, the model's world goes on to one that the lab shows then.
 pub fn replies_are_followed()
-    ensures { (setup : BoardFile) (names : Names) (plan : List Op) (start : Records) → RepliesAreFollowed setup names plan start }
+    ensures { (setup : BoardFile) (names : Names) (plan : List Op) (start : Records)
+        → RepliesAreFollowed setup names plan start }
 {}
 
 /// Where a live frame of the manager comes to the port, whole on IPMB or a packet on SMBus that joins no other request's assembly, the
 /// model's world goes on to one that the lab shows then.
 pub fn requests_are_followed()
-    ensures { (setup : BoardFile) (names : Names) (plan : List Op) (start : Records) → RequestsAreFollowed setup names plan start }
+    ensures { (setup : BoardFile) (names : Names) (plan : List Op) (start : Records)
+        → RequestsAreFollowed setup names plan start }
 {}
 
 /// So it does at an honest request of another on IPMB, at all packets of an honest message of another on SMBus, at noise, where a requester is
 /// idle, and where what isn't configuration changes.
 pub fn others_are_followed()
-    ensures { (setup : BoardFile) (names : Names) (plan : List Op) (start : Records) → OthersAreFollowed setup names plan start }
+    ensures { (setup : BoardFile) (names : Names) (plan : List Op) (start : Records)
+        → OthersAreFollowed setup names plan start }
 {}
 
 /// The headline, over a lab. After every honest schedule in which no packet joins one that waited while eight or more newer requests were
@@ -39,18 +43,21 @@ pub fn others_are_followed()
 /// undone, and after all that comes then, every record is what it was at the start, and each Get is answered with the same code and shows
 /// the same configuration.
 pub fn undo_takes_everything_back()
-    ensures { (setup : BoardFile) (names : Names) (plan : List Op) (retries : ℕ) → Headline setup names plan retries (IsTrusted setup names plan retries) }
+    ensures { (setup : BoardFile) (names : Names) (plan : List Op) (retries : ℕ)
+        → Headline setup names plan retries (IsTrusted setup names plan retries) }
 {}
 
 /// So it is of every schedule that a lab takes and in which no packet joins another request's assembly.
 pub fn taken_schedules_are_undone()
-    ensures { (setup : BoardFile) (names : Names) (plan : List Op) (retries : ℕ) → Headline setup names plan retries (IsTakenAndOwn setup names plan retries) }
+    ensures { (setup : BoardFile) (names : Names) (plan : List Op) (retries : ℕ)
+        → Headline setup names plan retries (IsTakenAndOwn setup names plan retries) }
 {}
 
 /// Where each event is honest, no packet joins one that has waited so long exactly where none joins another request's assembly; and what a
 /// lab takes is honest.
 pub fn premises_agree()
-    ensures { (setup : BoardFile) (names : Names) (plan : List Op) (retries : ℕ) → PremisesAgree setup names plan retries }
+    ensures { (setup : BoardFile) (names : Names) (plan : List Op) (retries : ℕ)
+        → PremisesAgree setup names plan retries }
 {}
 
 /// What every play tells, by either premise on packets: its phase says what the records are, what is undone stays so, and a plan that
@@ -63,10 +70,12 @@ pub fn plays_stand()
 /// halts at the first step that isn't accepted or can't be restored. Its undo takes one request for each step that was done. A plan of at
 /// most 256 steps has such schedules, and a lab takes each of their events.
 pub fn clean_links_run_plans()
-    ensures { (setup : BoardFile) (names : Names) (plan : List Op) (retries : ℕ) → RunsOnCleanLink setup names plan retries }
+    ensures { (setup : BoardFile) (names : Names) (plan : List Op) (retries : ℕ)
+        → RunsOnCleanLink setup names plan retries }
 {}
 
 /// A plan of at most 256 steps has clean schedules. A play of one takes it whole, and tells it: so the plan ran, and so it was undone.
 pub fn clean_plays_run_plans()
-    ensures { (file : BoardFile) (plan : List Op) (retries : ℕ) → length plan ≤ most_steps → PlaysRunClean file plan retries }
+    ensures { (file : BoardFile) (plan : List Op) (retries : ℕ) → length plan ≤ most_steps
+        → PlaysRunClean file plan retries }
 {}
