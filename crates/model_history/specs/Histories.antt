@@ -27,7 +27,7 @@ use Rattle.bmc_history.specs.Replay.{calls_of, Replays}
 -- all requests that a log has as carried out, with the replies that are kept for them, oldest first
 abbrev pub all_carried : List Entry → List Kept
 all_carried [] = []
-all_carried (Carried k ∷ log) = all_carried log ++ k ∷ []
+all_carried (Carried kept ∷ log) = all_carried log ++ kept ∷ []
 all_carried (Idled requester ∷ log) = all_carried log
 
 -- the bytes are those of the request under this number, on IPMB from some logical unit of the requester
@@ -37,15 +37,15 @@ Spells number bytes (Ipmi from net_fn lun command body) =
 Spells number bytes (Pldm from kind command body) = bytes ≡ pldm_request (record { pldm_type = kind; command = command }) number body
 
 -- what is kept is the exchange: its requester asked this, in its bytes under its number, and its reply gives this answer
-pub record IsExchange (k : Kept) (asked : Asked) (answered : Answered) : Type 0 where
-  pub from : sent_by k.request.requester asked ≡ asked
-  pub request : Spells k.request.number k.request.bytes asked
-  pub reply : k.reply ≡ reply_to (bus_of asked) k.request.bytes (family_answer answered)
+pub record IsExchange (kept : Kept) (asked : Asked) (answered : Answered) : Type 0 where
+  pub from : sent_by kept.request.requester asked ≡ asked
+  pub request : Spells kept.request.number kept.request.bytes asked
+  pub reply : kept.reply ≡ reply_to (bus_of asked) kept.request.bytes (family_answer answered)
 
 -- what is kept is the call of the board
 abbrev pub IsCall : Kept → Call → Type 0
-IsCall k (Exchanged asked answered) = IsExchange k asked answered
-IsCall k (Benched happened answered) = ⊥
+IsCall kept (Exchanged asked answered) = IsExchange kept asked answered
+IsCall kept (Benched happened answered) = ⊥
 
 -- from one log of a port to a later one, the port carried these calls out, in order
 abbrev pub CarriesOut : List Call → List Entry → List Entry → Type 0
@@ -67,24 +67,24 @@ on_bench file before _ = []
 
 -- The event of the schedule led from one lab to the other, and this is what the board did: what the port on IPMB carried out, under seat 0,
 -- that on SMBus, under seat 1, and what happened on the bench, under seat 2.
-pub record IsDone (file : BoardFile) (e : Event) (old new : Lab plans) (done : List BoardEvent) : Type 0 where
+pub record IsDone (file : BoardFile) (happening : Event) (old new : Lab plans) (done : List BoardEvent) : Type 0 where
   pub seated : All (λ event. event.seat ≤ 2) done
   pub ipmb : CarriesOut (calls_of 0 done) old.ipmb.log new.ipmb.log
   pub smbus : CarriesOut (calls_of 1 done) old.smbus.log new.smbus.log
-  pub on_the_bench : calls_of 2 done ≡ on_bench file old.board e
+  pub on_the_bench : calls_of 2 done ≡ on_bench file old.board happening
 
 -- the history is what the board did in a run of these events, in the order in which they happened
 abbrev pub IsHistoryOf : BoardFile → List Event → Lab plans → List BoardEvent → Type 0
-IsHistoryOf file [] x history = history ≡ []
-IsHistoryOf file (e ∷ later) x history =
+IsHistoryOf file [] lab history = history ≡ []
+IsHistoryOf file (event ∷ later) lab history =
     (done : List BoardEvent) × (rest : List BoardEvent) × (history ≡ done ++ rest)
-    × IsDone file e x (happens file e x) done × IsHistoryOf file later (happens file e x) rest
+    × IsDone file event lab (happens file event lab) done × IsHistoryOf file later (happens file event lab) rest
 
 -- The board's events in a run are a history. It replays from the board as the run began to the board as it ended, and each port's seat has all that
 -- the port carried out between.
-pub record HasHistory (file : BoardFile) (events : List Event) (x : Lab plans) : Type 0 where
+pub record HasHistory (file : BoardFile) (events : List Event) (lab : Lab plans) : Type 0 where
   pub history : List BoardEvent
-  pub is : IsHistoryOf file events x history
-  pub replays : Replays file x.board history (after file events x).board
-  pub ipmb : CarriesOut (calls_of 0 history) x.ipmb.log (after file events x).ipmb.log
-  pub smbus : CarriesOut (calls_of 1 history) x.smbus.log (after file events x).smbus.log
+  pub is : IsHistoryOf file events lab history
+  pub replays : Replays file lab.board history (after file events lab).board
+  pub ipmb : CarriesOut (calls_of 0 history) lab.ipmb.log (after file events lab).ipmb.log
+  pub smbus : CarriesOut (calls_of 1 history) lab.smbus.log (after file events lab).smbus.log
