@@ -13,14 +13,16 @@ ghost use Rattle.model_claim.specs.Refines.{Refines};
 /// configuration. A plan that halted has its cause in the schedule.
 pub fn undone_means_unchanged()
     ensures controller { (setup : BoardFile) → IsController setup (ours setup) }
-    ensures claim { (setup : BoardFile) (names : Names) (plan : List Op) (retries : ℕ) → Claim setup (ours setup) names plan retries }
+    ensures claim { (setup : BoardFile) (names : Names) (plan : List Op) (retries : ℕ)
+        → Claim setup (ours setup) names plan retries }
 {}
 
 /// The machinery is of the statement, and leaves no schedule out. Each schedule of its lab is one of the statement's. It is honest there, and joins no
 /// stale packets, exactly where it is honest in the statement; and then both labs are alike after it. Its headline follows from the claim. The board's
 /// command relation is within what the statement says of answers.
 pub fn machinery_refines_the_statement()
-    ensures { (setup : BoardFile) (names : Names) (plan : List Op) (retries : ℕ) → Refines setup names plan retries }
+    ensures { (setup : BoardFile) (names : Names) (plan : List Op) (retries : ℕ)
+        → Refines setup names plan retries }
 {}
 
 /// Every play keeps its promise, where no event that it takes breaks the premise on packets: its phase says what the records are, undone means that each
