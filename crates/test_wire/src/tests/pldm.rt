@@ -2,7 +2,8 @@
 use super::player::{expect_told, push_bytes, push_other};
 use pldm_base::{
     GET_FIRST_PART, Header, Instance, Part, PldmBytes, PldmReply, PldmRequest, PldmType,
-    TransferFlag, part, read_pldm, read_pldm_reply, same_request, write_pldm, write_pldm_reply,
+    TransferFlag, entry_part, part, read_pldm, read_pldm_reply, same_request, write_pldm,
+    write_pldm_reply,
 };
 use std::alloc::AllocError;
 use story_lines::NoOutcome;
@@ -68,16 +69,31 @@ pub fn are_same_messages(one: &[u8], other: &[u8]) -> Option<bool> {
     Some(same_request(&one, &other))
 }
 
-/// The part of the table.
-fn asked_part(table: &[u8], operation: u8, handle: u32) -> Result<Part<'_>, Code> {
-    part(table, operation, handle)
+/// What the bytes are whose parts are asked for.
+#[derive(Clone, Copy)]
+pub enum Parts {
+    OfTable,
+    OfEntry,
 }
 
-/// The part of the table that the operation and the handle ask for.
-pub fn part_of(table: &[u8], words: &str, text: &mut String) -> Result<(), NoOutcome> {
+/// The part of the bytes.
+fn asked_part(parts: Parts, bytes: &[u8], operation: u8, handle: u32) -> Result<Part<'_>, Code> {
+    match parts {
+        Parts::OfTable => part(bytes, operation, handle),
+        Parts::OfEntry => entry_part(bytes, operation, handle),
+    }
+}
+
+/// The part of the bytes that the operation and the handle ask for.
+pub fn part_of(
+    parts: Parts,
+    bytes: &[u8],
+    words: &str,
+    text: &mut String,
+) -> Result<(), NoOutcome> {
     let (operation, handle) = words.split_once(' ').ok_or(NoOutcome::Unread)?;
     let operation = u8::from_str_radix(operation, 16)?;
-    match asked_part(table, operation, handle.parse::<u32>()?) {
+    match asked_part(parts, bytes, operation, handle.parse::<u32>()?) {
         Ok(part) => {
             let (flag, next) = (part.flag.byte(), part.next);
             write!(text, " flag {flag:02X} next {next} bytes")?;
@@ -143,6 +159,31 @@ part 00 384 -> 02
 part 00 576 -> 02
 part 02 0 -> 02
 part FF 192 -> 02
+
+story a short entry is whole
+table 61*205
+entry 01 0 -> flag 05 next 0 bytes 61*205
+entry 01 192 -> flag 05 next 0 bytes 61*205
+entry 00 0 -> 02
+entry 00 192 -> 02
+entry 02 0 -> 02
+table 61
+entry 01 0 -> flag 05 next 0 bytes 61
+entry 00 0 -> 02
+
+story a long entry is given in parts
+table 61*192 62*14
+entry 01 0 -> flag 01 next 192 bytes 61*192
+entry 01 192 -> flag 01 next 192 bytes 61*192
+entry 00 192 -> flag 04 next 0 bytes 62*14
+entry 00 0 -> 02
+entry 00 193 -> 02
+entry 00 384 -> 02
+entry 02 192 -> 02
+table 61*192 62*192 63*21
+entry 01 0 -> flag 01 next 192 bytes 61*192
+entry 00 192 -> flag 02 next 384 bytes 62*192
+entry 00 384 -> flag 04 next 0 bytes 63*21
 ";
 
 #[test]
@@ -192,7 +233,7 @@ fn a_reply_is_written_and_read(rt: HostRuntime) {
 
 #[test]
 fn a_table_has_a_part(rt: HostRuntime) {
-    let Ok(part) = asked_part(&[7, 8, 9], GET_FIRST_PART, 0) else {
+    let Ok(part) = asked_part(Parts::OfTable, &[7, 8, 9], GET_FIRST_PART, 0) else {
         panic!(rt; "no part");
     };
     assert!(rt; part.bytes == [7, 8, 9].as_slice() && part.next == 0);

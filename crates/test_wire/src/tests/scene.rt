@@ -2,7 +2,7 @@
 use super::control::control;
 use super::messages::{clear, come_back, split_into_frames, take};
 use super::player::bytes_of;
-use super::pldm::part_of;
+use super::pldm::{Parts, part_of};
 use super::readers::{are_same, changed, check, cuts, read};
 use mctp_net::{Assembler, Endpoint, EndpointId};
 use std::alloc::Global;
@@ -44,7 +44,8 @@ impl Scene for Wire {
     /// - `take 0A 08 8B 00*64 -> Waiting`: what the assembler does with the packet to an endpoint from another one, with these flags and
     ///   this payload; behind `Whole` the message;
     /// - `own 0B`: the assembler's endpoint gets this identifier; `clear`: the assembler is cleared;
-    /// - `table 00 01`: the table; `part 01 0 -> flag 05 next 0 bytes 00 01`: the part that an operation and a handle ask for, or the code.
+    /// - `table 00 01`: the table; `part 01 0 -> flag 05 next 0 bytes 00 01`: the part that an operation and a handle ask for, or the code;
+    ///   `entry 01 0`: the same where these bytes are an entry.
     fn come(&mut self, alloc: Global, words: &str, text: &mut String) -> Result<(), NoOutcome> {
         let (kind, words) = words.split_once(' ').unwrap_or((words, ""));
         match kind {
@@ -86,7 +87,8 @@ impl Wire {
             "own" => self.own = u8::from_str_radix(words, 16)?,
             "clear" => clear(&mut self.assembler),
             "table" => self.table = bytes_of(alloc, words)?,
-            "part" => part_of(self.table.as_slice(), words, text)?,
+            "part" => part_of(Parts::OfTable, self.table.as_slice(), words, text)?,
+            "entry" => part_of(Parts::OfEntry, self.table.as_slice(), words, text)?,
             _ => return Err(NoOutcome::Unread),
         }
         Ok(())

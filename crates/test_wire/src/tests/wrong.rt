@@ -26,6 +26,7 @@ own 0B -> 0A
 clear -> yes
 table 00 01 -> 02
 part 01 0 -> flag 05 next 1 bytes 00 01
+entry 00 0 -> flag 05 next 0 bytes 00 01
 # Of these nothing comes.
 ipmb 2G -> Short
 ipmb 20 -> Short*x
@@ -57,6 +58,7 @@ wrong: own 0B -> 0A | came nothing
 wrong: clear -> yes | came nothing
 wrong: table 00 01 -> 02 | came nothing
 wrong: part 01 0 -> flag 05 next 1 bytes 00 01 | came flag 05 next 0 bytes 00 01
+wrong: entry 00 0 -> flag 05 next 0 bytes 00 01 | came 02
 wrong: ipmb 2G -> Short | unread
 wrong: ipmb 20 -> Short*x | unread
 wrong: take 0A 08 8B 00*65 -> Waiting | unread
