@@ -11,7 +11,7 @@ pub struct Around {
     pub ipmb: Port,
     pub smbus: Port,
     pub out: Out,
-    /// The address that requests to the board itself come from, over IPMI.
+    /// The address or the endpoint that requests to the board itself come from.
     pub from: u8,
     /// Windows that no port has.
     pub windows: BothWindows,

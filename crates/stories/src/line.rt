@@ -8,7 +8,7 @@ pub enum Word {
     /// A request comes to the board itself.
     Ipmi,
     Pldm,
-    /// Requests over IPMI come from this address from now on.
+    /// Requests come from this address or endpoint from now on.
     From,
     /// What the store keeps of the record that a Get names.
     Kept,

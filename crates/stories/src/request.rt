@@ -1,7 +1,7 @@
 //! Requests to a board, and the records and changes that their data name.
 use crate::bytes::bytes_of;
 use crate::lan::{lan_key, lan_op};
-use bios_attr::bios_attribute::{attribute_in, attribute_shown_in};
+use bios_attr::bios_attribute::{AskedPart, attribute_in, attribute_shown_in};
 use bmc_board::{Command, read_request};
 use cfg_records::{Asked, CommandReader, Key, Op};
 use record_kinds::{PlainKind, of_each_plain_kind};
@@ -26,11 +26,16 @@ fn over_ipmi(from: u8, place: u8, command: u8, body: &[u8]) -> Option<Asked> {
 }
 
 /// The request over PLDM, where a message can carry it. Its first byte is its type.
-fn over_pldm(kind: u8, command: u8, body: &[u8]) -> Option<Asked> {
+fn over_pldm(from: u8, kind: u8, command: u8, body: &[u8]) -> Option<Asked> {
     if kind >= 64 || body.len() > 252 {
         return None;
     }
-    Some(Asked::pldm(Below::new(kind), command, body))
+    Some(Asked::Pldm {
+        from,
+        kind: Below::new(kind),
+        command,
+        body: Bytes::from_slice(body),
+    })
 }
 
 /// The request of these bytes over IPMI or PLDM.
@@ -39,7 +44,7 @@ fn asked_of(from: u8, over: &str, bytes: &[u8]) -> Option<Asked> {
     let (command, body) = rest.split_first()?;
     match over {
         "ipmi" => over_ipmi(from, *place, *command, body),
-        "pldm" => over_pldm(*place, *command, body),
+        "pldm" => over_pldm(from, *place, *command, body),
         _ => None,
     }
 }
@@ -65,7 +70,7 @@ pub fn asked_in(alloc: Global, from: u8, words: &str) -> Result<Option<Asked>, A
     }
 }
 
-/// The same request of another requester, where it goes over IPMI.
+/// The same request of another requester.
 pub fn sent_by(requester: u8, asked: Asked) -> Asked {
     match asked {
         Asked::Ipmi {
@@ -81,7 +86,17 @@ pub fn sent_by(requester: u8, asked: Asked) -> Asked {
             command,
             body,
         },
-        other => other,
+        Asked::Pldm {
+            kind,
+            command,
+            body,
+            ..
+        } => Asked::Pldm {
+            from: requester,
+            kind,
+            command,
+            body,
+        },
     }
 }
 
@@ -143,10 +158,12 @@ fn boot_key(body: &[u8]) -> Option<Key> {
     }
 }
 
-/// The attribute that the data of a Get name.
+/// The attribute of whose entry the data of a Get name a part.
 fn attribute_key(body: &[u8]) -> Option<Key> {
     match attribute_shown_in(body) {
-        Ok(handle) => Some(Key::BiosAttribute(handle)),
+        Ok(AskedPart::First(attribute) | AskedPart::Later(attribute, _)) => {
+            Some(Key::BiosAttribute(attribute))
+        }
         Err(_) => None,
     }
 }

@@ -1,5 +1,6 @@
 //! Records and their kinds: stories by theme, and calls one by one.
 mod attribute;
+mod attribute_parts;
 mod attributes;
 mod bench;
 mod both_stores;

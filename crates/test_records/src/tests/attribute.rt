@@ -2,7 +2,6 @@
 use bios_attr::AttributeLimits;
 use bios_attr::bios_attribute::attribute_in;
 use cfg_records::{AttributeRange, RecordData, RecordKind, SetBiosAttribute, TextLengths, Value};
-use two_wire::code::PLDM_INVALID_ATTRIBUTE;
 
 /// The entry of the sample board's string.
 const SHOWN: [u8; 16] = [
@@ -25,9 +24,9 @@ fn a_reply_shows_the_entry_and_is_undone_whole(rt: HostRuntime) {
         AttributeLimits::set_data(&undo).as_slice(),
         SHOWN.as_slice()
     );
+    let set = SetBiosAttribute::of(1, 1, &SHOWN[8..]);
     let mut new = Value::new();
-    assert_eq!(rt; asset.set(&any_op, &mut new), Err(PLDM_INVALID_ATTRIBUTE));
-    assert_eq!(rt; asset.set(&undo, &mut new), Ok(()));
+    assert_eq!(rt; asset.apply(&set, &[0, 0], &mut new), Ok(()));
     assert_eq!(rt; new.as_slice(), &SHOWN[8..]);
 }
 
