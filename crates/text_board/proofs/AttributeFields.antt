@@ -1,5 +1,5 @@
 -- The BIOS attributes of a file, and what an item of an attribute has in its fields.
-use Rattle.std.proofs.Common.{◌≡◌, ℕ, zero, suc, ◌+◌, ◌<◌, ◌≤◌, nat_le, nat_lt, length, get_or, map, drop, List, [], ◌∷◌, ◌++◌, Bool, true, false, ◌&&◌, ◌||◌, Option, Some, None, IsSome, is_some, if◌then◌else◌, refl, sym, ap, ◌∙◌, arith, codes}
+use Rattle.std.proofs.Common.{◌≡◌, ℕ, ◌+◌, ◌<◌, ◌≤◌, nat_le, nat_lt, length, get_or, map, drop, List, [], ◌∷◌, ◌++◌, Bool, true, false, ◌&&◌, ◌||◌, Option, Some, None, IsSome, is_some, if◌then◌else◌, refl, sym, ap, ◌∙◌, arith, codes}
 use Rattle.std.proofs.lemmas.Bool.{and_parts}
 use Rattle.std.proofs.lemmas.Bool.Decides.{nat_tests}
 use Rattle.std.proofs.lemmas.Option.{same_Some}
@@ -11,12 +11,10 @@ use Rattle.toml.specs.View.{view}
 use Rattle.toml.specs.declared.value.Value.{Value}
 use Rattle.record_base.specs.AttributeRange.{AllowsIndexes, AllowsText, AllowsNumber}
 use Rattle.record_base.specs.AttributeRangeLaws.{true_le, true_allows}
-use Rattle.record_base.specs.declared.attribute.Attribute.{Attribute}
 use Rattle.record_base.specs.declared.attribute_range.AttributeRange.TheVariants as range
 use Rattle.record_base.specs.declared.attribute_range.IntegerSteps.{IntegerSteps}
 use Rattle.record_base.specs.declared.attribute_range.TextLengths.{TextLengths}
 use Rattle.record_base.specs.declared.attribute_value.AttributeValue.TheVariants as value
-use Rattle.record_base.specs.Distinct.{NamesDiffer}
 use Rattle.text_fields.specs.declared.field.Field.{Field}
 use Rattle.text_fields.specs.declared.field.Field.TheVariants as field
 use Rattle.text_board.specs.declared.fault.FileFault.{FileFault}
@@ -28,7 +26,6 @@ use Rattle.text_fields.specs.Attributes.{short_text, text_of, text_in, is_kind, 
 use Rattle.text_fields.specs.Ranges.{passes, has_text, is_between, is_sized_text, is_step}
 use Rattle.text_fields.specs.Faults.{field_faults, first}
 use Rattle.text_board.specs.Faults.{attribute_rows, attribute_faults_at, attribute_faults_from}
-use Rattle.text_board.specs.AttributeItems.{HaveHandles}
 use Rattle.text_fields.proofs.Rows.{Sound, all_sound, value_of}
 use Rattle.text_fields.proofs.First.{first-append}
 use Rattle.text_fields.proofs.Members.{left_over, listed}
@@ -228,25 +225,6 @@ common_rows tree false false false none = let sound = all_sound ATTRIBUTE tree n
 
 pub common_there : (tree : Members) → field_faults (attribute_rows tree) tree ≡ [] → Common tree
 common_there tree none = common_rows tree (has_text field.Kind (codes "enumeration") tree) (has_text field.Kind (codes "string") tree) (has_text field.Kind (codes "integer") tree) none
-
--- ---- handles
-
--- one more attribute at the end
-pub handles_more : (n : ℕ) (attributes : List Attribute) (attribute : Attribute) → HaveHandles n attributes → attribute.handle ≡ n + length attributes → HaveHandles n (attributes ++ attribute ∷ [])
-handles_more n [] attribute all is = (omega (arith, is), tt)
-handles_more n (a ∷ attributes) attribute all is = (all.0, handles_more (n + 1) attributes attribute all.1 (omega (arith, is)))
-
-handle_at : (n : ℕ) (attributes : List Attribute) → HaveHandles n attributes → (k : ℕ) (d : Attribute) → k < length attributes → (get_or attributes k d).handle ≡ n + k
-handle_at n [] all k d within = absurd (omega arith)
-handle_at n (a ∷ attributes) all zero d within = omega (arith, all.0)
-handle_at n (a ∷ attributes) all (suc k) d within = let at = handle_at (n + 1) attributes all.1 k d (omega arith) in omega (arith, at)
-
--- no two attributes have one handle
-pub handles_differ : (attributes : List Attribute) → HaveHandles 0 attributes → NamesDiffer (λ (attribute : Attribute). attribute.handle) attributes
-handles_differ attributes all i j d below within same =
-    let one = handle_at 0 attributes all i d (omega arith) in
-    let other = handle_at 0 attributes all j d within in
-    omega (arith, one, other, same, below)
 
 -- ---- the faults of those that are left
 

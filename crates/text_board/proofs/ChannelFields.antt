@@ -21,7 +21,7 @@ use Rattle.text_fields.specs.Faults.{field_faults}
 use Rattle.text_board.specs.Faults.{fault_at, is_taken, item_faults, has_sessions, session_rows, channel_rows, channel_faults}
 use Rattle.text_board.specs.Holds.{IsNumberIn, serves, with_sessions}
 use Rattle.text_fields.proofs.Rows.{Sound, all_sound, both_empty, value_of}
-use Rattle.text_board.proofs.ChannelLists.{FewUsers}
+use Rattle.text_board.proofs.ChannelLists.{FewUsers, weaken}
 
 -- a channel that a member of an array holds has its number
 pub channel_numbered : (d : Data) (c : ChannelNumber) → IsNumberIn d c → number_in field.Number (table_of d) ≡ Some c.number
@@ -100,16 +100,21 @@ pub sound_at : (users : ℕ) (vs : List Value) (i : ℕ) (v : Value) → channel
     → field_faults (channel_rows users (table_of (view v))) (table_of (view v)) ≡ []
 sound_at users vs i v none within is = at_each (λ d. field_faults (channel_rows users (table_of d)) (table_of d) ≡ []) vs i v (each_sound users (map view vs) none) within is
 
--- each that has sessions says what so many users may do
+-- it says what so many users may do
+abbrev pub HasUsers : ℕ → Data → Type 0
+HasUsers users d = length (members_in field.Users (table_of d)) ≡ users
+
+-- each that has sessions says what each user may do
+pub each_told : (users : ℕ) (ds : List Data) → EachSound users ds → AllByRecursion (HasUsers users) (with_sessions ds)
+each_told users [] sound = tt
+each_told users (d ∷ ds) sound =
+    cond_both (serves d) (d ∷ with_sessions ds) (with_sessions ds) (AllByRecursion (HasUsers users))
+    (λ is. ((users_told users (table_of d) (with_rows users (table_of d) is sound.0)).0, each_told users ds sound.1))
+    (λ is. each_told users ds sound.1)
+
+-- each that has sessions says what at most sixteen users may do
 pub few_users : (users : ℕ) (ds : List Data) → users ≤ 16 → EachSound users ds → AllByRecursion FewUsers (with_sessions ds)
-few_users users [] few sound = tt
-few_users users (d ∷ ds) few sound =
-    cond_both (serves d) (d ∷ with_sessions ds) (with_sessions ds) (AllByRecursion FewUsers)
-    (λ is.
-    let told = users_told users (table_of d) (with_rows users (table_of d) is sound.0) in
-    let long = told.0 in
-    (omega (arith, long, few), few_users users ds few sound.1))
-    (λ is. few_users users ds few sound.1)
+few_users users ds few sound = weaken (HasUsers users) FewUsers (λ d long. omega (arith, long, few)) (with_sessions ds) (each_told users ds sound)
 
 -- ---- the members with sessions, and those without
 

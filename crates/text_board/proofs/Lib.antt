@@ -7,6 +7,7 @@ pub mod StateFields
 pub mod UserNames
 pub mod ChannelLists
 pub mod ChannelFields
+pub mod BoardChannels
 pub mod AttributeFields
 pub mod LanFields
 pub mod OneLan

@@ -7,6 +7,11 @@ use mathlib.Core.HLevel.{is_prop→PathP}
 use Rattle.toml.specs.Data.{Data, Members}
 use Rattle.toml.specs.Parse.{parse_document}
 use Rattle.record_base.specs.Distinct.{NamesDiffer}
+use Rattle.record_base.specs.InOrder.{AreNumbered}
+use Rattle.record_base.specs.Attributes.{AreInPlace}
+use Rattle.record_base.specs.AttributesLaws.{AreInPlace-prop}
+use Rattle.record_base.specs.Users.{AreUsers}
+use Rattle.record_base.specs.UsersLaws.{AreUsers-prop}
 use Rattle.record_base.specs.NumberLaws.{same_channel, same_user}
 use Rattle.record_base.specs.Numbers.{number_on}
 use Rattle.record_base.specs.Sdr.{sdr_id}
@@ -26,6 +31,7 @@ use Rattle.record_base.specs.ChannelAccess.{IsChannelAccess}
 use Rattle.record_base.specs.StateField.{allows}
 use Rattle.record_base.specs.BootParam.{flag_bytes}
 use Rattle.cfg_records.specs.declared.board_file.BoardFile.{BoardFile}
+use Rattle.cfg_records.specs.BoardChannels.{channel_numbers, on_numbers, each_user_on}
 use Rattle.record_base.specs.declared.device.Device.{Device}
 use Rattle.record_base.specs.declared.device.Bcd.{Bcd}
 use Rattle.record_base.specs.declared.device.ManufacturerId.{ManufacturerId}
@@ -64,8 +70,8 @@ use Rattle.text_fields.specs.Numeric.{sized_in}
 use Rattle.text_fields.specs.Users.{name_of}
 use Rattle.text_fields.specs.Attributes.{text_of, text_in}
 use Rattle.text_fields.specs.Ranges.{record_in, has_text}
-use Rattle.text_board.specs.AttributeItems.{IsTextIn, HoldsEnumeration, HoldsString, HoldsInteger, HoldsKind, HoldsAttribute, IsAttributeIn, HaveHandles}
-use Rattle.text_board.specs.Holds.{HoldsDevice, HoldsEvents, HoldsSensor, operational, IsFieldIn, IsPresentIn, HoldsState, HasSized, HoldsRange, HoldsNumeric, IsNameIn, AreNumbered, HoldsChannel, IsNumberIn, with_sessions, without_sessions, parts_of, HoldsBoot, HoldsBoard, Answers, Reads}
+use Rattle.text_board.specs.AttributeItems.{IsTextIn, HoldsEnumeration, HoldsString, HoldsInteger, HoldsKind, HoldsAttribute, IsAttributeIn}
+use Rattle.text_board.specs.Holds.{HoldsDevice, HoldsEvents, HoldsSensor, operational, IsFieldIn, IsPresentIn, HoldsState, HasSized, HoldsRange, HoldsNumeric, IsNameIn, HoldsChannel, IsNumberIn, with_sessions, without_sessions, parts_of, HoldsBoot, HoldsBoard, Answers, Reads}
 use Rattle.text_fields.specs.Ranges.{settings}
 use Rattle.text_board.specs.Faults.{board_faults}
 use Rattle.text_fields.specs.Faults.{first}
@@ -301,22 +307,24 @@ one_numeric tree a b p q =
 
 -- ---- users and channels
 
-one_user : (d : Data) (n : ℕ) (a b : User) → IsNameIn d a → IsNameIn d b → a.number.number ≡ n → b.number.number ≡ n → a ≡ b
-one_user d n a b p q r s =
-    let number = same_user a.number b.number (r ∙ sym s) in
+module _ {X : Type 0} (Holds : Data → X → Type 0) (number_of : X → ℕ) (one : (d : Data) (a b : X) → Holds d a → Holds d b → number_of a ≡ number_of b → a ≡ b) where
+  -- members of an array hold one list of items that are numbered in order
+  one_in_order : (n : ℕ) (ds : List Data) (xs ys : List X) → AllZip Holds ds xs → AllZip Holds ds ys → AreNumbered number_of n xs → AreNumbered number_of n ys → xs ≡ ys
+  one_in_order n [] [] [] p q r s = refl
+  one_in_order n [] (x ∷ xs) ys p q r s = absurd p
+  one_in_order n [] [] (y ∷ ys) p q r s = absurd q
+  one_in_order n (d ∷ ds) [] ys p q r s = absurd p
+  one_in_order n (d ∷ ds) (x ∷ xs) [] p q r s = absurd q
+  one_in_order n (d ∷ ds) (x ∷ xs) (y ∷ ys) p q r s =
+      let head = one d x y p.0 q.0 (r.0 ∙ sym s.0) in
+      let rest = one_in_order (n + 1) ds xs ys p.1 q.1 r.1 s.1 in
+      λ i. head i ∷ rest i
+
+one_user : (d : Data) (a b : User) → IsNameIn d a → IsNameIn d b → a.number.number ≡ b.number.number → a ≡ b
+one_user d a b p q e =
+    let number = same_user a.number b.number e in
     let name = one_found (name_of d) a.name b.name p q in
     λ i. record { number = number i; name = name i; sixteen = is_prop→PathP (λ j. length (name j) ≡ 16) (λ j. hlevel props) a.sixteen b.sixteen i }
-
-one_users : (n : ℕ) (ds : List Data) (xs ys : List User) → AllZip IsNameIn ds xs → AllZip IsNameIn ds ys → AreNumbered n xs → AreNumbered n ys → xs ≡ ys
-one_users n [] [] [] p q r s = refl
-one_users n [] (x ∷ xs) ys p q r s = absurd p
-one_users n [] [] (y ∷ ys) p q r s = absurd q
-one_users n (d ∷ ds) [] ys p q r s = absurd p
-one_users n (d ∷ ds) (x ∷ xs) [] p q r s = absurd q
-one_users n (d ∷ ds) (x ∷ xs) (y ∷ ys) p q r s =
-    let head = one_user d n x y p.0 q.0 r.0 s.0 in
-    let rest = one_users (n + 1) ds xs ys p.1 q.1 r.1 s.1 in
-    λ i. head i ∷ rest i
 
 one_access : (a b : ChannelAccess) → a.access ≡ b.access → a.limit ≡ b.limit → a ≡ b
 one_access a b p q = λ i. record {
@@ -433,17 +441,6 @@ one_attribute tree a b p q handle =
     let kind = one_kind tree a.kind b.kind p.kind q.kind in
     λ i. record { handle = handle i; name = name i; read_only = read_only i; kind = kind i }
 
-one_attributes : (n : ℕ) (ds : List Data) (xs ys : List Attribute) → AllZip IsAttributeIn ds xs → AllZip IsAttributeIn ds ys → HaveHandles n xs → HaveHandles n ys → xs ≡ ys
-one_attributes n [] [] [] p q r s = refl
-one_attributes n [] (x ∷ xs) ys p q r s = absurd p
-one_attributes n [] [] (y ∷ ys) p q r s = absurd q
-one_attributes n (d ∷ ds) [] ys p q r s = absurd p
-one_attributes n (d ∷ ds) (x ∷ xs) [] p q r s = absurd q
-one_attributes n (d ∷ ds) (x ∷ xs) (y ∷ ys) p q r s =
-    let head = one_attribute (table_of d) x y p.0 q.0 (r.0 ∙ sym s.0) in
-    let rest = one_attributes (n + 1) ds xs ys p.1 q.1 r.1 s.1 in
-    λ i. head i ∷ rest i
-
 -- ---- boards
 
 differ : {X : Type 0} (name : X → ℕ) {xs ys : List X} (e : xs ≡ ys) (p : NamesDiffer name xs) (q : NamesDiffer name ys) → PathP (λ i. NamesDiffer name (e i)) p q
@@ -471,9 +468,9 @@ one_held tree a b p q =
     let numeric_items = one_list (λ d. one_numeric (table_of d)) (members_in field.Numeric tree) a.numeric_effecters.items b.numeric_effecters.items p.effecters q.effecters in
     let effecters : a.numeric_effecters ≡ b.numeric_effecters =
     λ i. record { items = numeric_items i; differ = differ (λ (s : NumericEffecter). s.id) numeric_items a.numeric_effecters.differ b.numeric_effecters.differ i; few = up_to 32 (ap length numeric_items) a.numeric_effecters.few b.numeric_effecters.few i } in
-    let user_items = one_users 1 (members_in field.Users tree) a.users.items b.users.items p.users.names q.users.names p.users.numbers q.users.numbers in
+    let user_items = one_in_order IsNameIn (λ (u : User). u.number.number) one_user 1 (members_in field.Users tree) a.users.items b.users.items p.users q.users a.users.valid.numbered b.users.valid.numbered in
     let users : a.users ≡ b.users =
-    λ i. record { items = user_items i; differ = differ (λ (u : User). u.number.number) user_items a.users.differ b.users.differ i; few = up_to 16 (ap length user_items) a.users.few b.users.few i } in
+    λ i. record { items = user_items i; valid = is_prop→PathP (λ j. AreUsers (user_items j)) (λ j. AreUsers-prop (user_items j)) a.users.valid b.users.valid i } in
     let channel_items = one_list (λ d. one_channel (table_of d)) (with_sessions (members_in field.Channel tree)) a.channels.items b.channels.items p.channels q.channels in
     let channels : a.channels ≡ b.channels =
     λ i. record { items = channel_items i; differ = differ (λ (c : Channel). c.number.number) channel_items a.channels.differ b.channels.differ i; few = up_to 8 (ap length channel_items) a.channels.few b.channels.few i } in
@@ -483,12 +480,14 @@ one_held tree a b p q =
     let access_items = one_rights a.user_accesses.items b.user_accesses.items (p.accesses ∙ sym q.accesses) in
     let accesses : a.user_accesses ≡ b.user_accesses =
     λ i. record { items = access_items i; differ = differ (λ (u : UserAccess). number_on u.on) access_items a.user_accesses.differ b.user_accesses.differ i; few = up_to 128 (ap length access_items) a.user_accesses.few b.user_accesses.few i } in
-    let attribute_items = one_attributes 0 (members_in field.Attribute tree) a.attributes.items b.attributes.items p.attributes.items q.attributes.items p.attributes.handles q.attributes.handles in
+    let attribute_items = one_in_order IsAttributeIn (λ (t : Attribute). t.handle) (λ d. one_attribute (table_of d)) 0 (members_in field.Attribute tree) a.attributes.items b.attributes.items p.attributes q.attributes a.attributes.placed b.attributes.placed in
     let attributes : a.attributes ≡ b.attributes =
-    λ i. record { items = attribute_items i; differ = differ (λ (t : Attribute). t.handle) attribute_items a.attributes.differ b.attributes.differ i; few = up_to most_attributes (ap length attribute_items) a.attributes.few b.attributes.few i } in
+    λ i. record { items = attribute_items i; placed = is_prop→PathP (λ j. AreInPlace (attribute_items j)) (λ j. AreInPlace-prop (attribute_items j)) a.attributes.placed b.attributes.placed i; few = up_to most_attributes (ap length attribute_items) a.attributes.few b.attributes.few i } in
     let lan_items = one_list (λ d. one_lan (table_of d)) (lans_in tree) a.lans.items b.lans.items p.lans q.lans in
     let lans : a.lans ≡ b.lans =
     λ i. record { items = lan_items i; differ = differ channel_of lan_items a.lans.differ b.lans.differ i; few = up_to 8 (ap length lan_items) a.lans.few b.lans.few i } in
+    let numbers : channel_numbers a.channels.items a.sessionless.items ≡ channel_numbers b.channels.items b.sessionless.items =
+    λ i. channel_numbers (channel_items i) (sessionless_items i) in
     λ i. record {
       tid = tid i;
       device = device i;
@@ -508,6 +507,9 @@ one_held tree a b p q =
       user_accesses = accesses i;
       attributes = attributes i;
       lans = lans i;
+      apart = differ (λ (n : ℕ). n) numbers a.apart b.apart i;
+      few = up_to 8 (ap length numbers) a.few b.few i;
+      each = is_prop→PathP (λ j. map on_numbers (access_items j) ≡ each_user_on (channel_items j) (user_items j)) (λ j. hlevel props) a.each b.each i;
     }
 
 answered : (tree : Members) (a b : Result BoardFile FileFault) → Answers tree a → Answers tree b → a ≡ b

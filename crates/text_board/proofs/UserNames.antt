@@ -1,33 +1,28 @@
 -- The users of a file.
-use Rattle.std.proofs.Common.{◌≡◌, ℕ, zero, suc, ◌+◌, ◌<◌, ◌≤◌, nat_le, ◌&&◌, true, is_some, length, get_or, List, [], ◌∷◌, ◌++◌, arith}
+use Rattle.std.proofs.Common.{◌≡◌, ℕ, ◌≤◌, nat_le, ◌&&◌, true, is_some, length, replicate, List, [], ◌∷◌, Option, Some, None, option_and_then, sym}
 use Rattle.std.proofs.lemmas.Bool.{and_parts}
-use Rattle.std.specs.List.{list_all}
-use Rattle.toml.specs.Data.{Data}
+use Rattle.std.proofs.lemmas.Option.{same_Some}
+use Rattle.std.specs.List.{list_all, AllZip}
+use Rattle.toml.specs.Data.{Data, as_str}
 use Rattle.record_base.specs.declared.user.User.{User}
 use Rattle.record_base.specs.AttributeRangeLaws.{true_le}
-use Rattle.record_base.specs.Distinct.{NamesDiffer}
-use Rattle.text_fields.specs.Users.{name_of, begins_unnamed, are_names}
-use Rattle.text_board.specs.Holds.{AreNumbered}
+use Rattle.record_base.specs.Users.{BeginUnnamed}
+use Rattle.text_fields.specs.Users.{padded, name_of, is_empty, begins_unnamed, are_names}
+use Rattle.text_board.specs.Holds.{IsNameIn}
 
--- one more user at the end
-pub numbered_more : (n : ℕ) (users : List User) (user : User) → AreNumbered n users → user.number.number ≡ n + length users → AreNumbered n (users ++ user ∷ [])
-numbered_more n [] user all is = (omega (arith, is), tt)
-numbered_more n (u ∷ users) user all is = (all.0, numbered_more (n + 1) users user all.1 (omega (arith, is)))
-
-number_at : (n : ℕ) (users : List User) → AreNumbered n users → (k : ℕ) (d : User) → k < length users → (get_or users k d).number.number ≡ n + k
-number_at n [] all k d within = absurd (omega arith)
-number_at n (u ∷ users) all zero d within = omega (arith, all.0)
-number_at n (u ∷ users) all (suc k) d within = let at = number_at (n + 1) users all.1 k d (omega arith) in omega (arith, at)
-
--- no two users have one number
-pub numbers_differ : (users : List User) → AreNumbered 1 users → NamesDiffer (λ (user : User). user.number.number) users
-numbers_differ users all i j d below within same =
-    let first = number_at 1 users all i d (omega arith) in
-    let second = number_at 1 users all j d within in
-    omega (arith, first, second, same, below)
-
--- the names of users are 16 at most
-pub names_are : (ds : List Data) → are_names ds ≡ true → (length ds ≤ 16) × (list_all (λ d. is_some (name_of d)) ds ≡ true)
+-- the names of users are 16 at most, of which the first is empty
+pub names_are : (ds : List Data) → are_names ds ≡ true → (length ds ≤ 16) × ((begins_unnamed ds ≡ true) × (list_all (λ d. is_some (name_of d)) ds ≡ true))
 names_are ds are =
     let (few, named) = and_parts (nat_le (length ds) 16) (begins_unnamed ds && list_all (λ d. is_some (name_of d)) ds) are in
-    (true_le (length ds) 16 few, (and_parts (begins_unnamed ds) (list_all (λ d. is_some (name_of d)) ds) named).1)
+    (true_le (length ds) 16 few, and_parts (begins_unnamed ds) (list_all (λ d. is_some (name_of d)) ds) named)
+
+no_name : (text : Option (List ℕ)) (name : List ℕ) → is_empty text ≡ true → option_and_then padded text ≡ Some name → name ≡ replicate 16 0
+no_name (Some []) name empty named = sym (same_Some _ _ named)
+no_name (Some (x ∷ xs)) name empty named = absurd cc
+no_name None name empty named = absurd cc
+
+-- the first user has no name
+pub begin_unnamed : (ds : List Data) (users : List User) → begins_unnamed ds ≡ true → AllZip IsNameIn ds users → BeginUnnamed users
+begin_unnamed [] users is zip = absurd cc
+begin_unnamed (d ∷ ds) [] is zip = absurd zip
+begin_unnamed (d ∷ ds) (user ∷ users) is zip = no_name (as_str d) user.name is zip.0

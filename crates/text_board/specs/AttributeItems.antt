@@ -1,5 +1,5 @@
 -- The BIOS attributes of a board file: what an item `[[attribute]]` holds.
-use Rattle.std.specs.Prelude.{◌≡◌, ℕ, ◌+◌, true, List, [], ◌∷◌, Some, codes}
+use Rattle.std.specs.Prelude.{◌≡◌, ℕ, true, List, Some, codes}
 use Rattle.std.specs.List.{AllZip}
 use Rattle.toml.specs.Data.{Data, Members}
 use Rattle.record_base.specs.declared.attribute.Attribute.{Attribute}
@@ -54,13 +54,3 @@ pub record HoldsAttribute (tree : Members) (attribute : Attribute) : Type 0 wher
 -- the member of an array holds an attribute
 abbrev pub IsAttributeIn : Data → Attribute → Type 0
 IsAttributeIn d attribute = HoldsAttribute (table_of d) attribute
-
--- the attributes have the handles from this number on
-abbrev pub HaveHandles : ℕ → List Attribute → Type 0
-HaveHandles n [] = Unit {0}
-HaveHandles n (attribute ∷ attributes) = (attribute.handle ≡ n) × HaveHandles (n + 1) attributes
-
--- the members of an array hold the attributes of handles 0, 1 and so on
-pub record HoldsAttributes (ds : List Data) (attributes : List Attribute) : Type 0 where
-  pub items : AllZip IsAttributeIn ds attributes
-  pub handles : HaveHandles 0 attributes

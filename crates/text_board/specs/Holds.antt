@@ -32,7 +32,7 @@ use Rattle.text_fields.specs.Trees.{members, natural, IsNaturalIn, number_in, ta
 use Rattle.text_fields.specs.Numeric.{sized_in}
 use Rattle.text_fields.specs.Users.{name_of}
 use Rattle.text_fields.specs.Ranges.{record_in, or_zero, settings}
-use Rattle.text_board.specs.AttributeItems.{HoldsAttributes}
+use Rattle.text_board.specs.AttributeItems.{IsAttributeIn}
 use Rattle.text_board.specs.LanItems.{lans_in, IsLanIn}
 use Rattle.text_board.specs.Faults.{has_sessions, channel_rows, item_faults, board_faults}
 use Rattle.text_fields.specs.Faults.{first}
@@ -155,16 +155,6 @@ IsNextNumericFault before d why = IsNextAmong IsNumericIn item.Numeric (λ tree.
 abbrev pub IsNameIn : Data → User → Type 0
 IsNameIn d user = name_of d ≡ Some user.name
 
--- the users have the numbers from this one on
-abbrev pub AreNumbered : ℕ → List User → Type 0
-AreNumbered n [] = Unit {0}
-AreNumbered n (user ∷ users) = (user.number.number ≡ n) × AreNumbered (n + 1) users
-
--- the members of an array say the names of the users of numbers 1, 2 and so on
-pub record HoldsUsers (ds : List Data) (users : List User) : Type 0 where
-  pub names : AllZip IsNameIn ds users
-  pub numbers : AreNumbered 1 users
-
 -- ---- channels
 
 -- the member of an array has a channel's number
@@ -232,11 +222,11 @@ pub record HoldsBoard (tree : Members) (board : BoardFile) : Type 0 where
   pub sensors : AllZip IsSensorIn (members_in field.Sensor tree) board.sensors.items
   pub states : AllZip IsStateIn (members_in field.State tree) board.state_effecters.items
   pub effecters : AllZip IsNumericIn (members_in field.Numeric tree) board.numeric_effecters.items
-  pub users : HoldsUsers (members_in field.Users tree) board.users.items
+  pub users : AllZip IsNameIn (members_in field.Users tree) board.users.items
   pub channels : AllZip IsChannelIn (with_sessions (members_in field.Channel tree)) board.channels.items
   pub sessionless : AllZip IsNumberIn (without_sessions (members_in field.Channel tree)) board.sessionless.items
   pub accesses : map parts_of board.user_accesses.items ≡ accesses_in (with_sessions (members_in field.Channel tree))
-  pub attributes : HoldsAttributes (members_in field.Attribute tree) board.attributes.items
+  pub attributes : AllZip IsAttributeIn (members_in field.Attribute tree) board.attributes.items
   pub lans : AllZip IsLanIn (lans_in tree) board.lans.items
 
 -- what the reading of a tree answers: the board that it holds where it has no fault, else its first fault

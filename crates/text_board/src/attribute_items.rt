@@ -1,10 +1,11 @@
 //! The BIOS attributes of a board file.
 ghost use Rattle.std.specs.Prelude.{◌≡◌, ◌⊎◌, ◌≤◌, ◌<◌, [], true, is_some, length, Some, IsSome, IfOk, IfErr, map};
 ghost use Rattle.std.specs.List.{list_all, AllZip};
+ghost use Rattle.record_base.specs.Attributes.{AreInPlace};
 ghost use Rattle.toml.specs.View.{view, table_view};
 ghost use Rattle.text_fields.specs.Trees.{IsNaturalIn, number_in, table_of, members_in};
 ghost use Rattle.text_fields.specs.Attributes.{text_of, are_indexes};
-ghost use Rattle.text_board.specs.AttributeItems.{IsTextIn, HoldsEnumeration, HoldsString, HoldsInteger, HoldsKind, HoldsAttribute, IsAttributeIn, HoldsAttributes};
+ghost use Rattle.text_board.specs.AttributeItems.{IsTextIn, HoldsEnumeration, HoldsString, HoldsInteger, HoldsKind, HoldsAttribute, IsAttributeIn};
 ghost use Rattle.text_fields.specs.Ranges.{is_table};
 ghost use Rattle.text_fields.specs.Faults.{field_faults, first};
 ghost use Rattle.text_board.specs.Faults.{attribute_rows, attribute_faults_at, attribute_faults};
@@ -13,8 +14,8 @@ use crate::check::check;
 use crate::fault::{FileFault, Item};
 use crate::tables::{ATTRIBUTE, ENUMERATION, INTEGER, STRING, TOP};
 use cfg_records::{
-    Attribute, AttributeKind, Attributes, Distinct, EnumerationAttribute, Indexes,
-    IntegerAttribute, IntegerSteps, StringAttribute, Text, TextLengths,
+    Attribute, AttributeKind, Attributes, EnumerationAttribute, Indexes, IntegerAttribute,
+    IntegerSteps, StringAttribute, Text, TextLengths,
 };
 use std::alloc::Global;
 use text_fields::attributes::{indexes_of, text, text_in};
@@ -170,7 +171,8 @@ fn attributes_of(alloc: Global, values: &[Value]) -> Result<Vec<Attribute>, File
     requires few { length values.now ≤ 64 }
     requires tables { list_all (λ value. is_table (view value)) values.now ≡ true }
     ensures sound { IfOk result (λ _. attribute_faults (map view values.now) ≡ []) }
-    ensures held { IfOk result (λ attributes. HoldsAttributes (map view values.now) attributes.items) }
+    ensures held { IfOk result (λ attributes. AllZip IsAttributeIn (map view values.now) attributes.items) }
+    ensures handles { IfOk result (λ attributes. AreInPlace attributes.items) }
     ensures err { IfErr result (λ why. (why ≡ FileFault.Memory) ⊎ (first (attribute_faults (map view values.now)) ≡ Some why)) }
 {
     let mut attributes = Vec::new(alloc);
@@ -188,9 +190,10 @@ fn attributes_of(alloc: Global, values: &[Value]) -> Result<Vec<Attribute>, File
 pub fn attributes(alloc: Global, top: &Checked<'_>) -> Result<Attributes, FileFault>
     requires { top.now.rows.now ≡ TOP }
     ensures sound { IfOk result (λ _. attribute_faults (members_in Field.Attribute (table_view top.now.table.now)) ≡ []) }
-    ensures held { IfOk result (λ attributes. HoldsAttributes (members_in Field.Attribute (table_view top.now.table.now)) attributes.items) }
+    ensures held { IfOk result (λ attributes. AllZip IsAttributeIn
+        (members_in Field.Attribute (table_view top.now.table.now)) attributes.items) }
     ensures err { IfErr result (λ why. (why ≡ FileFault.Memory) ⊎ (first (attribute_faults (members_in Field.Attribute (table_view top.now.table.now))) ≡ Some why)) }
 {
     let attributes = attributes_of(alloc, top.tables(Field::Attribute))?;
-    Ok(Distinct::new(attributes).unwrap())
+    Ok(Attributes::new(attributes).unwrap())
 }

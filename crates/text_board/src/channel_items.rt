@@ -2,6 +2,7 @@
 ghost use Rattle.std.specs.Prelude.{◌≡◌, ◌⊎◌, ◌==◌, ◌<◌, ◌≤◌, [], true, false, Some, IfOk, IfErr, OnOk, map, length};
 ghost use Rattle.std.specs.List.{list_all, list_any, AllZip};
 ghost use Rattle.record_base.specs.Distinct.{NamesDiffer};
+ghost use Rattle.cfg_records.specs.BoardChannels.{channel_numbers};
 ghost use Rattle.toml.specs.View.{view, table_view};
 ghost use Rattle.text_fields.specs.Trees.{natural, number_in, table_of, members_in};
 ghost use Rattle.text_fields.specs.Ranges.{is_table, may_do, or_zero};
@@ -226,12 +227,15 @@ fn accesses_of(alloc: Global, users: usize, values: &[Value]) -> Result<Vec<User
     Ok(accesses)
 }
 
-/// What a file says of channels: those with sessions, those without, and what users may do.
+/// What a file says of channels: those with sessions, those without, and what users may do. No two channels have one number.
 #[derive(Drop)]
 pub struct FileChannels {
     pub channels: Channels,
     pub sessionless: SessionlessChannels,
     pub accesses: UserAccesses,
+    ghost apart: { NamesDiffer (λ number. number)
+        (channel_numbers channels.items sessionless.items) },
+    ghost few: { length (channel_numbers channels.items sessionless.items) ≤ 8 },
 }
 
 /// The channels that these tables are.

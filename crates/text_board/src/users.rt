@@ -1,14 +1,15 @@
 //! The users of a board file.
 ghost use Rattle.std.specs.Prelude.{◌≡◌, ◌<◌, ◌≤◌, ◌+◌, true, map, length, is_some, IfOk, IfErr};
 ghost use Rattle.std.specs.List.{list_all, AllZip};
+ghost use Rattle.record_base.specs.InOrder.{AreNumbered};
 ghost use Rattle.toml.specs.View.{view, table_view};
 ghost use Rattle.text_fields.specs.Trees.{members_in};
 ghost use Rattle.text_fields.specs.Users.{name_of};
-ghost use Rattle.text_board.specs.Holds.{IsNameIn, AreNumbered, HoldsUsers};
+ghost use Rattle.text_board.specs.Holds.{IsNameIn};
 
 use crate::fault::FileFault;
 use crate::tables::TOP;
-use cfg_records::{Distinct, User, UserNumber, Users};
+use cfg_records::{User, UserNumber, Users};
 use std::alloc::Global;
 use text_fields::tree::members_of;
 use text_fields::users::name;
@@ -33,7 +34,7 @@ fn users_of(alloc: Global, values: &[Value]) -> Result<Vec<User>, FileFault>
     requires few { length values.now ≤ 16 }
     requires named { list_all (λ d. is_some (name_of d)) (map view values.now) ≡ true }
     ensures names { IfOk result (λ users. AllZip IsNameIn (map view values.now) users.items) }
-    ensures numbers { IfOk result (λ users. AreNumbered 1 users.items) }
+    ensures numbers { IfOk result (λ users. AreNumbered (λ user. user.number.number) 1 users.items) }
     ensures err { IfErr result (λ why. why ≡ FileFault.Memory) }
 {
     let mut users = Vec::new(alloc);
@@ -50,9 +51,10 @@ fn users_of(alloc: Global, values: &[Value]) -> Result<Vec<User>, FileFault>
 /// The users of the file.
 pub fn users(alloc: Global, top: &Checked<'_>) -> Result<Users, FileFault>
     requires { top.now.rows.now ≡ TOP }
-    ensures held { IfOk result (λ users. HoldsUsers (members_in Field.Users (table_view top.now.table.now)) users.items) }
+    ensures held { IfOk result (λ users.
+        AllZip IsNameIn (members_in Field.Users (table_view top.now.table.now)) users.items) }
     ensures err { IfErr result (λ why. why ≡ FileFault.Memory) }
 {
     let users = users_of(alloc, members_of(top.value(Field::Users)))?;
-    Ok(Distinct::new(users).unwrap())
+    Ok(Users::new(users).unwrap())
 }

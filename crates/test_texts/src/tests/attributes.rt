@@ -33,7 +33,7 @@ with bare
 + readonly = false # each time
 
 # Names and texts are shown by their bytes: `Boot`, `disk` and `net`, `Owner`, `abcd` and `rack-2`, `Wait`.
-=> holds 1 attributes: Distinct { items: Items { items: [Attribute { handle: 0, name: Bytes { items: [66, 111, 111, 116] }, read_only: false, kind: Enumeration(EnumerationAttribute { values: Items { items: [Bytes { items: [100, 105, 115, 107] }, Bytes { items: [110, 101, 116] }] }, default: Bytes { items: [0] }, current: Bytes { items: [1] } }) }, Attribute { handle: 1,
+=> holds 1 attributes: Attributes { items: Items { items: [Attribute { handle: 0, name: Bytes { items: [66, 111, 111, 116] }, read_only: false, kind: Enumeration(EnumerationAttribute { values: Items { items: [Bytes { items: [100, 105, 115, 107] }, Bytes { items: [110, 101, 116] }] }, default: Bytes { items: [0] }, current: Bytes { items: [1] } }) }, Attribute { handle: 1,
 => holds 1 }, Attribute { handle: 1, name: Bytes { items: [79, 119, 110, 101, 114] }, read_only: true, kind: Text(StringAttribute { string_type: 1, lengths: TextLengths { least: 2, most: 8 }, default: Bytes { items: [97, 98, 99, 100] }, current: Bytes { items: [114, 97, 99, 107, 45, 50] } }) }, Attribute { handle: 2,
 => holds 1 }, Attribute { handle: 2, name: Bytes { items: [87, 97, 105, 116] }, read_only: false, kind: Integer(IntegerAttribute { steps: IntegerSteps { lower: 20, upper: 300, increment: 10 }, default: 30, current: 40 }) }] } }
 

@@ -1,9 +1,11 @@
 use Rattle.std.proofs.Common.{◌≡◌, ◌<◌, ◌++◌, ◌∷◌, [], length, inl, inr, ap, ◌∙◌, arith}
 use Rattle.std.proofs.lemmas.Result.{err_from_is_err_and}
+use Rattle.record_base.specs.declared.attribute.Attribute.{Attribute}
+use Rattle.record_base.specs.InOrderLaws.{numbered_more}
 use Rattle.text_board.specs.AttributeItems.{IsAttributeIn}
 use Rattle.text_fields.specs.Faults.{first}
 use Rattle.text_fields.proofs.Members.{next_zip, read_so_far}
-use Rattle.text_board.proofs.AttributeFields.{handles_more, attributes_left, attribute_first}
+use Rattle.text_board.proofs.AttributeFields.{attributes_left, attribute_first}
 use Rattle.text_board.proofs.attribute_items.attributes_of.Goals as goal
 
 pub returns-in_err-attribute-clause-err : goal.returns-in_err-attribute-clause-err
@@ -26,6 +28,6 @@ loop-place-preserved c =
     let pushed : c.push.new.self.items ≡ before ++ attribute ∷ [] = c.in-Ok.ensures.items in
     rw pushed (record {
       zip = next_zip values i v within c.index-values-place.is IsAttributeIn before attribute c.loop-place.invariant.zip c.in_ok-attribute.ensures.held;
-      handles = handles_more 0 before attribute c.loop-place.invariant.handles (omega (arith, c.in_ok-attribute.ensures.handle, so_far));
+      handles = numbered_more (λ (a : Attribute). a.handle) 0 before attribute c.loop-place.invariant.handles (omega (arith, c.in_ok-attribute.ensures.handle, so_far));
       left = c.loop-place.invariant.left ∙ attributes_left values i v within c.index-values-place.is c.in_ok-attribute.ensures.sound;
     })

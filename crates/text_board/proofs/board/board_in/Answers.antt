@@ -1,13 +1,15 @@
-use Rattle.std.proofs.Common.{◌≡◌, [], Err, map, inl, inr, sym, ◌∙◌, ap}
+use Rattle.std.proofs.Common.{◌≡◌, [], Err, map, length, inl, inr, sym, ◌∙◌, ap}
 use Rattle.std.proofs.lemmas.Result.{err_from_is_err_and}
+use Rattle.std.proofs.lemmas.Slice.Zip.{AllZip-long}
 use Rattle.toml.specs.View.{table_view}
 use Rattle.text_fields.specs.declared.field.Field.TheVariants as field
 use Rattle.text_board.specs.declared.fault.Item.TheVariants as item
 use Rattle.text_board.specs.declared.tables.TheConstants.{DEVICE}
-use Rattle.text_fields.specs.Trees.{table_in}
+use Rattle.text_fields.specs.Trees.{table_in, members_in}
 use Rattle.text_fields.specs.Faults.{field_faults, first}
-use Rattle.text_board.specs.Faults.{fault_at}
-use Rattle.text_board.specs.Holds.{HoldsDevice}
+use Rattle.text_board.specs.Faults.{fault_at, channel_faults, users_in}
+use Rattle.text_board.specs.Holds.{HoldsDevice, IsNameIn}
+use Rattle.text_board.proofs.BoardChannels.{each_held}
 use Rattle.text_board.proofs.Sensors.{records_first, device_first, sensors_first, channels_first, lans_first, attributes_first, states_first, effecters_first, no_faults}
 use Rattle.text_board.proofs.board.board_in.Goals as goal
 
@@ -83,6 +85,19 @@ pub returns-in_err-users : goal.returns-in_err-users
 returns-in_err-users c =
     let p = err_from_is_err_and c.from_residual-in_err-users.result c.from_residual-in_err-users.ensures.1 in
     rw (p.1, p.2) (inl (ap Err c.in_err-users.ensures.err))
+
+pub invariant_of-result : goal.invariant_of-result
+invariant_of-result c =
+    let tree = table_view c.args.top.now.table.now in
+    let users = c.in_ok-users.users.items in
+    let channels = c.in_ok-file_channels.file_channels in
+    let long : users_in tree ≡ length users = sym (AllZip-long IsNameIn (members_in field.Users tree) users c.in_ok-users.ensures.held) in
+    let sound = ap (λ n. channel_faults n (members_in field.Channel tree)) (sym long) ∙ c.in_ok-file_channels.ensures.sound in
+    record {
+      apart = channels.apart;
+      few = channels.few;
+      each = each_held (members_in field.Channel tree) channels.channels.items users channels.accesses.items sound c.in_ok-file_channels.ensures.channels c.in_ok-file_channels.ensures.accesses c.in_ok-users.users.valid.numbered;
+    }
 
 pub returns : goal.returns
 returns c =

@@ -1,4 +1,4 @@
-use Rattle.std.proofs.Common.{◌≡◌, length, map, true, arith}
+use Rattle.std.proofs.Common.{◌≡◌, map, true, arith}
 use Rattle.std.proofs.lemmas.List.{length-map}
 use Rattle.toml.specs.View.{view}
 use Rattle.text_fields.specs.Users.{are_names}

@@ -4,7 +4,7 @@ use Rattle.std.proofs.lemmas.Slice.Zip.{AllZip-long}
 use Rattle.toml.specs.View.{view}
 use Rattle.text_fields.specs.Users.{are_names}
 use Rattle.text_board.specs.Holds.{IsNameIn}
-use Rattle.text_board.proofs.UserNames.{names_are, numbers_differ}
+use Rattle.text_board.proofs.UserNames.{names_are, begin_unnamed}
 use Rattle.text_board.proofs.users.users.Goals as goal
 
 pub users_of-requires-clause-few : goal.users_of-requires-clause-few
@@ -17,7 +17,7 @@ users_of-requires-clause-few c =
 pub users_of-requires-clause-named : goal.users_of-requires-clause-named
 users_of-requires-clause-named c =
     let are : are_names (map view c.members_of.result.now) ≡ true = rw (c.requires, ← c.members_of.ensures) at c.value.ensures.within in
-    (names_are (map view c.members_of.result.now) are).1
+    (names_are (map view c.members_of.result.now) are).1.1
 
 pub unwrap-requires : goal.unwrap-requires
 unwrap-requires c =
@@ -25,4 +25,8 @@ unwrap-requires c =
     let users = c.in_ok-users.users.items in
     let are : are_names ds ≡ true = rw (c.requires, ← c.members_of.ensures) at c.value.ensures.within in
     let few : length users ≤ 16 = rw (AllZip-long IsNameIn ds users c.in_ok-users.ensures.names) (names_are ds are).0 in
-    c.new.ensures.made.1 (numbers_differ users c.in_ok-users.ensures.numbers, few)
+    c.new.ensures.made.1 (record {
+      unnamed = begin_unnamed ds users (names_are ds are).1.0 c.in_ok-users.ensures.names;
+      few = few;
+      numbered = c.in_ok-users.ensures.numbers;
+    })

@@ -2,7 +2,8 @@ use Rattle.std.proofs.Common.{◌≡◌, ◌<◌, ◌+◌, ◌++◌, ◌∷◌, 
 use Rattle.text_fields.specs.Users.{name_of}
 use Rattle.text_board.specs.Holds.{IsNameIn}
 use Rattle.text_fields.proofs.Members.{next_zip, each_view, read_so_far}
-use Rattle.text_board.proofs.UserNames.{numbered_more}
+use Rattle.record_base.specs.declared.user.User.{User}
+use Rattle.record_base.specs.InOrderLaws.{numbered_more}
 use Rattle.text_board.proofs.users.users_of.Goals as goal
 
 pub next_user-user-requires-clause-few : goal.next_user-user-requires-clause-few
@@ -31,5 +32,5 @@ loop-value-preserved c =
     let numbered : user.number.number ≡ 1 + length before = c.next_user-user.ensures.numbered ∙ ap (λ users. 1 + length users) same in
     rw pushed (record {
       names = next_zip values i v c.loop-value-test.true c.value-item.is IsNameIn before user c.loop-value.invariant.names c.next_user-user.ensures.named;
-      numbers = numbered_more 1 before user c.loop-value.invariant.numbers numbered;
+      numbers = numbered_more (λ (u : User). u.number.number) 1 before user c.loop-value.invariant.numbers numbered;
     })
