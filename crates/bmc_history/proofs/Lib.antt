@@ -2,3 +2,5 @@ pub mod Replaying
 pub mod Following
 pub mod Getting
 pub mod Here
+pub mod Lying
+pub mod Comparing

@@ -1,37 +1,45 @@
-//! Lists of events and of calls, whose places are all there from the opening.
+//! Lists of events and of calls, whose bytes lie one behind another.
 //!
-//! An entry is filled in its place, and takes no memory. Each place is written once at the opening: the system finds the memory of a page
-//! when it's first written, and a call that holds a board's lock would wait for that.
-ghost use Rattle.std.specs.Prelude.{◌≡◌, ◌<◌, ◌≤◌, [], IfOk, length, slice_get};
+//! What is added is written at the end, and takes no memory: so the list grows from one line of the processor's cache to the next. All of the
+//! room is written once at the opening: the system finds the memory of a page when it's first written, and a call that holds a board's lock
+//! would wait for that.
+ghost use Rattle.std.specs.Prelude.{◌≡◌, ◌<◌, ◌≤◌, ◌++◌, ◌∷◌, [], IfOk, length, slice_get};
 ghost use Rattle.two_wire.specs.Sizes.{most_pldm_reply_data};
 ghost use Rattle.bmc_history.specs.Calls.{GainsEvent, GainsCall};
 ghost use Rattle.bmc_history.specs.Seated.{IsBlank};
-ghost use Rattle.bmc_history.specs.Entries.{exchanged};
+ghost use Rattle.bmc_history.specs.Entries.{call_of, exchanged, most_request};
 ghost use Rattle.bmc_history.specs.declared.event.Call.TheVariants.{Benched};
 
-use crate::entry::{Entry, SeatEntry};
+use crate::entry::{Head, Mark};
 use crate::event::{Call, Event};
 use bmc_board::{Bench, NoSensor};
 use bmc_carry::AskedHere;
 use std::alloc::{AllocError, Global};
 use std::marker::Model;
+use two_wire::size::{MOST_PLDM_REPLY_DATA, MOST_PLDM_REQUEST_DATA};
+
+/// The most bytes that an event has.
+const MOST_BYTES: usize = MOST_PLDM_REQUEST_DATA + MOST_PLDM_REPLY_DATA;
 
 /// Events in order.
 #[derive(Debug, Drop)]
 pub struct Events {
-    places: Vec<SeatEntry>,
-    used: usize,
+    marks: Vec<Mark>,
+    bytes: Vec<u8>,
+    room: usize,
 }
 
 impl Model for Events {
-    ghost use Rattle.std.specs.Prelude.{◌≤◌, take, vec_len};
-    ghost use Rattle.bmc_history.specs.Entries.{EventList};
+    ghost use Rattle.std.specs.Prelude.{All, map, length, vec_len, vec_capacity};
+    ghost use Rattle.bmc_history.specs.Entries.{EventList, HasRoom, Lies, event_of};
 
     ghost Value = { EventList };
 
-    ghost view = { λ e. record { items = take e.used e.places.items; room = vec_len e.places } };
+    ghost view = { λ e. record { items = map (event_of e.bytes.items) e.marks.items; room = e.room } };
 
-    ghost invariant = { λ e. e.used ≤ vec_len e.places };
+    ghost invariant = { λ e. All (Lies (length e.bytes.items)) e.marks.items
+        × HasRoom e.room (vec_len e.marks) (vec_capacity e.marks)
+        (vec_len e.bytes) (vec_capacity e.bytes) };
 }
 
 impl Events {
@@ -40,35 +48,56 @@ impl Events {
         ensures items { IfOk result (λ events. events.items ≡ []) }
         ensures room { IfOk result (λ events. events.room ≡ room) }
     {
-        let mut places = Vec::with_capacity(alloc, room)?;
-        for _ in 0..room {
-            places.push_reserved(SeatEntry::blank());
-        }
-        Ok(Events { places, used: 0 })
+        let Some(most) = room.checked_mul(MOST_BYTES) else {
+            return Err(AllocError);
+        };
+        let mut marks = Vec::with_capacity(alloc, room)?;
+        marks.resize(room, Mark::blank())?;
+        marks.clear();
+        let mut bytes = Vec::with_capacity(alloc, most)?;
+        bytes.resize(most, 0)?;
+        bytes.clear();
+        Ok(Events { marks, bytes, room })
     }
 
     /// How many events there are.
     pub fn len(&self) -> usize
         ensures { result ≡ length self.now.items }
     {
-        self.used
+        self.marks.len()
     }
 
     /// The event at a place, if there is one.
     pub fn get(&self, place: usize) -> Option<Event>
         ensures { result ≡ slice_get self.now.items place }
     {
-        match self.entries().get(place) {
-            Some(entry) => Some(entry.event()),
+        match self.marks.get(place) {
+            Some(mark) => Some(mark.event(self.bytes.as_slice())),
             None => None,
         }
     }
 
-    /// The entries of the events.
-    pub(crate) fn entries(&self) -> &[SeatEntry]
-        ensures { result.now ≡ self.now.items }
+    /// Adds a seat's call of this head, and of these bytes.
+    fn gain(&mut self, seat: u8, head: Head, request: &[u8], reply: &[u8])
+        requires room { length self.old.items < self.old.room }
+        requires request { length request.now ≤ most_request head }
+        requires reply { length reply.now ≤ most_pldm_reply_data }
+        ensures items { GainsEvent self.old.items self.new.items
+            seat (call_of head request.now reply.now) }
+        ensures room { self.new.room ≡ self.old.room }
     {
-        &self.places[..self.used]
+        let start = self.bytes.len();
+        let middle = start + request.len();
+        let mark = Mark {
+            seat,
+            head,
+            request: start,
+            reply: middle,
+            end: middle + reply.len(),
+        };
+        self.bytes.extend_from_slice(request).unwrap();
+        self.bytes.extend_from_slice(reply).unwrap();
+        self.marks.push_reserved(mark);
     }
 
     /// Adds a seat's call of this request, and of the reply of this code and data.
@@ -79,9 +108,8 @@ impl Events {
             seat (exchanged asked.now code body.now) }
         ensures room { self.new.room ≡ self.old.room }
     {
-        let place = self.used;
-        self.places[place].put_exchange(seat, asked, code, body);
-        self.used = place + 1;
+        let (head, request) = Head::of(asked, code);
+        self.gain(seat, head, request, body);
     }
 
     /// Adds a seat's call of this that happened, and this answer.
@@ -90,28 +118,29 @@ impl Events {
         ensures items { GainsEvent self.old.items self.new.items seat (Benched bench.now answered) }
         ensures room { self.new.room ≡ self.old.room }
     {
-        let place = self.used;
-        self.places[place].put_bench(seat, bench, answered);
-        self.used = place + 1;
+        let head = Head::Happened {
+            bench: *bench,
+            answered,
+        };
+        self.gain(seat, head, &[], &[]);
     }
 }
 
-/// Calls in order.
+/// Calls in order: the events of a seat, which keeps its number itself.
 #[derive(Debug, Drop)]
 pub struct Calls {
-    places: Vec<Entry>,
-    used: usize,
+    events: Events,
 }
 
+/// The number that the events of a list of calls have. It says nothing.
+const ANY_SEAT: u8 = 0;
+
 impl Model for Calls {
-    ghost use Rattle.std.specs.Prelude.{◌≤◌, take, vec_len};
-    ghost use Rattle.bmc_history.specs.Entries.{CallList};
+    ghost use Rattle.bmc_history.specs.Entries.{CallList, calls_in};
 
     ghost Value = { CallList };
 
-    ghost view = { λ c. record { items = take c.used c.places.items; room = vec_len c.places } };
-
-    ghost invariant = { λ c. c.used ≤ vec_len c.places };
+    ghost view = { λ c. record { items = calls_in c.events.items; room = c.events.room } };
 }
 
 impl Calls {
@@ -119,35 +148,27 @@ impl Calls {
     pub(crate) fn open(alloc: Global, room: usize) -> Result<Self, AllocError>
         ensures { IfOk result (IsBlank room) }
     {
-        let mut places = Vec::with_capacity(alloc, room)?;
-        for _ in 0..room {
-            places.push_reserved(Entry::blank());
+        match Events::open(alloc, room) {
+            Ok(events) => Ok(Calls { events }),
+            Err(refused) => Err(refused),
         }
-        Ok(Calls { places, used: 0 })
     }
 
     /// How many calls there are.
     pub fn len(&self) -> usize
         ensures { result ≡ length self.now.items }
     {
-        self.used
+        self.events.len()
     }
 
     /// The call at a place, if there is one.
     pub fn get(&self, place: usize) -> Option<Call>
         ensures { result ≡ slice_get self.now.items place }
     {
-        match self.entries().get(place) {
-            Some(entry) => Some(entry.call()),
+        match self.events.get(place) {
+            Some(event) => Some(event.call),
             None => None,
         }
-    }
-
-    /// The entries of the calls.
-    pub(crate) fn entries(&self) -> &[Entry]
-        ensures { result.now ≡ self.now.items }
-    {
-        &self.places[..self.used]
     }
 
     /// Adds the call of this request, and of the reply of this code and data.
@@ -158,9 +179,7 @@ impl Calls {
             (exchanged asked.now code body.now) }
         ensures room { self.new.room ≡ self.old.room }
     {
-        let place = self.used;
-        self.places[place].put_exchange(asked, code, body);
-        self.used = place + 1;
+        self.events.gain_exchange(ANY_SEAT, asked, code, body);
     }
 
     /// Adds the call of this that happened, and this answer.
@@ -169,8 +188,6 @@ impl Calls {
         ensures items { GainsCall self.old.items self.new.items (Benched bench.now answered) }
         ensures room { self.new.room ≡ self.old.room }
     {
-        let place = self.used;
-        self.places[place].put_bench(bench, answered);
-        self.used = place + 1;
+        self.events.gain_bench(ANY_SEAT, bench, answered);
     }
 }

@@ -1,15 +1,12 @@
-//! What was asked and answered, with its bytes in places of their own.
-ghost use Rattle.std.specs.Prelude.{◌≡◌, ◌≤◌, length};
+//! What was asked and answered, without its bytes, and where these lie.
+ghost use Rattle.std.specs.Prelude.{◌≡◌, ◌≤◌, List, ℕ, length};
 ghost use Rattle.two_wire.specs.Sizes.{most_pldm_reply_data};
-ghost use Rattle.bmc_history.specs.Entries.{exchanged};
-ghost use Rattle.bmc_history.specs.declared.event.Call.TheVariants.{Benched};
+ghost use Rattle.bmc_history.specs.Entries.{call_of, event_of, exchanged, most_request, Lies};
 
 use crate::event::{Call, Event};
 use bmc_board::{Bench, NoSensor};
 use bmc_carry::AskedHere;
 use record_base::{Answered, Asked};
-use std::marker::Model;
-use two_wire::size::{MOST_PLDM_REPLY_DATA, MOST_PLDM_REQUEST_DATA};
 use two_wire::{Below, Bytes, Lun, NetFn};
 
 /// What a call is, beside the bytes of its request and its reply.
@@ -37,43 +34,12 @@ pub(crate) enum Head {
     },
 }
 
-/// A call, which is filled in its place: only the bytes that it has are written.
-#[derive(Debug, Drop)]
-pub(crate) struct Entry {
-    head: Head,
-    request: Bytes<{ MOST_PLDM_REQUEST_DATA }>,
-    reply: Bytes<{ MOST_PLDM_REPLY_DATA }>,
-}
-
-impl Model for Entry {
-    ghost use Rattle.std.specs.Prelude.{◌≤◌, length};
-    ghost use Rattle.bmc_history.specs.declared.event.Call.{Call};
-    ghost use Rattle.bmc_history.specs.Entries.{call_of, most_request};
-
-    ghost Value = { Call };
-
-    ghost view = { λ e. call_of e.head e.request e.reply };
-
-    ghost invariant = { λ e. length e.request ≤ most_request e.head };
-}
-
-impl Entry {
-    /// An entry. Which call it has doesn't matter.
-    pub(crate) fn blank() -> Entry {
-        Entry {
-            head: Head::Happened {
-                bench: Bench::Tick,
-                answered: Ok(()),
-            },
-            request: Bytes::new(),
-            reply: Bytes::new(),
-        }
-    }
-
-    /// Puts the call of this request, and of the reply of this code and data, here.
-    pub(crate) fn put_exchange(&mut self, asked: &AskedHere<'_>, code: u8, body: &[u8])
-        requires { length body.now ≤ most_pldm_reply_data }
-        ensures { self.new ≡ exchanged asked.now code body.now }
+impl Head {
+    /// That of the call of this request, and of a reply of this code; and the request's data.
+    pub(crate) fn of<'a>(asked: &AskedHere<'a>, code: u8) -> (Head, &'a [u8])
+        ensures call { (body : List ℕ) →
+            call_of result.0 result.1.now body ≡ exchanged asked.now code body }
+        ensures fits { length result.1.now ≤ most_request result.0 }
     {
         match asked {
             AskedHere::Ipmi {
@@ -83,14 +49,14 @@ impl Entry {
                 command,
                 body,
             } => {
-                self.head = Head::IpmiAsked {
+                let head = Head::IpmiAsked {
                     from: *from,
                     net_fn: *net_fn,
                     lun: *lun,
                     command: *command,
                     code,
                 };
-                self.request.replace(body.as_slice());
+                (head, body.as_slice())
             }
             AskedHere::Pldm {
                 from,
@@ -98,34 +64,24 @@ impl Entry {
                 command,
                 body,
             } => {
-                self.head = Head::PldmAsked {
+                let head = Head::PldmAsked {
                     from: *from,
                     kind: *kind,
                     command: *command,
                     code,
                 };
-                self.request.replace(body.as_slice());
+                (head, body.as_slice())
             }
         }
-        self.reply.replace(body);
     }
 
-    /// Puts the call of this that happened, and this answer, here.
-    pub(crate) fn put_bench(&mut self, bench: &Bench, answered: Result<(), NoSensor>)
-        ensures { self.new ≡ Benched bench.now answered }
+    /// The call of these bytes.
+    fn call(self, request: &[u8], reply: &[u8]) -> Call
+        requires request { length request.now ≤ most_request self }
+        requires reply { length reply.now ≤ most_pldm_reply_data }
+        ensures { result ≡ call_of self request.now reply.now }
     {
-        self.head = Head::Happened {
-            bench: *bench,
-            answered,
-        };
-        self.request.replace(&[]);
-    }
-
-    /// The call.
-    pub(crate) fn call(&self) -> Call
-        ensures { result ≡ self.now }
-    {
-        match self.head {
+        match self {
             Head::IpmiAsked {
                 from,
                 net_fn,
@@ -138,11 +94,11 @@ impl Entry {
                     net_fn,
                     lun,
                     command,
-                    body: Bytes::from_slice(self.request.as_slice()),
+                    body: Bytes::from_slice(request),
                 },
                 answered: Answered {
                     code,
-                    body: self.reply.copy(),
+                    body: Bytes::from_slice(reply),
                 },
             },
             Head::PldmAsked {
@@ -155,11 +111,11 @@ impl Entry {
                     from,
                     kind,
                     command,
-                    body: self.request.copy(),
+                    body: Bytes::from_slice(request),
                 },
                 answered: Answered {
                     code,
-                    body: self.reply.copy(),
+                    body: Bytes::from_slice(reply),
                 },
             },
             Head::Happened { bench, answered } => Call::Benched { bench, answered },
@@ -167,68 +123,44 @@ impl Entry {
     }
 }
 
-/// An entry, and the number of the seat that made its call.
-#[derive(Debug, Drop)]
-pub(crate) struct SeatEntry {
-    seat: u8,
-    entry: Entry,
+/// A call without its bytes, the number of the seat that made it, and where its bytes lie.
+#[derive(Clone, Copy, Debug)]
+pub(crate) struct Mark {
+    pub(crate) seat: u8,
+    pub(crate) head: Head,
+    /// Where its request begins.
+    pub(crate) request: usize,
+    /// Where its reply begins, which follows the request.
+    pub(crate) reply: usize,
+    pub(crate) end: usize,
 }
 
-impl Model for SeatEntry {
-    ghost use Rattle.bmc_history.specs.declared.event.Event.{Event};
-
-    ghost Value = { Event };
-
-    ghost view = { λ e. record { seat = e.seat; call = e.entry } };
-}
-
-impl SeatEntry {
-    /// An entry. Which event it has doesn't matter.
-    pub(crate) fn blank() -> SeatEntry {
-        SeatEntry {
+impl Mark {
+    /// A mark. Which event it is of doesn't matter.
+    pub(crate) fn blank() -> Mark {
+        Mark {
             seat: 0,
-            entry: Entry::blank(),
+            head: Head::Happened {
+                bench: Bench::Tick,
+                answered: Ok(()),
+            },
+            request: 0,
+            reply: 0,
+            end: 0,
         }
     }
 
-    /// Puts the seat's call of this request, and of the reply of this code and data, here.
-    pub(crate) fn put_exchange(&mut self, seat: u8, asked: &AskedHere<'_>, code: u8, body: &[u8])
-        requires { length body.now ≤ most_pldm_reply_data }
-        ensures { self.new ≡ record { seat = seat; call = exchanged asked.now code body.now } }
-    {
-        self.seat = seat;
-        self.entry.put_exchange(asked, code, body);
-    }
-
-    /// Puts the seat's call of this that happened, and this answer, here.
-    pub(crate) fn put_bench(&mut self, seat: u8, bench: &Bench, answered: Result<(), NoSensor>)
-        ensures { self.new ≡ record { seat = seat; call = Benched bench.now answered } }
-    {
-        self.seat = seat;
-        self.entry.put_bench(bench, answered);
-    }
-
-    /// The number of the seat.
-    pub(crate) fn seat(&self) -> u8
-        ensures { result ≡ self.now.seat }
-    {
-        self.seat
-    }
-
-    /// The call.
-    pub(crate) fn call(&self) -> Call
-        ensures { result ≡ self.now.call }
-    {
-        self.entry.call()
-    }
-
-    /// The event.
-    pub(crate) fn event(&self) -> Event
-        ensures { result ≡ self.now }
+    /// The event, whose bytes lie among these.
+    pub(crate) fn event(&self, bytes: &[u8]) -> Event
+        requires { Lies (length bytes.now) self.now }
+        ensures { result ≡ event_of bytes.now self.now }
     {
         Event {
             seat: self.seat,
-            call: self.entry.call(),
+            call: self.head.call(
+                &bytes[self.request..self.reply],
+                &bytes[self.reply..self.end],
+            ),
         }
     }
 }

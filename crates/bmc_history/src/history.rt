@@ -1,10 +1,9 @@
 //! Histories.
-ghost use Rattle.std.specs.Prelude.{◌≡◌, ◌↔◌, IsTrue};
+ghost use Rattle.std.specs.Prelude.{◌≡◌, ◌↔◌, IsTrue, Some, slice_get};
 ghost use Rattle.bmc_history.specs.Replay.{calls_of};
 
 use crate::entries::{Calls, Events};
-use crate::entry::{Entry, SeatEntry};
-use crate::event::Event;
+use crate::event::{Call, Event};
 use std::marker::Model;
 
 /// What was asked of a board and answered, in order.
@@ -55,25 +54,31 @@ impl History {
     }
 }
 
+/// Whether this call stands at that place.
+fn is_at(calls: &Calls, place: usize, call: &Call) -> bool
+    ensures { IsTrue result ↔ (slice_get calls.now.items place ≡ Some call.now) }
+{
+    match calls.get(place) {
+        Some(there) => there.is(call),
+        None => false,
+    }
+}
+
 /// Whether the calls of that seat are these.
 pub fn are_calls(events: &Events, seat: u8, calls: &Calls) -> bool
     ensures { IsTrue result ↔ (calls_of seat events.now.items ≡ calls.now.items) }
 {
-    are_entries(events.entries(), seat, calls.entries())
-}
-
-/// Whether the calls of that seat are these.
-fn are_entries(events: &[SeatEntry], seat: u8, calls: &[Entry]) -> bool
-    ensures { IsTrue result ↔ (calls_of seat events.now ≡ calls.now) }
-{
-    let mut place = 0;
-    for event in events {
-        if event.seat() == seat {
-            match calls.get(place) {
-                Some(call) if event.call().is(&call.call()) => place += 1,
-                _ => return false,
+    let mut found = 0;
+    for place in 0..events.len() {
+        let Some(event) = events.get(place) else {
+            return false;
+        };
+        if event.seat == seat {
+            if !is_at(calls, found, &event.call) {
+                return false;
             }
+            found += 1;
         }
     }
-    place == calls.len()
+    found == calls.len()
 }

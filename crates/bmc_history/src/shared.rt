@@ -1,8 +1,11 @@
 //! A board that threads share, and its seats.
 ghost use Rattle.std.specs.Prelude.{◌≡◌, ◌+◌, ◌≤◌, ◌<◌, ◌^◌, ◌↔◌, true, IsTrue, IfOk, IfErr, IsOk, IsErr, IfSome, OnOk, OnErr, length};
+ghost use Rattle.two_wire.specs.Sizes.{most_pldm_reply_data};
 ghost use Rattle.record_base.specs.Meaning.{room_for};
 ghost use Rattle.bmc_board.specs.State.{state_of};
 ghost use Rattle.bmc_carry.specs.Asking.{meant};
+ghost use Rattle.bmc_carry.specs.Carrying.{code_given};
+ghost use Rattle.bmc_history.specs.Entries.{exchanged};
 ghost use Rattle.bmc_history.specs.Replay.{Replays, IsRoom};
 ghost use Rattle.bmc_history.specs.Calls.{IsRow, IsReply, IsHappening, GainsEvent, GainsCall, ExchangesHere, KeepsHere};
 ghost use Rattle.bmc_history.specs.Seated.{IsBlank, IsFresh, SeatMatches, AllMatch, calls_made};
@@ -19,7 +22,7 @@ use bmc_board::{Bench, Board, NoSensor};
 use bmc_carry::{AskedHere, Reply, answered, code_of};
 use cfg_records::{Answered, Asked, Store};
 use std::alloc::Global;
-use std::sync::ledger::{Blank, Book};
+use std::sync::ledger::{Blank, Book, Share};
 use std::sync::{Mutex, Wait};
 use two_wire::{Bytes, Code};
 
@@ -47,7 +50,74 @@ pub enum CloseFault {
     Count,
 }
 
+/// Puts on a seat's list what the board answered to a request, or marks the seat as refused.
+#[inline(always)]
+fn keep(
+    calls: &mut Calls,
+    refused: &mut bool,
+    asked: &AskedHere<'_>,
+    given: Result<Result<(), Code>, PeriodFull>,
+    body: &[u8],
+) -> Result<Result<(), Code>, PeriodFull>
+    requires room { OnOk given (length calls.old.items < calls.old.room) }
+    requires fits { OnOk given (length body.now ≤ most_pldm_reply_data) }
+    ensures given { result ≡ given }
+    ensures kept { IfOk given (λ done. GainsCall calls.old.items calls.new.items
+        (exchanged asked.now (code_given done) body.now)) }
+    ensures mark { OnOk given (refused.new ≡ refused.old) }
+    ensures same_list { OnErr given (calls.new.items ≡ calls.old.items) }
+    ensures marked { OnErr given (refused.new ≡ true) }
+    ensures list_room { calls.new.room ≡ calls.old.room }
+{
+    match given {
+        Ok(done) => {
+            calls.gain_exchange(asked, code_of(&done), body);
+            Ok(done)
+        }
+        Err(full) => {
+            *refused = true;
+            Err(full)
+        }
+    }
+}
+
 impl<J: Opening, S: Store> Locked<J, S> {
+    /// The board's answer to a seat's request that is looked at where it lies: the reply's data
+    /// are appended, and the history gains the request and them, as the ledger counts. Where the
+    /// history has no room, nothing changes. The seat's list isn't written here.
+    #[inline(always)]
+    pub fn answer<B: Reply>(
+        &mut self,
+        number: u8,
+        share: &mut Share<J>,
+        asked: &AskedHere<'_>,
+        reply: &mut B,
+    ) -> Result<Result<(), Code>, PeriodFull>
+        requires room { length (B.bytes reply.old) + room_for (meant asked.now) ≤ B.capacity }
+        requires part { share.old.parts ≡ 1 }
+        ensures exchanged { IfOk result (λ given.
+            ExchangesHere J.setup S.records self.old.held.board self.new.held.board
+            self.old.held.history.items self.new.held.history.items number
+            (meant asked.now) given (B.bytes reply.old) (B.bytes reply.new)) }
+        ensures full { IsErr result ↔ (length self.old.held.history.items ≡ J.room) }
+        ensures same { OnErr result (self.new.held ≡ self.old.held) }
+        ensures nothing { OnErr result (B.bytes reply.new ≡ B.bytes reply.old) }
+        ensures counted { OnOk result (share.new.amount ≡ share.old.amount + 1) }
+        ensures uncounted { OnErr result (share.new.amount ≡ share.old.amount) }
+        ensures place { OnOk result (share.old.amount < J.room) }
+        ensures part { share.new.parts ≡ 1 }
+    {
+        let Locked { held, book } = self;
+        book.audit(share);
+        match held.exchange_here(number, asked, reply) {
+            Ok(given) => {
+                book.add(share, 1);
+                Ok(given)
+            }
+            Err(full) => Err(full),
+        }
+    }
+
     /// The board's answer to a request that is looked at where it lies: the reply's data are
     /// appended, and the history and the seat's list gain the request and them. Where the history
     /// has no room, the seat is marked as refused, and nothing else changes.
@@ -73,26 +143,15 @@ impl<J: Opening, S: Store> Locked<J, S> {
         ensures marked { OnErr result (seat.new.refused ≡ true) }
         ensures number { seat.new.number ≡ seat.old.number }
     {
-        let Locked { held, book } = self;
         let Seat {
             number,
             calls,
             refused,
             share,
         } = seat;
-        book.audit(share);
         let start = reply.as_slice().len();
-        match held.exchange_here(*number, asked, reply) {
-            Ok(given) => {
-                book.add(share, 1);
-                calls.gain_exchange(asked, code_of(&given), &reply.as_slice()[start..]);
-                Ok(given)
-            }
-            Err(full) => {
-                *refused = true;
-                Err(full)
-            }
-        }
+        let given = self.answer(*number, share, asked, reply);
+        keep(calls, refused, asked, given, &reply.as_slice()[start..])
     }
 
     /// The board's answer to a request, which the history and the seat's list gain. Where the
@@ -237,7 +296,8 @@ impl<J: Opening, S: Store + Drop> Shared<J, S> {
     }
 
     /// Waits for the lock, and has the board answer a request that is looked at where it lies. What
-    /// it answers is `Locked::exchange_here`'s. The lock is held for that alone.
+    /// it answers is `Locked::exchange_here`'s. The lock is held while the board answers and its
+    /// history gains that; the seat's list is written behind it.
     pub fn exchange_here<B: Reply, R: Wait>(
         &self,
         rt: &R,
@@ -255,7 +315,15 @@ impl<J: Opening, S: Store + Drop> Shared<J, S> {
         ensures marked { OnErr result (seat.new.refused ≡ true) }
         ensures number { seat.new.number ≡ seat.old.number }
     {
-        self.lock.lock(rt).exchange_here(seat, asked, reply)
+        let Seat {
+            number,
+            calls,
+            refused,
+            share,
+        } = seat;
+        let start = reply.as_slice().len();
+        let given = self.lock.lock(rt).answer(*number, share, asked, reply);
+        keep(calls, refused, asked, given, &reply.as_slice()[start..])
     }
 
     /// Waits for the lock, and has something happen on the board beside requests. What it answers
