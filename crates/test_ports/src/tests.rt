@@ -7,13 +7,32 @@ mod smbus;
 mod told_wrong;
 mod window;
 
+use bmc_core::{Done, Out};
 use std::alloc::Global;
 use std::process::Abort;
-use std::test::Fail;
 use stories::play;
 
+/// This is said of the stories: of each line that comes otherwise than it is told, what came.
+pub(crate) fn expect_report(rt: &impl Abort, alloc: Global, stories: &str, told: &str) {
+    let report = play(alloc, stories).expect(rt, "memory");
+    assert_eq!(rt; report.as_str(), told);
+}
+
 /// Each line of the stories comes as it is told.
-pub(crate) fn expect_told(rt: &impl Abort, alloc: Global, stories: &str) -> Result<(), Fail> {
-    assert_eq!(rt; play(alloc, stories)?.as_str(), "");
-    Ok(())
+pub(crate) fn expect_told(rt: &impl Abort, alloc: Global, stories: &str) {
+    expect_report(rt, alloc, stories, "");
+}
+
+/// The frame that was sent.
+fn sent(out: &Out) -> &[u8] {
+    match out.frames.as_slice() {
+        [frame] => frame.as_slice(),
+        _ => &[],
+    }
+}
+
+/// The port did this, and sent this frame and no other.
+pub(crate) fn expect_out(rt: &impl Abort, out: &Out, done: Done, frame: &[u8]) {
+    assert_eq!(rt; out.done, done);
+    assert_eq!(rt; sent(out), frame);
 }

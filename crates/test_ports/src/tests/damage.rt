@@ -1,6 +1,5 @@
 //! Frames and packets that come damaged. Each frame is cut off at each place, and comes with each other byte at each place.
 use super::expect_told;
-use std::test::Fail;
 
 const FRAMES: &str = "\
 story damaged frames leave board and windows as they were
@@ -83,11 +82,11 @@ smbus 200F0831010008C800800250 -> Control 300F0C2101080AC0000002000A000040
 ";
 
 #[test]
-fn damaged_frames_change_nothing(rt: HostRuntime) -> Result<(), Fail> {
-    expect_told(&rt, rt.alloc(), FRAMES)
+fn damaged_frames_change_nothing(rt: HostRuntime) {
+    expect_told(&rt, rt.alloc(), FRAMES);
 }
 
 #[test]
-fn damaged_packets_change_nothing(rt: HostRuntime) -> Result<(), Fail> {
-    expect_told(&rt, rt.alloc(), PACKETS)
+fn damaged_packets_change_nothing(rt: HostRuntime) {
+    expect_told(&rt, rt.alloc(), PACKETS);
 }

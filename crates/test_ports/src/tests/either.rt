@@ -1,7 +1,10 @@
 //! A port of either bus, by its calls.
+use super::expect_out;
+use bmc_board::{Board, Records};
 use bmc_core::{At, Done, Out, Port, Step};
 use mctp_net::EndpointId;
-use std::test::Fail;
+use std::alloc::Global;
+use std::process::Abort;
 use stories::open_sample;
 use two_wire::{Address, Bus};
 
@@ -13,27 +16,34 @@ const GOT: &[u8] = &[
     0x40, 0x14, 0xAC, 0x20, 0x0C, 0x27, 0x00, 0x3F, 0x14, 0x0A, 0x05, 0x50, 0x5F, 0x6E, 0x2E,
 ];
 
-#[test]
-fn a_port_of_a_bus_is_asked(rt: HostRuntime) -> Result<(), Fail> {
-    let mut board = open_sample(rt.alloc())?;
+/// A port on IPMB.
+fn open_port(rt: &impl Abort, alloc: Global) -> Port {
     let at = At {
         wire: Address::new(0x20).unwrap(),
         eid: EndpointId::new(0x0A).unwrap(),
     };
-    let mut port = Port::new(rt.alloc(), Bus::Ipmb, at)?;
+    Port::new(alloc, Bus::Ipmb, at).expect(rt, "memory")
+}
+
+/// The port asks the board, and tells what that answered.
+fn exchange(rt: &impl Abort, port: &mut Port, board: &mut Board<Records>, out: &mut Out) {
+    match port.hear(GET, out) {
+        Step::Ask(pending) => {
+            let answered = board.answer(&pending.asked());
+            port.told(pending, &answered, out);
+        }
+        Step::Done => panic!(rt; "nothing is asked"),
+    }
+}
+
+#[test]
+fn a_port_of_a_bus_is_asked(rt: HostRuntime) {
+    let mut board = open_sample(rt.alloc()).expect(&rt, "memory");
+    let mut port = open_port(&rt, rt.alloc());
     let mut out = Out::new();
-    let Step::Ask(pending) = port.hear(GET, &mut out) else {
-        return Err("nothing is asked".into());
-    };
-    let answered = board.answer(&pending.asked());
-    port.told(pending, &answered, &mut out);
-    assert_eq!(rt; out.done, Done::Answered);
+    exchange(&rt, &mut port, &mut board, &mut out);
+    expect_out(&rt, &out, Done::Answered, GOT);
     port.on_frame(&mut board, GET, &mut out);
-    assert_eq!(rt; out.done, Done::Repeated);
-    let [frame] = out.frames.as_slice() else {
-        return Err("other than one frame".into());
-    };
-    assert!(rt; frame.is(GOT));
+    expect_out(&rt, &out, Done::Repeated, GOT);
     assert!(rt; port.idle(0x40));
-    Ok(())
 }

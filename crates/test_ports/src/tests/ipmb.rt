@@ -1,8 +1,12 @@
 //! Requests that come again over IPMB.
-use super::expect_told;
-use bmc_core::{Done, IpmbPort, Out, Step};
+ghost use Rattle.std.specs.Prelude.{◌≤◌, length};
+ghost use Rattle.two_wire.specs.Sizes.{most_ipmi_reply_data};
+
+use super::{expect_out, expect_told};
+use bmc_core::{Done, IpmbPending, IpmbPort, Out, Step};
 use record_base::{Answered, Asked};
-use std::test::Fail;
+use std::alloc::Global;
+use std::process::Abort;
 use stories::open_sample;
 use two_wire::{Address, Bytes, Lun, NetFn};
 
@@ -284,8 +288,8 @@ ipmb 2010D0400C270588 -> Answered 4014AC200C27003F140A05505F6E2E
 ";
 
 #[test]
-fn requests_come_over_ipmb(rt: HostRuntime) -> Result<(), Fail> {
-    expect_told(&rt, rt.alloc(), IPMB)
+fn requests_come_over_ipmb(rt: HostRuntime) {
+    expect_told(&rt, rt.alloc(), IPMB);
 }
 
 /// Get Sensor Thresholds of sensor 5, from 40h with sequence number 3, to 20h and to 22h.
@@ -302,24 +306,14 @@ const GOT_AT_22: &[u8] = &[
     0x40, 0x14, 0xAC, 0x22, 0x0C, 0x27, 0x00, 0x3F, 0x14, 0x0A, 0x05, 0x50, 0x5F, 0x6E, 0x2C,
 ];
 
-/// The frame that was sent.
-fn sent(out: &Out) -> &[u8] {
-    match out.frames.as_slice() {
-        [frame] => frame.as_slice(),
-        _ => &[],
-    }
+/// A port at this address.
+fn port_at(rt: &impl Abort, alloc: Global, byte: u8) -> IpmbPort {
+    let address = Address::new(byte).expect(rt, "an address");
+    IpmbPort::new(alloc, address).expect(rt, "memory")
 }
 
-/// Another port than the one that heard the request is told: the port at 22h keeps a frame that goes from 20h, and doesn't send that
-/// one again.
-#[test]
-fn a_reply_that_is_kept_goes_from_the_address_that_is_asked(rt: HostRuntime) -> Result<(), Fail> {
-    let mut port = IpmbPort::new(rt.alloc(), Address::new(0x20).unwrap())?;
-    let mut other = IpmbPort::new(rt.alloc(), Address::new(0x22).unwrap())?;
-    let mut out = Out::new();
-    let Step::Ask(pending) = port.hear(GET, &mut out) else {
-        return Err("nothing is asked".into());
-    };
+/// The request that the port asks for: that Get.
+fn asked(rt: &impl Abort, port: &mut IpmbPort, out: &mut Out) -> IpmbPending {
     let asked = Asked::Ipmi {
         from: 0x40,
         net_fn: NetFn::new(0x04),
@@ -327,28 +321,45 @@ fn a_reply_that_is_kept_goes_from_the_address_that_is_asked(rt: HostRuntime) -> 
         command: 0x27,
         body: Bytes::from_slice(&[0x05]),
     };
-    assert!(rt; pending.asked().is(&asked));
-    let answered = Answered {
+    match port.hear(GET, out) {
+        Step::Ask(pending) => {
+            assert!(rt; pending.asked().is(&asked));
+            pending
+        }
+        Step::Done => panic!(rt; "nothing is asked"),
+    }
+}
+
+/// The thresholds of the sensor.
+fn thresholds() -> Answered
+    ensures { length result.body ≤ most_ipmi_reply_data }
+{
+    Answered {
         code: 0x00,
         body: Bytes::from_slice(&[0x3F, 0x14, 0x0A, 0x05, 0x50, 0x5F, 0x6E]),
-    };
-    other.told(pending, &answered, &mut out);
-    assert_eq!(rt; out.done, Done::Answered);
-    assert_eq!(rt; sent(&out), GOT);
+    }
+}
+
+/// Another port than the one that heard the request is told: the port at 22h keeps a frame that goes from 20h, and doesn't send that
+/// one again.
+#[test]
+fn a_reply_that_is_kept_goes_from_the_address_that_is_asked(rt: HostRuntime) {
+    let mut port = port_at(&rt, rt.alloc(), 0x20);
+    let mut other = port_at(&rt, rt.alloc(), 0x22);
+    let mut out = Out::new();
+    let pending = asked(&rt, &mut port, &mut out);
+    other.told(pending, &thresholds(), &mut out);
+    expect_out(&rt, &out, Done::Answered, GOT);
     assert!(rt; matches!(other.hear(GET_AT_22, &mut out), Step::Done));
-    assert_eq!(rt; out.done, Done::Repeated);
-    assert_eq!(rt; sent(&out), GOT_AT_22);
+    expect_out(&rt, &out, Done::Repeated, GOT_AT_22);
     assert!(rt; other.idle(0x40) && !port.idle(0x40));
-    Ok(())
 }
 
 #[test]
-fn a_frame_is_answered(rt: HostRuntime) -> Result<(), Fail> {
-    let mut board = open_sample(rt.alloc())?;
-    let mut port = IpmbPort::new(rt.alloc(), Address::new(0x20).unwrap())?;
+fn a_frame_is_answered(rt: HostRuntime) {
+    let mut board = open_sample(rt.alloc()).expect(&rt, "memory");
+    let mut port = port_at(&rt, rt.alloc(), 0x20);
     let mut out = Out::new();
     port.on_frame(&mut board, GET, &mut out);
-    assert_eq!(rt; out.done, Done::Answered);
-    assert_eq!(rt; sent(&out), GOT);
-    Ok(())
+    expect_out(&rt, &out, Done::Answered, GOT);
 }

@@ -1,9 +1,10 @@
 //! Requests to a port on the System Management Bus, and what it keeps of them.
-use super::expect_told;
+use super::{expect_out, expect_told};
 use bmc_core::{At, Done, Out, SmbusPending, SmbusPort, Step};
 use mctp_net::EndpointId;
 use record_base::{Answered, Asked};
-use std::test::Fail;
+use std::alloc::Global;
+use std::process::Abort;
 use stories::open_sample;
 use two_wire::{Address, Below, Bytes};
 
@@ -69,8 +70,8 @@ smbus 200F0931010008C801800002ED -> Answered 300F0B2101080AC00100000200051C
 ";
 
 #[test]
-fn requests_come_over_smbus(rt: HostRuntime) -> Result<(), Fail> {
-    expect_told(&rt, rt.alloc(), SMBUS)
+fn requests_come_over_smbus(rt: HostRuntime) {
+    expect_told(&rt, rt.alloc(), SMBUS);
 }
 
 /// GetTID, from 30h and EID 08h, and its reply.
@@ -82,47 +83,72 @@ const GOT_TID: &[u8] = &[
     0x30, 0x0F, 0x0B, 0x21, 0x01, 0x08, 0x0A, 0xC0, 0x01, 0x00, 0x00, 0x02, 0x00, 0x05, 0x1C,
 ];
 
-/// The frame that was sent.
-fn sent(out: &Out) -> &[u8] {
-    match out.frames.as_slice() {
-        [frame] => frame.as_slice(),
-        _ => &[],
+/// A port at 20h, with the EID 0Ah.
+fn open_port(rt: &impl Abort, alloc: Global) -> SmbusPort {
+    let at = At {
+        wire: Address::new(0x20).unwrap(),
+        eid: EndpointId::new(0x0A).unwrap(),
+    };
+    SmbusPort::new(alloc, at).expect(rt, "memory")
+}
+
+/// The request that the port asks for.
+fn asked(rt: &impl Abort, port: &mut SmbusPort, frame: &[u8], out: &mut Out) -> SmbusPending {
+    match port.hear(frame, out) {
+        Step::Ask(pending) => pending,
+        Step::Done => panic!(rt; "nothing is asked"),
     }
 }
 
-/// At 20h, with the EID 0Ah.
-fn at() -> At {
-    At {
-        wire: Address::new(0x20).unwrap(),
-        eid: EndpointId::new(0x0A).unwrap(),
+/// This terminus identifier.
+fn tid(number: u8) -> Answered {
+    Answered {
+        code: 0x00,
+        body: Bytes::from_slice(&[number]),
     }
+}
+
+/// The port is told this terminus identifier. It does this, and sends this.
+fn expect_told_tid(
+    rt: &impl Abort,
+    port: &mut SmbusPort,
+    pending: SmbusPending,
+    number: u8,
+    done: Done,
+    frame: &[u8],
+) {
+    let mut out = Out::new();
+    port.told(pending, &tid(number), &mut out);
+    expect_out(rt, &out, done, frame);
 }
 
 #[test]
-fn a_request_is_heard_and_told(rt: HostRuntime) -> Result<(), Fail> {
-    let mut port = SmbusPort::new(rt.alloc(), at())?;
-    let mut out = Out::new();
-    let Step::Ask(pending) = port.hear(GET_TID, &mut out) else {
-        return Err("nothing is asked".into());
-    };
-    let asked = Asked::Pldm {
+fn a_request_is_asked_for(rt: HostRuntime) {
+    let mut port = open_port(&rt, rt.alloc());
+    let pending = asked(&rt, &mut port, GET_TID, &mut Out::new());
+    let wanted = Asked::Pldm {
         from: 0x08,
         kind: Below::new(0),
         command: 0x02,
         body: Bytes::new(),
     };
-    assert!(rt; pending.asked().is(&asked));
-    let answered = Answered {
-        code: 0x00,
-        body: Bytes::from_slice(&[0x05]),
-    };
-    port.told(pending, &answered, &mut out);
-    assert_eq!(rt; out.done, Done::Answered);
-    assert_eq!(rt; sent(&out), GOT_TID);
+    assert!(rt; pending.asked().is(&wanted));
+}
+
+/// The port repeats the reply to the request.
+fn expect_repeated(rt: &impl Abort, port: &mut SmbusPort, frame: &[u8]) {
+    let mut out = Out::new();
     assert!(rt; matches!(port.hear(GET_TID, &mut out), Step::Done));
-    assert_eq!(rt; out.done, Done::Repeated);
+    expect_out(rt, &out, Done::Repeated, frame);
+}
+
+#[test]
+fn a_request_is_heard_and_told(rt: HostRuntime) {
+    let mut port = open_port(&rt, rt.alloc());
+    let pending = asked(&rt, &mut port, GET_TID, &mut Out::new());
+    expect_told_tid(&rt, &mut port, pending, 0x05, Done::Answered, GOT_TID);
+    expect_repeated(&rt, &mut port, GOT_TID);
     assert!(rt; port.idle(0x08));
-    Ok(())
 }
 
 /// The same request under instances 1 and 16, and their replies.
@@ -147,71 +173,43 @@ const GOT_OTHER_TID: &[u8] = &[
     0x30, 0x0F, 0x0B, 0x21, 0x01, 0x08, 0x0A, 0xC0, 0x01, 0x00, 0x00, 0x02, 0x00, 0x06, 0x15,
 ];
 
-/// The request that the port asks for.
-fn asked(port: &mut SmbusPort, frame: &[u8], out: &mut Out) -> Result<SmbusPending, Fail> {
-    match port.hear(frame, out) {
-        Step::Ask(pending) => Ok(pending),
-        Step::Done => Err("nothing is asked".into()),
-    }
-}
-
-/// This terminus identifier.
-fn tid(number: u8) -> Answered {
-    Answered {
-        code: 0x00,
-        body: Bytes::from_slice(&[number]),
-    }
-}
-
 /// A request is heard twice before it's told. The first answer is kept, and the second goes nowhere, also where another request of the
 /// endpoint came between.
 #[test]
-fn of_a_request_that_is_told_twice_the_first_answer_is_kept(rt: HostRuntime) -> Result<(), Fail> {
-    let mut port = SmbusPort::new(rt.alloc(), at())?;
+fn of_a_request_that_is_told_twice_the_first_answer_is_kept(rt: HostRuntime) {
+    let mut port = open_port(&rt, rt.alloc());
     let mut out = Out::new();
-    let first = asked(&mut port, GET_TID, &mut out)?;
-    let second = asked(&mut port, GET_TID, &mut out)?;
-    let third = asked(&mut port, GET_TID, &mut out)?;
-    port.told(first, &tid(0x05), &mut out);
-    assert_eq!(rt; (out.done, sent(&out)), (Done::Answered, GOT_TID));
-    port.told(second, &tid(0x06), &mut out);
-    assert_eq!(rt; (out.done, sent(&out)), (Done::Repeated, GOT_TID));
-    let other = asked(&mut port, GET_TID_1, &mut out)?;
-    port.told(other, &tid(0x05), &mut out);
-    assert_eq!(rt; (out.done, sent(&out)), (Done::Answered, GOT_TID_1));
-    port.told(third, &tid(0x06), &mut out);
-    assert_eq!(rt; (out.done, sent(&out)), (Done::Repeated, GOT_TID));
-    assert!(rt; matches!(port.hear(GET_TID, &mut out), Step::Done));
-    assert_eq!(rt; (out.done, sent(&out)), (Done::Repeated, GOT_TID));
-    Ok(())
+    let first = asked(&rt, &mut port, GET_TID, &mut out);
+    let second = asked(&rt, &mut port, GET_TID, &mut out);
+    let third = asked(&rt, &mut port, GET_TID, &mut out);
+    expect_told_tid(&rt, &mut port, first, 0x05, Done::Answered, GOT_TID);
+    expect_told_tid(&rt, &mut port, second, 0x06, Done::Repeated, GOT_TID);
+    let other = asked(&rt, &mut port, GET_TID_1, &mut out);
+    expect_told_tid(&rt, &mut port, other, 0x05, Done::Answered, GOT_TID_1);
+    expect_told_tid(&rt, &mut port, third, 0x06, Done::Repeated, GOT_TID);
+    expect_repeated(&rt, &mut port, GOT_TID);
 }
 
 /// A request is heard twice before it's told, and a request sixteen instances above it comes between: the first answer is forgotten
 /// then, and the second is kept.
 #[test]
-fn an_answer_that_is_forgotten_makes_room_for_the_second(rt: HostRuntime) -> Result<(), Fail> {
-    let mut port = SmbusPort::new(rt.alloc(), at())?;
+fn an_answer_that_is_forgotten_makes_room_for_the_second(rt: HostRuntime) {
+    let mut port = open_port(&rt, rt.alloc());
     let mut out = Out::new();
-    let first = asked(&mut port, GET_TID, &mut out)?;
-    let second = asked(&mut port, GET_TID, &mut out)?;
-    port.told(first, &tid(0x05), &mut out);
-    let newer = asked(&mut port, GET_TID_16, &mut out)?;
-    port.told(newer, &tid(0x05), &mut out);
-    assert_eq!(rt; (out.done, sent(&out)), (Done::Answered, GOT_TID_16));
-    port.told(second, &tid(0x06), &mut out);
-    assert_eq!(rt; (out.done, sent(&out)), (Done::Answered, GOT_OTHER_TID));
-    assert!(rt; matches!(port.hear(GET_TID, &mut out), Step::Done));
-    assert_eq!(rt; (out.done, sent(&out)), (Done::Repeated, GOT_OTHER_TID));
-    Ok(())
+    let first = asked(&rt, &mut port, GET_TID, &mut out);
+    let second = asked(&rt, &mut port, GET_TID, &mut out);
+    expect_told_tid(&rt, &mut port, first, 0x05, Done::Answered, GOT_TID);
+    let newer = asked(&rt, &mut port, GET_TID_16, &mut out);
+    expect_told_tid(&rt, &mut port, newer, 0x05, Done::Answered, GOT_TID_16);
+    expect_told_tid(&rt, &mut port, second, 0x06, Done::Answered, GOT_OTHER_TID);
+    expect_repeated(&rt, &mut port, GOT_OTHER_TID);
 }
 
 #[test]
-fn a_packet_is_answered(rt: HostRuntime) -> Result<(), Fail> {
-    let mut board = open_sample(rt.alloc())?;
-    let mut port = SmbusPort::new(rt.alloc(), at())?;
+fn a_packet_is_answered(rt: HostRuntime) {
+    let mut board = open_sample(rt.alloc()).expect(&rt, "memory");
+    let mut port = open_port(&rt, rt.alloc());
     let mut out = Out::new();
     port.on_frame(&mut board, GET_TID, &mut out);
-    assert_eq!(rt; out.done, Done::Answered);
-    assert_eq!(rt; sent(&out), GOT_TID);
-    Ok(())
+    expect_out(&rt, &out, Done::Answered, GOT_TID);
 }

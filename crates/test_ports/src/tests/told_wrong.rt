@@ -1,6 +1,5 @@
 //! Stories of ports and windows that are told wrong on purpose: the player says of each line what came.
-use std::test::Fail;
-use stories::play;
+use super::expect_report;
 
 /// Each kind of line, told otherwise than it comes, and lines that can't be read.
 const WRONG: &str = "\
@@ -66,7 +65,6 @@ wrong: idle ipmb 40 -> no | came yes
 ";
 
 #[test]
-fn wrong_lines_are_noticed(rt: HostRuntime) -> Result<(), Fail> {
-    assert_eq!(rt; play(rt.alloc(), WRONG)?.as_str(), REPORT);
-    Ok(())
+fn wrong_lines_are_noticed(rt: HostRuntime) {
+    expect_report(&rt, rt.alloc(), WRONG, REPORT);
 }
