@@ -160,35 +160,36 @@ abbrev pub head_length : Version → ℕ
 head_length One = 2
 head_length Two = 3
 
--- behind line 1 the line can be line n of an undo text of this version, counted from 1: the numbers, in version 2 the names, and then at
--- most `most_steps` requests
+-- A line behind the first can have this number in an undo text of this version, where lines are counted from 1. The numbers stand on line 2,
+-- in version 2 the names on line 3, and at most `most_steps` requests behind them.
 abbrev pub IsGood : Version → ℕ → List ℕ → Type 0
-IsGood version n line =
-    ((n ≡ 2) × ((next : NextNumbers) × IsNumbersLine line next))
-    ⊎ (((version ≡ Two) × (n ≡ 3) × ((names : Names) × IsNamesLine line names))
-    ⊎ ((head_length version < n) × (n ≤ head_length version + most_steps) × ((asked : Asked) × IsRequestLine line asked)))
+IsGood version number line =
+    ((number ≡ 2) × ((next : NextNumbers) × IsNumbersLine line next))
+    ⊎ (((version ≡ Two) × (number ≡ 3) × ((names : Names) × IsNamesLine line names))
+    ⊎ ((head_length version < number) × (number ≤ head_length version + most_steps) × ((asked : Asked) × IsRequestLine line asked)))
 
--- each of the lines can be the line of its number, the first of them that of line n
+-- each of the lines can have its number, where the first of them has this number
 abbrev pub AllGood : Version → ℕ → List (List ℕ) → Type 0
-AllGood version n [] = Unit {0}
-AllGood version n (line ∷ lines) = IsGood version n line × AllGood version (n + 1) lines
+AllGood version number [] = Unit {0}
+AllGood version number (line ∷ lines) = IsGood version number line × AllGood version (number + 1) lines
 
--- Line n is the first bad one of a text whose first line is the line of this number: those before it are good, and what stands
--- behind them begins with no good line n. There is something behind them, or a text must have a line n.
-pub record IsFirstBadFrom (version : Version) (first : ℕ) (text : List ℕ) (n : ℕ) : Type 0 where
+-- The line of this number is the first bad line of a text whose first line has the number `first`. The lines before it are good, and the text
+-- behind them begins with no good line of this number. Some text stands behind them, or every text must have the line.
+pub record IsFirstBadFrom (version : Version) (first : ℕ) (text : List ℕ) (number : ℕ) : Type 0 where
   pub before : List (List ℕ)
   pub rest : List ℕ
   pub spelt : text ≡ flat_map ended before ++ rest
-  pub place : n ≡ first + length before
+  pub place : number ≡ first + length before
   pub good : AllGood version first before
-  pub bad : (more : List ℕ) → ¬ BeginsWith (IsGood version n) rest more
-  pub wanted : (rest ≢ []) ⊎ (n ≤ head_length version)
+  pub bad : (more : List ℕ) → ¬ BeginsWith (IsGood version number) rest more
+  pub wanted : (rest ≢ []) ⊎ (number ≤ head_length version)
 
--- line n of the text, counted from 1, is its first bad one: line 1, where that is no version, and else one behind it, by that version
+-- The line of this number, counted from 1, is the text's first bad line: line 1, where it tells no version, and else a line behind it, by
+-- that version.
 abbrev pub IsFirstBad : List ℕ → ℕ → Type 0
-IsFirstBad text n =
-    ((n ≡ 1) × ((version : Version) (rest : List ℕ) → text ≢ ended (version_line version) ++ rest))
-    ⊎ ((version : Version) × (rest : List ℕ) × (text ≡ ended (version_line version) ++ rest) × IsFirstBadFrom version 2 rest n)
+IsFirstBad text number =
+    ((number ≡ 1) × ((version : Version) (rest : List ℕ) → text ≢ ended (version_line version) ++ rest))
+    ⊎ ((version : Version) × (rest : List ℕ) × (text ≡ ended (version_line version) ++ rest) × IsFirstBadFrom version 2 rest number)
 
 -- the text is the lines of these requests, in their order
 pub record AreLinesOf (text : List ℕ) (told : List Asked) : Type 0 where
