@@ -19,7 +19,7 @@ has_line _ = true
 
 -- the bytes of a request without addresses and check bytes
 abbrev pub bytes_of : OtherRequest → List ℕ
-bytes_of r = packed r.net_fn r.responder ∷ packed r.sequence r.requester.lun ∷ r.command ∷ r.body
+bytes_of request = packed request.net_fn request.responder ∷ packed request.sequence request.requester.lun ∷ request.command ∷ request.body
 
 -- a word, and what stands behind it after a space
 abbrev pub said : List ℕ → List ℕ → List ℕ
@@ -34,8 +34,8 @@ abbrev pub line_of : Event → List ℕ
 line_of (Calls call) = call_name call
 line_of (ToBmc number) = said (codes "to-bmc") (decimal number)
 line_of (ToMgr number) = said (codes "to-mgr") (decimal number)
-line_of (OtherIpmb r) = said (codes "other") (said (codes "ipmb") (said (byte_digits r.requester.address) (encode_upper (bytes_of r))))
-line_of (OtherSmbus m) = said (codes "other") (said (codes "smbus") (said (byte_digits m.from) (encode_upper m.body)))
+line_of (OtherIpmb request) = said (codes "other") (said (codes "ipmb") (said (byte_digits request.requester.address) (encode_upper (bytes_of request))))
+line_of (OtherSmbus message) = said (codes "other") (said (codes "smbus") (said (byte_digits message.from) (encode_upper message.body)))
 line_of (Noise on bytes) = said (codes "noise") (said (bus_name on) (encode_upper bytes))
 line_of (Idle on requester) = said (codes "idle") (said (bus_name on) (byte_digits requester))
 line_of (Scan sensor reading) = said (codes "scan") (said (byte_digits sensor) (byte_digits reading))

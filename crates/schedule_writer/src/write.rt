@@ -4,19 +4,21 @@ ghost use Rattle.std.specs.List.{AllByRecursion};
 ghost use Rattle.hex.specs.Hex.{IsBytes, encode_upper};
 ghost use Rattle.text_lines.specs.Cuts.{ended};
 ghost use Rattle.text_schedule.specs.Text.{lines_of};
-ghost use Rattle.text_schedule.specs.Line.{AreSome, IsRequest, call_name, bus_name};
+ghost use Rattle.two_wire.specs.Sizes.{most_ipmi_request_data};
+ghost use Rattle.text_schedule.specs.Line.{AreSome, IsRequest, most_noise, call_name, bus_name};
 ghost use Rattle.text_schedule.specs.Schedule.{Say};
 ghost use Rattle.schedule_writer.specs.Written.{Stands, byte_digits, bytes_of, has_line, line_of, text_of};
 
 use std::alloc::{AllocError, Global};
 use text_schedule::{Call, Event, OtherMessage, OtherRequest};
+use two_wire::size::MOST_IPMI_REQUEST_DATA;
 use two_wire::{Bus, Bytes};
 
 /// The first number of a frame that has more than nine digits.
 const NUMBERS_END: u32 = 1_000_000_000;
 
-/// The most bytes of a request without addresses and check bytes.
-const MOST_REQUEST: usize = 28;
+/// The most bytes of a request without addresses and check bytes: two bytes of numbers, the command and the data.
+const MOST_REQUEST: usize = MOST_IPMI_REQUEST_DATA + 3;
 
 /// The call's name in a schedule.
 fn call_word(call: Call) -> &'static str
@@ -69,7 +71,7 @@ fn digits_of(alloc: Global, bytes: &[u8]) -> Result<String, AllocError>
 
 /// The bytes of a request: two bytes of numbers, the command and the data.
 fn joined(function: u8, sequence: u8, command: u8, body: &[u8]) -> Bytes<MOST_REQUEST>
-    requires { length body.now ≤ 25 }
+    requires { length body.now ≤ most_ipmi_request_data }
     ensures { result ≡ function ∷ sequence ∷ command ∷ body.now }
 {
     let mut bytes = Bytes::new();
@@ -94,7 +96,8 @@ fn bytes_of(request: &OtherRequest) -> Bytes<MOST_REQUEST>
 
 /// Adds the line of somebody else's request.
 fn push_request(alloc: Global, text: &mut String, request: &OtherRequest) -> Result<(), AllocError>
-    ensures text { OnOk result (string_bytes text.new ≡ string_bytes text.old ++ ended (line_of (Event.OtherIpmb request.now))) }
+    ensures text { OnOk result (string_bytes text.new
+        ≡ string_bytes text.old ++ ended (line_of (Event.OtherIpmb request.now))) }
     ensures stands { Stands (line_of (Event.OtherIpmb request.now)) (Event.OtherIpmb request.now) }
 {
     let bytes = bytes_of(request);
@@ -106,8 +109,10 @@ fn push_request(alloc: Global, text: &mut String, request: &OtherRequest) -> Res
 
 /// Adds the line of somebody else's message.
 fn push_message(alloc: Global, text: &mut String, message: &OtherMessage) -> Result<(), AllocError>
-    ensures text { OnOk result (string_bytes text.new ≡ string_bytes text.old ++ ended (line_of (Event.OtherSmbus message.now))) }
-    ensures stands { Stands (line_of (Event.OtherSmbus message.now)) (Event.OtherSmbus message.now) }
+    ensures text { OnOk result (string_bytes text.new
+        ≡ string_bytes text.old ++ ended (line_of (Event.OtherSmbus message.now))) }
+    ensures stands { Stands (line_of (Event.OtherSmbus message.now))
+        (Event.OtherSmbus message.now) }
 {
     let body = message.body.as_slice();
     let digits = digits_of(alloc, body);
@@ -118,8 +123,9 @@ fn push_message(alloc: Global, text: &mut String, message: &OtherMessage) -> Res
 
 /// Adds the line of noise.
 fn push_noise(alloc: Global, text: &mut String, on: Bus, bytes: &[u8]) -> Result<(), AllocError>
-    requires { AreSome 80 bytes.now }
-    ensures text { OnOk result (string_bytes text.new ≡ string_bytes text.old ++ ended (line_of (Event.Noise on bytes.now))) }
+    requires { AreSome most_noise bytes.now }
+    ensures text { OnOk result (string_bytes text.new
+        ≡ string_bytes text.old ++ ended (line_of (Event.Noise on bytes.now))) }
     ensures stands { Stands (line_of (Event.Noise on bytes.now)) (Event.Noise on bytes.now) }
 {
     let bus = bus_word(on);
@@ -129,7 +135,8 @@ fn push_noise(alloc: Global, text: &mut String, on: Bus, bytes: &[u8]) -> Result
 
 /// Adds the line of a window that is forgotten.
 fn push_idle(alloc: Global, text: &mut String, on: Bus, requester: u8) -> Result<(), AllocError>
-    ensures text { OnOk result (string_bytes text.new ≡ string_bytes text.old ++ ended (line_of (Event.Idle on requester))) }
+    ensures text { OnOk result (string_bytes text.new
+        ≡ string_bytes text.old ++ ended (line_of (Event.Idle on requester))) }
     ensures stands { Stands (line_of (Event.Idle on requester)) (Event.Idle on requester) }
 {
     let bus = bus_word(on);
@@ -139,7 +146,8 @@ fn push_idle(alloc: Global, text: &mut String, on: Bus, requester: u8) -> Result
 
 /// Adds the line of a reading.
 fn push_scan(alloc: Global, text: &mut String, sensor: u8, reading: u8) -> Result<(), AllocError>
-    ensures text { OnOk result (string_bytes text.new ≡ string_bytes text.old ++ ended (line_of (Event.Scan sensor reading))) }
+    ensures text { OnOk result (string_bytes text.new
+        ≡ string_bytes text.old ++ ended (line_of (Event.Scan sensor reading))) }
     ensures stands { Stands (line_of (Event.Scan sensor reading)) (Event.Scan sensor reading) }
 {
     let sensor = byte_digits(alloc, sensor)?;
@@ -149,7 +157,8 @@ fn push_scan(alloc: Global, text: &mut String, sensor: u8, reading: u8) -> Resul
 
 /// Adds the line of an event.
 pub fn push_event(alloc: Global, text: &mut String, event: &Event) -> Result<(), AllocError>
-    ensures text { OnOk result (string_bytes text.new ≡ string_bytes text.old ++ ended (line_of event.now)) }
+    ensures text { OnOk result (string_bytes text.new
+        ≡ string_bytes text.old ++ ended (line_of event.now)) }
     ensures stands { has_line event.now ≡ true → Stands (line_of event.now) event.now }
 {
     match event {
