@@ -34,16 +34,16 @@ IsRight room changing (Err code) = IsCode code
 
 -- ---- each line passes the test
 
--- a line's command asks rightly with this data
-abbrev asks_rightly : ℕ → List ℕ → Line → Bool
-asks_rightly room body line = is_right room line.changing (request_of line.command body)
+-- a line's command asks rightly with this data, whoever asks
+abbrev asks_rightly : ℕ → ℕ → List ℕ → Line → Bool
+asks_rightly room from body line = is_right room line.changing (request_of from line.command body)
 
 -- whatever the data is, each line of the tables passes it
-all_right : (body : List ℕ) → list_all (λ (l : Listed). asks_rightly 24 body l.line) table ≡ true
-all_right body = both_right _ _ (boot.set_right body) (both_right _ _ (boot.get_right body) (both_right _ _ (channel.set_right body) (both_right _ _ (lan.set_right body) (both_right _ _ (lan.get_right body) refl))))
+all_right : (from : ℕ) (body : List ℕ) → list_all (λ (l : Listed). asks_rightly 24 from body l.line) table ≡ true
+all_right from body = both_right _ _ (boot.set_right body) (both_right _ _ (boot.get_right body) (both_right _ _ (channel.set_right body) (both_right _ _ (lan.set_right body) (both_right _ _ (lan.get_right body) refl))))
 
-all_pldm_right : (body : List ℕ) → list_all (λ (l : Listed). asks_rightly 251 body l.line) pldm_table ≡ true
-all_pldm_right body = both_right _ _ (attribute.set_right body) (both_right _ _ (attribute.get_right body) refl)
+all_pldm_right : (from : ℕ) (body : List ℕ) → list_all (λ (l : Listed). asks_rightly 251 from body l.line) pldm_table ≡ true
+all_pldm_right from body = both_right _ _ (attribute.set_right body) (both_right _ _ (attribute.get_right body) refl)
 
 -- ---- what passes it
 
@@ -96,15 +96,15 @@ ipmi_codes = record { unlisted = code_of invalid_command refl; not_allowed = cod
 pldm_codes : AreCodes pldm_refusals
 pldm_codes = record { unlisted = code_of pldm_unsupported_command refl; not_allowed = code_of pldm_invalid_length refl }
 
-right_at : (room : ℕ) (refusals : Refusals) (line : Option Line) (body : List ℕ) → AreCodes refusals → Passes (asks_rightly room body) line → IsRight room (changes line) (asked_at refusals line body)
-right_at room refusals None body are passes = are.unlisted
-right_at room refusals (Some line) body are passes =
-    where_right room line.changing (allow line.lengths body) (request_of line.command body) refusals.not_allowed are.not_allowed (right_of room line.changing (request_of line.command body) passes)
+right_at : (room from : ℕ) (refusals : Refusals) (line : Option Line) (body : List ℕ) → AreCodes refusals → Passes (asks_rightly room from body) line → IsRight room (changes line) (asked_at from refusals line body)
+right_at room from refusals None body are passes = are.unlisted
+right_at room from refusals (Some line) body are passes =
+    where_right room line.changing (allow line.lengths body) (request_of from line.command body) refusals.not_allowed are.not_allowed (right_of room line.changing (request_of from line.command body) passes)
 
 pub asked_right : (asked : Asked) → IsRight (room_for asked) (is_changing asked) (asked_by asked)
 asked_right (Ipmi from net_fn lun number body) =
-    where_right 24 (changes (line_of net_fn number)) (lun == 0) (asked_at ipmi_refusals (line_of net_fn number) body) invalid_for_lun (code_of invalid_for_lun refl)
-    (right_at 24 ipmi_refusals (line_of net_fn number) body ipmi_codes (found_under (asks_rightly 24 body) net_fn number table (all_right body)))
+    where_right 24 (changes (line_of net_fn number)) (lun == 0) (asked_at from ipmi_refusals (line_of net_fn number) body) invalid_for_lun (code_of invalid_for_lun refl)
+    (right_at 24 from ipmi_refusals (line_of net_fn number) body ipmi_codes (found_under (asks_rightly 24 from body) net_fn number table (all_right from body)))
 asked_right (Pldm from kind number body) =
-    where_right 251 (changes (pldm_line_of kind number)) (is_pldm_type kind) (asked_at pldm_refusals (pldm_line_of kind number) body) pldm_invalid_type (code_of pldm_invalid_type refl)
-    (right_at 251 pldm_refusals (pldm_line_of kind number) body pldm_codes (found_under (asks_rightly 251 body) kind number pldm_table (all_pldm_right body)))
+    where_right 251 (changes (pldm_line_of kind number)) (is_pldm_type kind) (asked_at from pldm_refusals (pldm_line_of kind number) body) pldm_invalid_type (code_of pldm_invalid_type refl)
+    (right_at 251 from pldm_refusals (pldm_line_of kind number) body pldm_codes (found_under (asks_rightly 251 from body) kind number pldm_table (all_pldm_right from body)))

@@ -1,7 +1,6 @@
 -- Each request for a record, and each for an operation, is read as what it asks for: a line for each kind whose data don't show it by themselves.
 use Rattle.std.proofs.Common.{◌≡◌, ℕ, ◌+◌, ◌*◌, ◌/◌, ◌%◌, ◌<◌, ap, ◌∙◌, List, [], ◌∷◌, take, length, Bool, true, false, if◌then◌else◌, Option, Some, None, Result, Ok, Err, refl, arith, nat_le}
 use Rattle.record_base.specs.declared.key.Key.TheVariants as key
-use Rattle.record_base.specs.declared.message.Asked.TheVariants.{Ipmi, Pldm}
 use Rattle.record_base.specs.declared.op.Op.{Op}
 use Rattle.record_base.specs.declared.sensor_thresholds.SetThresholds.{SetThresholds}
 use Rattle.record_base.specs.declared.watchdog.SetWatchdog.{SetWatchdog}
@@ -53,7 +52,7 @@ use Rattle.bmc_board.specs.Request as request
 use Rattle.bmc_board.specs.Request.{Request, asked_by}
 use Rattle.bmc_board.specs.ChannelCommands.{channel_asked}
 use Rattle.bmc_board.specs.AttributeCommands.{attribute_set}
-use Rattle.bmc_board.specs.Decode.{IsReadFromAll, GetsAreRead, SetsAreRead}
+use Rattle.bmc_board.specs.Decode.{GetsAreRead, SetsAreRead}
 use Rattle.bmc_board.proofs.LanFacts as lan
 
 -- what holds of all lists of six holds of a list of length six
@@ -299,7 +298,3 @@ sets_are_read (op.ChannelAccess o) = record { is_read = store_read o.channel o.s
 sets_are_read (op.BiosAttribute o) = record { is_read = attribute_read o; from_nobody = refl }
 sets_are_read (op.LanParam o) = record { is_read = lan.set_read channel_read o.channel o.change; from_nobody = (refl, refl) }
 sets_are_read _ = record { is_read = refl; from_nobody = (refl, refl) }
-
-pub is_read_from_all : IsReadFromAll
-is_read_from_all from (Ipmi other net_fn lun number body) = refl
-is_read_from_all from (Pldm other kind number body) = refl

@@ -12,6 +12,7 @@ pub mod BothFacts
 pub mod StoresFacts
 pub mod AnswerFacts
 pub mod OneAnswer
+pub mod FromAnyone
 pub mod Decoded
 pub mod Quiet
 pub mod ShownAgain

@@ -26,7 +26,8 @@ use Rattle.bmc_board.specs.Decode.{sent_by}
 use Rattle.bmc_board.specs.Undo.{IsUndone, IsAReply}
 use Rattle.bmc_board.proofs.AnswerFacts.{limits_are_of}
 use Rattle.bmc_board.proofs.LiveFacts.{unknown_is_refused}
-use Rattle.bmc_board.proofs.Decoded.{is_read_from_all, gets_are_read, sets_are_read}
+use Rattle.bmc_board.proofs.FromAnyone.{is_read_from_all}
+use Rattle.bmc_board.proofs.Decoded.{gets_are_read, sets_are_read}
 
 -- ---- requests that are read
 

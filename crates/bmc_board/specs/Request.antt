@@ -20,24 +20,24 @@ use Rattle.bmc_board.specs.LanCommands.{lan_set_asked, lan_get_asked}
 pub use Rattle.bmc_board.specs.Asks.{Request}
 pub use Rattle.bmc_board.specs.Asks.{Live, Get, Set, SetStores}
 
--- what a command asks for with data of a length that it takes, or the code that refuses the data
-abbrev pub request_of : Command → List ℕ → Result Request ℕ
-request_of (command.Live command) body = Ok (Live command body)
-request_of (command.Get kind) body = Ok (Get ((reader_of kind).key_in body))
-request_of (command.Set kind) body = Ok (Set ((reader_of kind).op_in body))
-request_of command.SetBootOptions body = boot_set (boot_request_in body)
-request_of command.GetBootOptions body = boot_get (boot_shown_in body)
-request_of command.SetChannelAccess body = Ok (channel_asked (channel_request_in body))
-request_of command.GetChannelAccess body = Ok (Get (key.ChannelAccess (stored_in body)))
-request_of command.SetBiosAttribute body = attribute_set (attribute_in body)
-request_of command.GetBiosAttribute body = attribute_get (attribute_shown_in body)
-request_of command.SetLanParam body = Ok (lan_set_asked body)
-request_of command.GetLanParam body = Ok (lan_get_asked body)
+-- what a requester's command asks for with data of a length that it takes, or the code that refuses the data
+abbrev pub request_of : (from : ℕ) → Command → List ℕ → Result Request ℕ
+request_of from (command.Live command) body = Ok (Live command body)
+request_of from (command.Get kind) body = Ok (Get ((reader_of kind).key_in body))
+request_of from (command.Set kind) body = Ok (Set ((reader_of kind).op_in body))
+request_of from command.SetBootOptions body = boot_set (boot_request_in body)
+request_of from command.GetBootOptions body = boot_get (boot_shown_in body)
+request_of from command.SetChannelAccess body = Ok (channel_asked (channel_request_in body))
+request_of from command.GetChannelAccess body = Ok (Get (key.ChannelAccess (stored_in body)))
+request_of from command.SetBiosAttribute body = attribute_set (attribute_in body)
+request_of from command.GetBiosAttribute body = attribute_get (attribute_shown_in body)
+request_of from command.SetLanParam body = Ok (lan_set_asked body)
+request_of from command.GetLanParam body = Ok (lan_get_asked body)
 
 -- the same of a command that was read, or the code that refused the request
-abbrev pub asked_of : Result Command ℕ → List ℕ → Result Request ℕ
-asked_of (Ok command) body = request_of command body
-asked_of (Err code) body = Err code
+abbrev pub asked_of : (from : ℕ) → Result Command ℕ → List ℕ → Result Request ℕ
+asked_of from (Ok command) body = request_of from command body
+asked_of from (Err code) body = Err code
 
 -- what refuses a command that isn't listed, and one whose data has a length that it doesn't take
 abbrev pub ipmi_refusals : Refusals
@@ -47,11 +47,16 @@ abbrev pub pldm_refusals : Refusals
 pldm_refusals = record { unlisted = pldm_unsupported_command; not_allowed = pldm_invalid_length }
 
 -- what a line's command asks for, where there is a line and the data has a length that it takes
-abbrev pub asked_at : Refusals → Option Line → List ℕ → Result Request ℕ
-asked_at refusals None body = Err refusals.unlisted
-asked_at refusals (Some line) body = if allow line.lengths body then request_of line.command body else Err refusals.not_allowed
+abbrev pub asked_at : (from : ℕ) → Refusals → Option Line → List ℕ → Result Request ℕ
+asked_at from refusals None body = Err refusals.unlisted
+asked_at from refusals (Some line) body = if allow line.lengths body then request_of from line.command body else Err refusals.not_allowed
+
+-- who asks: an IPMB address, or an endpoint's EID
+abbrev pub requester : Asked → ℕ
+requester (Ipmi from net_fn lun number body) = from
+requester (Pldm from kind number body) = from
 
 -- what a request asks for, or the first code that refuses it
 abbrev pub asked_by : Asked → Result Request ℕ
-asked_by (Ipmi from net_fn lun number body) = if lun == 0 then asked_at ipmi_refusals (line_of net_fn number) body else Err invalid_for_lun
-asked_by (Pldm from kind number body) = if is_pldm_type kind then asked_at pldm_refusals (pldm_line_of kind number) body else Err pldm_invalid_type
+asked_by (Ipmi from net_fn lun number body) = if lun == 0 then asked_at from ipmi_refusals (line_of net_fn number) body else Err invalid_for_lun
+asked_by (Pldm from kind number body) = if is_pldm_type kind then asked_at from pldm_refusals (pldm_line_of kind number) body else Err pldm_invalid_type

@@ -1,6 +1,6 @@
 //! Requests, to the commands of the tables.
 ghost use Rattle.std.specs.Prelude.{◌≡◌, ℕ};
-ghost use Rattle.bmc_board.specs.Request.{asked_of, asked_by, asked_at};
+ghost use Rattle.bmc_board.specs.Request.{asked_of, asked_by, asked_at, requester};
 
 use crate::command::{Command, Line, is_pldm_type, line_of, pldm_line_of};
 use cfg_records::Asked;
@@ -26,7 +26,8 @@ const PLDM: Refusals = Refusals {
 /// The line's command, where it takes data of this length, or what refuses it.
 #[inline(always)]
 fn command_at(refusals: Refusals, line: Option<Line>, body: &[u8]) -> Result<Command, Code>
-    ensures { asked_of result body.now ≡ asked_at refusals line body.now }
+    ensures { (from : ℕ) → asked_of from result body.now
+        ≡ asked_at from refusals line body.now }
 {
     let Some(line) = line else {
         return Err(refusals.unlisted);
@@ -38,9 +39,9 @@ fn command_at(refusals: Refusals, line: Option<Line>, body: &[u8]) -> Result<Com
 }
 
 /// The command of an IPMI request, or the first code that refuses it: the logical unit comes first, then the command, then the
-/// length of its data. Who asks makes no difference.
+/// length of its data. Who asks makes no difference to it.
 pub fn read_ipmi(lun: Lun, net_fn: NetFn, number: u8, body: &[u8]) -> Result<Command, Code>
-    ensures { (from : ℕ) → asked_of result body.now
+    ensures { (from : ℕ) → asked_of from result body.now
         ≡ asked_by (Asked.Ipmi from net_fn lun number body.now) }
 {
     if lun.number() != 0 {
@@ -50,9 +51,9 @@ pub fn read_ipmi(lun: Lun, net_fn: NetFn, number: u8, body: &[u8]) -> Result<Com
 }
 
 /// The command of a PLDM request, or the first code that refuses it: the type comes first, then the command, then the length of
-/// its data. Who asks makes no difference.
+/// its data. Who asks makes no difference to it.
 pub fn read_pldm(kind: Below<64>, number: u8, body: &[u8]) -> Result<Command, Code>
-    ensures { (from : ℕ) → asked_of result body.now
+    ensures { (from : ℕ) → asked_of from result body.now
         ≡ asked_by (Asked.Pldm from kind number body.now) }
 {
     let kind = kind.number();
@@ -62,9 +63,18 @@ pub fn read_pldm(kind: Below<64>, number: u8, body: &[u8]) -> Result<Command, Co
     command_at(PLDM, pldm_line_of(kind, number), body)
 }
 
+/// Who asks: an IPMB address, or an endpoint's EID.
+pub fn requester(asked: &Asked) -> u8
+    ensures { result ≡ requester asked.now }
+{
+    match asked {
+        Asked::Ipmi { from, .. } | Asked::Pldm { from, .. } => *from,
+    }
+}
+
 /// The command of a request, or the first code that refuses it, and the request's data.
 pub fn read_request(asked: &Asked) -> (Result<Command, Code>, &[u8])
-    ensures { asked_of result.0 result.1.now ≡ asked_by asked.now }
+    ensures { asked_of (requester asked.now) result.0 result.1.now ≡ asked_by asked.now }
 {
     match asked {
         Asked::Ipmi {

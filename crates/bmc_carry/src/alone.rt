@@ -31,7 +31,7 @@ pub fn answer_here<S: Store, B: Reply>(
     ensures fits { length (given_by S.records board.old (meant asked.now)).0.body
         ≤ room_for (meant asked.now) }
 {
-    board.reply(asked.command(), asked.body(), reply)
+    board.reply(asked.requester(), asked.command(), asked.body(), reply)
 }
 
 /// Has a board carry out whatever it is asked, with no history.

@@ -1,6 +1,6 @@
 //! Requests that are looked at where they lie.
 ghost use Rattle.std.specs.Prelude.{◌≡◌};
-ghost use Rattle.bmc_board.specs.Request.{asked_of, asked_by};
+ghost use Rattle.bmc_board.specs.Request.{asked_of, asked_by, requester};
 ghost use Rattle.bmc_carry.specs.Asking.{meant, data_of};
 
 use bmc_board::Command;
@@ -62,6 +62,16 @@ impl<'a> AskedHere<'a> {
         }
     }
 
+    /// Who sent it: an IPMB address, or an endpoint's EID.
+    #[inline(always)]
+    pub fn requester(&self) -> u8
+        ensures { result ≡ requester (meant self.now) }
+    {
+        match self {
+            AskedHere::Ipmi { from, .. } | AskedHere::Pldm { from, .. } => *from,
+        }
+    }
+
     /// Its data.
     pub fn body(&self) -> &'a [u8]
         ensures { result.now ≡ data_of self.now }
@@ -75,7 +85,8 @@ impl<'a> AskedHere<'a> {
     /// The command of the request, or the first code that refuses it.
     #[inline(always)]
     pub fn command(&self) -> Result<Command, Code>
-        ensures { asked_of result (data_of self.now) ≡ asked_by (meant self.now) }
+        ensures { asked_of (requester (meant self.now)) result (data_of self.now)
+            ≡ asked_by (meant self.now) }
     {
         match self {
             AskedHere::Ipmi {

@@ -1,9 +1,8 @@
 //! The commands of LAN configuration parameters.
-ghost use Rattle.std.specs.Prelude.{◌+◌, ◌≤◌, length};
+ghost use Rattle.std.specs.Prelude.{Ok, ◌+◌, ◌≤◌, length};
 
 use crate::board::Board;
 use crate::board::serve::show;
-use crate::command::Command;
 use crate::live::LiveCommand;
 use cfg_records::{ChannelNumber, Key, Op, Store};
 use two_wire::{Buffer, Code, code};
@@ -18,9 +17,8 @@ const UNSUPPORTED_PARAMETER: u8 = 0x80;
 impl<S: Store> Board<S> {
     ghost use Rattle.bmc_board.specs.Gives.{Gives};
     ghost use Rattle.bmc_board.specs.Serves.{Fits, Serves};
-    ghost use Rattle.bmc_board.specs.Request.{request_of};
     ghost use Rattle.bmc_board.specs.Live.{longest_live_reply};
-    ghost use Rattle.bmc_board.specs.LanCommands.{lan_answer};
+    ghost use Rattle.bmc_board.specs.LanCommands.{lan_set_asked, lan_get_asked, lan_answer};
 
     /// Appends what a command that names no record replies, where the channel has LAN parameters.
     pub(super) fn answer_lan<B: Buffer>(
@@ -45,8 +43,8 @@ impl<S: Store> Board<S> {
 
     /// Carries out Set LAN Configuration Parameters.
     pub(super) fn set_lan_param<B: Buffer>(&mut self, body: &[u8], to: &mut B) -> Result<(), Code>
-        requires { Fits (request_of Command.SetLanParam body.now) (B.bytes to.old) B.capacity }
-        ensures { Serves S.records self.old self.new (request_of Command.SetLanParam body.now)
+        requires { Fits (Ok (lan_set_asked body.now)) (B.bytes to.old) B.capacity }
+        ensures { Serves S.records self.old self.new (Ok (lan_set_asked body.now))
             result (B.bytes to.old) (B.bytes to.new) }
     {
         match lan_request_in(body) {
@@ -59,8 +57,8 @@ impl<S: Store> Board<S> {
 
     /// Carries out Get LAN Configuration Parameters.
     pub(super) fn get_lan_param<B: Buffer>(&mut self, body: &[u8], to: &mut B) -> Result<(), Code>
-        requires { Fits (request_of Command.GetLanParam body.now) (B.bytes to.old) B.capacity }
-        ensures { Serves S.records self.old self.new (request_of Command.GetLanParam body.now)
+        requires { Fits (Ok (lan_get_asked body.now)) (B.bytes to.old) B.capacity }
+        ensures { Serves S.records self.old self.new (Ok (lan_get_asked body.now))
             result (B.bytes to.old) (B.bytes to.new) }
     {
         match lan_shown_in(body) {

@@ -17,7 +17,7 @@ use crate::live::{
     LiveCommand, NO_ERROR, PLDM_TYPES, already_in_progress, device_data, progress_data,
     sessionless_channel,
 };
-use crate::request::read_request;
+use crate::request::{read_request, requester};
 use crate::storage::{
     add_entry, clear, part_in, sdr_info, sel_info, show_entry, show_sdr, time_in,
 };
@@ -112,11 +112,17 @@ impl<S: Store> Board<S> {
     ghost use Rattle.bmc_board.specs.Room.{longest_reply};
     ghost use Rattle.bmc_board.specs.Row.{Row};
     ghost use Rattle.bmc_board.specs.Request as request;
-    ghost use Rattle.bmc_board.specs.Request.{request_of, asked_of, asked_by};
+    ghost use Rattle.bmc_board.specs.Request.{asked_of, asked_by};
+    ghost use Rattle.bmc_board.specs.BootCommands.{boot_set, boot_get};
+    ghost use Rattle.bmc_board.specs.ChannelCommands.{channel_asked};
+    ghost use Rattle.bmc_board.specs.AttributeCommands.{attribute_set, attribute_get};
     ghost use Rattle.bmc_board.specs.Answer.{outcome_at};
     ghost use Rattle.std.specs.Prelude.{Some, Ok};
     ghost use Rattle.record_base.specs.Meaning.{told};
-    ghost use Rattle.record_kinds.specs.Limits.{key_of};
+    ghost use Rattle.record_kinds.specs.Limits.{key_of, reader_of};
+    ghost use Rattle.watch_boot.specs.BootRequests.{boot_request_in, boot_shown_in};
+    ghost use Rattle.user_chan.specs.ChannelRequests.{channel_request_in};
+    ghost use Rattle.bios_attr.specs.BiosAttribute.{attribute_in, attribute_shown_in};
 
     /// A board of this file over this store of its records.
     pub fn open(alloc: Global, file: BoardFile, store: S) -> Result<Self, AllocError>
@@ -347,8 +353,10 @@ impl<S: Store> Board<S> {
 
     /// Carries out the command that changes a record of the kind.
     fn change<B: Buffer>(&mut self, kind: PlainKind, body: &[u8], to: &mut B) -> Result<(), Code>
-        requires { Fits (request_of (Command.Set kind) body.now) (B.bytes to.old) B.capacity }
-        ensures { Serves S.records self.old self.new (request_of (Command.Set kind) body.now)
+        requires { Fits (Ok (request.Set ((reader_of kind).op_in body.now))) (B.bytes to.old)
+            B.capacity }
+        ensures { Serves S.records self.old self.new
+            (Ok (request.Set ((reader_of kind).op_in body.now)))
             result (B.bytes to.old) (B.bytes to.new) }
     {
         of_each_plain_kind!(changed [self, kind, body, to])
@@ -356,8 +364,8 @@ impl<S: Store> Board<S> {
 
     /// Carries out Set System Boot Options.
     fn set_boot_options<B: Buffer>(&mut self, body: &[u8], to: &mut B) -> Result<(), Code>
-        requires { Fits (request_of Command.SetBootOptions body.now) (B.bytes to.old) B.capacity }
-        ensures { Serves S.records self.old self.new (request_of Command.SetBootOptions body.now)
+        requires { Fits (boot_set (boot_request_in body.now)) (B.bytes to.old) B.capacity }
+        ensures { Serves S.records self.old self.new (boot_set (boot_request_in body.now))
             result (B.bytes to.old) (B.bytes to.new) }
     {
         match boot_request_in(body)? {
@@ -368,8 +376,8 @@ impl<S: Store> Board<S> {
 
     /// Carries out Get System Boot Options.
     fn get_boot_options<B: Buffer>(&mut self, body: &[u8], to: &mut B) -> Result<(), Code>
-        requires { Fits (request_of Command.GetBootOptions body.now) (B.bytes to.old) B.capacity }
-        ensures { Serves S.records self.old self.new (request_of Command.GetBootOptions body.now)
+        requires { Fits (boot_get (boot_shown_in body.now)) (B.bytes to.old) B.capacity }
+        ensures { Serves S.records self.old self.new (boot_get (boot_shown_in body.now))
             result (B.bytes to.old) (B.bytes to.new) }
     {
         match boot_shown_in(body)? {
@@ -416,8 +424,10 @@ impl<S: Store> Board<S> {
 
     /// Carries out Set Channel Access.
     fn set_channel_access<B: Buffer>(&mut self, body: &[u8], to: &mut B) -> Result<(), Code>
-        requires { Fits (request_of Command.SetChannelAccess body.now) (B.bytes to.old) B.capacity }
-        ensures { Serves S.records self.old self.new (request_of Command.SetChannelAccess body.now)
+        requires { Fits (Ok (channel_asked (channel_request_in body.now))) (B.bytes to.old)
+            B.capacity }
+        ensures { Serves S.records self.old self.new
+            (Ok (channel_asked (channel_request_in body.now)))
             result (B.bytes to.old) (B.bytes to.new) }
     {
         match channel_request_in(body) {
@@ -432,8 +442,8 @@ impl<S: Store> Board<S> {
     /// Carries out SetBIOSAttributeCurrentValue. The operation is made here, of the data, and stays here.
     #[inline(never)]
     fn set_attribute<B: Buffer>(&mut self, body: &[u8], to: &mut B) -> Result<(), Code>
-        requires { Fits (request_of Command.SetBiosAttribute body.now) (B.bytes to.old) B.capacity }
-        ensures { Serves S.records self.old self.new (request_of Command.SetBiosAttribute body.now)
+        requires { Fits (attribute_set (attribute_in body.now)) (B.bytes to.old) B.capacity }
+        ensures { Serves S.records self.old self.new (attribute_set (attribute_in body.now))
             result (B.bytes to.old) (B.bytes to.new) }
     {
         let op = attribute_in(body)?;
@@ -442,23 +452,24 @@ impl<S: Store> Board<S> {
 
     /// Carries out GetBIOSAttributeCurrentValueByHandle.
     fn get_attribute<B: Buffer>(&mut self, body: &[u8], to: &mut B) -> Result<(), Code>
-        requires { Fits (request_of Command.GetBiosAttribute body.now) (B.bytes to.old) B.capacity }
-        ensures { Serves S.records self.old self.new (request_of Command.GetBiosAttribute body.now)
+        requires { Fits (attribute_get (attribute_shown_in body.now)) (B.bytes to.old) B.capacity }
+        ensures { Serves S.records self.old self.new (attribute_get (attribute_shown_in body.now))
             result (B.bytes to.old) (B.bytes to.new) }
     {
         let handle = attribute_shown_in(body)?;
         self.get(&Key::BiosAttribute(handle), to)
     }
 
-    /// Carries out the command with the request's data, where a command was read, and appends the data of the reply.
+    /// Carries out the requester's command with the request's data, where a command was read, and appends the data of the reply.
     pub fn reply<B: Buffer>(
         &mut self,
+        from: u8,
         command: Result<Command, Code>,
         body: &[u8],
         to: &mut B,
     ) -> Result<(), Code>
-        requires room { Fits (asked_of command body.now) (B.bytes to.old) B.capacity }
-        ensures { Serves S.records self.old self.new (asked_of command body.now)
+        requires room { Fits (asked_of from command body.now) (B.bytes to.old) B.capacity }
+        ensures { Serves S.records self.old self.new (asked_of from command body.now)
             result (B.bytes to.old) (B.bytes to.new) }
     {
         match command? {
@@ -496,7 +507,7 @@ impl<S: Store> Board<S> {
     {
         let (command, body) = read_request(asked);
         let mut shown = Bytes::new();
-        let done = self.reply(command, body, &mut shown);
+        let done = self.reply(requester(asked), command, body, &mut shown);
         answered(done, shown)
     }
 }

@@ -1,5 +1,6 @@
 use Rattle.record_kinds.specs.LimitsLaws.{kind_laws}
-use Rattle.bmc_board.proofs.Decoded.{is_read_from_all, gets_are_read, sets_are_read}
+use Rattle.bmc_board.proofs.FromAnyone.{is_read_from_all}
+use Rattle.bmc_board.proofs.Decoded.{gets_are_read, sets_are_read}
 use Rattle.bmc_board.proofs.laws.decode_law.Goals as goal
 
 pub returns-clause-gets : goal.returns-clause-gets

@@ -16,18 +16,18 @@ pub reply-requires : goal.reply-requires
 reply-requires g c =
     let asked = meant c.args.asked.now in
     let bytes = g.B.Buffer.bytes c.args.reply.now in
-    let read : asked_of c.command.result c.body.result.now ≡ asked_by asked = ap (asked_of c.command.result) c.body.ensures ∙ c.command.ensures in
+    let read : asked_of c.requester.result c.command.result c.body.result.now ≡ asked_by asked = (λ i. asked_of (c.requester.ensures i) c.command.result (c.body.ensures i)) ∙ c.command.ensures in
     record { room = subst (λ (r : Result Request ℕ). Fits r bytes g.B.Buffer.capacity) (sym read) (fits_behind (asked_by asked) (room_for asked) (is_changing asked) bytes g.B.Buffer.capacity (asked_right asked) c.requires.room) }
 
 pub returns-clause-given : goal.returns-clause-given
 returns-clause-given g c =
-    let read : asked_of c.command.result c.body.result.now ≡ asked_by (meant c.args.asked.now) = ap (asked_of c.command.result) c.body.ensures ∙ c.command.ensures in
+    let read : asked_of c.requester.result c.command.result c.body.result.now ≡ asked_by (meant c.args.asked.now) = (λ i. asked_of (c.requester.ensures i) c.command.result (c.body.ensures i)) ∙ c.command.ensures in
     subst (λ (r : Result Request ℕ). Gives c.reply.result (g.B.Buffer.bytes c.args.reply.now) (g.B.Buffer.bytes c.reply.new.to) (reply_by g.S.Store.records c.args.board.now r).0) read
     c.reply.ensures.answer
 
 pub returns-clause-left : goal.returns-clause-left
 returns-clause-left g c =
-    let read : asked_of c.command.result c.body.result.now ≡ asked_by (meant c.args.asked.now) = ap (asked_of c.command.result) c.body.ensures ∙ c.command.ensures in
+    let read : asked_of c.requester.result c.command.result c.body.result.now ≡ asked_by (meant c.args.asked.now) = (λ i. asked_of (c.requester.ensures i) c.command.result (c.body.ensures i)) ∙ c.command.ensures in
     c.reply.ensures.left ∙ ap (λ (r : Result Request ℕ). (reply_by g.S.Store.records c.args.board.now r).1) read
 
 pub returns-clause-fits : goal.returns-clause-fits

@@ -20,12 +20,13 @@ returns g c =
     let before : State = state_of g.S.Store.records c.args.self.now in
     let after : State = state_of g.S.Store.records c.reply-done.new.self in
     let given : Result Request ℕ → Given = λ r. reply setup before r in
-    let read : Result Request ℕ = asked_of c.read_request-command.result.0 c.read_request-command.result.1.now in
+    let read : Result Request ℕ = asked_of c.requester.result c.read_request-command.result.0 c.read_request-command.result.1.now in
+    let same_read : read ≡ asked_by asked = ap (λ (from : ℕ). asked_of from c.read_request-command.result.0 c.read_request-command.result.1.now) c.requester.ensures ∙ c.read_request-command.ensures in
     let gives : Gives c.reply-done.result [] c.reply-done.new.to (given read).0 =
     subst (λ (old : List ℕ). Gives c.reply-done.result old c.reply-done.new.to (given read).0) c.new-shown.ensures c.reply-done.ensures.answer in
     let said : c.answered.result ≡ (given read).0 = c.answered.ensures _ gives in
     let pair : (let p : Given = (c.answered.result, after) in p) ≡ given read = λ i. (said i, c.reply-done.ensures.left i) in
-    let same : (let p : Given = (c.answered.result, after) in p) ≡ answer_of setup before asked = pair ∙ ap given c.read_request-command.ensures in
+    let same : (let p : Given = (c.answered.result, after) in p) ≡ answer_of setup before asked = pair ∙ ap given same_read in
     let code : IsCode c.answered.result.code = subst (λ (p : Given). IsCode p.0.code) (sym same) (never_busy setup before asked) in
     record {
       row = subst (λ (p : Given). Row setup before asked p.0 p.1) (sym same) (has_answer setup before asked);

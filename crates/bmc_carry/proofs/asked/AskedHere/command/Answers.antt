@@ -1,6 +1,6 @@
 use Rattle.std.proofs.Common.{◌≡◌, ℕ, List, sym, subst}
 use Rattle.record_base.specs.declared.message.Asked.TheVariants as asked
-use Rattle.bmc_board.specs.Request.{asked_of, asked_by}
+use Rattle.bmc_board.specs.Request.{asked_of, asked_by, requester}
 use Rattle.bmc_carry.specs.declared.asked.AskedHere.{AskedHere}
 use Rattle.bmc_carry.specs.Asking.{meant, data_of}
 use Rattle.bmc_carry.proofs.asked.AskedHere.command.Goals as goal
@@ -8,11 +8,11 @@ use Rattle.bmc_carry.proofs.asked.AskedHere.command.Goals as goal
 pub returns-in-Ipmi : goal.returns-in-Ipmi
 returns-in-Ipmi c =
     let a = c.in-Ipmi in
-    subst (λ (x : AskedHere). asked_of c.read_ipmi.result (data_of x) ≡ asked_by (meant x)) (sym a.is)
-    (subst (λ (body : List ℕ). asked_of c.read_ipmi.result body ≡ asked_by (asked.Ipmi a.from a.net_fn a.lun a.command body)) c.as_slice.ensures.value (c.read_ipmi.ensures a.from))
+    subst (λ (x : AskedHere). asked_of (requester (meant x)) c.read_ipmi.result (data_of x) ≡ asked_by (meant x)) (sym a.is)
+    (subst (λ (body : List ℕ). asked_of a.from c.read_ipmi.result body ≡ asked_by (asked.Ipmi a.from a.net_fn a.lun a.command body)) c.as_slice.ensures.value (c.read_ipmi.ensures a.from))
 
 pub returns-in-Pldm : goal.returns-in-Pldm
 returns-in-Pldm c =
     let a = c.in-Pldm in
-    subst (λ (x : AskedHere). asked_of c.read_pldm.result (data_of x) ≡ asked_by (meant x)) (sym a.is)
-    (subst (λ (body : List ℕ). asked_of c.read_pldm.result body ≡ asked_by (asked.Pldm a.from a.kind a.command body)) c.as_slice-in-Pldm.ensures.value (c.read_pldm.ensures a.from))
+    subst (λ (x : AskedHere). asked_of (requester (meant x)) c.read_pldm.result (data_of x) ≡ asked_by (meant x)) (sym a.is)
+    (subst (λ (body : List ℕ). asked_of a.from c.read_pldm.result body ≡ asked_by (asked.Pldm a.from a.kind a.command body)) c.as_slice-in-Pldm.ensures.value (c.read_pldm.ensures a.from))
