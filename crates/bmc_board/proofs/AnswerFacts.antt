@@ -1,6 +1,9 @@
 -- What every answer has in common.
-use Rattle.std.proofs.Common.{◌≡◌, ◌≢◌, ℕ, ◌≤◌, List, [], length, Option, Some, None, Result, Ok, Err, Bool, refl, subst, arith}
-use Rattle.two_wire.specs.Codes.{success}
+use Rattle.std.proofs.Common.{◌≡◌, ◌≢◌, ℕ, ◌≤◌, List, [], length, Option, Some, None, Result, Ok, Err, Bool, refl, sym, ◌∙◌, subst, arith}
+use Rattle.std.specs.Int.{w32, to_le_bytes}
+use Rattle.two_wire.specs.Codes.{success, pldm_invalid_data}
+use Rattle.two_wire.specs.Sizes.{most_pldm_reply_data}
+use Rattle.pldm_base.specs.Parts.{asked_of_entry}
 use Rattle.record_kinds.specs.Limits.{key_of, limits_at}
 use Rattle.record_base.specs.Meaning.{Decides, room_for}
 use Rattle.record_base.specs.declared.key.Key.{Key}
@@ -20,8 +23,12 @@ use Rattle.record_kinds.specs.Boards.{attribute_at}
 use Rattle.record_base.specs.Attribute.{range_of}
 use Rattle.record_kinds.specs.Sound.{IsSound, IsSoundAt}
 use Rattle.record_kinds.specs.SoundLaws.{sound_set, sound_with}
+use Rattle.record_base.specs.declared.bios_attribute.SetBiosAttribute.{SetBiosAttribute}
+use Rattle.attribute_parts.specs.Stagings.{start_outcome, add_outcome, end_outcome}
+use Rattle.attribute_parts.specs.declared.set_part.SetPart.{SetPart}
+use Rattle.attribute_parts.specs.declared.set_part.SetPart.TheVariants.{Start, Middle, End}
 use Rattle.bmc_board.specs.Request.{Request}
-use Rattle.bmc_board.specs.Request.{Live, Get, Set, SetStores}
+use Rattle.bmc_board.specs.Request.{Live, Get, Set, SetStores, PartOfSet, LaterPart}
 use Rattle.record_base.specs.declared.channel.SetChannelAccess.{SetChannelAccess}
 use Rattle.record_base.specs.declared.op.Op.TheVariants as of_kind
 use Rattle.cfg_records.specs.Records.{with_record}
@@ -31,11 +38,15 @@ use Rattle.bmc_board.specs.State.{State}
 use Rattle.bmc_board.specs.Leaves.{Leaves}
 use Rattle.bmc_board.specs.Replies.{done, refused, unknown_code}
 use Rattle.bmc_board.specs.Room.{longest_reply}
-use Rattle.bmc_board.specs.Answer.{Given, get_answer, set_result, set_answer, outcome_at, both_given, serve, reply, answer_of}
+use Rattle.bmc_board.specs.Answer.{Given, get_answer, set_result, set_answer, outcome_at, both_given, set_at, staged, ended, part_given, serve, reply, answer_of}
+use Rattle.bmc_board.specs.AttributeParts.{named_in, limits_named, entry_shown, later_answer}
+use Rattle.bios_attr.specs.BiosAttribute.{get_next_part}
+use Rattle.bmc_board.specs.BiosTables.{part_answer, longest_part}
 use Rattle.bmc_board.specs.AnyAnswer.{IsCode, NeverBusy, RefusedLeaves, StaysSound, AnswersFit}
 use Rattle.bmc_board.proofs.Rightly.{code_of}
 use Rattle.bmc_board.proofs.AskedFacts.{IsRight, asked_right}
-use Rattle.bmc_board.proofs.LiveFacts.{refusal_code, unknown_is_refused, are_live}
+use Rattle.bmc_board.proofs.LiveFacts.{refusal_code, unknown_is_refused, are_live, part_long}
+use Rattle.bmc_board.proofs.PartFacts.{Refuses, start_code, add_code, end_code, not_unstaged, unstaged_records}
 use Rattle.bmc_board.proofs.BothFacts.{outcome_code, IsWritten, written}
 
 -- ---- its code is not a busy controller's, and what a refusal leaves
@@ -79,11 +90,43 @@ both_proper first second before key other (Ok new) (Err code) p q = refused_prop
 both_proper first second before key other (Err code) (Ok value) p q = refused_proper (Ok (SetStores first second)) before code (p code refl) refl
 both_proper first second before key other (Err code) (Err later) p q = refused_proper (Ok (SetStores first second)) before code (p code refl) refl
 
+-- a part that is staged changes no record, and the last part is a Set
+staged_proper : (from : ℕ) (part : SetPart) (before : State) (r : Result (List ℕ) ℕ) → Refuses r → IsProper (Ok (PartOfSet from part)) before (staged from before r)
+staged_proper from part before (Ok entry) is = done_proper (Ok (PartOfSet from part)) before _ _
+staged_proper from part before (Err code) is = refused_proper (Ok (PartOfSet from part)) before code (refusal_code code is) refl
+
+ended_proper : (setup : BoardFile) (from : ℕ) (part : SetPart) (before : State) (r : Result SetBiosAttribute ℕ) → Refuses r → IsProper (Ok (PartOfSet from part)) before (ended setup from before r)
+ended_proper setup from part before (Ok change) is =
+    let op : Op = of_kind.BiosAttribute change in
+    let set : IsProper (Ok (Set op)) before (set_at setup before op) = set_proper _ _ _ op before (unknown_is_code setup (key_of op)) in
+    record { has_code = set.has_code; left = λ fault. not_unstaged from (set_at setup before op).0.code (set_at setup before op).1 fault ∙ set.left fault }
+ended_proper setup from part before (Err code) is = refused_proper (Ok (PartOfSet from part)) before code (refusal_code code is) refl
+
+part_proper : (setup : BoardFile) (from : ℕ) (part : SetPart) (before : State) → IsProper (Ok (PartOfSet from part)) before (part_given setup from before part)
+part_proper setup from (Start entry) before = staged_proper from (Start entry) before _ (start_code (limits_named setup (named_in entry)) before.activity.stagings from entry)
+part_proper setup from (Middle handle bytes) before = staged_proper from (Middle handle bytes) before _ (add_code before.activity.stagings from handle bytes)
+part_proper setup from (End handle bytes) before = ended_proper setup from (End handle bytes) before _ (end_code before.activity.stagings from handle bytes)
+
+later_proper : (handle transfer : ℕ) (limits : Option Limits) (value : Option (List ℕ)) (live : LivePart) (unknown : ℕ) (before : State) → IsCode unknown
+    → IsProper (Ok (LaterPart handle transfer)) before (later_answer limits value live unknown transfer, before)
+later_proper handle transfer (Some limits) (Some value) live unknown before is = part_of (entry_shown limits value live) (asked_of_entry (entry_shown limits value live) get_next_part transfer)
+  where
+    part_of : (entry : List ℕ) (offset : Option ℕ) → IsProper (Ok (LaterPart handle transfer)) before (part_answer entry offset, before)
+    part_of entry (Some offset) = done_proper (Ok (LaterPart handle transfer)) before before _
+    part_of entry None = refused_proper (Ok (LaterPart handle transfer)) before pldm_invalid_data (code_of pldm_invalid_data refl) refl
+later_proper handle transfer (Some limits) None live unknown before is = refused_proper (Ok (LaterPart handle transfer)) before unknown is refl
+later_proper handle transfer None (Some value) live unknown before is = refused_proper (Ok (LaterPart handle transfer)) before unknown is refl
+later_proper handle transfer None None live unknown before is = refused_proper (Ok (LaterPart handle transfer)) before unknown is refl
+
 serve_proper : (setup : BoardFile) (before : State) (request : Request) → IsProper (Ok request) before (serve setup before request)
 serve_proper setup before (Live command body) = let is = are_live setup before.records before.activity command body in record { has_code = is.has_code; left = is.left }
 serve_proper setup before (Get key) = get_proper key _ _ before.activity.live _ before (unknown_is_code setup key)
 serve_proper setup before (Set op) = set_proper _ _ _ op before (unknown_is_code setup (key_of op))
 serve_proper setup before (SetStores first second) = both_proper first second before _ _ _ _ (outcome_is_code setup before (of_kind.ChannelAccess first)) (outcome_is_code setup before (of_kind.ChannelAccess second))
+serve_proper setup before (PartOfSet from part) = part_proper setup from part before
+serve_proper setup before (LaterPart handle transfer) =
+    let named : Key = key.BiosAttribute handle in
+    later_proper handle transfer (limits_at setup named) (before.records named) before.activity.live (unknown_code setup named) before (unknown_is_code setup named)
 
 reply_proper : (setup : BoardFile) (before : State) (room : ℕ) (changing : Bool) (r : Result Request ℕ) → IsRight room changing r → IsProper r before (reply setup before r)
 reply_proper setup before room changing (Ok request) right = serve_proper setup before request
@@ -162,6 +205,33 @@ both_fit setup room first second before (Ok new) (Err code) sound p q = refused_
 both_fit setup room first second before (Err code) (Ok value) sound p q = refused_fit setup room code before sound
 both_fit setup room first second before (Err code) (Err later) sound p q = refused_fit setup room code before sound
 
+staged_fit : (setup : BoardFile) (room from : ℕ) (before : State) (r : Result (List ℕ) ℕ) → IsSound setup before.records → most_pldm_reply_data ≤ room → IsFit setup room (staged from before r)
+staged_fit setup room from before (Ok entry) sound le = let four : length (to_le_bytes w32 (length entry)) ≡ 4 = refl in record { short = omega (arith, four, le); sound = sound }
+staged_fit setup room from before (Err code) sound le = refused_fit setup room code before sound
+
+ended_fit : (setup : BoardFile) (room from : ℕ) (before : State) (r : Result SetBiosAttribute ℕ) → IsSound setup before.records → most_pldm_reply_data ≤ room → IsFit setup room (ended setup from before r)
+ended_fit setup room from before (Ok change) sound le =
+    let op : Op = of_kind.BiosAttribute change in
+    let given : Given = set_at setup before op in
+    let set : IsFit setup room given = set_fit setup room _ _ _ op before sound refl refl le in
+    record { short = set.short; sound = subst (IsSound setup) (sym (unstaged_records from given.0.code given.1)) set.sound }
+ended_fit setup room from before (Err code) sound le = refused_fit setup room code before sound
+
+part_fit : (setup : BoardFile) (room from : ℕ) (part : SetPart) (before : State) → IsSound setup before.records → most_pldm_reply_data ≤ room → IsFit setup room (part_given setup from before part)
+part_fit setup room from (Start entry) before sound le = staged_fit setup room from before (start_outcome (limits_named setup (named_in entry)) before.activity.stagings from entry) sound le
+part_fit setup room from (Middle handle bytes) before sound le = staged_fit setup room from before (add_outcome before.activity.stagings from handle bytes) sound le
+part_fit setup room from (End handle bytes) before sound le = ended_fit setup room from before (end_outcome before.activity.stagings from handle bytes) sound le
+
+later_short : (limits : Option Limits) (value : Option (List ℕ)) (live : LivePart) (unknown transfer room : ℕ) → longest_part ≤ room → length (later_answer limits value live unknown transfer).body ≤ room
+later_short (Some limits) (Some value) live unknown transfer room le = part_of (entry_shown limits value live) (asked_of_entry (entry_shown limits value live) get_next_part transfer)
+  where
+    part_of : (entry : List ℕ) (offset : Option ℕ) → length (part_answer entry offset).body ≤ room
+    part_of entry (Some offset) = omega (arith, part_long entry offset, le)
+    part_of entry None = omega arith
+later_short (Some limits) None live unknown transfer room le = omega arith
+later_short None (Some value) live unknown transfer room le = omega arith
+later_short None None live unknown transfer room le = omega arith
+
 serve_fit : (setup : BoardFile) (before : State) (request : Request) (room : ℕ) → IsSound setup before.records → longest_reply request ≤ room → IsFit setup room (serve setup before request)
 serve_fit setup before (Live command body) room sound has = record { short = omega (arith, (are_live setup before.records before.activity command body).short, has); sound = sound }
 serve_fit setup before (Get key) room sound has = record { short = get_short (limits_at setup key) (before.records key) before.activity.live (unknown_code setup key) key room (limits_are_of setup key) (sound key) has; sound = sound }
@@ -170,6 +240,10 @@ serve_fit setup before (SetStores first second) room sound has =
     both_fit setup room (of_kind.ChannelAccess first) (of_kind.ChannelAccess second) before (outcome_at setup before (of_kind.ChannelAccess first)) (outcome_at setup before (of_kind.ChannelAccess second)) sound
     (λ new is. written setup before.records _ _ _ (of_kind.ChannelAccess first) new refl refl sound is)
     (λ new is. written setup before.records _ _ _ (of_kind.ChannelAccess second) new refl refl sound is)
+serve_fit setup before (PartOfSet from part) room sound has = part_fit setup room from part before sound has
+serve_fit setup before (LaterPart handle transfer) room sound has =
+    let named : Key = key.BiosAttribute handle in
+    record { short = later_short (limits_at setup named) (before.records named) before.activity.live (unknown_code setup named) transfer room has; sound = sound }
 
 reply_fit : (setup : BoardFile) (before : State) (room : ℕ) (changing : Bool) (r : Result Request ℕ) → IsRight room changing r → IsSound setup before.records → IsFit setup room (reply setup before r)
 reply_fit setup before room changing (Ok request) right sound = serve_fit setup before request room sound right.0

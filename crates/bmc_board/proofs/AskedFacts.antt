@@ -9,7 +9,7 @@ use Rattle.record_base.specs.declared.message.Asked.TheVariants.{Ipmi, Pldm}
 use Rattle.bmc_board.specs.declared.command.Line.{Line}
 use Rattle.bmc_board.specs.declared.request.Refusals.{Refusals}
 use Rattle.bmc_board.specs.Request.{Request}
-use Rattle.bmc_board.specs.Request.{Live, Get, Set, SetStores}
+use Rattle.bmc_board.specs.Request.{Live, Get, Set, SetStores, PartOfSet, LaterPart}
 use Rattle.bmc_board.specs.Table.{Listed, table, pldm_table, line_in, line_under, line_of, pldm_line_of, allow, is_pldm_type, changes, is_changing}
 use Rattle.bmc_board.specs.Request.{request_of, asked_at, asked_by, ipmi_refusals, pldm_refusals}
 use Rattle.bmc_board.specs.Room.{longest_reply}
@@ -24,6 +24,7 @@ use Rattle.bmc_board.proofs.LanFacts as lan
 abbrev pub IsQuiet : Request → Type 0
 IsQuiet (Set op) = ⊥
 IsQuiet (SetStores first second) = ⊥
+IsQuiet (PartOfSet from part) = ⊥
 IsQuiet _ = Unit {0}
 
 -- a reply to what is asked for fits this room, and a Set is asked for only where the command is a setting one; or a code refuses
@@ -43,7 +44,7 @@ all_right : (from : ℕ) (body : List ℕ) → list_all (λ (l : Listed). asks_r
 all_right from body = both_right _ _ (boot.set_right body) (both_right _ _ (boot.get_right body) (both_right _ _ (channel.set_right body) (both_right _ _ (lan.set_right body) (both_right _ _ (lan.get_right body) refl))))
 
 all_pldm_right : (from : ℕ) (body : List ℕ) → list_all (λ (l : Listed). asks_rightly 251 from body l.line) pldm_table ≡ true
-all_pldm_right from body = both_right _ _ (attribute.set_right body) (both_right _ _ (attribute.get_right body) refl)
+all_pldm_right from body = both_right _ _ (attribute.set_right from body) (both_right _ _ (attribute.get_right body) refl)
 
 -- ---- what passes it
 
@@ -56,6 +57,8 @@ quiet_where false (Live command body) e h = tt
 quiet_where false (Get key) e h = tt
 quiet_where false (Set op) e h = cc
 quiet_where false (SetStores first second) e h = cc
+quiet_where false (PartOfSet from part) e h = cc
+quiet_where false (LaterPart handle transfer) e h = tt
 
 right_of : (room : ℕ) (changing : Bool) (r : Result Request ℕ) → is_right room changing r ≡ true → IsRight room changing r
 right_of room changing (Ok request) e = let parts = both _ _ e in (le_from _ _ parts.0, quiet_where changing request parts.1)

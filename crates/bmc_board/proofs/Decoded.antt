@@ -1,5 +1,6 @@
 -- Each request for a record, and each for an operation, is read as what it asks for: a line for each kind whose data don't show it by themselves.
-use Rattle.std.proofs.Common.{◌≡◌, ℕ, ◌+◌, ◌*◌, ◌/◌, ◌%◌, ◌<◌, ap, ◌∙◌, List, [], ◌∷◌, take, length, Bool, true, false, if◌then◌else◌, Option, Some, None, Result, Ok, Err, refl, arith, nat_le}
+use Rattle.std.proofs.Common.{◌≡◌, ℕ, ◌+◌, ◌*◌, ◌/◌, ◌%◌, ◌<◌, ap, ◌∙◌, List, [], ◌∷◌, take, length, Bool, true, false, if◌then◌else◌, Option, Some, None, Result, Ok, Err, refl, arith, nat_le, nat_lt, ◌≤◌}
+use Rattle.std.proofs.lemmas.Bool.Decides.{nat_tests}
 use Rattle.record_base.specs.declared.key.Key.TheVariants as key
 use Rattle.record_base.specs.declared.op.Op.{Op}
 use Rattle.record_base.specs.declared.sensor_thresholds.SetThresholds.{SetThresholds}
@@ -51,7 +52,7 @@ use Rattle.record_kinds.specs.Limits.{set_asked}
 use Rattle.bmc_board.specs.Request as request
 use Rattle.bmc_board.specs.Request.{Request, asked_by}
 use Rattle.bmc_board.specs.ChannelCommands.{channel_asked}
-use Rattle.bmc_board.specs.AttributeCommands.{attribute_set}
+use Rattle.bmc_board.specs.AttributeCommands.{whole_set}
 use Rattle.bmc_board.specs.Decode.{GetsAreRead, SetsAreRead}
 use Rattle.bmc_board.proofs.LanFacts as lan
 
@@ -259,15 +260,21 @@ gets_access c u = Ok (request.Get (key.UserAccess (record { channel = c; user = 
 abbrev attribute_request : SetBiosAttribute → List ℕ
 attribute_request o = 0 ∷ 0 ∷ 0 ∷ 0 ∷ 5 ∷ o.attribute % 256 ∷ o.attribute / 256 ∷ o.attribute_type ∷ o.value
 
-abbrev read_where : Bool → SetBiosAttribute → Result Request ℕ
-read_where b change = if b then attribute_set (if b then Ok change else Err pldm_invalid_length) else Err pldm_invalid_length
+-- by whether the data have a length that the command takes, and whether they are too short for a part or for an entry
+abbrev read_where : (allowed short cut : Bool) → SetBiosAttribute → Result Request ℕ
+read_where allowed short cut change =
+    if allowed then whole_set (if short then Err pldm_invalid_length else (if cut then Err pldm_invalid_length else Ok change)) else Err pldm_invalid_length
 
-long_enough : (o : SetBiosAttribute) → nat_le 8 (length (attribute_request o)) ≡ true
-long_enough o = le_true 8 (length (attribute_request o)) (omega arith)
+long_enough : (o : SetBiosAttribute) → nat_le 6 (length (attribute_request o)) ≡ true
+long_enough o = le_true 6 (length (attribute_request o)) (omega arith)
+
+not_less : (n m : ℕ) → m ≤ n → nat_lt n m ≡ false
+not_less n m le = grind (arith, nat_tests)
 
 attribute_read : (o : SetBiosAttribute) → asked_by (set_asked (op.BiosAttribute o)) ≡ Ok (request.Set (op.BiosAttribute o))
 attribute_read o =
-    ap (λ (b : Bool). read_where b (setting (o.attribute % 256 + 256 * (o.attribute / 256)) o.attribute_type o.value)) (long_enough o)
+    let size : ℕ = length (attribute_request o) in
+    (λ i. read_where (long_enough o i) (not_less size 6 (omega arith) i) (not_less size 8 (omega arith) i) (setting (o.attribute % 256 + 256 * (o.attribute / 256)) o.attribute_type o.value))
     ∙ ap (λ (n : ℕ). Ok (request.Set (op.BiosAttribute (setting n o.attribute_type o.value)))) (two_bytes o.attribute)
     ∙ ap (λ (change : SetBiosAttribute). Ok (request.Set (op.BiosAttribute change))) (same_setting o.attribute o.attribute_type (take most_sent o.value) o.value (few_sent o.value) o.fits (sent_whole o.value o.fits))
 

@@ -3,6 +3,7 @@ pub mod LiveReplies
 pub mod BootFacts
 pub mod ChannelFacts
 pub mod AttributeFacts
+pub mod PartFacts
 pub mod LanFacts
 pub mod AskedFacts
 pub mod LiveFacts

@@ -229,7 +229,7 @@ passwords command asked records before (Some known) (Err code) user is stays = i
 passwords command asked records before (Some known) (Ok change) user is stays = changes_password command asked records before change user stays
 
 -- a part of a table is short, and the codes are none of a busy controller's
-part_long : (table : List ℕ) (offset : ℕ) → length (part_data table offset) ≤ longest_part
+pub part_long : (table : List ℕ) (offset : ℕ) → length (part_data table offset) ≤ longest_part
 part_long table offset = omega (arith, length-take 192 (drop offset table))
 
 shows_part_of : (asked : List ℕ) (records : Records) (before : Activity) (table : List ℕ) (offset : Option ℕ) → IsLive live.GetBiosTable asked records before (part_answer table offset, before)

@@ -4,18 +4,22 @@ use Rattle.record_kinds.specs.Limits.{key_of}
 use Rattle.cfg_records.specs.Records.{with_record}
 use Rattle.record_base.specs.Meaning.{Decides}
 use Rattle.record_base.specs.declared.op.Op.{Op}
+use Rattle.record_base.specs.declared.op.Op.TheVariants as of_kind
+use Rattle.record_base.specs.declared.bios_attribute.SetBiosAttribute.{SetBiosAttribute}
 use Rattle.record_base.specs.declared.message.Answered.{Answered}
 use Rattle.cfg_records.specs.declared.board_file.BoardFile.{BoardFile}
 use Rattle.record_kinds.specs.declared.limits.Limits.{Limits}
 use Rattle.record_kinds.specs.Limits.{sets, outcome}
 use Rattle.record_kinds.specs.LimitsLaws as laws
+use Rattle.attribute_parts.specs.declared.set_part.SetPart.TheVariants.{Start, Middle, End}
+use Rattle.attribute_parts.specs.Stagings.{end_outcome}
 use Rattle.bmc_board.specs.Request.{Request}
-use Rattle.bmc_board.specs.Request.{Live, Get, Set, SetStores}
+use Rattle.bmc_board.specs.Request.{Live, Get, Set, SetStores, PartOfSet, LaterPart}
 use Rattle.bmc_board.specs.Request.{asked_by}
 use Rattle.bmc_board.specs.State.{State, state}
 use Rattle.bmc_board.specs.Replies.{refused}
-use Rattle.bmc_board.specs.Answer.{Given, activity_after, set_result, set_answer, serve, reply}
-use Rattle.bmc_board.specs.Row.{Sets, Is, Serves, Replies}
+use Rattle.bmc_board.specs.Answer.{Given, activity_after, set_result, set_answer, set_at, end_staging, ended, serve, reply}
+use Rattle.bmc_board.specs.Row.{Sets, Is, Ends, Serves, Replies}
 use Rattle.bmc_board.specs.AnyAnswer.{HasAnswer, HasOneAnswer}
 
 -- two parts that are equal make equal pairs
@@ -35,11 +39,20 @@ sets_answer (Some limits) None unknown op before = (refl, refl)
 sets_answer None (Some old) unknown op before = (refl, refl)
 sets_answer None None unknown op before = (refl, refl)
 
+ends : (setup : BoardFile) (from : ℕ) (before : State) (r : Result SetBiosAttribute ℕ) → Ends setup from r before (ended setup from before r).0 (ended setup from before r).1
+ends setup from before (Ok change) =
+    record { set = (set_at setup before (of_kind.BiosAttribute change)).1; sets = sets_answer _ _ _ (of_kind.BiosAttribute change) before; left = refl }
+ends setup from before (Err fault) = refl
+
 serves : (setup : BoardFile) (before : State) (request : Request) → Serves setup before request (serve setup before request).0 (serve setup before request).1
 serves setup before (Live command body) = refl
 serves setup before (Get key) = refl
 serves setup before (Set op) = sets_answer _ _ _ op before
 serves setup before (SetStores first second) = refl
+serves setup before (PartOfSet from (Start entry)) = refl
+serves setup before (PartOfSet from (Middle handle bytes)) = refl
+serves setup before (PartOfSet from (End handle bytes)) = ends setup from before (end_outcome before.activity.stagings from handle bytes)
+serves setup before (LaterPart handle transfer) = refl
 
 replies : (setup : BoardFile) (before : State) (r : Result Request ℕ) → Replies setup before r (reply setup before r).0 (reply setup before r).1
 replies setup before (Ok request) = serves setup before request
@@ -66,11 +79,21 @@ sets_once (Some limits) None unknown op before answered after h = pair _ _ _ _ h
 sets_once None (Some old) unknown op before answered after h = pair _ _ _ _ h.0 h.1
 sets_once None None unknown op before answered after h = pair _ _ _ _ h.0 h.1
 
+ends_once : (setup : BoardFile) (from : ℕ) (before : State) (answered : Answered) (after : State) (r : Result SetBiosAttribute ℕ) → Ends setup from r before answered after → Is answered after (ended setup from before r)
+ends_once setup from before answered after (Ok change) h =
+    let same : Is answered h.set (set_at setup before (of_kind.BiosAttribute change)) = sets_once _ _ _ (of_kind.BiosAttribute change) before answered h.set h.sets in
+    pair _ _ _ _ refl h.left ∙ ap (end_staging from) same
+ends_once setup from before answered after (Err fault) h = h
+
 serves_once : (setup : BoardFile) (before : State) (request : Request) (answered : Answered) (after : State) → Serves setup before request answered after → Is answered after (serve setup before request)
 serves_once setup before (Live command body) answered after h = h
 serves_once setup before (Get key) answered after h = h
 serves_once setup before (Set op) answered after h = sets_once _ _ _ op before answered after h
 serves_once setup before (SetStores first second) answered after h = h
+serves_once setup before (PartOfSet from (Start entry)) answered after h = h
+serves_once setup before (PartOfSet from (Middle handle bytes)) answered after h = h
+serves_once setup before (PartOfSet from (End handle bytes)) answered after h = ends_once setup from before answered after (end_outcome before.activity.stagings from handle bytes) h
+serves_once setup before (LaterPart handle transfer) answered after h = h
 
 replies_once : (setup : BoardFile) (before : State) (r : Result Request ℕ) (answered : Answered) (after : State) → Replies setup before r answered after → Is answered after (reply setup before r)
 replies_once setup before (Ok request) answered after h = serves_once setup before request answered after h

@@ -4,7 +4,7 @@ use Rattle.record_base.specs.Meaning.{room_for}
 use Rattle.record_base.specs.declared.message.Answered.{Answered}
 use Rattle.cfg_records.specs.declared.board_file.BoardFile.{BoardFile}
 use Rattle.bmc_board.specs.Request.{Request}
-use Rattle.bmc_board.specs.Request.{Live, Get, Set, SetStores}
+use Rattle.bmc_board.specs.Request.{Live, Get, Set, SetStores, PartOfSet, LaterPart}
 use Rattle.bmc_board.specs.Request.{asked_by}
 use Rattle.bmc_board.specs.State.{State}
 use Rattle.bmc_board.specs.Answer.{Given}
@@ -17,6 +17,8 @@ served_quietly setup before (Live command body) answered after quiet row = ap (�
 served_quietly setup before (Get key) answered after quiet row = ap (λ (g : Given). g.1.records) row
 served_quietly setup before (Set op) answered after quiet row = absurd quiet
 served_quietly setup before (SetStores first second) answered after quiet row = absurd quiet
+served_quietly setup before (PartOfSet from part) answered after quiet row = absurd quiet
+served_quietly setup before (LaterPart handle transfer) answered after quiet row = ap (λ (g : Given). g.1.records) row
 
 replied_quietly : (setup : BoardFile) (before : State) (room : ℕ) (r : Result Request ℕ) (answered : Answered) (after : State) → IsRight room false r → Replies setup before r answered after → after.records ≡ before.records
 replied_quietly setup before room (Ok request) answered after right row = served_quietly setup before request answered after (right.1 refl) row

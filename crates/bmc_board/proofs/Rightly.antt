@@ -3,7 +3,7 @@ use Rattle.std.proofs.Common.{◌≡◌, ◌≢◌, ℕ, nat_le, Result, Ok, Err
 use Rattle.std.proofs.lemmas.Bool.Decides.{nat_tests}
 use Rattle.two_wire.specs.Codes.{node_busy, pldm_not_ready}
 use Rattle.bmc_board.specs.Asks.{Request}
-use Rattle.bmc_board.specs.Asks.{Set, SetStores}
+use Rattle.bmc_board.specs.Asks.{Set, SetStores, PartOfSet}
 use Rattle.bmc_board.specs.Room.{longest_reply}
 use Rattle.bmc_board.specs.AnyAnswer.{IsCode}
 
@@ -11,6 +11,7 @@ use Rattle.bmc_board.specs.AnyAnswer.{IsCode}
 abbrev pub is_quiet : Request → Bool
 is_quiet (Set op) = false
 is_quiet (SetStores first second) = false
+is_quiet (PartOfSet from part) = false
 is_quiet _ = true
 
 -- the code isn't a busy controller's

@@ -22,7 +22,7 @@ use Rattle.bmc_board.specs.State.{State}
 use Rattle.bmc_board.specs.Replies.{done, refused, unknown_code}
 use Rattle.bmc_board.specs.Answer.{Given, get_answer}
 use Rattle.bmc_board.specs.Row.{IsCarriedOut, Sets, Serves, Replies, Row}
-use Rattle.bmc_board.specs.Decode.{sent_by}
+use Rattle.bmc_board.specs.Decode.{sent_by, asked_from}
 use Rattle.bmc_board.specs.Undo.{IsUndone, IsAReply}
 use Rattle.bmc_board.proofs.AnswerFacts.{limits_are_of}
 use Rattle.bmc_board.proofs.LiveFacts.{unknown_is_refused}
@@ -35,10 +35,10 @@ read_as : (setup : BoardFile) (before : State) (asked : Asked) (request : Reques
 read_as setup before asked request answered after is row = subst (λ (r : Result Request ℕ). Replies setup before r answered after) is row
 
 pub get_served : (setup : BoardFile) (before : State) (from : ℕ) (key : Key) (answered : Answered) (after : State) → Row setup before (sent_by from (get_asked key)) answered after → Serves setup before (Get key) answered after
-get_served setup before from key answered after row = read_as setup before (sent_by from (get_asked key)) (Get key) answered after (is_read_from_all from (get_asked key) ∙ (gets_are_read key).is_read) row
+get_served setup before from key answered after row = read_as setup before (sent_by from (get_asked key)) (Get key) answered after (is_read_from_all from (get_asked key) ∙ ap (asked_from from) (gets_are_read key).is_read) row
 
 pub set_served : (setup : BoardFile) (before : State) (from : ℕ) (op : Op) (answered : Answered) (after : State) → Row setup before (sent_by from (set_asked op)) answered after → Serves setup before (Set op) answered after
-set_served setup before from op answered after row = read_as setup before (sent_by from (set_asked op)) (Set op) answered after (is_read_from_all from (set_asked op) ∙ (sets_are_read op).is_read) row
+set_served setup before from op answered after row = read_as setup before (sent_by from (set_asked op)) (Set op) answered after (is_read_from_all from (set_asked op) ∙ ap (asked_from from) (sets_are_read op).is_read) row
 
 -- ---- requests that are carried out
 

@@ -1,8 +1,11 @@
 -- The answer to each request and the state that it leaves, as a function.
-use Rattle.std.specs.Prelude.{ℕ, List, [], Option, Some, Result, Ok, Err}
+use Rattle.std.specs.Prelude.{ℕ, List, [], length, Option, Some, Result, Ok, Err}
+use Rattle.std.specs.Int.{w32, to_le_bytes}
 use Rattle.record_kinds.specs.Limits.{key_of, limits_at}
 use Rattle.cfg_records.specs.Records.{with_record}
 use Rattle.record_base.specs.declared.key.Key.{Key}
+use Rattle.record_base.specs.declared.key.Key.TheVariants as key
+use Rattle.record_base.specs.declared.bios_attribute.SetBiosAttribute.{SetBiosAttribute}
 use Rattle.record_base.specs.declared.op.Op.{Op}
 use Rattle.record_base.specs.declared.op.Op.TheVariants as of_kind
 use Rattle.record_base.specs.declared.message.Asked.{Asked}
@@ -11,13 +14,17 @@ use Rattle.record_base.specs.declared.live.Live.{Live as LivePart}
 use Rattle.cfg_records.specs.declared.board_file.BoardFile.{BoardFile}
 use Rattle.record_kinds.specs.declared.limits.Limits.{Limits}
 use Rattle.record_kinds.specs.Limits.{outcome, view, set_reply, next_live}
+use Rattle.attribute_parts.specs.declared.set_part.SetPart.{SetPart}
+use Rattle.attribute_parts.specs.declared.set_part.SetPart.TheVariants.{Start, Middle, End}
+use Rattle.attribute_parts.specs.Stagings.{with_staged, start_outcome, add_outcome, end_outcome}
 use Rattle.bmc_board.specs.declared.activity.Activity.{Activity}
 use Rattle.bmc_board.specs.Request.{Request}
-use Rattle.bmc_board.specs.Request.{Live, Get, Set, SetStores}
+use Rattle.bmc_board.specs.Request.{Live, Get, Set, SetStores, PartOfSet, LaterPart}
 use Rattle.bmc_board.specs.Request.{asked_by}
 use Rattle.bmc_board.specs.State.{State, state}
 use Rattle.bmc_board.specs.Replies.{done, refused, unknown_code}
 use Rattle.bmc_board.specs.Live.{live_answer}
+use Rattle.bmc_board.specs.AttributeParts.{named_in, limits_named, with_stagings, unstaged, later_answer}
 
 -- an answer, with the state after it
 abbrev pub Given : Type 0
@@ -62,12 +69,38 @@ both_given (Err fault) _ key other_key before = (refused fault, before)
 abbrev pub both_answer : BoardFile → State → Op → Op → Given
 both_answer setup before first second = both_given (outcome_at setup before first) (outcome_at setup before second) (key_of first) (key_of second) before
 
+-- what comes of a Set at its record
+abbrev pub set_at : BoardFile → State → Op → Given
+set_at setup before op = set_answer (limits_at setup (key_of op)) (before.records (key_of op)) (unknown_code setup (key_of op)) op before
+
+-- a part with others behind it is staged: its reply has the handle of the next, which counts the bytes that are staged
+abbrev pub staged : (from : ℕ) → State → Result (List ℕ) ℕ → Given
+staged from before (Ok entry) = (done (to_le_bytes w32 (length entry)), with_stagings before (with_staged from entry before.activity.stagings))
+staged from before (Err code) = (refused code, before)
+
+-- a Set that is carried out ends what its requester has staged
+abbrev pub end_staging : (from : ℕ) → Given → Given
+end_staging from given = (given.0, unstaged from given.0.code given.1)
+
+-- the last part is the Set of the whole entry
+abbrev pub ended : BoardFile → (from : ℕ) → State → Result SetBiosAttribute ℕ → Given
+ended setup from before (Ok op) = end_staging from (set_at setup before (of_kind.BiosAttribute op))
+ended setup from before (Err code) = (refused code, before)
+
+abbrev pub part_given : BoardFile → (from : ℕ) → State → SetPart → Given
+part_given setup from before (Start entry) = staged from before (start_outcome (limits_named setup (named_in entry)) before.activity.stagings from entry)
+part_given setup from before (Middle handle bytes) = staged from before (add_outcome before.activity.stagings from handle bytes)
+part_given setup from before (End handle bytes) = ended setup from before (end_outcome before.activity.stagings from handle bytes)
+
 -- one line for each form of what can be asked for
 abbrev pub serve : BoardFile → State → Request → Given
 serve setup before (Live command body) = with_records before (live_answer setup before.records before.activity command body)
 serve setup before (Get key) = (get_answer (limits_at setup key) (before.records key) before.activity.live (unknown_code setup key), before)
-serve setup before (Set op) = set_answer (limits_at setup (key_of op)) (before.records (key_of op)) (unknown_code setup (key_of op)) op before
+serve setup before (Set op) = set_at setup before op
 serve setup before (SetStores first second) = both_answer setup before (of_kind.ChannelAccess first) (of_kind.ChannelAccess second)
+serve setup before (PartOfSet from part) = part_given setup from before part
+serve setup before (LaterPart handle transfer) =
+    (later_answer (limits_at setup (key.BiosAttribute handle)) (before.records (key.BiosAttribute handle)) before.activity.live (unknown_code setup (key.BiosAttribute handle)) transfer, before)
 
 abbrev pub reply : BoardFile → State → Result Request ℕ → Given
 reply setup before (Ok request) = serve setup before request

@@ -1,13 +1,13 @@
 -- The requests that get a record and that change one are read as that Get and that Set. The operation that undoes a change has 0 in
 -- each bit that is ignored.
-use Rattle.std.specs.Prelude.{◌≡◌, ℕ, List, Some, Ok}
+use Rattle.std.specs.Prelude.{◌≡◌, ℕ, List, Some, Result, Ok}
 use Rattle.record_base.specs.declared.key.Key.{Key}
 use Rattle.record_base.specs.declared.op.Op.{Op}
 use Rattle.record_base.specs.declared.message.Asked.{Asked}
 use Rattle.record_base.specs.declared.message.Asked.TheVariants.{Ipmi, Pldm}
 use Rattle.record_kinds.specs.Limits.{get_asked, set_asked, inverse, is_plain}
 use Rattle.bmc_board.specs.Request.{Request}
-use Rattle.bmc_board.specs.Request.{Get, Set}
+use Rattle.bmc_board.specs.Request.{Get, Set, PartOfSet}
 use Rattle.bmc_board.specs.Request.{asked_by}
 
 -- the same request, from another requester
@@ -15,9 +15,14 @@ abbrev pub sent_by : ℕ → Asked → Asked
 sent_by from (Ipmi other net_fn lun number body) = Ipmi from net_fn lun number body
 sent_by from (Pldm other kind number body) = Pldm from kind number body
 
--- who asks makes no difference
+-- the same, asked for by another requester: a part of a Set is its requester's
+abbrev pub asked_from : ℕ → Result Request ℕ → Result Request ℕ
+asked_from from (Ok (PartOfSet other part)) = Ok (PartOfSet from part)
+asked_from from asked = asked
+
+-- who asks makes no other difference
 abbrev pub IsReadFromAll : Type 0
-IsReadFromAll = (from : ℕ) (asked : Asked) → asked_by (sent_by from asked) ≡ asked_by asked
+IsReadFromAll = (from : ℕ) (asked : Asked) → asked_by (sent_by from asked) ≡ asked_from from (asked_by asked)
 
 -- nobody asks, and logical unit 0 is asked
 abbrev pub IsFromNobody : Asked → Type 0

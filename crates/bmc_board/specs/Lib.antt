@@ -10,6 +10,7 @@ pub mod Storage
 pub mod Sensing
 pub mod LanCommands
 pub mod Live
+pub mod AttributeParts
 pub mod Answer
 pub mod Row
 pub mod Stores

@@ -6,7 +6,6 @@ use Rattle.record_base.specs.declared.message.Asked.TheVariants.{Ipmi, Pldm}
 use Rattle.record_base.specs.declared.key.Key.TheVariants as key
 use Rattle.watch_boot.specs.BootRequests.{boot_request_in, boot_shown_in}
 use Rattle.user_chan.specs.ChannelRequests.{stored_in, channel_request_in}
-use Rattle.bios_attr.specs.BiosAttribute.{attribute_in, attribute_shown_in}
 use Rattle.record_kinds.specs.Limits.{reader_of}
 use Rattle.bmc_board.specs.declared.command.Command.{Command}
 use Rattle.bmc_board.specs.declared.command.Command.TheVariants as command
@@ -18,7 +17,7 @@ use Rattle.bmc_board.specs.ChannelCommands.{channel_asked}
 use Rattle.bmc_board.specs.AttributeCommands.{attribute_set, attribute_get}
 use Rattle.bmc_board.specs.LanCommands.{lan_set_asked, lan_get_asked}
 pub use Rattle.bmc_board.specs.Asks.{Request}
-pub use Rattle.bmc_board.specs.Asks.{Live, Get, Set, SetStores}
+pub use Rattle.bmc_board.specs.Asks.{Live, Get, Set, SetStores, PartOfSet, LaterPart}
 
 -- what a requester's command asks for with data of a length that it takes, or the code that refuses the data
 abbrev pub request_of : (from : ℕ) → Command → List ℕ → Result Request ℕ
@@ -29,8 +28,8 @@ request_of from command.SetBootOptions body = boot_set (boot_request_in body)
 request_of from command.GetBootOptions body = boot_get (boot_shown_in body)
 request_of from command.SetChannelAccess body = Ok (channel_asked (channel_request_in body))
 request_of from command.GetChannelAccess body = Ok (Get (key.ChannelAccess (stored_in body)))
-request_of from command.SetBiosAttribute body = attribute_set (attribute_in body)
-request_of from command.GetBiosAttribute body = attribute_get (attribute_shown_in body)
+request_of from command.SetBiosAttribute body = attribute_set from body
+request_of from command.GetBiosAttribute body = attribute_get body
 request_of from command.SetLanParam body = Ok (lan_set_asked body)
 request_of from command.GetLanParam body = Ok (lan_get_asked body)
 

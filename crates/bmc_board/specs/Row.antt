@@ -3,16 +3,21 @@ use Rattle.std.specs.Prelude.{◌≡◌, ℕ, List, Option, Some, Result, Ok, Er
 use Rattle.record_kinds.specs.Limits.{key_of, limits_at}
 use Rattle.cfg_records.specs.Records.{with_record}
 use Rattle.record_base.specs.declared.op.Op.{Op}
+use Rattle.record_base.specs.declared.op.Op.TheVariants as of_kind
+use Rattle.record_base.specs.declared.bios_attribute.SetBiosAttribute.{SetBiosAttribute}
 use Rattle.record_base.specs.declared.message.Asked.{Asked}
 use Rattle.record_base.specs.declared.message.Answered.{Answered}
 use Rattle.cfg_records.specs.declared.board_file.BoardFile.{BoardFile}
 use Rattle.record_kinds.specs.declared.limits.Limits.{Limits}
 use Rattle.record_kinds.specs.Limits.{sets, outcome, set_reply}
+use Rattle.attribute_parts.specs.declared.set_part.SetPart.TheVariants.{End}
+use Rattle.attribute_parts.specs.Stagings.{end_outcome}
 use Rattle.bmc_board.specs.Request.{Request}
-use Rattle.bmc_board.specs.Request.{Set}
+use Rattle.bmc_board.specs.Request.{Set, PartOfSet}
 use Rattle.bmc_board.specs.Request.{asked_by}
 use Rattle.bmc_board.specs.State.{State, state, IsUnchanged}
 use Rattle.bmc_board.specs.Replies.{done, refused, unknown_code}
+use Rattle.bmc_board.specs.AttributeParts.{unstaged}
 use Rattle.bmc_board.specs.Answer.{Given, activity_after, serve}
 
 -- a Set that its kind accepts writes the new value
@@ -35,13 +40,29 @@ abbrev pub Sets : Option Limits → Option (List ℕ) → ℕ → Op → State �
 Sets (Some limits) (Some old) unknown op before answered after = IsCarriedOut limits old op before answered after ⊎ IsRefused limits old op before answered after
 Sets _ _ unknown op before answered after = (answered ≡ refused unknown) × IsUnchanged before after
 
+-- the same, of an operation at its record
+abbrev pub SetsAt : BoardFile → Op → State → Answered → State → Type 0
+SetsAt setup op before answered after = Sets (limits_at setup (key_of op)) (before.records (key_of op)) (unknown_code setup (key_of op)) op before answered after
+
 -- the answer, with the state after it, is this
 abbrev pub Is : Answered → State → Given → Type 0
 Is answered after given = (let here : Given = (answered, after) in here) ≡ given
 
--- a Set is served as its kind's relation says, anything else by its function
+-- the Set of an entry whose last part came: where it is carried out, its requester has nothing staged any more
+pub record SetsWhole (setup : BoardFile) (from : ℕ) (op : Op) (before : State) (answered : Answered) (after : State) : Type 0 where
+  pub set : State
+  pub sets : SetsAt setup op before answered set
+  pub left : after ≡ unstaged from answered.code set
+
+-- the last part of a Set is the Set of the whole entry, or refused
+abbrev pub Ends : BoardFile → (from : ℕ) → Result SetBiosAttribute ℕ → State → Answered → State → Type 0
+Ends setup from (Ok op) before answered after = SetsWhole setup from (of_kind.BiosAttribute op) before answered after
+Ends setup from (Err code) before answered after = Is answered after (refused code, before)
+
+-- a Set is served as its kind's relation says, and so is the last part of one, anything else by its function
 abbrev pub Serves : BoardFile → State → Request → Answered → State → Type 0
-Serves setup before (Set op) answered after = Sets (limits_at setup (key_of op)) (before.records (key_of op)) (unknown_code setup (key_of op)) op before answered after
+Serves setup before (Set op) answered after = SetsAt setup op before answered after
+Serves setup before (PartOfSet from (End handle bytes)) answered after = Ends setup from (end_outcome before.activity.stagings from handle bytes) before answered after
 Serves setup before request answered after = Is answered after (serve setup before request)
 
 -- a request that asks for something is served, and any other refused

@@ -1,5 +1,5 @@
 -- What requests may change of a board.
-use Rattle.std.specs.Prelude.{◌≡◌, false}
+use Rattle.std.specs.Prelude.{◌≡◌, false, []}
 use Rattle.cfg_records.specs.Records.{Records, records_of}
 use Rattle.cfg_records.specs.Boards.{pairs_of}
 use Rattle.record_base.specs.Opening.{opening as live_at_opening}
@@ -25,7 +25,7 @@ abbrev pub state_of : {S : Type 0} {g h : _} → (S → Records) → Board S g h
 state_of records board = state (records board.store) board.activity
 
 -- what isn't configuration, as a board of this file begins: no reading was taken, the log has no record, its clock shows the file's
--- time, no set of boot options is in progress, and each user's password is sixteen bytes 00h
+-- time, no set of boot options is in progress, each user's password is sixteen bytes 00h, and nothing is staged
 abbrev pub opening : BoardFile → Activity
 opening file = record {
   live = live_at_opening;
@@ -34,6 +34,7 @@ opening file = record {
   log = record (new_log file.log.records) { clock = clock_at file.clock };
   boot_progress = false;
   passwords = opening_passwords;
+  stagings = [];
 }
 
 -- the state of a board of this file that has heard nothing yet

@@ -74,7 +74,7 @@ pldm_table =
     listed 0x02 0x39 (PairsCountedAt 2) true (command.Set kind.StateEffecter) ∷
     listed 0x02 0x3A (Exactly 2) false (command.Get kind.StateEffecter) ∷
     listed 0x03 0x01 (Exactly 6) false (command.Live live.GetBiosTable) ∷
-    listed 0x03 0x07 (AtLeast 8) true command.SetBiosAttribute ∷
+    listed 0x03 0x07 (AtLeast 6) true command.SetBiosAttribute ∷
     listed 0x03 0x08 (Exactly 7) false command.GetBiosAttribute ∷
     []
 

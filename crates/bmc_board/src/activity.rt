@@ -2,6 +2,7 @@
 ghost use Rattle.std.specs.Prelude.{◌≡◌, IfOk};
 ghost use Rattle.bmc_board.specs.State.{opening};
 
+use attribute_parts::Stagings;
 use cfg_records::{BoardFile, Live};
 use sel_log::Sel;
 use sensor_recs::{Readings, Sdr};
@@ -23,6 +24,8 @@ pub struct Activity {
     pub boot_progress: bool,
     /// The users' passwords.
     pub passwords: Passwords,
+    /// What requesters have staged of attributes' values.
+    pub stagings: Stagings,
 }
 
 impl Activity {
@@ -41,6 +44,7 @@ impl Activity {
             log,
             boot_progress: false,
             passwords: Passwords::opening(alloc)?,
+            stagings: Stagings::opening(alloc)?,
         })
     }
 }

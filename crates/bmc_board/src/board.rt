@@ -8,6 +8,7 @@ mod bios;
 mod happen;
 mod lan;
 mod opening;
+mod parts;
 mod serve;
 
 use crate::activity::Activity;

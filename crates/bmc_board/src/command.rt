@@ -23,9 +23,9 @@ pub enum Command {
     SetChannelAccess,
     /// Get Channel Access: it shows a record.
     GetChannelAccess,
-    /// SetBIOSAttributeCurrentValue: it sets a record, where its data are whole.
+    /// SetBIOSAttributeCurrentValue: it sets a record, where its data are whole or the last part.
     SetBiosAttribute,
-    /// GetBIOSAttributeCurrentValueByHandle: it shows a record, where its first part is asked for.
+    /// GetBIOSAttributeCurrentValueByHandle: it shows a record, or a later part of it.
     GetBiosAttribute,
     /// Set LAN Configuration Parameters: it sets a record, where it names one.
     SetLanParam,
@@ -150,7 +150,7 @@ pub fn pldm_line_of(kind: u8, number: u8) -> Option<Line>
         (0x02, 0x39) => entry(Set(StateEffecter), PairsCountedAt(2), true),
         (0x02, 0x3A) => entry(Get(StateEffecter), Exactly(2), false),
         (0x03, 0x01) => entry(Live(GetBiosTable), Exactly(6), false),
-        (0x03, 0x07) => entry(SetBiosAttribute, AtLeast(8), true),
+        (0x03, 0x07) => entry(SetBiosAttribute, AtLeast(6), true),
         (0x03, 0x08) => entry(GetBiosAttribute, Exactly(7), false),
         _ => return None,
     })

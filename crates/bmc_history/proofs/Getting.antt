@@ -1,5 +1,5 @@
 -- A Get shows what was set.
-use Rattle.std.proofs.Common.{◌≡◌, ◌<◌, ◌++◌, ℕ, zero, suc, List, [], ◌∷◌, Option, Some, None, Result, Ok, Err, Bool, true, false, if◌then◌else◌, inl, inr, All, refl, sym, ap, ◌∙◌, subst, arith}
+use Rattle.std.proofs.Common.{◌≡◌, ◌<◌, ◌++◌, ℕ, List, [], ◌∷◌, Option, Some, None, Result, Ok, Err, Bool, true, false, if◌then◌else◌, inl, inr, refl, sym, ap, ◌∙◌, subst, arith}
 use Rattle.two_wire.specs.Codes.{success}
 use Rattle.record_base.specs.Meaning.{Decides}
 use Rattle.record_base.specs.Keys.{same_key}
@@ -7,6 +7,7 @@ use Rattle.record_base.specs.KeyLaws.{exact_key}
 use Rattle.record_base.specs.declared.key.Key.{Key}
 use Rattle.record_base.specs.declared.op.Op.{Op}
 use Rattle.record_base.specs.declared.op.Op.TheVariants as of_kind
+use Rattle.record_base.specs.declared.bios_attribute.SetBiosAttribute.{SetBiosAttribute}
 use Rattle.record_base.specs.declared.message.Answered.{Answered}
 use Rattle.cfg_records.specs.Records.{Records, with_record}
 use Rattle.cfg_records.specs.RecordLaws.{with_record_same}
@@ -14,18 +15,22 @@ use Rattle.cfg_records.specs.declared.board_file.BoardFile.{BoardFile}
 use Rattle.record_kinds.specs.declared.limits.Limits.{Limits}
 use Rattle.record_kinds.specs.Limits.{key_of, limits_at, sets, outcome, view}
 use Rattle.record_kinds.specs.LimitsLaws as laws
+use Rattle.attribute_parts.specs.declared.set_part.SetPart.TheVariants.{Start, Middle, End}
+use Rattle.attribute_parts.specs.Stagings.{start_outcome, add_outcome, end_outcome}
 use Rattle.bmc_board.specs.Request.{Request}
-use Rattle.bmc_board.specs.Request.{Live, Get, Set, SetStores}
+use Rattle.bmc_board.specs.Request.{Live, Get, Set, SetStores, PartOfSet, LaterPart}
 use Rattle.bmc_board.specs.Request.{asked_by}
 use Rattle.bmc_board.specs.State.{State}
 use Rattle.bmc_board.specs.Replies.{done, unknown_code}
-use Rattle.bmc_board.specs.Answer.{Given, get_answer, set_result, set_answer, outcome_at, both_given, reply}
+use Rattle.bmc_board.specs.Answer.{Given, get_answer, set_result, set_answer, outcome_at, both_given, set_at, end_staging, ended, reply}
+use Rattle.bmc_board.specs.AttributeParts.{named_in, limits_named}
 use Rattle.bmc_board.proofs.LiveFacts.{unknown_is_refused}
+use Rattle.bmc_board.proofs.PartFacts.{staged_records, unstaged_records}
 use Rattle.bmc_history.specs.declared.event.Call.{Call}
 use Rattle.bmc_history.specs.declared.event.Call.TheVariants.{Exchanged, Benched}
 use Rattle.bmc_history.specs.declared.event.Event.{Event}
 use Rattle.bmc_history.specs.Replay.{Replays, IsAnswered, after_call}
-use Rattle.bmc_history.specs.Gets.{state_after, Writes, MayWrite, GetsWhatWasSet}
+use Rattle.bmc_history.specs.Gets.{state_after, IsSetBy, Writes, MayWrite, NoneWrites, GetsWhatWasSet}
 
 -- ---- calls that don't write a record keep it
 
@@ -52,22 +57,36 @@ both_keep (Ok new) (Err fault) one other before key first second = refl
 both_keep (Err fault) (Ok value) one other before key first second = refl
 both_keep (Err fault) (Err later) one other before key first second = refl
 
-reply_keeps : (setup : BoardFile) (before : State) (r : Result Request ℕ) (key : Key) → (Writes r key → ⊥) → (reply setup before r).1.records key ≡ before.records key
+-- the last part of a Set, which is the Set of the whole entry
+ended_keeps : (setup : BoardFile) (from : ℕ) (before : State) (r : Result SetBiosAttribute ℕ) (key : Key) → ((change : SetBiosAttribute) → r ≡ Ok change → key_of (of_kind.BiosAttribute change) ≡ key → ⊥)
+    → (ended setup from before r).1.records key ≡ before.records key
+ended_keeps setup from before (Ok change) key not =
+    let op : Op = of_kind.BiosAttribute change in
+    let given : Given = set_at setup before op in
+    ap (λ (r : Records). r key) (unstaged_records from given.0.code given.1)
+    ∙ set_keeps (limits_at setup (key_of op)) (before.records (key_of op)) (unknown_code setup (key_of op)) op before key (not change refl)
+ended_keeps setup from before (Err code) key not = refl
+
+reply_keeps : (setup : BoardFile) (before : State) (r : Result Request ℕ) (key : Key) → (Writes before r key → ⊥) → (reply setup before r).1.records key ≡ before.records key
 reply_keeps setup before (Ok (Live command body)) key not = refl
 reply_keeps setup before (Ok (Get other)) key not = refl
-reply_keeps setup before (Ok (Set op)) key not = set_keeps (limits_at setup (key_of op)) (before.records (key_of op)) (unknown_code setup (key_of op)) op before key not
+reply_keeps setup before (Ok (Set op)) key not = set_keeps (limits_at setup (key_of op)) (before.records (key_of op)) (unknown_code setup (key_of op)) op before key (λ is. not (op, refl, is))
 reply_keeps setup before (Ok (SetStores first second)) key not =
     both_keep (outcome_at setup before (of_kind.ChannelAccess first)) (outcome_at setup before (of_kind.ChannelAccess second)) (key_of (of_kind.ChannelAccess first)) (key_of (of_kind.ChannelAccess second)) before key (λ is. not (inl is)) (λ is. not (inr is))
+reply_keeps setup before (Ok (PartOfSet from (Start entry))) key not = ap (λ (r : Records). r key) (staged_records from before (start_outcome (limits_named setup (named_in entry)) before.activity.stagings from entry))
+reply_keeps setup before (Ok (PartOfSet from (Middle handle bytes))) key not = ap (λ (r : Records). r key) (staged_records from before (add_outcome before.activity.stagings from handle bytes))
+reply_keeps setup before (Ok (PartOfSet from (End handle bytes))) key not =
+    ended_keeps setup from before (end_outcome before.activity.stagings from handle bytes) key (λ change e is. not (of_kind.BiosAttribute change, (change, e, refl), is))
+reply_keeps setup before (Ok (LaterPart handle transfer)) key not = refl
 reply_keeps setup before (Err fault) key not = refl
 
-call_keeps : (setup : BoardFile) (before : State) (call : Call) (key : Key) → (MayWrite key call → ⊥) → (after_call setup before call).records key ≡ before.records key
+call_keeps : (setup : BoardFile) (before : State) (call : Call) (key : Key) → (MayWrite before key call → ⊥) → (after_call setup before call).records key ≡ before.records key
 call_keeps setup before (Exchanged asked answered) key not = reply_keeps setup before (asked_by asked) key not
 call_keeps setup before (Benched bench answered) key not = refl
 
-calls_keep : (setup : BoardFile) (before : State) (events : List Event) (key : Key) → All (λ (event : Event). ¬ MayWrite key event.call) events → (state_after setup before events).records key ≡ before.records key
-calls_keep setup before [] key all = refl
-calls_keep setup before (event ∷ later) key all =
-    calls_keep setup (after_call setup before event.call) later key (λ k d within. all (suc k) d (omega (arith, within))) ∙ call_keeps setup before event.call key (all zero event (omega arith))
+calls_keep : (setup : BoardFile) (before : State) (events : List Event) (key : Key) → NoneWrites setup before key events → (state_after setup before events).records key ≡ before.records key
+calls_keep setup before [] key none = refl
+calls_keep setup before (event ∷ later) key none = calls_keep setup (after_call setup before event.call) later key none.1 ∙ call_keeps setup before event.call key none.0
 
 -- ---- a Set that was carried out
 
@@ -98,6 +117,39 @@ set_written (Some of) None unknown op before fault carried = absurd (omega (arit
 set_written None (Some old) unknown op before fault carried = absurd (omega (arith, fault, carried))
 set_written None None unknown op before fault carried = absurd (omega (arith, fault, carried))
 
+-- the last part of a Set was carried out as the Set of the whole entry
+ended_written : (setup : BoardFile) (from : ℕ) (before : State) (r : Result SetBiosAttribute ℕ) (change : SetBiosAttribute) → r ≡ Ok change → (ended setup from before r).0.code ≡ success
+    → Written (limits_at setup (key_of (of_kind.BiosAttribute change))) (before.records (key_of (of_kind.BiosAttribute change))) (of_kind.BiosAttribute change) before (ended setup from before r)
+ended_written setup from before (Ok other) change e carried =
+    let same : other ≡ change = cc in
+    let op : Op = of_kind.BiosAttribute other in
+    let given : Given = set_at setup before op in
+    let unknown : 0 < unknown_code setup (key_of op) = (unknown_is_refused setup (key_of op)).is_fault in
+    let w : Written (limits_at setup (key_of op)) (before.records (key_of op)) op before given = set_written (limits_at setup (key_of op)) (before.records (key_of op)) (unknown_code setup (key_of op)) op before unknown carried in
+    let whole : Written (limits_at setup (key_of op)) (before.records (key_of op)) op before (end_staging from given) =
+    record { of = w.of; old = w.old; new = w.new; limits_are = w.limits_are; had = w.had; was_set = w.was_set; has = ap (λ (r : Records). r (key_of op)) (unstaged_records from given.0.code given.1) ∙ w.has } in
+    subst (λ (c : SetBiosAttribute). Written (limits_at setup (key_of (of_kind.BiosAttribute c))) (before.records (key_of (of_kind.BiosAttribute c))) (of_kind.BiosAttribute c) before (end_staging from given)) same whole
+ended_written setup from before (Err code) change e carried = cc
+
+-- so was any Set by the operation
+written_by : (setup : BoardFile) (before : State) (r : Result Request ℕ) (op : Op) → IsSetBy before r op → (reply setup before r).0.code ≡ success
+    → Written (limits_at setup (key_of op)) (before.records (key_of op)) op before (reply setup before r)
+written_by setup before (Ok (Set other)) op is carried =
+    let unknown : 0 < unknown_code setup (key_of other) = (unknown_is_refused setup (key_of other)).is_fault in
+    subst (λ (o : Op). Written (limits_at setup (key_of o)) (before.records (key_of o)) o before (reply setup before (Ok (Set other)))) is
+    (set_written (limits_at setup (key_of other)) (before.records (key_of other)) (unknown_code setup (key_of other)) other before unknown carried)
+written_by setup before (Ok (PartOfSet from (End handle bytes))) op is carried =
+    let given : Given = ended setup from before (end_outcome before.activity.stagings from handle bytes) in
+    subst (λ (o : Op). Written (limits_at setup (key_of o)) (before.records (key_of o)) o before given) is.2
+    (ended_written setup from before (end_outcome before.activity.stagings from handle bytes) is.0 is.1 carried)
+written_by setup before (Ok (PartOfSet from (Start entry))) op is carried = absurd is
+written_by setup before (Ok (PartOfSet from (Middle handle bytes))) op is carried = absurd is
+written_by setup before (Ok (Live command body)) op is carried = absurd is
+written_by setup before (Ok (Get key)) op is carried = absurd is
+written_by setup before (Ok (SetStores first second)) op is carried = absurd is
+written_by setup before (Ok (LaterPart handle transfer)) op is carried = absurd is
+written_by setup before (Err code) op is carried = absurd is
+
 -- ---- a history, from a place on
 
 rest_replays : (setup : BoardFile) (first : State) (events later : List Event) (last : State) → Replays setup first (events ++ later) last → Replays setup (state_after setup first events) later last
@@ -116,12 +168,9 @@ gets_what_was_set setup first last op before between later set get shown h =
     let mid : State = after_call setup s set.call in
     let t : State = state_after setup mid between in
     let from_get : Replays setup t (get ∷ later) last = rest_replays setup mid between (get ∷ later) last from_set.1 in
-    let set_given : reply setup s (asked_by h.setter) ≡ reply setup s (Ok (Set op)) = ap (reply setup s) h.is_set in
-    let carried : (reply setup s (Ok (Set op))).0.code ≡ success =
-    sym (ap (λ (g : Given). g.0.code) set_given) ∙ ap (λ (a : Answered). a.code) (subst (IsAnswered setup s) h.set_is from_set.0) ∙ h.carried_out in
-    let unknown : 0 < unknown_code setup key = (unknown_is_refused setup key).is_fault in
-    let w : Written (limits_at setup key) (s.records key) op s (reply setup s (Ok (Set op))) = set_written (limits_at setup key) (s.records key) (unknown_code setup key) op s unknown carried in
-    let mid_is : mid ≡ (reply setup s (Ok (Set op))).1 = ap (after_call setup s) h.set_is ∙ ap (λ (g : Given). g.1) set_given in
+    let carried : (reply setup s (asked_by h.setter)).0.code ≡ success = ap (λ (a : Answered). a.code) (subst (IsAnswered setup s) h.set_is from_set.0) ∙ h.carried_out in
+    let w : Written (limits_at setup key) (s.records key) op s (reply setup s (asked_by h.setter)) = written_by setup s (asked_by h.setter) op h.is_set carried in
+    let mid_is : mid ≡ (reply setup s (asked_by h.setter)).1 = ap (after_call setup s) h.set_is in
     let has : t.records key ≡ Some w.new = calls_keep setup mid between key h.unwritten ∙ ap (λ (m : State). m.records key) mid_is ∙ w.has in
     let answered : get_answer (limits_at setup key) (t.records key) t.activity.live (unknown_code setup key) ≡ shown =
     sym (ap (λ (r : Result Request ℕ). (reply setup t r).0) h.is_get) ∙ subst (IsAnswered setup t) h.get_is from_get.0 in

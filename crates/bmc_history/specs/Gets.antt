@@ -1,16 +1,19 @@
 -- What a Get shows of a record that was set before in the same history.
-use Rattle.std.specs.Prelude.{◌≡◌, ℕ, List, ◌∷◌, ◌++◌, Some, Result, Ok, ◌⊎◌, All, fold}
+use Rattle.std.specs.Prelude.{◌≡◌, ℕ, List, [], ◌∷◌, ◌++◌, Some, Result, Ok, ◌⊎◌, fold}
 use Rattle.two_wire.specs.Codes.{success}
 use Rattle.record_base.specs.declared.key.Key.{Key}
 use Rattle.record_base.specs.declared.op.Op.{Op}
 use Rattle.record_base.specs.declared.op.Op.TheVariants as of_kind
+use Rattle.record_base.specs.declared.bios_attribute.SetBiosAttribute.{SetBiosAttribute}
 use Rattle.record_base.specs.declared.message.Asked.{Asked}
 use Rattle.record_base.specs.declared.message.Answered.{Answered}
 use Rattle.cfg_records.specs.declared.board_file.BoardFile.{BoardFile}
 use Rattle.record_kinds.specs.declared.limits.Limits.{Limits}
 use Rattle.record_kinds.specs.Limits.{key_of, limits_at, sets, view}
+use Rattle.attribute_parts.specs.declared.set_part.SetPart.TheVariants.{End}
+use Rattle.attribute_parts.specs.Stagings.{end_outcome}
 use Rattle.bmc_board.specs.Request.{Request}
-use Rattle.bmc_board.specs.Request.{Get, Set, SetStores}
+use Rattle.bmc_board.specs.Request.{Get, Set, SetStores, PartOfSet}
 use Rattle.bmc_board.specs.Request.{asked_by}
 use Rattle.bmc_board.specs.Replies.{done}
 use Rattle.bmc_board.specs.State.{State}
@@ -23,15 +26,26 @@ use Rattle.bmc_history.specs.Replay.{after_call, Replays}
 abbrev pub state_after : BoardFile → State → List Event → State
 state_after setup first events = fold (λ before event. after_call setup before event.call) first events
 
--- the request may write the record: it sets it, or it sets the access of a channel in two stores, of which one has it
-abbrev pub Writes : Result Request ℕ → Key → Type 0
-Writes (Ok (Set op)) key = key_of op ≡ key
-Writes (Ok (SetStores first second)) key = (key_of (of_kind.ChannelAccess first) ≡ key) ⊎ (key_of (of_kind.ChannelAccess second) ≡ key)
-Writes _ key = ⊥
+-- the request is a Set by the operation, or the last part of one: then it is that of the whole entry, by what is staged at the state
+abbrev pub IsSetBy : (at : State) → Result Request ℕ → Op → Type 0
+IsSetBy at (Ok (Set other)) op = other ≡ op
+IsSetBy at (Ok (PartOfSet from (End handle bytes))) op =
+    (change : SetBiosAttribute) × (end_outcome at.activity.stagings from handle bytes ≡ Ok change) × (of_kind.BiosAttribute change ≡ op)
+IsSetBy at _ op = ⊥
 
-abbrev pub MayWrite : Key → Call → Type 0
-MayWrite key (Exchanged asked answered) = Writes (asked_by asked) key
-MayWrite key (Benched bench answered) = ⊥
+-- the request may write the record: it sets it, or it sets the access of a channel in two stores, of which one has it
+abbrev pub Writes : (at : State) → Result Request ℕ → Key → Type 0
+Writes at (Ok (SetStores first second)) key = (key_of (of_kind.ChannelAccess first) ≡ key) ⊎ (key_of (of_kind.ChannelAccess second) ≡ key)
+Writes at asked key = (op : Op) × IsSetBy at asked op × (key_of op ≡ key)
+
+abbrev pub MayWrite : (at : State) → Key → Call → Type 0
+MayWrite at key (Exchanged asked answered) = Writes at (asked_by asked) key
+MayWrite at key (Benched bench answered) = ⊥
+
+-- no call of these events, which begin at the state, may write the record
+abbrev pub NoneWrites : BoardFile → (at : State) → Key → List Event → Type 0
+NoneWrites setup at key [] = Unit {0}
+NoneWrites setup at key (event ∷ later) = (¬ MayWrite at key event.call) × NoneWrites setup (after_call setup at event.call) key later
 
 -- In a history, a Set of a record is carried out, and a Get of it is answered later. No call between the two may write the record.
 pub record SetsThenGets (setup : BoardFile) (first last : State) (op : Op) (before between later : List Event) (set get : Event) (shown : Answered) : Type 0 where
@@ -39,9 +53,9 @@ pub record SetsThenGets (setup : BoardFile) (first last : State) (op : Op) (befo
   pub setter : Asked
   pub replied : Answered
   pub set_is : set.call ≡ Exchanged setter replied
-  pub is_set : asked_by setter ≡ Ok (Set op)
+  pub is_set : IsSetBy (state_after setup first before) (asked_by setter) op
   pub carried_out : replied.code ≡ success
-  pub unwritten : All (λ event. ¬ MayWrite (key_of op) event.call) between
+  pub unwritten : NoneWrites setup (after_call setup (state_after setup first before) set.call) (key_of op) between
   pub getter : Asked
   pub get_is : get.call ≡ Exchanged getter shown
   pub is_get : asked_by getter ≡ Ok (Get (key_of op))

@@ -4,19 +4,24 @@ use Rattle.std.proofs.lemmas.Option.{none-some, same_Some}
 use Rattle.two_wire.specs.Codes.{success}
 use Rattle.record_base.specs.Meaning.{IsRefusal}
 use Rattle.record_base.specs.declared.op.Op.{Op}
+use Rattle.record_base.specs.declared.op.Op.TheVariants as of_kind
+use Rattle.record_base.specs.declared.bios_attribute.SetBiosAttribute.{SetBiosAttribute}
 use Rattle.record_base.specs.declared.message.Answered.{Answered}
 use Rattle.cfg_records.specs.declared.board_file.BoardFile.{BoardFile}
 use Rattle.cfg_records.specs.Records.{Records}
 use Rattle.record_kinds.specs.declared.limits.Limits.{Limits}
 use Rattle.record_kinds.specs.Limits.{key_of, limits_at, sets}
 use Rattle.record_kinds.specs.LimitsLaws as laws
-use Rattle.bmc_board.specs.Request.{Request, Live, Get, Set, SetStores, asked_by}
+use Rattle.attribute_parts.specs.declared.set_part.SetPart.TheVariants.{Start, Middle, End}
+use Rattle.attribute_parts.specs.Stagings.{end_outcome}
+use Rattle.bmc_board.specs.Request.{Request, Live, Get, Set, SetStores, PartOfSet, LaterPart, asked_by}
 use Rattle.bmc_board.specs.State.{State}
 use Rattle.bmc_board.specs.Replies.{unknown_code}
 use Rattle.bmc_board.specs.Answer.{Given, get_answer, serve}
 use Rattle.bmc_board.specs.Stores.{ChangesNeither}
-use Rattle.bmc_board.specs.Row.{Sets, Replies}
+use Rattle.bmc_board.specs.Row.{Sets, Ends, Replies}
 use Rattle.bmc_board.proofs.LiveFacts.{unknown_is_refused}
+use Rattle.bmc_board.proofs.PartFacts.{staged_records, unstaged_records}
 use Rattle.bmc_board.proofs.StoresFacts.{both_or_none}
 use Rattle.bmc_board.proofs.OneAnswer.{has_answer}
 use Rattle.model_claim.specs.Claim.{SetsTo, Shows, IsServed, IsController, ours}
@@ -81,6 +86,22 @@ module _ (setup : BoardFile) where
   both_served before given succeeds (inl both) fault = absurd (fault (succeeds both))
   both_served before given succeeds (inr neither) fault = ap (λ (s : State). s.records) neither.left
 
+  -- the last part of a Set is the Set of the whole entry
+  last_served : (from : ℕ) (r : Result SetBiosAttribute ℕ) (before : State) (a : Answered) (after : State) → Ends setup from r before a after
+      → (after.records ≡ before.records) ⊎ ((a.code ≡ success) × (op : Op) × SetsTo setup op before.records after.records)
+  last_served from (Ok change) before a after row = by (sets_served op before a row.set (limits_at setup (key_of op)) (before.records (key_of op)) refl refl row.sets)
+    where
+      op : Op
+      op = of_kind.BiosAttribute change
+
+      same : after.records ≡ row.set.records
+      same = ap (λ (s : State). s.records) row.left ∙ unstaged_records from a.code row.set
+
+      by : IsServed setup (Ok (Set op)) before a row.set → (after.records ≡ before.records) ⊎ ((a.code ≡ success) × (op : Op) × SetsTo setup op before.records after.records)
+      by (inl is) = inr (is.0, op, subst (λ (r : Records). SetsTo setup op before.records r) (sym same) is.1)
+      by (inr is) = inl (same ∙ is.1)
+  last_served from (Err code) before a after row = inl (ap (λ (g : Given). g.1.records) row)
+
   -- the command relation is within that of the statement
   pub row_served : (r : Result Request ℕ) (before : State) (a : Answered) (after : State) → Replies setup before r a after → IsServed setup r before a after
   row_served (Ok (Live command body)) before a after row = ap (λ (g : Given). g.1.records) row
@@ -93,6 +114,10 @@ module _ (setup : BoardFile) where
       ap (λ (g : Given). g.1.records) row
       ∙ both_served before (serve setup before (SetStores first second)) (λ both. ap (λ (b : Answered). b.code) both.replied) (both_or_none setup before first second)
       (λ same. fault (ap (λ (g : Given). g.0.code) row ∙ same))
+  row_served (Ok (PartOfSet from (Start entry))) before a after row = inl (ap (λ (g : Given). g.1.records) row ∙ staged_records from before _)
+  row_served (Ok (PartOfSet from (Middle handle bytes))) before a after row = inl (ap (λ (g : Given). g.1.records) row ∙ staged_records from before _)
+  row_served (Ok (PartOfSet from (End handle bytes))) before a after row = last_served from (end_outcome before.activity.stagings from handle bytes) before a after row
+  row_served (Ok (LaterPart handle transfer)) before a after row = ap (λ (g : Given). g.1.records) row
   row_served (Err code) before a after row = ap (λ (g : Given). g.1.records) row
 
   pub is_controller : IsController setup (ours setup)

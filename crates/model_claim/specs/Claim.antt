@@ -14,7 +14,7 @@ use Rattle.cfg_records.specs.Records.{Records, records_of, with_record}
 use Rattle.record_kinds.specs.declared.limits.Limits.{Limits}
 use Rattle.record_kinds.specs.Limits.{key_of, get_asked, set_asked, restorable, limits_at, sets, view, conf}
 use Rattle.bmc_board.specs.State.{State, opened}
-use Rattle.bmc_board.specs.Request.{Request, Get, Set, SetStores, asked_by}
+use Rattle.bmc_board.specs.Request.{Request, Get, Set, SetStores, PartOfSet, asked_by}
 use Rattle.bmc_board.specs.Table.{is_changing}
 use Rattle.bmc_board.specs.Answer.{answer_of}
 use Rattle.model_claim.specs.Frames.{Bus, Ipmb, Smbus, Packet, Value, Part, span, is_taken}
@@ -39,12 +39,14 @@ module _ (setup : BoardFile) where
   Shows (Some limits) (Some value) before a = a ≡ record { code = success; body = view limits value before.activity.live }
   Shows limits value before a = a.code ≢ success
 
-  -- What is asked for is answered so, and leaves such a board. A Set changes its own record alone, or is refused since it can't be accepted. No honest
-  -- event has a request that sets two. Any other, as that of a live command, leaves every record, whatever it is answered.
+  -- What is asked for is answered so, and leaves such a board. A Set changes its own record alone, or is refused since it can't be accepted. A part of
+  -- a Set leaves every record, or is carried out as such a Set. No honest event has one, nor a request that sets two. Any other, as that of a live
+  -- command, leaves every record, whatever it is answered.
   abbrev pub IsServed : Result Request ℕ → (before : State) → Answered → (after : State) → Type 0
   IsServed (Ok (Get key)) before a after = (after.records ≡ before.records) × Shows (limits_at setup key) (before.records key) before a
   IsServed (Ok (Set op)) before a after = ((a.code ≡ success) × SetsTo op before.records after.records)
       ⊎ ((a.code ≢ success) × (after.records ≡ before.records) × ((other : Records) → ¬ SetsTo op before.records other))
+  IsServed (Ok (PartOfSet from part)) before a after = (after.records ≡ before.records) ⊎ ((a.code ≡ success) × (op : Op) × SetsTo op before.records after.records)
   IsServed (Ok (SetStores first second)) before a after = a.code ≢ success → after.records ≡ before.records
   IsServed request before a after = after.records ≡ before.records
 

@@ -26,9 +26,11 @@ use Rattle.bmc_board.specs.State.{State, IsUnchanged}
 use Rattle.bmc_board.specs.Replies.{refused, unknown_code}
 use Rattle.bmc_board.specs.Answer.{Given, get_answer, answer_of}
 use Rattle.bmc_board.specs.AnyAnswer.{IsCode}
+use Rattle.bmc_board.specs.Decode.{asked_from}
 use Rattle.bmc_board.specs.Row.{Sets, Serves, Replies, Row}
 use Rattle.bmc_board.proofs.AnswerFacts.{limits_are_of, never_busy}
-use Rattle.bmc_board.proofs.Decoded.{is_read_from_all, gets_are_read, sets_are_read}
+use Rattle.bmc_board.proofs.FromAnyone.{is_read_from_all}
+use Rattle.bmc_board.proofs.Decoded.{gets_are_read, sets_are_read}
 use Rattle.bmc_board.proofs.OneAnswer.{has_one_answer}
 use Rattle.bmc_board.proofs.Undone.{unknown_is_fault, Shows, shows}
 use Rattle.model_bus.specs.Answered.{Answered}
@@ -95,12 +97,14 @@ read_as : (setup : BoardFile) (before : State) (asked : Asked) (request : BoardR
 read_as setup before asked request answered after is row = subst (λ (r : Result BoardRequest ℕ). Replies setup before r answered after) is row
 
 get_is_read : (at : Bus → Addresses) (key : Key) → asked_by (from_manager at (get_asked key)) ≡ Ok (Get key)
-get_is_read at key = is_read_from_all (at (bus_of (get_asked key))).manager (get_asked key) ∙ (gets_are_read key).is_read
+get_is_read at key =
+    let from = (at (bus_of (get_asked key))).manager in
+    is_read_from_all from (get_asked key) ∙ ap (asked_from from) (gets_are_read key).is_read
 
 set_served : (setup : BoardFile) (at : Bus → Addresses) (before : State) (op : Op) (answered : BoardAnswer) (after : State) → Row setup before (from_manager at (set_asked op)) answered after → Serves setup before (Set op) answered after
 set_served setup at before op answered after row =
     let from = (at (bus_of (set_asked op))).manager in
-    read_as setup before (from_manager at (set_asked op)) (Set op) answered after (is_read_from_all from (set_asked op) ∙ (sets_are_read op).is_read) row
+    read_as setup before (from_manager at (set_asked op)) (Set op) answered after (is_read_from_all from (set_asked op) ∙ ap (asked_from from) (sets_are_read op).is_read) row
 
 -- ---- Gets
 

@@ -68,7 +68,7 @@ read_type : (asked : Asked) (r : BoardRequest) → asked_by asked ≡ Ok r → H
 read_type (Ipmi from net_fn lun command body) r e = tt
 read_type (Pldm from kind command body) r e = by (is_pldm_type kind) refl e
   where
-    by : (t : Bool) → is_pldm_type kind ≡ t → cond t (asked_at pldm_refusals (pldm_line_of kind command) body) (Err 32) ≡ Ok r → kind < 64
+    by : (t : Bool) → is_pldm_type kind ≡ t → cond t (asked_at from pldm_refusals (pldm_line_of kind command) body) (Err 32) ≡ Ok r → kind < 64
     by true t e = of_type kind t
     by false t e = absurd cc
 

@@ -22,7 +22,6 @@ use crate::storage::{
     add_entry, clear, part_in, sdr_info, sel_info, show_entry, show_sdr, time_in,
 };
 use bios_attr::Tables;
-use bios_attr::bios_attribute::{attribute_in, attribute_shown_in};
 use cfg_records::{
     AccessStore, Answered, Asked, BoardFile, ChannelNumber, CommandReader, Key, Op, RecordKind,
     SetChannelAccess, Store, StoredAccess, UserNumber, Value, byte_at,
@@ -38,7 +37,7 @@ use watch_boot::boot_request::{BootRequest, BootShown, boot_request_in, boot_sho
 use watch_boot::watchdog;
 
 /// The code for a record that isn't there.
-fn unknown_code(setup: &Setup, key: &Key) -> Code
+pub(super) fn unknown_code(setup: &Setup, key: &Key) -> Code
     ensures { result ≡ unknown_code setup.now key.now }
 {
     // Each key is named, so that a new one isn't forgotten. The policy, the watchdog and the enables are on every board.
@@ -115,14 +114,12 @@ impl<S: Store> Board<S> {
     ghost use Rattle.bmc_board.specs.Request.{asked_of, asked_by};
     ghost use Rattle.bmc_board.specs.BootCommands.{boot_set, boot_get};
     ghost use Rattle.bmc_board.specs.ChannelCommands.{channel_asked};
-    ghost use Rattle.bmc_board.specs.AttributeCommands.{attribute_set, attribute_get};
     ghost use Rattle.bmc_board.specs.Answer.{outcome_at};
     ghost use Rattle.std.specs.Prelude.{Some, Ok};
     ghost use Rattle.record_base.specs.Meaning.{told};
     ghost use Rattle.record_kinds.specs.Limits.{key_of, reader_of};
     ghost use Rattle.watch_boot.specs.BootRequests.{boot_request_in, boot_shown_in};
     ghost use Rattle.user_chan.specs.ChannelRequests.{channel_request_in};
-    ghost use Rattle.bios_attr.specs.BiosAttribute.{attribute_in, attribute_shown_in};
 
     /// A board of this file over this store of its records.
     pub fn open(alloc: Global, file: BoardFile, store: S) -> Result<Self, AllocError>
@@ -439,27 +436,6 @@ impl<S: Store> Board<S> {
         }
     }
 
-    /// Carries out SetBIOSAttributeCurrentValue. The operation is made here, of the data, and stays here.
-    #[inline(never)]
-    fn set_attribute<B: Buffer>(&mut self, body: &[u8], to: &mut B) -> Result<(), Code>
-        requires { Fits (attribute_set (attribute_in body.now)) (B.bytes to.old) B.capacity }
-        ensures { Serves S.records self.old self.new (attribute_set (attribute_in body.now))
-            result (B.bytes to.old) (B.bytes to.new) }
-    {
-        let op = attribute_in(body)?;
-        self.set(&Op::BiosAttribute(op), to)
-    }
-
-    /// Carries out GetBIOSAttributeCurrentValueByHandle.
-    fn get_attribute<B: Buffer>(&mut self, body: &[u8], to: &mut B) -> Result<(), Code>
-        requires { Fits (attribute_get (attribute_shown_in body.now)) (B.bytes to.old) B.capacity }
-        ensures { Serves S.records self.old self.new (attribute_get (attribute_shown_in body.now))
-            result (B.bytes to.old) (B.bytes to.new) }
-    {
-        let handle = attribute_shown_in(body)?;
-        self.get(&Key::BiosAttribute(handle), to)
-    }
-
     /// Carries out the requester's command with the request's data, where a command was read, and appends the data of the reply.
     pub fn reply<B: Buffer>(
         &mut self,
@@ -480,7 +456,7 @@ impl<S: Store> Board<S> {
             Command::GetBootOptions => self.get_boot_options(body, to),
             Command::SetChannelAccess => self.set_channel_access(body, to),
             Command::GetChannelAccess => self.get(&Key::ChannelAccess(stored_in(body)), to),
-            Command::SetBiosAttribute => self.set_attribute(body, to),
+            Command::SetBiosAttribute => self.set_attribute(from, body, to),
             Command::GetBiosAttribute => self.get_attribute(body, to),
             Command::SetLanParam => self.set_lan_param(body, to),
             Command::GetLanParam => self.get_lan_param(body, to),

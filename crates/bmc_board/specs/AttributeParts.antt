@@ -1,0 +1,53 @@
+-- The values of BIOS attributes in parts (DSP0247, "SetBIOSAttributeCurrentValue" and "GetBIOSAttributeCurrentValueByHandle"): what is staged of
+-- Sets, and the later parts of what a Get shows.
+use Rattle.std.specs.Prelude.{ℕ, List, drop, Option, Some, ◌==◌, if◌then◌else◌}
+use Rattle.std.specs.Option.{option_map}
+use Rattle.two_wire.specs.Codes.{success}
+use Rattle.pldm_base.specs.Parts.{asked_of_entry}
+use Rattle.record_base.specs.Requests.{byte_at}
+use Rattle.record_base.specs.Attribute.{range_of}
+use Rattle.record_base.specs.AttributeValue.{number_of}
+use Rattle.record_base.specs.declared.live.Live.{Live as LivePart}
+use Rattle.record_base.specs.declared.message.Answered.{Answered}
+use Rattle.cfg_records.specs.declared.board_file.BoardFile.{BoardFile}
+use Rattle.bios_attr.specs.BiosAttribute.{get_next_part}
+use Rattle.bios_attr.specs.declared.bios_attribute.AttributeLimits.{AttributeLimits}
+use Rattle.attribute_parts.specs.SetParts.{before_part}
+use Rattle.attribute_parts.specs.Stagings.{Staged, without}
+use Rattle.record_kinds.specs.declared.limits.Limits.{Limits}
+use Rattle.record_kinds.specs.Boards.{attribute_at}
+use Rattle.record_kinds.specs.Limits.{view}
+use Rattle.bmc_board.specs.State.{State}
+use Rattle.bmc_board.specs.Replies.{refused}
+use Rattle.bmc_board.specs.BiosTables.{part_answer}
+
+-- ---- Sets
+
+-- the attribute that an entry names, and what can be done with it
+abbrev pub named_in : List ℕ → ℕ
+named_in entry = number_of (byte_at entry 0) (byte_at entry 1)
+
+abbrev pub limits_named : BoardFile → ℕ → Option AttributeLimits
+limits_named setup handle = option_map (λ a. record { handle = handle; read_only = a.read_only; range = range_of a.kind }) (attribute_at setup.attributes.items handle)
+
+-- the state with these stagings
+abbrev pub with_stagings : State → Staged → State
+with_stagings before stagings = record before { activity = record before.activity { stagings = stagings } }
+
+-- a request that was carried out ends what its requester has staged
+abbrev pub unstaged : (from code : ℕ) → State → State
+unstaged from code after = if code == success then with_stagings after (without from after.activity.stagings) else after
+
+-- ---- Gets
+
+-- the entry that a Get shows stands behind the handle and the flag of its reply
+abbrev pub entry_shown : Limits → List ℕ → LivePart → List ℕ
+entry_shown limits value live = drop before_part (view limits value live)
+
+-- the later part of an entry that has this transfer handle
+abbrev pub later_part : List ℕ → ℕ → Answered
+later_part entry transfer = part_answer entry (asked_of_entry entry get_next_part transfer)
+
+abbrev pub later_answer : Option Limits → Option (List ℕ) → LivePart → (unknown transfer : ℕ) → Answered
+later_answer (Some limits) (Some value) live unknown transfer = later_part (entry_shown limits value live) transfer
+later_answer _ _ live unknown transfer = refused unknown
