@@ -19,8 +19,7 @@ use Rattle.text_fields.specs.declared.field.Field.TheVariants as field
 use Rattle.text_fields.specs.Trees.{table_of, members_in}
 use Rattle.text_fields.specs.Ranges.{or_zero}
 use Rattle.text_board.specs.Faults.{channel_faults}
-use Rattle.text_board.specs.Holds.{IsChannelIn, IsNumberIn, serves, with_sessions, without_sessions, parts_of, on_channel, accesses_in}
-use Rattle.text_board.proofs.ChannelLists.{channel_of}
+use Rattle.text_board.specs.Holds.{IsChannelIn, IsNumberIn, serves, with_sessions, without_sessions, parts_of, on_channel, accesses_in, channel_of}
 use Rattle.text_board.proofs.ChannelFields.{HasUsers, each_sound, each_told}
 
 -- ---- those that pass a test, and those that don't

@@ -6,7 +6,6 @@ use Rattle.std.specs.List.{list_all, AllByRecursion}
 use Rattle.toml.specs.Data.{Data, Members}
 use Rattle.toml.specs.View.{view}
 use Rattle.toml.specs.declared.value.Value.{Value}
-use Rattle.record_base.specs.declared.channel.ChannelNumber.{ChannelNumber}
 use Rattle.text_fields.specs.declared.field.Field.TheVariants as field
 use Rattle.text_board.specs.declared.fault.FileFault.{FileFault}
 use Rattle.text_board.specs.declared.fault.FileFault.TheVariants as file
@@ -14,18 +13,14 @@ use Rattle.text_board.specs.declared.fault.Item.TheVariants as item
 use Rattle.text_fields.specs.declared.row.Shape.TheVariants as shape
 use Rattle.text_fields.specs.declared.row.Need.TheVariants as need
 use Rattle.text_board.specs.declared.tables.TheConstants.{CHANNEL}
-use Rattle.text_fields.specs.Trees.{in_field, natural, members, members_in, number_in, table_of, or_none, HasBelow}
+use Rattle.text_fields.specs.Trees.{in_field, natural, members, members_in, table_of, or_none, HasBelow}
 use Rattle.text_fields.specs.Channels.{is_channel}
 use Rattle.text_fields.specs.Ranges.{passes, may_do}
 use Rattle.text_fields.specs.Faults.{field_faults}
 use Rattle.text_board.specs.Faults.{fault_at, is_taken, item_faults, has_sessions, session_rows, channel_rows, channel_faults}
-use Rattle.text_board.specs.Holds.{IsNumberIn, serves, with_sessions}
+use Rattle.text_board.specs.Holds.{serves, with_sessions}
 use Rattle.text_fields.proofs.Rows.{Sound, all_sound, both_empty, value_of}
 use Rattle.text_board.proofs.ChannelLists.{FewUsers, weaken}
-
--- a channel that a member of an array holds has its number
-pub channel_numbered : (d : Data) (c : ChannelNumber) → IsNumberIn d c → number_in field.Number (table_of d) ≡ Some c.number
-channel_numbered d c holds = holds
 
 -- ---- numbers
 

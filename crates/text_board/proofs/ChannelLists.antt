@@ -9,9 +9,9 @@ use Rattle.record_base.specs.declared.user.UserAccess.{UserAccess}
 use Rattle.record_base.specs.Distinct.{NamesDiffer}
 use Rattle.record_base.specs.Numbers.{number_on}
 use Rattle.text_fields.specs.declared.field.Field.TheVariants as field
-use Rattle.text_fields.specs.Trees.{natural, number_in, table_of, members_in}
+use Rattle.text_fields.specs.Trees.{natural, table_of, members_in}
 use Rattle.text_fields.specs.Ranges.{or_zero}
-use Rattle.text_board.specs.Holds.{parts_of, on_channel, accesses_in}
+use Rattle.text_board.specs.Holds.{parts_of, on_channel, channel_of, accesses_in}
 
 -- ---- lists side by side
 
@@ -71,10 +71,6 @@ filter_few p [] = omega arith
 filter_few p (x ∷ xs) = let few = few_here (p x) x (filter p xs) (length xs) (filter_few p xs) in omega (arith, few)
 
 -- ---- what users may do
-
--- a channel's number
-abbrev pub channel_of : Data → ℕ
-channel_of d = or_zero (number_in field.Number (table_of d))
 
 -- a file has at most so many users
 abbrev pub FewUsers : Data → Type 0

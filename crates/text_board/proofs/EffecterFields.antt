@@ -2,24 +2,18 @@
 use Rattle.std.proofs.Common.{◌≡◌, ◌&&◌, true, Some, option_and_then, refl, sym, ap, ◌∙◌}
 use Rattle.std.proofs.lemmas.Bool.{and_parts}
 use Rattle.std.proofs.lemmas.Option.{same_Some}
-use Rattle.toml.specs.Data.{Data, Members}
+use Rattle.toml.specs.Data.{Members}
 use Rattle.record_base.specs.declared.numeric_size.NumericSize.{NumericSize}
 use Rattle.record_base.specs.declared.numeric_size.NumericSize.TheVariants.{U8, S8, U16, S16, U32, S32}
-use Rattle.record_base.specs.declared.numeric_effecter.NumericEffecter.{NumericEffecter}
 use Rattle.record_base.specs.NumericSize.{code_of}
 use Rattle.text_fields.specs.declared.field.Field.TheVariants as field
 use Rattle.text_fields.specs.declared.row.Shape.TheVariants as shape
 use Rattle.text_fields.specs.declared.row.Need.TheVariants as need
-use Rattle.text_fields.specs.Trees.{in_field, number_in, table_of}
+use Rattle.text_fields.specs.Trees.{in_field, number_in}
 use Rattle.text_fields.specs.Numeric.{size_at, size_in, sized, sized_in, in_order}
-use Rattle.text_board.specs.Holds.{IsNumericIn, effecter_id}
 use Rattle.text_fields.proofs.Rows.{Sound, value_of}
 use Rattle.text_fields.proofs.Sizes.{Ordered, ordered}
 use Rattle.text_fields.proofs.SizedFields.{Named}
-
--- a numeric effecter that a member of an array holds has its id
-pub effecter_numbered : (d : Data) (e : NumericEffecter) → IsNumericIn d e → number_in field.Id (table_of d) ≡ Some (effecter_id e)
-effecter_numbered d e holds = holds.numbered
 
 -- the size that is found is the one that the item names
 pub named_is : (tree : Members) (size : NumericSize) → Named tree → size_in tree ≡ Some size → number_in field.Size tree ≡ Some (code_of size)

@@ -4,18 +4,12 @@ use Rattle.std.proofs.lemmas.List.{take_more, take_more_set, map-append}
 use Rattle.std.specs.List.{list_any}
 use Rattle.std.specs.Option.{option_map_or}
 use Rattle.toml.specs.Data.{Data, Members}
-use Rattle.record_base.specs.declared.lan_item.Lan.{Lan}
 use Rattle.text_fields.specs.declared.field.Field.TheVariants as field
 use Rattle.text_fields.specs.declared.lan.LanShape.TheVariants as lan_shape
 use Rattle.text_fields.specs.declared.row.Shape.TheVariants as shape
 use Rattle.text_fields.specs.declared.row.Need.TheVariants as need
-use Rattle.text_fields.specs.Trees.{in_field, natural, number_in, table_of, HasBelow}
+use Rattle.text_fields.specs.Trees.{in_field, natural, HasBelow}
 use Rattle.text_fields.proofs.Rows.{Sound, value_of}
-use Rattle.text_board.specs.LanItems.{IsLanIn, channel_of}
-
--- the LAN parameters that a member of an array holds have their channel's number
-pub lan_numbered : (d : Data) (held : Lan) → IsLanIn d held → number_in field.Channel (table_of d) ≡ Some (channel_of held)
-lan_numbered d held holds = holds.numbered
 
 -- ---- channels
 

@@ -1,7 +1,7 @@
 pub mod Events
 pub mod RecordIds
-pub mod Items
-pub mod Sensors
+pub mod ItemFaults
+pub mod FileFaults
 pub mod EffecterFields
 pub mod StateFields
 pub mod UserNames

@@ -471,13 +471,13 @@ one_held tree a b p q =
     let user_items = one_in_order IsNameIn (λ (u : User). u.number.number) one_user 1 (members_in field.Users tree) a.users.items b.users.items p.users q.users a.users.valid.numbered b.users.valid.numbered in
     let users : a.users ≡ b.users =
     λ i. record { items = user_items i; valid = is_prop→PathP (λ j. AreUsers (user_items j)) (λ j. AreUsers-prop (user_items j)) a.users.valid b.users.valid i } in
-    let channel_items = one_list (λ d. one_channel (table_of d)) (with_sessions (members_in field.Channel tree)) a.channels.items b.channels.items p.channels q.channels in
+    let channel_items = one_list (λ d. one_channel (table_of d)) (with_sessions (members_in field.Channel tree)) a.channels.items b.channels.items p.channels.with q.channels.with in
     let channels : a.channels ≡ b.channels =
     λ i. record { items = channel_items i; differ = differ (λ (c : Channel). c.number.number) channel_items a.channels.differ b.channels.differ i; few = up_to 8 (ap length channel_items) a.channels.few b.channels.few i } in
-    let sessionless_items = one_list one_sessionless (without_sessions (members_in field.Channel tree)) a.sessionless.items b.sessionless.items p.sessionless q.sessionless in
+    let sessionless_items = one_list one_sessionless (without_sessions (members_in field.Channel tree)) a.sessionless.items b.sessionless.items p.channels.without q.channels.without in
     let sessionless : a.sessionless ≡ b.sessionless =
     λ i. record { items = sessionless_items i; differ = differ (λ (c : ChannelNumber). c.number) sessionless_items a.sessionless.differ b.sessionless.differ i; few = up_to 8 (ap length sessionless_items) a.sessionless.few b.sessionless.few i } in
-    let access_items = one_rights a.user_accesses.items b.user_accesses.items (p.accesses ∙ sym q.accesses) in
+    let access_items = one_rights a.user_accesses.items b.user_accesses.items (p.channels.rights ∙ sym q.channels.rights) in
     let accesses : a.user_accesses ≡ b.user_accesses =
     λ i. record { items = access_items i; differ = differ (λ (u : UserAccess). number_on u.on) access_items a.user_accesses.differ b.user_accesses.differ i; few = up_to 128 (ap length access_items) a.user_accesses.few b.user_accesses.few i } in
     let attribute_items = one_in_order IsAttributeIn (λ (t : Attribute). t.handle) (λ d. one_attribute (table_of d)) 0 (members_in field.Attribute tree) a.attributes.items b.attributes.items p.attributes q.attributes a.attributes.placed b.attributes.placed in

@@ -8,15 +8,9 @@ use Rattle.toml.specs.View.{view}
 use Rattle.toml.specs.declared.value.Value.{Value}
 use Rattle.record_base.specs.AttributeRangeLaws.{true_le}
 use Rattle.record_base.specs.StateField.{allows}
-use Rattle.record_base.specs.declared.state_effecter.StateEffecter.{StateEffecter}
-use Rattle.text_fields.specs.declared.field.Field.TheVariants as field
-use Rattle.text_fields.specs.Trees.{IsNaturalIn, natural, members, number_in, table_of, or_none}
+use Rattle.text_fields.specs.Trees.{IsNaturalIn, natural, members, or_none}
 use Rattle.text_fields.specs.Ranges.{passes, is_between, is_number, is_listed, is_state, is_state_list, are_state_lists, can_be, are_present}
-use Rattle.text_board.specs.Holds.{IsStateIn, state_id, operational}
-
--- a state effecter that a member of an array holds has its id
-pub state_numbered : (d : Data) (e : StateEffecter) → IsStateIn d e → number_in field.Id (table_of d) ≡ Some (state_id e)
-state_numbered d e holds = holds.numbered
+use Rattle.text_board.specs.Holds.{operational}
 
 -- ---- states
 

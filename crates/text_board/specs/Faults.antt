@@ -1,5 +1,5 @@
 -- The faults of a board file, in the order in which they count.
-use Rattle.std.specs.Prelude.{ℕ, ◌+◌, ◌==◌, Bool, false, ◌||◌, List, [], ◌∷◌, ◌++◌, map, length, Option, Some, None, if◌then◌else◌, option_and_then, codes}
+use Rattle.std.specs.Prelude.{◌≡◌, ◌⊎◌, ℕ, ◌+◌, ◌==◌, Bool, false, ◌||◌, List, [], ◌∷◌, ◌++◌, map, length, Option, Some, None, if◌then◌else◌, option_and_then, codes}
 use Rattle.std.specs.List.{list_any}
 use Rattle.toml.specs.Data.{Data, Members, as_bool}
 use Rattle.text_fields.specs.declared.field.Field.{Field}
@@ -17,7 +17,7 @@ use Rattle.text_board.specs.declared.fault.Item.TheVariants as item
 use Rattle.text_fields.specs.Trees.{in_field, number_in, table_of, table_in, members_in}
 use Rattle.record_base.specs.Sdr.{sdr_id}
 use Rattle.text_fields.specs.Ranges.{passes, has_text, record_in}
-use Rattle.text_fields.specs.Faults.{field_faults}
+use Rattle.text_fields.specs.Faults.{field_faults, first}
 use Rattle.text_board.specs.LanItems.{listed_in, lan_rows, lans_in}
 
 -- the fault of an item of a board file
@@ -25,6 +25,14 @@ abbrev pub fault_at : Item → FieldFault → FileFault
 fault_at item (fault.Missing field) = file.Missing (record { item = item; field = field })
 fault_at item (fault.WrongType field) = file.WrongType (record { item = item; field = field })
 fault_at item (fault.Range field) = file.Range (record { item = item; field = field })
+
+-- the faults of an item's own fields
+abbrev pub own_faults : Item → (Members → List Row) → Members → List FileFault
+own_faults item rows tree = map (fault_at item) (field_faults (rows tree) tree)
+
+-- memory ran out, or the fault is the first of these
+abbrev pub IsFirstFault : List FileFault → FileFault → Type 0
+IsFirstFault faults why = (why ≡ file.Memory) ⊎ (first faults ≡ Some why)
 
 -- the two have one number
 abbrev pub same_number : Option ℕ → Option ℕ → Bool
@@ -39,7 +47,7 @@ is_taken field before d = list_any (λ other. same_number (number_in field (tabl
 abbrev pub item_faults : (ℕ → Item) → (Members → List Row) → Field → List Data → List Data → List FileFault
 item_faults item_at rows named before [] = []
 item_faults item_at rows named before (d ∷ ds) =
-    map (fault_at (item_at (length before))) (field_faults (rows (table_of d)) (table_of d))
+    own_faults (item_at (length before)) rows (table_of d)
     ++ ((if is_taken named before d then file.Twice (record { item = item_at (length before); field = named }) ∷ [] else [])
     ++ item_faults item_at rows named (before ++ d ∷ []) ds)
 
@@ -81,7 +89,7 @@ attribute_rows tree =
 
 -- the faults of the attribute that a table is, at a place of its array
 abbrev pub attribute_faults_at : ℕ → Members → List FileFault
-attribute_faults_at place tree = map (fault_at (item.Attribute place)) (field_faults (attribute_rows tree) tree)
+attribute_faults_at place tree = own_faults (item.Attribute place) attribute_rows tree
 
 -- the faults of the attributes that an array has, from a place on
 abbrev pub attribute_faults_from : ℕ → List Data → List FileFault

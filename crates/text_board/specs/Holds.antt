@@ -24,17 +24,13 @@ use Rattle.text_fields.specs.declared.field.Field.{Field}
 use Rattle.text_fields.specs.declared.field.Field.TheVariants as field
 use Rattle.text_board.specs.declared.fault.FileFault.{FileFault}
 use Rattle.text_board.specs.declared.fault.FileFault.TheVariants as file
-use Rattle.text_board.specs.declared.fault.Item.{Item}
-use Rattle.text_board.specs.declared.fault.Item.TheVariants as item
-use Rattle.text_fields.specs.declared.row.Row.{Row}
-use Rattle.text_board.specs.declared.tables.TheConstants.{SENSOR, STATE, NUMERIC}
 use Rattle.text_fields.specs.Trees.{members, natural, IsNaturalIn, number_in, table_of, table_in, members_in, or_none, HasNumber, HasNumbers}
 use Rattle.text_fields.specs.Numeric.{sized_in}
 use Rattle.text_fields.specs.Users.{name_of}
 use Rattle.text_fields.specs.Ranges.{record_in, or_zero, settings}
 use Rattle.text_board.specs.AttributeItems.{IsAttributeIn}
 use Rattle.text_board.specs.LanItems.{lans_in, IsLanIn}
-use Rattle.text_board.specs.Faults.{has_sessions, channel_rows, item_faults, board_faults}
+use Rattle.text_board.specs.Faults.{has_sessions, board_faults}
 use Rattle.text_fields.specs.Faults.{first}
 
 -- the table holds what a board says of itself
@@ -72,19 +68,6 @@ IsRecordIn d bytes = record_in d ≡ Some bytes
 abbrev pub IsSensorIn : Data → Sensor → Type 0
 IsSensorIn d sensor = HoldsSensor (table_of d) sensor
 
--- a sensor's number
-abbrev pub number_of : Sensor → ℕ
-number_of sensor = sensor.number
-
--- the fault counts in an array of items, where those before the member hold these
-abbrev pub IsNextAmong : {A : Type 0} → (Data → A → Type 0) → (ℕ → Item) → (Members → List Row) → Field → List A → Data → FileFault → Type 0
-IsNextAmong holds item_at rows named before d why =
-    (seen ds : List Data) → AllZip holds seen before → first (item_faults item_at rows named seen (d ∷ ds)) ≡ Some why
-
--- the fault counts in an array of sensors, where those before the member hold these
-abbrev pub IsNextFault : List Sensor → Data → FileFault → Type 0
-IsNextFault before d why = IsNextAmong IsSensorIn item.Sensor (λ tree. SENSOR) field.Number before d why
-
 -- ---- state effecters
 
 -- the number of an operational state: enabled without a pending update, or disabled
@@ -110,14 +93,6 @@ pub record HoldsState (tree : Members) (effecter : StateEffecter) : Type 0 where
 abbrev pub IsStateIn : Data → StateEffecter → Type 0
 IsStateIn d effecter = HoldsState (table_of d) effecter
 
--- a state effecter's id
-abbrev pub state_id : StateEffecter → ℕ
-state_id effecter = effecter.id
-
--- the fault counts in an array of state effecters, where those before the member hold these
-abbrev pub IsNextStateFault : List StateEffecter → Data → FileFault → Type 0
-IsNextStateFault before d why = IsNextAmong IsStateIn item.State (λ tree. STATE) field.Id before d why
-
 -- ---- numeric effecters
 
 -- the table has the number of this size, by its bits, in the field
@@ -140,14 +115,6 @@ pub record HoldsNumeric (tree : Members) (effecter : NumericEffecter) : Type 0 w
 -- the member of an array holds a numeric effecter
 abbrev pub IsNumericIn : Data → NumericEffecter → Type 0
 IsNumericIn d effecter = HoldsNumeric (table_of d) effecter
-
--- a numeric effecter's id
-abbrev pub effecter_id : NumericEffecter → ℕ
-effecter_id effecter = effecter.id
-
--- the fault counts in an array of numeric effecters, where those before the member hold these
-abbrev pub IsNextNumericFault : List NumericEffecter → Data → FileFault → Type 0
-IsNextNumericFault before d why = IsNextAmong IsNumericIn item.Numeric (λ tree. NUMERIC) field.Id before d why
 
 -- ---- users
 
@@ -191,14 +158,20 @@ abbrev pub on_channel : ℕ → ℕ → List Data → List (ℕ × (ℕ × ℕ))
 on_channel channel user [] = []
 on_channel channel user (d ∷ ds) = (channel, (user, or_zero (natural d))) ∷ on_channel channel (user + 1) ds
 
+-- a channel's number
+abbrev pub channel_of : Data → ℕ
+channel_of d = or_zero (number_in field.Number (table_of d))
+
 -- what users may do on these channels
 abbrev pub accesses_in : List Data → List (ℕ × (ℕ × ℕ))
 accesses_in [] = []
-accesses_in (d ∷ ds) = on_channel (or_zero (number_in field.Number (table_of d))) 1 (members_in field.Users (table_of d)) ++ accesses_in ds
+accesses_in (d ∷ ds) = on_channel (channel_of d) 1 (members_in field.Users (table_of d)) ++ accesses_in ds
 
--- the fault counts in an array of channels of a file of so many users, where those before the member have these numbers
-abbrev pub IsNextChannelFault : ℕ → List ChannelNumber → Data → FileFault → Type 0
-IsNextChannelFault users before d why = IsNextAmong IsNumberIn item.Channel (channel_rows users) field.Number before d why
+-- the members of an array hold these channels, with sessions and without, and what users may do on the former
+pub record HoldChannels (ds : List Data) (channels : List Channel) (sessionless : List ChannelNumber) (accesses : List UserAccess) : Type 0 where
+  pub with : AllZip IsChannelIn (with_sessions ds) channels
+  pub without : AllZip IsNumberIn (without_sessions ds) sessionless
+  pub rights : map parts_of accesses ≡ accesses_in (with_sessions ds)
 
 -- ---- boards
 
@@ -223,9 +196,7 @@ pub record HoldsBoard (tree : Members) (board : BoardFile) : Type 0 where
   pub states : AllZip IsStateIn (members_in field.State tree) board.state_effecters.items
   pub effecters : AllZip IsNumericIn (members_in field.Numeric tree) board.numeric_effecters.items
   pub users : AllZip IsNameIn (members_in field.Users tree) board.users.items
-  pub channels : AllZip IsChannelIn (with_sessions (members_in field.Channel tree)) board.channels.items
-  pub sessionless : AllZip IsNumberIn (without_sessions (members_in field.Channel tree)) board.sessionless.items
-  pub accesses : map parts_of board.user_accesses.items ≡ accesses_in (with_sessions (members_in field.Channel tree))
+  pub channels : HoldChannels (members_in field.Channel tree) board.channels.items board.sessionless.items board.user_accesses.items
   pub attributes : AllZip IsAttributeIn (members_in field.Attribute tree) board.attributes.items
   pub lans : AllZip IsLanIn (lans_in tree) board.lans.items
 

@@ -1,5 +1,5 @@
 //! The BIOS attributes of a board file.
-ghost use Rattle.std.specs.Prelude.{◌≡◌, ◌⊎◌, ◌≤◌, ◌<◌, [], true, is_some, length, Some, IsSome, IfOk, IfErr, map};
+ghost use Rattle.std.specs.Prelude.{◌≡◌, ◌≤◌, ◌<◌, [], true, is_some, length, Some, IsSome, IfOk, IfErr, map};
 ghost use Rattle.std.specs.List.{list_all, AllZip};
 ghost use Rattle.record_base.specs.Attributes.{AreInPlace};
 ghost use Rattle.toml.specs.View.{view, table_view};
@@ -7,8 +7,8 @@ ghost use Rattle.text_fields.specs.Trees.{IsNaturalIn, number_in, table_of, memb
 ghost use Rattle.text_fields.specs.Attributes.{text_of, are_indexes};
 ghost use Rattle.text_board.specs.AttributeItems.{IsTextIn, HoldsEnumeration, HoldsString, HoldsInteger, HoldsKind, HoldsAttribute, IsAttributeIn};
 ghost use Rattle.text_fields.specs.Ranges.{is_table};
-ghost use Rattle.text_fields.specs.Faults.{field_faults, first};
-ghost use Rattle.text_board.specs.Faults.{attribute_rows, attribute_faults_at, attribute_faults};
+ghost use Rattle.text_fields.specs.Faults.{field_faults};
+ghost use Rattle.text_board.specs.Faults.{IsFirstFault, attribute_rows, attribute_faults_at, attribute_faults};
 
 use crate::check::check;
 use crate::fault::{FileFault, Item};
@@ -66,7 +66,10 @@ fn texts_of(alloc: Global, values: &[Value]) -> Result<Vec<Text>, FileFault>
 /// The indexes of its values that the table has in the field.
 fn indexes_in(table: &Table, field: Field) -> Indexes
     requires few { length (members_in Field.Values (table_view table.now)) ≤ 16 }
-    requires known { are_indexes (length (members_in Field.Values (table_view table.now))) (length (members_in Field.Values (table_view table.now))) (members_in field (table_view table.now)) ≡ true }
+    requires known { are_indexes
+        (length (members_in Field.Values (table_view table.now)))
+        (length (members_in Field.Values (table_view table.now)))
+        (members_in field (table_view table.now)) ≡ true }
     ensures { AllZip IsNaturalIn (members_in field (table_view table.now)) result }
 {
     indexes_of(members_in(table, field))
@@ -159,7 +162,8 @@ fn attribute_at(alloc: Global, place: usize, value: &Value) -> Result<Attribute,
     ensures sound { IfOk result (λ _. attribute_faults_at place (table_of (view value.now)) ≡ []) }
     ensures handle { IfOk result (λ attribute. attribute.handle ≡ place) }
     ensures held { IfOk result (IsAttributeIn (view value.now)) }
-    ensures err { IfErr result (λ why. (why ≡ FileFault.Memory) ⊎ (first (attribute_faults_at place (table_of (view value.now))) ≡ Some why)) }
+    ensures err { IfErr result
+        (IsFirstFault (attribute_faults_at place (table_of (view value.now)))) }
 {
     let table = value.as_table().unwrap();
     check(Item::Attribute(place), rows(table), table)?;
@@ -171,9 +175,10 @@ fn attributes_of(alloc: Global, values: &[Value]) -> Result<Vec<Attribute>, File
     requires few { length values.now ≤ 64 }
     requires tables { list_all (λ value. is_table (view value)) values.now ≡ true }
     ensures sound { IfOk result (λ _. attribute_faults (map view values.now) ≡ []) }
-    ensures held { IfOk result (λ attributes. AllZip IsAttributeIn (map view values.now) attributes.items) }
+    ensures held { IfOk result (λ attributes.
+        AllZip IsAttributeIn (map view values.now) attributes.items) }
     ensures handles { IfOk result (λ attributes. AreInPlace attributes.items) }
-    ensures err { IfErr result (λ why. (why ≡ FileFault.Memory) ⊎ (first (attribute_faults (map view values.now)) ≡ Some why)) }
+    ensures err { IfErr result (IsFirstFault (attribute_faults (map view values.now))) }
 {
     let mut attributes = Vec::new(alloc);
     for (place, value) in values.iter().enumerate() {
@@ -189,10 +194,12 @@ fn attributes_of(alloc: Global, values: &[Value]) -> Result<Vec<Attribute>, File
 /// The attributes of the file.
 pub fn attributes(alloc: Global, top: &Checked<'_>) -> Result<Attributes, FileFault>
     requires { top.now.rows.now ≡ TOP }
-    ensures sound { IfOk result (λ _. attribute_faults (members_in Field.Attribute (table_view top.now.table.now)) ≡ []) }
+    ensures sound { IfOk result (λ _.
+        attribute_faults (members_in Field.Attribute (table_view top.now.table.now)) ≡ []) }
     ensures held { IfOk result (λ attributes. AllZip IsAttributeIn
         (members_in Field.Attribute (table_view top.now.table.now)) attributes.items) }
-    ensures err { IfErr result (λ why. (why ≡ FileFault.Memory) ⊎ (first (attribute_faults (members_in Field.Attribute (table_view top.now.table.now))) ≡ Some why)) }
+    ensures err { IfErr result (IsFirstFault
+        (attribute_faults (members_in Field.Attribute (table_view top.now.table.now)))) }
 {
     let attributes = attributes_of(alloc, top.tables(Field::Attribute))?;
     Ok(Attributes::new(attributes).unwrap())

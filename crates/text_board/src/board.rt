@@ -1,13 +1,12 @@
 //! The text of a board file.
-ghost use Rattle.std.specs.Prelude.{◌≡◌, ◌⊎◌, ◌==◌, [], true, false, is_some, Some, Err, IfOk, IfErr, map};
-ghost use Rattle.std.specs.List.{list_all, list_any, AllZip};
-ghost use Rattle.record_base.specs.Distinct.{NamesDiffer};
+ghost use Rattle.std.specs.Prelude.{◌≡◌, ◌⊎◌, [], true, is_some, Err, IfOk, IfErr, map};
+ghost use Rattle.std.specs.List.{list_all, AllZip};
 ghost use Rattle.toml.specs.View.{view, table_view};
-ghost use Rattle.text_fields.specs.Trees.{table_of, members_in, HasNumber, HasNumbers};
-ghost use Rattle.text_fields.specs.Ranges.{is_table, record_in, settings};
-ghost use Rattle.text_fields.specs.Faults.{field_faults, first};
-ghost use Rattle.text_board.specs.Faults.{record_faults, sensor_faults};
-ghost use Rattle.text_board.specs.Holds.{HoldsBoot, HoldsDevice, HoldsEvents, HoldsSensor, IsRecordIn, IsSensorIn, IsNextFault, number_of, Answers, Reads};
+ghost use Rattle.text_fields.specs.Trees.{members_in, HasNumber, HasNumbers};
+ghost use Rattle.text_fields.specs.Ranges.{record_in, settings};
+ghost use Rattle.text_fields.specs.Faults.{field_faults};
+ghost use Rattle.text_board.specs.Faults.{record_faults, IsFirstFault};
+ghost use Rattle.text_board.specs.Holds.{HoldsBoot, HoldsDevice, IsRecordIn, Answers, Reads};
 
 use crate::attribute_items::attributes;
 use crate::channel_items::file_channels;
@@ -15,18 +14,17 @@ use crate::check::checked;
 use crate::effecters::numeric_effecters;
 use crate::fault::{FileFault, Item, Place};
 use crate::lan_items::lans;
+use crate::sensors::sensors;
 use crate::state_items::state_effecters;
-use crate::tables::{DEVICE, SENSOR, TOP};
+use crate::tables::{DEVICE, TOP};
 use crate::users::users;
-use cfg_records::event_enable::{MESSAGES_PLACE, SCANNING_PLACE};
-use cfg_records::mask::has;
 use cfg_records::{
-    BoardFile, BootOptions, Device, Distinct, EventEnable, EventMasks, GlobalEnables, LogCapacity,
-    ManufacturerId, Numbered, PowerPolicy, SdrRecord, SdrRecords, Sensor, Sensors, Watchdog,
+    BoardFile, BootOptions, Device, Distinct, GlobalEnables, LogCapacity, ManufacturerId,
+    PowerPolicy, SdrRecord, SdrRecords, Watchdog,
 };
 use std::alloc::Global;
-use text_fields::range::{boot_flags, digits, enables, record, thresholds, watchdog};
-use text_fields::tree::{byte_in, members_of, word_in};
+use text_fields::range::{boot_flags, digits, enables, record, watchdog};
+use text_fields::tree::members_of;
 use text_fields::{Checked, Field};
 use toml::{Table, Value};
 
@@ -44,94 +42,6 @@ fn device(item: &Checked<'_>) -> Device
         manufacturer: ManufacturerId::new(item.number(Field::Manufacturer)).unwrap(),
         product: item.word(Field::Product),
     }
-}
-
-/// The events of the sensor that the table is.
-fn events(item: &Checked<'_>) -> EventEnable
-    requires { item.now.rows.now ≡ SENSOR }
-    ensures { HoldsEvents (table_view item.now.table.now) result }
-{
-    let supported = item.word(Field::Supported);
-    let flags = byte_in(item.table, Field::Flags);
-    let enabled = EventMasks {
-        assertions: word_in(item.table, Field::Assert),
-        deassertions: word_in(item.table, Field::Deassert),
-    };
-    let messages = has(flags, MESSAGES_PLACE);
-    let scanning = has(flags, SCANNING_PLACE);
-    EventEnable::new(supported, messages, scanning, enabled).unwrap()
-}
-
-/// The sensor that the table is.
-fn sensor(item: &Checked<'_>) -> Sensor
-    requires { item.now.rows.now ≡ SENSOR }
-    ensures { HoldsSensor (table_view item.now.table.now) result }
-{
-    Sensor {
-        number: item.byte(Field::Number),
-        sensor_type: item.byte(Field::Type),
-        thresholds: thresholds(item.table, item.value(Field::Thresholds)).unwrap(),
-        hysteresis: item.pair(Field::Hysteresis).into(),
-        events: events(item),
-    }
-}
-
-/// Whether one of the sensors has the number.
-fn is_taken(sensors: &[Sensor], number: u8) -> bool
-    ensures { result ≡ list_any (λ sensor. sensor.number == number) sensors.now }
-{
-    sensors.iter().any(|sensor| sensor.number == number)
-}
-
-/// The sensor that the value is, behind those before it.
-fn next_sensor(before: &[Sensor], value: &Value) -> Result<Sensor, FileFault>
-    requires { is_table (view value.now) ≡ true }
-    ensures sound { IfOk result (λ _. field_faults SENSOR (table_of (view value.now)) ≡ []) }
-    ensures held { IfOk result (IsSensorIn (view value.now)) }
-    ensures fresh { IfOk result (λ s. list_any (λ other. other.number == s.number) before.now ≡ false) }
-    ensures err { IfErr result (IsNextFault before.now (view value.now)) }
-{
-    let item = Item::Sensor(before.len());
-    let table = value.as_table().unwrap();
-    let known = checked(item, &SENSOR, table)?;
-    let sensor = sensor(&known);
-    if is_taken(before, sensor.number) {
-        return Err(FileFault::Twice(Place {
-            item,
-            field: Field::Number,
-        }));
-    }
-    Ok(sensor)
-}
-
-/// The sensors that these tables are, up to the first fault.
-fn sensors_of(alloc: Global, values: &[Value]) -> Result<Vec<Sensor>, FileFault>
-    requires { list_all (λ value. is_table (view value)) values.now ≡ true }
-    ensures sound { IfOk result (λ _. sensor_faults (map view values.now) ≡ []) }
-    ensures held { IfOk result (λ sensors. AllZip IsSensorIn (map view values.now) sensors.items) }
-    ensures differ { IfOk result (λ sensors. NamesDiffer number_of sensors.items) }
-    ensures err { IfErr result (λ why. (why ≡ FileFault.Memory) ⊎ (first (sensor_faults (map view values.now)) ≡ Some why)) }
-{
-    let mut sensors = Vec::new(alloc);
-    for value in values {
-        let sensor = next_sensor(sensors.as_slice(), value)?;
-        match sensors.push(sensor) {
-            Ok(()) => {}
-            Err(_) => return Err(FileFault::Memory),
-        }
-    }
-    Ok(sensors)
-}
-
-/// The sensors of the file.
-fn sensors(alloc: Global, top: &Checked<'_>) -> Result<Sensors, FileFault>
-    requires { top.now.rows.now ≡ TOP }
-    ensures sound { IfOk result (λ _. sensor_faults (members_in Field.Sensor (table_view top.now.table.now)) ≡ []) }
-    ensures held { IfOk result (λ sensors. AllZip IsSensorIn (members_in Field.Sensor (table_view top.now.table.now)) sensors.items) }
-    ensures err { IfErr result (λ why. (why ≡ FileFault.Memory) ⊎ (first (sensor_faults (members_in Field.Sensor (table_view top.now.table.now))) ≡ Some why)) }
-{
-    let sensors = sensors_of(alloc, top.tables(Field::Sensor))?;
-    Ok(Distinct::new(sensors).unwrap())
 }
 
 /// The global enables of the file.
@@ -161,9 +71,12 @@ fn records_of(alloc: Global, values: &[Value]) -> Result<Vec<SdrRecord>, FileFau
 /// The sensor data records of the file.
 fn sdr(alloc: Global, top: &Checked<'_>) -> Result<SdrRecords, FileFault>
     requires { top.now.rows.now ≡ TOP }
-    ensures sound { IfOk result (λ _. record_faults (members_in Field.Sdr (table_view top.now.table.now)) ≡ []) }
-    ensures held { IfOk result (λ sdr. AllZip IsRecordIn (members_in Field.Sdr (table_view top.now.table.now)) sdr.items) }
-    ensures err { IfErr result (λ why. (why ≡ FileFault.Memory) ⊎ (first (record_faults (members_in Field.Sdr (table_view top.now.table.now))) ≡ Some why)) }
+    ensures sound { IfOk result (λ _.
+        record_faults (members_in Field.Sdr (table_view top.now.table.now)) ≡ []) }
+    ensures held { IfOk result (λ sdr.
+        AllZip IsRecordIn (members_in Field.Sdr (table_view top.now.table.now)) sdr.items) }
+    ensures err { IfErr result (IsFirstFault
+        (record_faults (members_in Field.Sdr (table_view top.now.table.now)))) }
 {
     let records = records_of(alloc, members_of(top.value(Field::Sdr)))?;
     match Distinct::new(records) {

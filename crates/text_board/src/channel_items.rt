@@ -1,17 +1,18 @@
 //! The channels of a board file.
-ghost use Rattle.std.specs.Prelude.{◌≡◌, ◌⊎◌, ◌==◌, ◌<◌, ◌≤◌, [], true, false, Some, IfOk, IfErr, OnOk, map, length};
-ghost use Rattle.std.specs.List.{list_all, list_any, AllZip};
+ghost use Rattle.std.specs.Prelude.{◌≡◌, ◌<◌, ◌≤◌, [], true, Some, IfOk, IfErr, OnOk, map, length};
+ghost use Rattle.std.specs.List.{list_all, AllZip};
 ghost use Rattle.record_base.specs.Distinct.{NamesDiffer};
 ghost use Rattle.cfg_records.specs.BoardChannels.{channel_numbers};
 ghost use Rattle.toml.specs.View.{view, table_view};
-ghost use Rattle.text_fields.specs.Trees.{natural, number_in, table_of, members_in};
+ghost use Rattle.text_fields.specs.Trees.{natural, table_of, members_in, HasNumber};
 ghost use Rattle.text_fields.specs.Ranges.{is_table, may_do, or_zero};
 ghost use Rattle.text_fields.specs.Faults.{field_faults, first};
-ghost use Rattle.text_board.specs.Faults.{fault_at, has_sessions, session_rows, channel_rows, channel_faults, users_in};
-ghost use Rattle.text_board.specs.Holds.{IsNumberIn, HoldsChannel, IsChannelIn, with_sessions, without_sessions, accesses_in, parts_of, on_channel, IsNextChannelFault};
+ghost use Rattle.text_board.specs.Faults.{own_faults, IsFirstFault, has_sessions, session_rows, channel_rows, channel_faults, users_in};
+ghost use Rattle.text_board.specs.Holds.{IsNumberIn, HoldsChannel, IsChannelIn, with_sessions, without_sessions, accesses_in, parts_of, on_channel, channel_of, HoldChannels};
 
 use crate::check::check;
 use crate::fault::{FileFault, Item, Place};
+use crate::items::{ArrayReader, items_of};
 use crate::tables::{CHANNEL, TOP, session_rows};
 use cfg_records::{
     Channel, ChannelAccess, ChannelNumber, Channels, Distinct, SessionlessChannels, UserAccess,
@@ -38,8 +39,10 @@ fn has_sessions(table: &Table) -> bool
 
 /// That the fields of a channel in a file of so many users have no fault, or else the first.
 fn check_channel(item: Item, users: usize, table: &Table) -> Result<(), FileFault>
-    ensures ok { OnOk result (field_faults (channel_rows users (table_view table.now)) (table_view table.now) ≡ []) }
-    ensures err { IfErr result (λ why. first (map (fault_at item) (field_faults (channel_rows users (table_view table.now)) (table_view table.now))) ≡ Some why) }
+    ensures ok { OnOk result
+        (field_faults (channel_rows users (table_view table.now)) (table_view table.now) ≡ []) }
+    ensures err { IfErr result (λ why.
+        first (own_faults item (channel_rows users) (table_view table.now)) ≡ Some why) }
 {
     if has_sessions(table) {
         return check(item, &session_rows(users), table);
@@ -47,59 +50,44 @@ fn check_channel(item: Item, users: usize, table: &Table) -> Result<(), FileFaul
     check(item, &CHANNEL, table)
 }
 
-/// Whether one of the channels has the number.
-fn is_taken(channels: &[ChannelNumber], number: u8) -> bool
-    ensures { result ≡ list_any (λ channel. channel.number == number) channels.now }
-{
-    channels.iter().any(|channel| channel.number == number)
+/// How the numbers of channels are read in a file of so many users.
+#[derive(Drop)]
+struct ChannelReader {
+    users: usize,
 }
 
-/// The number of the channel that the value is, behind those before it, in a file of so many users.
-fn next_channel(
-    users: usize,
-    before: &[ChannelNumber],
-    value: &Value,
-) -> Result<ChannelNumber, FileFault>
-    requires { is_table (view value.now) ≡ true }
-    ensures sound { IfOk result (λ _. field_faults (channel_rows users (table_of (view value.now))) (table_of (view value.now)) ≡ []) }
-    ensures held { IfOk result (IsNumberIn (view value.now)) }
-    ensures fresh { IfOk result (λ c. list_any (λ other. other.number == c.number) before.now ≡ false) }
-    ensures err { IfErr result (IsNextChannelFault users before.now (view value.now)) }
-{
-    let item = Item::Channel(before.len());
-    let table = value.as_table().unwrap();
-    check_channel(item, users, table)?;
-    let channel = channel_in(table, Field::Number);
-    if is_taken(before, channel.number) {
-        return Err(FileFault::Twice(Place {
-            item,
+impl ArrayReader for ChannelReader {
+    type Entry = ChannelNumber;
+
+    ghost use Rattle.text_fields.specs.declared.field.Field.TheVariants as field;
+    ghost use Rattle.text_board.specs.declared.fault.Item.TheVariants as item;
+
+    ghost item_at = { item.Channel };
+
+    ghost rows = { λ reader. channel_rows reader.users };
+
+    ghost named = { field.Number };
+
+    ghost holds = { λ tree channel. HasNumber field.Number tree channel.number };
+
+    ghost numbered = { λ tree channel held. held };
+
+    fn number_place(place: usize) -> Place {
+        Place {
+            item: Item::Channel(place),
             field: Field::Number,
-        }));
-    }
-    Ok(channel)
-}
-
-/// The numbers of the channels that these tables are, up to the first fault.
-fn numbers_of(
-    alloc: Global,
-    users: usize,
-    values: &[Value],
-) -> Result<Vec<ChannelNumber>, FileFault>
-    requires { list_all (λ value. is_table (view value)) values.now ≡ true }
-    ensures sound { IfOk result (λ _. channel_faults users (map view values.now) ≡ []) }
-    ensures held { IfOk result (λ channels. AllZip IsNumberIn (map view values.now) channels.items) }
-    ensures differ { IfOk result (λ channels. NamesDiffer (λ channel. channel.number) channels.items) }
-    ensures err { IfErr result (λ why. (why ≡ FileFault.Memory) ⊎ (first (channel_faults users (map view values.now)) ≡ Some why)) }
-{
-    let mut channels = Vec::new(alloc);
-    for value in values {
-        let channel = next_channel(users, channels.as_slice(), value)?;
-        match channels.push(channel) {
-            Ok(()) => {}
-            Err(_) => return Err(FileFault::Memory),
         }
     }
-    Ok(channels)
+
+    fn read(
+        &self,
+        _alloc: Global,
+        place: usize,
+        table: &Table,
+    ) -> Result<ChannelNumber, FileFault> {
+        check_channel(Item::Channel(place), self.users, table)?;
+        Ok(channel_in(table, Field::Number))
+    }
 }
 
 /// The channel with sessions that the table is.
@@ -130,7 +118,8 @@ fn table_at(value: &Value) -> &Table
 fn channels_of(alloc: Global, users: usize, values: &[Value]) -> Result<Vec<Channel>, FileFault>
     requires tables { list_all (λ value. is_table (view value)) values.now ≡ true }
     requires sound { channel_faults users (map view values.now) ≡ [] }
-    ensures held { IfOk result (λ channels. AllZip IsChannelIn (with_sessions (map view values.now)) channels.items) }
+    ensures held { IfOk result (λ channels.
+        AllZip IsChannelIn (with_sessions (map view values.now)) channels.items) }
     ensures err { IfErr result (λ why. why ≡ FileFault.Memory) }
 {
     let mut channels = Vec::new(alloc);
@@ -154,7 +143,8 @@ fn sessionless_of(
 ) -> Result<Vec<ChannelNumber>, FileFault>
     requires tables { list_all (λ value. is_table (view value)) values.now ≡ true }
     requires sound { channel_faults users (map view values.now) ≡ [] }
-    ensures held { IfOk result (λ channels. AllZip IsNumberIn (without_sessions (map view values.now)) channels.items) }
+    ensures held { IfOk result (λ channels.
+        AllZip IsNumberIn (without_sessions (map view values.now)) channels.items) }
     ensures err { IfErr result (λ why. why ≡ FileFault.Memory) }
 {
     let mut channels = Vec::new(alloc);
@@ -191,7 +181,8 @@ fn accesses_on(
 ) -> Result<Vec<UserAccess>, FileFault>
     requires few { length values.now ≤ 16 }
     requires bytes { list_all (λ value. may_do (view value)) values.now ≡ true }
-    ensures held { IfOk result (λ accesses. map parts_of accesses.items ≡ on_channel channel.number 1 (map view values.now)) }
+    ensures held { IfOk result (λ accesses.
+        map parts_of accesses.items ≡ on_channel channel.number 1 (map view values.now)) }
     ensures err { IfErr result (λ why. why ≡ FileFault.Memory) }
 {
     let mut accesses = Vec::new(alloc);
@@ -209,7 +200,8 @@ fn accesses_of(alloc: Global, users: usize, values: &[Value]) -> Result<Vec<User
     requires tables { list_all (λ value. is_table (view value)) values.now ≡ true }
     requires sound { channel_faults users (map view values.now) ≡ [] }
     requires few { users ≤ 16 }
-    ensures held { IfOk result (λ accesses. map parts_of accesses.items ≡ accesses_in (with_sessions (map view values.now))) }
+    ensures held { IfOk result (λ accesses.
+        map parts_of accesses.items ≡ accesses_in (with_sessions (map view values.now))) }
     ensures err { IfErr result (λ why. why ≡ FileFault.Memory) }
 {
     let mut accesses = Vec::new(alloc);
@@ -244,10 +236,9 @@ fn split(alloc: Global, users: usize, values: &[Value]) -> Result<FileChannels, 
     requires sound { channel_faults users (map view values.now) ≡ [] }
     requires few { users ≤ 16 }
     requires most { length values.now ≤ 8 }
-    requires differ { NamesDiffer (λ d. or_zero (number_in Field.Number (table_of d))) (map view values.now) }
-    ensures channels { IfOk result (λ file. AllZip IsChannelIn (with_sessions (map view values.now)) file.channels.items) }
-    ensures sessionless { IfOk result (λ file. AllZip IsNumberIn (without_sessions (map view values.now)) file.sessionless.items) }
-    ensures accesses { IfOk result (λ file. map parts_of file.accesses.items ≡ accesses_in (with_sessions (map view values.now))) }
+    requires differ { NamesDiffer channel_of (map view values.now) }
+    ensures held { IfOk result (λ file. HoldChannels (map view values.now)
+        file.channels.items file.sessionless.items file.accesses.items) }
     ensures err { IfErr result (λ why. why ≡ FileFault.Memory) }
 {
     let channels = channels_of(alloc, users, values)?;
@@ -266,23 +257,25 @@ fn channels_in(alloc: Global, users: usize, values: &[Value]) -> Result<FileChan
     requires few { users ≤ 16 }
     requires most { length values.now ≤ 8 }
     ensures sound { IfOk result (λ _. channel_faults users (map view values.now) ≡ []) }
-    ensures channels { IfOk result (λ file. AllZip IsChannelIn (with_sessions (map view values.now)) file.channels.items) }
-    ensures sessionless { IfOk result (λ file. AllZip IsNumberIn (without_sessions (map view values.now)) file.sessionless.items) }
-    ensures accesses { IfOk result (λ file. map parts_of file.accesses.items ≡ accesses_in (with_sessions (map view values.now))) }
-    ensures err { IfErr result (λ why. (why ≡ FileFault.Memory) ⊎ (first (channel_faults users (map view values.now)) ≡ Some why)) }
+    ensures held { IfOk result (λ file. HoldChannels (map view values.now)
+        file.channels.items file.sessionless.items file.accesses.items) }
+    ensures err { IfErr result (IsFirstFault (channel_faults users (map view values.now))) }
 {
-    let _numbers = numbers_of(alloc, users, values)?;
+    let _numbers = items_of(&ChannelReader { users }, alloc, values)?;
     split(alloc, users, values)
 }
 
 /// The channels of the file.
 pub fn file_channels(alloc: Global, top: &Checked<'_>) -> Result<FileChannels, FileFault>
     requires { top.now.rows.now ≡ TOP }
-    ensures sound { IfOk result (λ _. channel_faults (users_in (table_view top.now.table.now)) (members_in Field.Channel (table_view top.now.table.now)) ≡ []) }
-    ensures channels { IfOk result (λ file. AllZip IsChannelIn (with_sessions (members_in Field.Channel (table_view top.now.table.now))) file.channels.items) }
-    ensures sessionless { IfOk result (λ file. AllZip IsNumberIn (without_sessions (members_in Field.Channel (table_view top.now.table.now))) file.sessionless.items) }
-    ensures accesses { IfOk result (λ file. map parts_of file.accesses.items ≡ accesses_in (with_sessions (members_in Field.Channel (table_view top.now.table.now)))) }
-    ensures err { IfErr result (λ why. (why ≡ FileFault.Memory) ⊎ (first (channel_faults (users_in (table_view top.now.table.now)) (members_in Field.Channel (table_view top.now.table.now))) ≡ Some why)) }
+    ensures sound { IfOk result (λ _. channel_faults (users_in (table_view top.now.table.now))
+        (members_in Field.Channel (table_view top.now.table.now)) ≡ []) }
+    ensures held { IfOk result (λ file.
+        HoldChannels (members_in Field.Channel (table_view top.now.table.now))
+        file.channels.items file.sessionless.items file.accesses.items) }
+    ensures err { IfErr result (IsFirstFault
+        (channel_faults (users_in (table_view top.now.table.now))
+        (members_in Field.Channel (table_view top.now.table.now)))) }
 {
     let users = members_of(top.value(Field::Users)).len();
     channels_in(alloc, users, top.tables(Field::Channel))

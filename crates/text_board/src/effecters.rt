@@ -1,22 +1,20 @@
 //! The numeric effecters of a board file.
-ghost use Rattle.std.specs.Prelude.{◌≡◌, ◌⊎◌, ◌==◌, [], true, false, Some, IfOk, IfErr, map};
-ghost use Rattle.std.specs.List.{list_all, list_any, AllZip};
-ghost use Rattle.record_base.specs.Distinct.{NamesDiffer};
-ghost use Rattle.toml.specs.View.{view, table_view};
-ghost use Rattle.text_fields.specs.Trees.{table_of, members_in};
-ghost use Rattle.text_fields.specs.Ranges.{is_table};
-ghost use Rattle.text_fields.specs.Faults.{field_faults, first};
-ghost use Rattle.text_board.specs.Faults.{numeric_faults};
-ghost use Rattle.text_board.specs.Holds.{HoldsRange, HoldsNumeric, IsNumericIn, IsNextNumericFault, effecter_id};
+ghost use Rattle.std.specs.Prelude.{◌≡◌, [], IfOk, IfErr};
+ghost use Rattle.std.specs.List.{AllZip};
+ghost use Rattle.toml.specs.View.{table_view};
+ghost use Rattle.text_fields.specs.Trees.{members_in};
+ghost use Rattle.text_board.specs.Faults.{numeric_faults, IsFirstFault};
+ghost use Rattle.text_board.specs.Holds.{HoldsRange, HoldsNumeric, IsNumericIn};
 
 use crate::check::checked;
 use crate::fault::{FileFault, Item, Place};
+use crate::items::{ArrayReader, distinct_items};
 use crate::tables::{NUMERIC, TOP};
-use cfg_records::{Distinct, NumericEffecter, NumericEffecters, NumericRange};
+use cfg_records::{NumericEffecter, NumericEffecters, NumericRange};
 use std::alloc::Global;
 use text_fields::numeric::{size_in, sized_in};
 use text_fields::{Checked, Field};
-use toml::Value;
+use toml::Table;
 
 /// The operational state of an effecter that is enabled.
 pub const ENABLED: u8 = 1;
@@ -44,60 +42,54 @@ fn numeric_effecter(item: &Checked<'_>) -> NumericEffecter
     NumericEffecter::new(id, enabled, range, current).unwrap()
 }
 
-/// Whether one of the effecters has the id.
-fn is_taken(effecters: &[NumericEffecter], id: u16) -> bool
-    ensures { result ≡ list_any (λ effecter. effecter.id == id) effecters.now }
-{
-    effecters.iter().any(|effecter| effecter.id == id)
-}
+/// How numeric effecters are read.
+#[derive(Drop)]
+struct NumericReader;
 
-/// The numeric effecter that the value is, behind those before it.
-fn next_effecter(before: &[NumericEffecter], value: &Value) -> Result<NumericEffecter, FileFault>
-    requires { is_table (view value.now) ≡ true }
-    ensures sound { IfOk result (λ _. field_faults NUMERIC (table_of (view value.now)) ≡ []) }
-    ensures held { IfOk result (IsNumericIn (view value.now)) }
-    ensures fresh { IfOk result (λ e. list_any (λ other. other.id == e.id) before.now ≡ false) }
-    ensures err { IfErr result (IsNextNumericFault before.now (view value.now)) }
-{
-    let item = Item::Numeric(before.len());
-    let table = value.as_table().unwrap();
-    let known = checked(item, &NUMERIC, table)?;
-    let effecter = numeric_effecter(&known);
-    if is_taken(before, effecter.id) {
-        return Err(FileFault::Twice(Place {
-            item,
+impl ArrayReader for NumericReader {
+    type Entry = NumericEffecter;
+
+    ghost use Rattle.text_fields.specs.declared.field.Field.TheVariants as field;
+    ghost use Rattle.text_board.specs.declared.fault.Item.TheVariants as item;
+    ghost use Rattle.text_board.specs.declared.tables.TheConstants.{NUMERIC};
+
+    ghost item_at = { item.Numeric };
+
+    ghost rows = { λ _ _. NUMERIC };
+
+    ghost named = { field.Id };
+
+    ghost holds = { HoldsNumeric };
+
+    ghost numbered = { λ tree effecter held. held.numbered };
+
+    fn number_place(place: usize) -> Place {
+        Place {
+            item: Item::Numeric(place),
             field: Field::Id,
-        }));
-    }
-    Ok(effecter)
-}
-
-/// The numeric effecters that these tables are, up to the first fault.
-fn effecters_of(alloc: Global, values: &[Value]) -> Result<Vec<NumericEffecter>, FileFault>
-    requires { list_all (λ value. is_table (view value)) values.now ≡ true }
-    ensures sound { IfOk result (λ _. numeric_faults (map view values.now) ≡ []) }
-    ensures held { IfOk result (λ effecters. AllZip IsNumericIn (map view values.now) effecters.items) }
-    ensures differ { IfOk result (λ effecters. NamesDiffer effecter_id effecters.items) }
-    ensures err { IfErr result (λ why. (why ≡ FileFault.Memory) ⊎ (first (numeric_faults (map view values.now)) ≡ Some why)) }
-{
-    let mut effecters = Vec::new(alloc);
-    for value in values {
-        let effecter = next_effecter(effecters.as_slice(), value)?;
-        match effecters.push(effecter) {
-            Ok(()) => {}
-            Err(_) => return Err(FileFault::Memory),
         }
     }
-    Ok(effecters)
+
+    fn read(
+        &self,
+        _alloc: Global,
+        place: usize,
+        table: &Table,
+    ) -> Result<NumericEffecter, FileFault> {
+        let item = checked(Item::Numeric(place), &NUMERIC, table)?;
+        Ok(numeric_effecter(&item))
+    }
 }
 
 /// The numeric effecters of the file.
 pub fn numeric_effecters(alloc: Global, top: &Checked<'_>) -> Result<NumericEffecters, FileFault>
     requires { top.now.rows.now ≡ TOP }
-    ensures sound { IfOk result (λ _. numeric_faults (members_in Field.Numeric (table_view top.now.table.now)) ≡ []) }
-    ensures held { IfOk result (λ effecters. AllZip IsNumericIn (members_in Field.Numeric (table_view top.now.table.now)) effecters.items) }
-    ensures err { IfErr result (λ why. (why ≡ FileFault.Memory) ⊎ (first (numeric_faults (members_in Field.Numeric (table_view top.now.table.now))) ≡ Some why)) }
+    ensures sound { IfOk result (λ _.
+        numeric_faults (members_in Field.Numeric (table_view top.now.table.now)) ≡ []) }
+    ensures held { IfOk result (λ effecters. AllZip IsNumericIn
+        (members_in Field.Numeric (table_view top.now.table.now)) effecters.items) }
+    ensures err { IfErr result (IsFirstFault
+        (numeric_faults (members_in Field.Numeric (table_view top.now.table.now)))) }
 {
-    let effecters = effecters_of(alloc, top.tables(Field::Numeric))?;
-    Ok(Distinct::new(effecters).unwrap())
+    distinct_items(&NumericReader, alloc, top.tables(Field::Numeric))
 }

@@ -1,19 +1,14 @@
 //! The LAN parameters of a board file.
-ghost use Rattle.std.specs.Prelude.{◌≡◌, ◌⊎◌, ◌==◌, [], true, false, Some, IfOk, IfErr, map};
-ghost use Rattle.std.specs.List.{list_all, list_any, AllZip};
-ghost use Rattle.record_base.specs.Distinct.{NamesDiffer};
+ghost use Rattle.std.specs.Prelude.{◌≡◌, [], IfOk, IfErr, map};
+ghost use Rattle.std.specs.List.{list_any, AllZip};
 ghost use Rattle.toml.specs.View.{view, table_view};
-ghost use Rattle.text_fields.specs.Trees.{table_of};
-ghost use Rattle.text_fields.specs.Ranges.{is_table};
-ghost use Rattle.text_fields.specs.Faults.{field_faults, first};
-ghost use Rattle.text_board.specs.Faults.{item_faults, lan_faults};
-ghost use Rattle.text_board.specs.LanItems.{has_number, listed_channels, lan_rows, lans_in, HoldsLan, IsLanIn, channel_of};
-ghost use Rattle.text_board.specs.Holds.{IsNextAmong};
+ghost use Rattle.text_board.specs.Faults.{lan_faults, IsFirstFault};
+ghost use Rattle.text_board.specs.LanItems.{has_number, listed_channels, lan_rows, lans_in, HoldsLan, IsLanIn};
 
 use crate::check::checked;
 use crate::fault::{FileFault, Item, Place};
+use crate::items::{ArrayReader, distinct_items};
 use crate::tables::TOP;
-use cfg_records::Distinct;
 use record_base::lan::{LanAddress, LanParameter};
 use record_base::lan_item::{Lan, Lans};
 use std::alloc::Global;
@@ -21,7 +16,7 @@ use text_fields::channels::channel_in;
 use text_fields::lan::{address, vlan};
 use text_fields::tree::number;
 use text_fields::{Checked, Field, LanField, LanShape, Need, Row, Shape};
-use toml::Value;
+use toml::{Table, Value};
 
 /// A list of four bytes.
 const ADDRESS: Shape = Shape::Lan(LanShape::Bytes(LanParameter::Address(LanAddress::Ip)));
@@ -108,58 +103,40 @@ fn lan(listed: [bool; 16], item: &Checked<'_>) -> Lan
     Lan::new(channel, ip, source, mask, gateway, vlan).unwrap()
 }
 
-/// Whether one of the items is of the channel.
-fn is_taken(lans: &[Lan], channel: u8) -> bool
-    ensures { result ≡ list_any (λ other. other.number.number == channel) lans.now }
-{
-    lans.iter().any(|other| other.number.number == channel)
+/// How LAN parameters are read in a file that lists these channels.
+#[derive(Drop)]
+struct LanReader {
+    listed: [bool; 16],
 }
 
-/// The LAN parameters that the value is, behind those before it.
-fn next_lan(listed: [bool; 16], before: &[Lan], value: &Value) -> Result<Lan, FileFault>
-    requires { is_table (view value.now) ≡ true }
-    ensures sound { IfOk result
-        (λ _. field_faults (lan_rows listed) (table_of (view value.now)) ≡ []) }
-    ensures held { IfOk result (IsLanIn (view value.now)) }
-    ensures fresh { IfOk result
-        (λ l. list_any (λ other. other.number.number == l.number.number) before.now ≡ false) }
-    ensures err { IfErr result (IsNextAmong IsLanIn Item.Lan (λ _. lan_rows listed)
-        Field.Channel before.now (view value.now)) }
-{
-    let item = Item::Lan(before.len());
-    let table = value.as_table().unwrap();
-    let rows = lan_rows(listed);
-    let known = checked(item, &rows, table)?;
-    let lan = lan(listed, &known);
-    if is_taken(before, lan.number.number) {
-        return Err(FileFault::Twice(Place {
-            item,
+impl ArrayReader for LanReader {
+    type Entry = Lan;
+
+    ghost use Rattle.text_fields.specs.declared.field.Field.TheVariants as field;
+    ghost use Rattle.text_board.specs.declared.fault.Item.TheVariants as item;
+
+    ghost item_at = { item.Lan };
+
+    ghost rows = { λ reader _. lan_rows reader.listed };
+
+    ghost named = { field.Channel };
+
+    ghost holds = { HoldsLan };
+
+    ghost numbered = { λ tree lan held. held.numbered };
+
+    fn number_place(place: usize) -> Place {
+        Place {
+            item: Item::Lan(place),
             field: Field::Channel,
-        }));
-    }
-    Ok(lan)
-}
-
-/// The LAN parameters that these tables are, up to the first fault.
-fn lans_of(alloc: Global, listed: [bool; 16], values: &[Value]) -> Result<Vec<Lan>, FileFault>
-    requires { list_all (λ value. is_table (view value)) values.now ≡ true }
-    ensures sound { IfOk result (λ _.
-        item_faults Item.Lan (λ _. lan_rows listed) Field.Channel [] (map view values.now) ≡ []) }
-    ensures held { IfOk result (λ lans. AllZip IsLanIn (map view values.now) lans.items) }
-    ensures differ { IfOk result (λ lans. NamesDiffer channel_of lans.items) }
-    ensures err { IfErr result (λ why. (why ≡ FileFault.Memory)
-        ⊎ (first (item_faults Item.Lan (λ _. lan_rows listed) Field.Channel []
-        (map view values.now)) ≡ Some why)) }
-{
-    let mut lans = Vec::new(alloc);
-    for value in values {
-        let lan = next_lan(listed, lans.as_slice(), value)?;
-        match lans.push(lan) {
-            Ok(()) => {}
-            Err(_) => return Err(FileFault::Memory),
         }
     }
-    Ok(lans)
+
+    fn read(&self, _alloc: Global, place: usize, table: &Table) -> Result<Lan, FileFault> {
+        let rows = lan_rows(self.listed);
+        let item = checked(Item::Lan(place), &rows, table)?;
+        Ok(lan(self.listed, &item))
+    }
 }
 
 /// The LAN parameters of the file.
@@ -168,10 +145,10 @@ pub fn lans(alloc: Global, top: &Checked<'_>) -> Result<Lans, FileFault>
     ensures sound { IfOk result (λ _. lan_faults (table_view top.now.table.now) ≡ []) }
     ensures held { IfOk result
         (λ lans. AllZip IsLanIn (lans_in (table_view top.now.table.now)) lans.items) }
-    ensures err { IfErr result (λ why. (why ≡ FileFault.Memory)
-        ⊎ (first (lan_faults (table_view top.now.table.now)) ≡ Some why)) }
+    ensures err { IfErr result (IsFirstFault (lan_faults (table_view top.now.table.now))) }
 {
-    let listed = listed_channels(top.tables(Field::Channel));
-    let lans = lans_of(alloc, listed, top.tables(Field::Lan(LanField::Lan)))?;
-    Ok(Distinct::new(lans).unwrap())
+    let reader = LanReader {
+        listed: listed_channels(top.tables(Field::Channel)),
+    };
+    distinct_items(&reader, alloc, top.tables(Field::Lan(LanField::Lan)))
 }

@@ -6,5 +6,6 @@ ghost use Rattle.text_board.specs.Holds.{Reads};
 
 /// A text is read in one way: as one board, or with one fault.
 pub fn one_board()
-    ensures { (text : List ℕ) (a b : Result AnyBoard AnyFault) → Reads text a → Reads text b → a ≡ b }
+    ensures { (text : List ℕ) (a b : Result AnyBoard AnyFault)
+        → Reads text a → Reads text b → a ≡ b }
 {}

@@ -1,23 +1,22 @@
 //! The state effecters of a board file.
-ghost use Rattle.std.specs.Prelude.{◌≡◌, ◌⊎◌, ◌==◌, [], true, false, Some, IfOk, IfErr, map};
-ghost use Rattle.std.specs.List.{list_all, list_any, AllZip};
-ghost use Rattle.record_base.specs.Distinct.{NamesDiffer};
+ghost use Rattle.std.specs.Prelude.{◌≡◌, [], true, IfOk, IfErr, map};
+ghost use Rattle.std.specs.List.{list_all, AllZip};
 ghost use Rattle.toml.specs.View.{view, table_view};
-ghost use Rattle.text_fields.specs.Trees.{IsNaturalIn, table_of, members_in};
-ghost use Rattle.text_fields.specs.Ranges.{is_table, is_state, is_state_list, can_be, are_present};
-ghost use Rattle.text_fields.specs.Faults.{field_faults, first};
-ghost use Rattle.text_board.specs.Faults.{state_faults};
-ghost use Rattle.text_board.specs.Holds.{IsFieldIn, IsPresentIn, HoldsState, IsStateIn, IsNextStateFault, state_id};
+ghost use Rattle.text_fields.specs.Trees.{IsNaturalIn, members_in};
+ghost use Rattle.text_fields.specs.Ranges.{is_state, is_state_list, can_be, are_present};
+ghost use Rattle.text_board.specs.Faults.{state_faults, IsFirstFault};
+ghost use Rattle.text_board.specs.Holds.{IsFieldIn, IsPresentIn, HoldsState, IsStateIn};
 
 use crate::check::checked;
 use crate::effecters::ENABLED;
 use crate::fault::{FileFault, Item, Place};
+use crate::items::{ArrayReader, distinct_items};
 use crate::tables::{STATE, TOP};
-use cfg_records::{Distinct, Items, StateEffecter, StateEffecters, StateField};
+use cfg_records::{Items, StateEffecter, StateEffecters, StateField};
 use std::alloc::Global;
 use text_fields::tree::{members_of, natural};
 use text_fields::{Checked, Field};
-use toml::Value;
+use toml::{Table, Value};
 
 /// The state that the value is.
 fn state(value: &Value) -> u8
@@ -60,7 +59,8 @@ fn fields_of(alloc: Global, lists: &[Value], states: &[Value]) -> Result<Vec<Sta
     requires lists { list_all is_state_list (map view lists.now) ≡ true }
     requires current { are_present (map view lists.now) (map view states.now) ≡ true }
     ensures held { IfOk result (λ fields. AllZip IsFieldIn (map view lists.now) fields.items) }
-    ensures current { IfOk result (λ fields. AllZip IsPresentIn (map view states.now) fields.items) }
+    ensures current { IfOk result (λ fields.
+        AllZip IsPresentIn (map view states.now) fields.items) }
     ensures err { IfErr result (λ why. why ≡ FileFault.Memory) }
 {
     let mut fields = Vec::new(alloc);
@@ -87,64 +87,49 @@ fn state_effecter(alloc: Global, item: &Checked<'_>) -> Result<StateEffecter, Fi
     Ok(StateEffecter::new(id, enabled, fields).unwrap())
 }
 
-/// Whether one of the effecters has the id.
-fn is_taken(effecters: &[StateEffecter], id: u16) -> bool
-    ensures { result ≡ list_any (λ effecter. effecter.id == id) effecters.now }
-{
-    effecters.iter().any(|effecter| effecter.id == id)
-}
+/// How state effecters are read.
+#[derive(Drop)]
+struct StateReader;
 
-/// The state effecter that the value is, behind those before it.
-fn next_effecter(
-    alloc: Global,
-    before: &[StateEffecter],
-    value: &Value,
-) -> Result<StateEffecter, FileFault>
-    requires { is_table (view value.now) ≡ true }
-    ensures sound { IfOk result (λ _. field_faults STATE (table_of (view value.now)) ≡ []) }
-    ensures held { IfOk result (IsStateIn (view value.now)) }
-    ensures fresh { IfOk result (λ e. list_any (λ other. other.id == e.id) before.now ≡ false) }
-    ensures err { IfErr result (λ why. (why ≡ FileFault.Memory) ⊎ IsNextStateFault before.now (view value.now) why) }
-{
-    let item = Item::State(before.len());
-    let table = value.as_table().unwrap();
-    let known = checked(item, &STATE, table)?;
-    let effecter = state_effecter(alloc, &known)?;
-    if is_taken(before, effecter.id) {
-        return Err(FileFault::Twice(Place {
-            item,
+impl ArrayReader for StateReader {
+    type Entry = StateEffecter;
+
+    ghost use Rattle.text_fields.specs.declared.field.Field.TheVariants as field;
+    ghost use Rattle.text_board.specs.declared.fault.Item.TheVariants as item;
+    ghost use Rattle.text_board.specs.declared.tables.TheConstants.{STATE};
+
+    ghost item_at = { item.State };
+
+    ghost rows = { λ _ _. STATE };
+
+    ghost named = { field.Id };
+
+    ghost holds = { HoldsState };
+
+    ghost numbered = { λ tree effecter held. held.numbered };
+
+    fn number_place(place: usize) -> Place {
+        Place {
+            item: Item::State(place),
             field: Field::Id,
-        }));
-    }
-    Ok(effecter)
-}
-
-/// The state effecters that these tables are, up to the first fault.
-fn effecters_of(alloc: Global, values: &[Value]) -> Result<Vec<StateEffecter>, FileFault>
-    requires { list_all (λ value. is_table (view value)) values.now ≡ true }
-    ensures sound { IfOk result (λ _. state_faults (map view values.now) ≡ []) }
-    ensures held { IfOk result (λ effecters. AllZip IsStateIn (map view values.now) effecters.items) }
-    ensures differ { IfOk result (λ effecters. NamesDiffer state_id effecters.items) }
-    ensures err { IfErr result (λ why. (why ≡ FileFault.Memory) ⊎ (first (state_faults (map view values.now)) ≡ Some why)) }
-{
-    let mut effecters = Vec::new(alloc);
-    for value in values {
-        let effecter = next_effecter(alloc, effecters.as_slice(), value)?;
-        match effecters.push(effecter) {
-            Ok(()) => {}
-            Err(_) => return Err(FileFault::Memory),
         }
     }
-    Ok(effecters)
+
+    fn read(&self, alloc: Global, place: usize, table: &Table) -> Result<StateEffecter, FileFault> {
+        let item = checked(Item::State(place), &STATE, table)?;
+        state_effecter(alloc, &item)
+    }
 }
 
 /// The state effecters of the file.
 pub fn state_effecters(alloc: Global, top: &Checked<'_>) -> Result<StateEffecters, FileFault>
     requires { top.now.rows.now ≡ TOP }
-    ensures sound { IfOk result (λ _. state_faults (members_in Field.State (table_view top.now.table.now)) ≡ []) }
-    ensures held { IfOk result (λ effecters. AllZip IsStateIn (members_in Field.State (table_view top.now.table.now)) effecters.items) }
-    ensures err { IfErr result (λ why. (why ≡ FileFault.Memory) ⊎ (first (state_faults (members_in Field.State (table_view top.now.table.now))) ≡ Some why)) }
+    ensures sound { IfOk result (λ _.
+        state_faults (members_in Field.State (table_view top.now.table.now)) ≡ []) }
+    ensures held { IfOk result (λ effecters.
+        AllZip IsStateIn (members_in Field.State (table_view top.now.table.now)) effecters.items) }
+    ensures err { IfErr result (IsFirstFault
+        (state_faults (members_in Field.State (table_view top.now.table.now)))) }
 {
-    let effecters = effecters_of(alloc, top.tables(Field::State))?;
-    Ok(Distinct::new(effecters).unwrap())
+    distinct_items(&StateReader, alloc, top.tables(Field::State))
 }

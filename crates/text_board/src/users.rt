@@ -34,7 +34,8 @@ fn users_of(alloc: Global, values: &[Value]) -> Result<Vec<User>, FileFault>
     requires few { length values.now ≤ 16 }
     requires named { list_all (λ d. is_some (name_of d)) (map view values.now) ≡ true }
     ensures names { IfOk result (λ users. AllZip IsNameIn (map view values.now) users.items) }
-    ensures numbers { IfOk result (λ users. AreNumbered (λ user. user.number.number) 1 users.items) }
+    ensures numbers { IfOk result (λ users.
+        AreNumbered (λ user. user.number.number) 1 users.items) }
     ensures err { IfErr result (λ why. why ≡ FileFault.Memory) }
 {
     let mut users = Vec::new(alloc);

@@ -10,7 +10,7 @@ use Rattle.text_fields.specs.Faults.{field_faults, first}
 use Rattle.text_board.specs.Faults.{fault_at, channel_faults, users_in}
 use Rattle.text_board.specs.Holds.{HoldsDevice, IsNameIn}
 use Rattle.text_board.proofs.BoardChannels.{each_held}
-use Rattle.text_board.proofs.Sensors.{records_first, device_first, sensors_first, channels_first, lans_first, attributes_first, states_first, effecters_first, no_faults}
+use Rattle.text_board.proofs.FileFaults.{records_first, device_first, sensors_first, channels_first, lans_first, attributes_first, states_first, effecters_first, no_faults}
 use Rattle.text_board.proofs.board.board_in.Goals as goal
 
 pub returns-in_err-sdr : goal.returns-in_err-sdr
@@ -96,7 +96,7 @@ invariant_of-result c =
     record {
       apart = channels.apart;
       few = channels.few;
-      each = each_held (members_in field.Channel tree) channels.channels.items users channels.accesses.items sound c.in_ok-file_channels.ensures.channels c.in_ok-file_channels.ensures.accesses c.in_ok-users.users.valid.numbered;
+      each = each_held (members_in field.Channel tree) channels.channels.items users channels.accesses.items sound c.in_ok-file_channels.ensures.held.with c.in_ok-file_channels.ensures.held.rights c.in_ok-users.users.valid.numbered;
     }
 
 pub returns : goal.returns
@@ -120,9 +120,7 @@ returns c =
         states = c.in_ok-state_effecters.ensures.held;
         effecters = c.in_ok-numeric_effecters.ensures.held;
         users = c.in_ok-users.ensures.held;
-        channels = c.in_ok-file_channels.ensures.channels;
-        sessionless = c.in_ok-file_channels.ensures.sessionless;
-        accesses = c.in_ok-file_channels.ensures.accesses;
+        channels = c.in_ok-file_channels.ensures.held;
         attributes = c.in_ok-attributes.ensures.held;
         lans = c.in_ok-lans.ensures.held;
       },

@@ -3,7 +3,7 @@ use Rattle.std.proofs.lemmas.Result.{err_from_is_err_and}
 use Rattle.toml.specs.View.{table_view}
 use Rattle.text_fields.specs.Faults.{field_faults}
 use Rattle.text_board.specs.declared.tables.TheConstants.{TOP}
-use Rattle.text_board.proofs.Sensors.{top_first}
+use Rattle.text_board.proofs.FileFaults.{top_first}
 use Rattle.text_board.proofs.board.board_of.Goals as goal
 
 pub returns-in_err-top : goal.returns-in_err-top

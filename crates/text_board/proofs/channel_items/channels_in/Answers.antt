@@ -2,8 +2,8 @@ use Rattle.std.proofs.Common.{map, ap}
 use Rattle.toml.specs.View.{view}
 use Rattle.record_base.specs.declared.channel.ChannelNumber.{ChannelNumber}
 use Rattle.text_fields.specs.Ranges.{or_zero}
-use Rattle.text_board.specs.Holds.{IsNumberIn}
-use Rattle.text_board.proofs.ChannelLists.{differ_back, channel_of}
+use Rattle.text_board.specs.Holds.{IsNumberIn, channel_of}
+use Rattle.text_board.proofs.ChannelLists.{differ_back}
 use Rattle.text_board.proofs.channel_items.channels_in.Goals as goal
 
 pub split-requires-clause-differ : goal.split-requires-clause-differ

@@ -8,8 +8,8 @@ use Rattle.toml.specs.View.{view}
 use Rattle.record_base.specs.declared.channel.Channel.{Channel}
 use Rattle.record_base.specs.declared.channel.ChannelNumber.{ChannelNumber}
 use Rattle.text_fields.specs.Ranges.{or_zero}
-use Rattle.text_board.specs.Holds.{IsChannelIn, IsNumberIn, serves, with_sessions, without_sessions}
-use Rattle.text_board.proofs.ChannelLists.{differ_zip, filter_few, channel_of, accesses_differ, accesses_few}
+use Rattle.text_board.specs.Holds.{IsChannelIn, IsNumberIn, serves, with_sessions, without_sessions, channel_of}
+use Rattle.text_board.proofs.ChannelLists.{differ_zip, filter_few, accesses_differ, accesses_few}
 use Rattle.text_board.proofs.ChannelFields.{each_sound, few_users}
 use Rattle.text_board.proofs.BoardChannels.{numbers_apart, numbers_long}
 use Rattle.text_board.proofs.channel_items.split.Goals as goal

@@ -6,7 +6,7 @@ use Rattle.record_base.specs.declared.event_enable.EventMasks.{EventMasks}
 use Rattle.text_fields.specs.declared.field.Field.TheVariants as field
 use Rattle.text_fields.proofs.Rows.{all_checked, same_value}
 use Rattle.text_board.proofs.Events.{flags_of, flags_are, events_of, below_word, supported_events}
-use Rattle.text_board.proofs.board.events.Goals as goal
+use Rattle.text_board.proofs.sensors.events.Goals as goal
 
 pub byte_in-flags-requires : goal.byte_in-flags-requires
 byte_in-flags-requires c =

@@ -1,22 +1,14 @@
--- The sensors of a file beside those that were read.
+-- The faults of a board file.
 use Rattle.std.proofs.Common.{◌≡◌, [], map, Some}
-use Rattle.toml.specs.Data.{Data, Members}
+use Rattle.toml.specs.Data.{Members}
 use Rattle.text_fields.proofs.First.{first-append}
-use Rattle.record_base.specs.declared.sensor.Sensor.{Sensor}
 use Rattle.text_fields.specs.declared.field.Field.TheVariants as field
 use Rattle.text_board.specs.declared.tables.TheConstants.{TOP, DEVICE}
 use Rattle.text_board.specs.declared.fault.FileFault.{FileFault}
 use Rattle.text_board.specs.declared.fault.Item.TheVariants as item
-use Rattle.text_fields.specs.Trees.{number_in, table_of, table_in, members_in}
+use Rattle.text_fields.specs.Trees.{table_in, members_in}
 use Rattle.text_fields.specs.Faults.{field_faults, first}
 use Rattle.text_board.specs.Faults.{fault_at, record_faults, sensor_faults, channel_faults, users_in, lan_faults, attribute_faults, state_faults, numeric_faults, board_faults}
-use Rattle.text_board.specs.Holds.{IsSensorIn, number_of}
-
--- a sensor that a member of an array holds has its number
-pub sensor_numbered : (d : Data) (s : Sensor) → IsSensorIn d s → number_in field.Number (table_of d) ≡ Some (number_of s)
-sensor_numbered d s holds = holds.numbered
-
--- ---- the faults of a board file
 
 module _ (tree : Members) (why : FileFault) where
   pub top_first : first (map (fault_at item.Top) (field_faults TOP tree)) ≡ Some why → first (board_faults tree) ≡ Some why
