@@ -35,7 +35,8 @@ pub const LIMITS: [Field; 6] = [
 /// The mask, with the place besides where the step gives the threshold there.
 fn with_given(mask: u8, step: &Table, place: usize) -> u8
     requires { place < 6 }
-    ensures { (other : ℕ) → has result other ≡ (has mask other || ((place == other) && is_given (table_view step.now) place)) }
+    ensures { (other : ℕ) → has result other
+        ≡ (has mask other || ((place == other) && is_given (table_view step.now) place)) }
 {
     if in_field(step, LIMITS[place]).is_some() {
         return mask | 1 << place;
