@@ -7,10 +7,10 @@ NAMES = {
     "memory taken": [f"__interceptor_{name}" for name in MEMORY],
     "recvfrom": ["__interceptor_recvfrom"],
     "sendto": ["__interceptor_sendto"],
-    # It is called under the lock, so it shows that the frames below a call are seen.
-    "an entry is filled": ["bmc_history::entry::Entry::put_exchange"],
+    # The history gains it under the lock, so it shows that the frames below a call are seen. The seat's list gains it behind the lock.
+    "an entry is filled": ["bmc_history::entries::Events::gain"],
 }
-HOLDS_LOCK = "shared::Locked::exchange"
+HOLDS_LOCK = "shared::Locked::"
 counts = {}
 
 

@@ -2,12 +2,11 @@
 use Rattle.std.specs.Prelude.{All, map}
 use Rattle.std.proofs.Common.{◌≡◌, ◌≤◌, ℕ, List, [], ◌∷◌, ◌+◌, ◌-◌, ◌++◌, length, take, drop, refl, sym, ◌∙◌, ap, arith}
 use Rattle.std.proofs.lemmas.List.{length-append, length-drop, take_all, take-append-le, drop-append-le, map-append}
-use Rattle.std.proofs.lemmas.List.Elements.{All-nil, All-cons, All-head, All-tail, All-append}
+use Rattle.std.proofs.lemmas.List.Elements.{All-head, All-tail}
 use Rattle.std.proofs.Math.Seq.{drop-append_seam}
-use Rattle.two_wire.specs.Sizes.{most_pldm_reply_data}
 use Rattle.bmc_history.specs.declared.entry.Head.{Head}
 use Rattle.bmc_history.specs.declared.entry.Mark.{Mark}
-use Rattle.bmc_history.specs.Entries.{call_of, between, event_of, most_request, Lies}
+use Rattle.bmc_history.specs.Entries.{call_of, between, event_of, Lies}
 
 -- what lies among the first bytes stays there
 between_stays : (from to : ℕ) (xs ys : List ℕ) → from ≤ to → to ≤ length xs → between from to (xs ++ ys) ≡ between from to xs
@@ -75,22 +74,3 @@ events_gained seat head marks bytes request reply all =
     let told : between mark.reply mark.end (more ++ reply) ≡ reply =
     ap (λ (n : ℕ). between n (n + length reply) (more ++ reply)) (sym longer) ∙ between_added more reply in
     map-append (event_of (more ++ reply)) marks (mark ∷ []) ∙ (λ i. stay i ++ record { seat = seat; call = call_of head (asked i) (told i) } ∷ [])
-
--- and all marks lie among the bytes
-pub marks_lie : (seat : ℕ) (head : Head) (marks : List Mark) (bytes request reply : List ℕ) → All (Lies (length bytes)) marks
-    → length request ≤ most_request head → length reply ≤ most_pldm_reply_data
-    → All (Lies (length ((bytes ++ request) ++ reply))) (marks ++ mark_behind seat head bytes request reply ∷ [])
-marks_lie seat head marks bytes request reply all short_request short_reply =
-    let more : List ℕ = bytes ++ request in
-    let n : ℕ = length (more ++ reply) in
-    let longer : length more ≡ length bytes + length request = length-append bytes request in
-    let longest : n ≡ length more + length reply = length-append more reply in
-    let mark : Mark = mark_behind seat head bytes request reply in
-    let lies : Lies n mark = record {
-      request = omega arith;
-      reply = omega arith;
-      within = omega (arith, longer, longest);
-      short_request = omega (arith, short_request);
-      short_reply = omega (arith, short_reply);
-    } in
-    All-append (Lies n) marks (mark ∷ []) (all_lie more reply marks (all_lie bytes request marks all)) (All-cons (Lies n) mark [] lies (All-nil (Lies n)))

@@ -3,7 +3,7 @@
 //! What is added is written at the end, and takes no memory: so the list grows from one line of the processor's cache to the next. All of the
 //! room is written once at the opening: the system finds the memory of a page when it's first written, and a call that holds a board's lock
 //! would wait for that.
-ghost use Rattle.std.specs.Prelude.{◌≡◌, ◌<◌, ◌≤◌, ◌++◌, ◌∷◌, [], IfOk, length, slice_get};
+ghost use Rattle.std.specs.Prelude.{◌≡◌, ◌<◌, ◌≤◌, [], IfOk, length, slice_get};
 ghost use Rattle.two_wire.specs.Sizes.{most_pldm_reply_data};
 ghost use Rattle.bmc_history.specs.Calls.{GainsEvent, GainsCall};
 ghost use Rattle.bmc_history.specs.Seated.{IsBlank};
