@@ -10,20 +10,20 @@ use Rattle.lab_run.specs.declared.note.Came.{Came}
 use Rattle.lab_run.specs.declared.lab_state.Lab.{Lab}
 use Rattle.lab_run.specs.Hearing.{done_on}
 
--- a frame that comes now: it is late where more requests were begun on its bus from its own on than that one
+-- a frame that comes now: it is late where a request was begun on its bus behind its own request
 abbrev pub comes : LabModel plans → LabFrame → Came
-comes x f = record { on = f.on; late = nat_lt 1 (begun_on plans.words f.on x.manager.machine - f.request) }
+comes lab_model frame = record { on = frame.on; late = nat_lt 1 (begun_on plans.words frame.on lab_model.manager.machine - frame.request) }
 
 -- the frame that the event delivers, if there is such a frame
 abbrev pub comes_at : LabModel plans → Event → Option Came
-comes_at x (event.ToBmc number) = option_map (comes x) (slice_get x.frames number)
-comes_at x (event.ToMgr number) = option_map (comes x) (slice_get x.frames number)
-comes_at x _ = None
+comes_at lab_model (event.ToBmc number) = option_map (comes lab_model) (slice_get lab_model.frames number)
+comes_at lab_model (event.ToMgr number) = option_map (comes lab_model) (slice_get lab_model.frames number)
+comes_at lab_model _ = None
 
 -- what the controller does with the frame that the event delivers
 abbrev pub done_at : LabModel plans → Event → Option Done
-done_at x (event.ToBmc number) = option_map (λ f. done_on f.on (port_on plans f.on x) f.value) (slice_get x.frames number)
-done_at x _ = None
+done_at lab_model (event.ToBmc number) = option_map (λ f. done_on f.on (port_on plans f.on lab_model) f.value) (slice_get lab_model.frames number)
+done_at lab_model _ = None
 
 -- what the controller's port did last, where the event delivered a frame to it
 abbrev pub done_in : Event → Lab → Option Done

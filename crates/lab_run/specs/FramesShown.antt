@@ -1,4 +1,4 @@
--- The frames of the lab's model that those of the code are.
+-- The frames of the lab's model that the code's frames are.
 use Rattle.std.specs.Prelude.{◌≡◌, ℕ, List}
 use Rattle.std.specs.List.{AllZip}
 use Rattle.two_wire.specs.declared.Bus.{Bus}
@@ -15,20 +15,20 @@ use Rattle.lab_run.specs.declared.frames.SentFrame.{SentFrame}
 use Rattle.lab_run.specs.declared.fault.Marks.{Marks}
 
 -- the frame was sent so
-pub record IsFrame (sent : SentFrame) (f : LabFrame) : Type 0 where
-  pub way : f.way ≡ sent.way
-  pub mark : HasMark f sent.mark
-  pub bytes : sent.bytes ≡ written f.value
+pub record IsFrame (sent : SentFrame) (frame : LabFrame) : Type 0 where
+  pub way : frame.way ≡ sent.way
+  pub mark : HasMark frame sent.mark
+  pub bytes : sent.bytes ≡ written frame.value
 
 -- what tells on a bus which frames are too old
 abbrev pub marks_on : Bus → Marks → Known
 marks_on Ipmb marks = marks.ipmb
 marks_on Smbus marks = marks.smbus
 
--- these frames were sent in the lab, and this tells which are too old
-pub record ShowsFrames (names : Names) (sent : List SentFrame) (marks : Marks) (x : Lab (board_plans names)) : Type 0 where
-  pub frames : AllZip IsFrame sent x.frames
-  pub known : (on : Bus) → IsKnown (board_plans names) x on (marks_on on marks)
+-- the lab sent these frames, and these marks tell which are too old
+pub record ShowsFrames (names : Names) (sent : List SentFrame) (marks : Marks) (lab : Lab (board_plans names)) : Type 0 where
+  pub frames : AllZip IsFrame sent lab.frames
+  pub known : (on : Bus) → IsKnown (board_plans names) lab on (marks_on on marks)
 
 -- a frame that is sent this way, with this mark
 abbrev pub sent_as : Way → Mark → List ℕ → SentFrame

@@ -12,28 +12,28 @@ use Rattle.model_lab.specs.declared.fault.Fault.TheVariants.{StillOpen}
 use Rattle.model_lab.specs.Faults.{begun_on, is_live, fault_of}
 
 -- the frame has the mark
-pub record HasMark (f : LabFrame) (mark : Mark) : Type 0 where
-  pub on : f.on ≡ mark.on
-  pub request : f.request ≡ mark.request
-  pub idles : f.idles ≡ mark.idles
+pub record HasMark (frame : LabFrame) (mark : Mark) : Type 0 where
+  pub on : frame.on ≡ mark.on
+  pub request : frame.request ≡ mark.request
+  pub idles : frame.idles ≡ mark.idles
 
 module _ (P : Plans) where
-  -- so many requests of the manager were begun on the bus, and its window was forgotten there so often
-  pub record IsKnown (x : Lab P) (on : Bus) (known : Known) : Type 0 where
-    pub begun : begun_on P.words on x.manager.machine ≡ known.begun
-    pub idles : idles_on P on x ≡ known.idles
+  -- the manager began so many requests on the bus, and the port there forgot the manager's window so often
+  pub record IsKnown (lab : Lab P) (on : Bus) (known : Known) : Type 0 where
+    pub begun : begun_on P.words on lab.manager.machine ≡ known.begun
+    pub idles : idles_on P on lab ≡ known.idles
 
-  -- it's said whether a frame with the mark is live
+  -- the test says whether a frame with the mark is live
   abbrev pub TellsLive : Mark → Known → Bool → Type 0
-  TellsLive mark known live = (x : Lab P) (f : LabFrame) → HasMark f mark → IsKnown x mark.on known → is_live P x f ≡ live
+  TellsLive mark known live = (lab : Lab P) (frame : LabFrame) → HasMark frame mark → IsKnown lab mark.on known → is_live P lab frame ≡ live
 
   -- each frame that the port sends when a frame with the mark comes has this mark, where the manager's window was forgotten so often by then
   abbrev pub MarksReplies : BoardFile → Mark → ℕ → Mark → Type 0
-  MarksReplies setup delivered idles mark = (x : Lab P) (number : ℕ) (f : LabFrame) → slice_get x.frames number ≡ Some f → HasMark f delivered
-      → idles_on P f.on (step P setup x (ToBmc number)) ≡ idles
-      → (place : ℕ) (reply : LabFrame) → slice_get (step P setup x (ToBmc number)).frames (length x.frames + place) ≡ Some reply → HasMark reply mark
+  MarksReplies setup delivered idles mark = (lab : Lab P) (number : ℕ) (frame : LabFrame) → slice_get lab.frames number ≡ Some frame → HasMark frame delivered
+      → idles_on P frame.on (step P setup lab (ToBmc number)) ≡ idles
+      → (place : ℕ) (reply : LabFrame) → slice_get (step P setup lab (ToBmc number)).frames (length lab.frames + place) ≡ Some reply → HasMark reply mark
 
-  -- it's said whether forgetting a requester's window is refused, where a request is open on that bus or on none
+  -- the test says whether the lab refuses to forget a requester's window, where a request is open on this bus or on none
   abbrev pub TellsOpen : Names → Bus → ℕ → Option Bus → Bool → Type 0
-  TellsOpen names on requester where_open refused = (x : Lab P) → x.manager.names ≡ names → open_bus P.words x.manager.machine ≡ where_open
-      → fault_of P x (Idles on requester) ≡ (if refused then Some StillOpen else None)
+  TellsOpen names on requester where_open refused = (lab : Lab P) → lab.manager.names ≡ names → open_bus P.words lab.manager.machine ≡ where_open
+      → fault_of P lab (Idles on requester) ≡ (if refused then Some StillOpen else None)

@@ -8,17 +8,17 @@ use Rattle.text_schedule.specs.declared.event.Event.TheVariants as event
 use Rattle.model_lab.specs.Played.{plans}
 use Rattle.lab_run.specs.declared.part.ManagerPart.{ManagerPart}
 
--- what is looked at of what a frame of this request carries, if it's a packet
+-- what the lab looks at in a frame of this request, if the frame is a packet
 abbrev pub part_of : LabModel plans → ℕ → Value → Option ManagerPart
-part_of x request (Asks r) = None
-part_of x request (Tells r) = None
-part_of x request (Part p) = Some (record { start = p.start; tag = p.envelope.tag; request = request; ours = is_ours x.smbus.eid p })
+part_of lab_model request (Asks asked) = None
+part_of lab_model request (Tells response) = None
+part_of lab_model request (Part packet) = Some (record { start = packet.start; tag = packet.envelope.tag; request = request; ours = is_ours lab_model.smbus.eid packet })
 
 abbrev pub part_in : LabModel plans → Option LabFrame → Option ManagerPart
-part_in x None = None
-part_in x (Some f) = part_of x f.request f.value
+part_in lab_model None = None
+part_in lab_model (Some frame) = part_of lab_model frame.request frame.value
 
 -- the packet that the event brings, if it brings one
 abbrev pub part_at : LabModel plans → Event → Option ManagerPart
-part_at x (event.ToBmc number) = part_in x (slice_get x.frames number)
-part_at x _ = None
+part_at lab_model (event.ToBmc number) = part_in lab_model (slice_get lab_model.frames number)
+part_at lab_model _ = None

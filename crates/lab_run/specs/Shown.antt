@@ -1,5 +1,5 @@
 -- The lab of the model that a lab shows.
-use Rattle.std.specs.Prelude.{◌≡◌, ℕ, Some, None, Result, Ok, Err}
+use Rattle.std.specs.Prelude.{◌≡◌, ◌<◌, ℕ, Some, None, Result, Ok, Err}
 use Rattle.std.specs.List.{AllZip}
 use Rattle.two_wire.specs.declared.Bus.{Bus}
 use Rattle.two_wire.specs.declared.Bus.TheVariants as bus
@@ -26,27 +26,35 @@ abbrev pub idles_in : Bus → Idles → ℕ
 idles_in bus.Ipmb idles = idles.ipmb
 idles_in bus.Smbus idles = idles.smbus
 
+-- how many elements a slice has at most
+abbrev pub longest_slice : ℕ
+longest_slice = 9223372036854775807
+
+-- each count of forgotten windows can go up by one
+abbrev pub CanCountOn : Idles → Type 0
+CanCountOn idles = (on : Bus) → idles_in on idles < longest_slice
+
 -- the frame was sent so, and its bytes are its value on its bus
-pub record IsSentFrame (sent : SentFrame) (f : LabFrame) : Type 0 where
-  pub is : IsFrame sent f
-  pub read : IsFrameOn f.on f.value sent.bytes
+pub record IsSentFrame (sent : SentFrame) (frame : LabFrame) : Type 0 where
+  pub is : IsFrame sent frame
+  pub read : IsFrameOn frame.on frame.value sent.bytes
 
 -- the lab is this one of the model, on a board of this file
-pub record Shows (file : BoardFile) (lab : Lab) (x : LabModel plans) : Type 0 where
+pub record Shows (file : BoardFile) (lab : Lab) (lab_model : LabModel plans) : Type 0 where
   pub setup : lab.board.setup ≡ file
-  pub board : x.board ≡ state_of own_records lab.board
-  pub ipmb : ipmb.Shows lab.ipmb x.ipmb
-  pub smbus : smbus.Shows lab.smbus x.smbus
-  pub manager : manager.Shows lab_names lab.manager x.manager
+  pub board : lab_model.board ≡ state_of own_records lab.board
+  pub ipmb : ipmb.Shows lab.ipmb lab_model.ipmb
+  pub smbus : smbus.Shows lab.smbus lab_model.smbus
+  pub manager : manager.Shows lab_names lab.manager lab_model.manager
   pub named : lab.names ≡ lab_names
-  pub frames : AllZip IsSentFrame lab.frames x.frames
-  pub idles : (on : Bus) → idles_on plans on x ≡ idles_in on lab.idles
+  pub frames : AllZip IsSentFrame lab.frames lab_model.frames
+  pub idles : (on : Bus) → idles_on plans on lab_model ≡ idles_in on lab.idles
 
 -- ---- what the calls make of a lab
 
 -- this holds of each lab of the model that it shows, on a board of each file
 abbrev pub ForShown : Lab → (BoardFile → LabModel plans → Type 0) → Type 0
-ForShown lab Holds = (file : BoardFile) (x : LabModel plans) → Shows file lab x → Holds file x
+ForShown lab Holds = (file : BoardFile) (lab_model : LabModel plans) → Shows file lab lab_model → Holds file lab_model
 
 -- whatever lab of the model it showed, on a board of whatever file, it goes on to this one
 abbrev pub Becomes : Lab → Lab → (BoardFile → LabModel plans → LabModel plans) → Type 0
@@ -54,8 +62,8 @@ Becomes old new makes = ForShown old (λ file x. Shows file new (makes file x))
 
 -- An event is asked of a lab. It happens where it has no fault, and else nothing changes. Where memory is refused, nothing is said.
 abbrev pub Steps : Event → Lab → Result (Unit {0}) Refused → Lab → Type 0
-Steps e old (Ok done) new =
-    ForShown old (λ file x. (fault_at file x e ≡ None) × Shows file new (happens file e x))
-Steps e old (Err (refused.Fault fault)) new =
-    (new ≡ old) × ForShown old (λ file x. fault_at file x e ≡ Some fault)
-Steps e old (Err refused.Memory) new = Unit {0}
+Steps event old (Ok done) new =
+    ForShown old (λ file x. (fault_at file x event ≡ None) × Shows file new (happens file event x))
+Steps event old (Err (refused.Fault fault)) new =
+    (new ≡ old) × ForShown old (λ file x. fault_at file x event ≡ Some fault)
+Steps event old (Err refused.Memory) new = Unit {0}

@@ -1,5 +1,5 @@
 //! What the controller's ports hear, and what they forget.
-ghost use Rattle.std.specs.Prelude.{◌≡◌, ◌<◌, ◌≤◌, List, Some, map, OnOk, suc, slice_get, false};
+ghost use Rattle.std.specs.Prelude.{◌≡◌, ◌≤◌, List, Some, map, OnOk, suc, slice_get, false};
 ghost use Rattle.std.specs.List.{AllZip};
 ghost use Rattle.two_wire.specs.declared.Bus.{Bus as AnyBus};
 ghost use Rattle.two_wire.specs.declared.Bus.TheVariants.{Ipmb, Smbus};
@@ -12,7 +12,7 @@ ghost use Rattle.model_lab.specs.Lab.{LabFrame, Lab as LabModel, delivered, port
 ghost use Rattle.model_lab.specs.Meaning.{lab_names as the_names, other_wire, request_of, message_of};
 ghost use Rattle.model_lab.specs.Faults.{is_frame};
 ghost use Rattle.model_lab.specs.Played.{plans};
-ghost use Rattle.lab_run.specs.Shown.{Shows, ForShown, Becomes, idles_in};
+ghost use Rattle.lab_run.specs.Shown.{Shows, ForShown, Becomes, CanCountOn, idles_in};
 ghost use Rattle.lab_run.specs.Hearing.{HasFrames, HasHeard, done_on, Ignores};
 
 use crate::lab_state::Lab;
@@ -171,7 +171,7 @@ impl Lab {
 
     /// The port on a bus forgets a requester's window.
     pub(crate) fn idle(&mut self, on: Bus, requester: u8)
-        requires { (bus : AnyBus) → idles_in bus self.now.idles < 9223372036854775807 }
+        requires { CanCountOn self.now.idles }
         ensures becomes { Becomes self.old self.new (λ _ x.
             with_port plans on (idles requester (port_on plans on x)) x) }
         ensures few { (bus : AnyBus)

@@ -1,8 +1,8 @@
 //! Events.
-ghost use Rattle.std.specs.Prelude.{◌≡◌, ◌<◌, ◌≤◌, suc, None, OnOk};
+ghost use Rattle.std.specs.Prelude.{◌≡◌, ◌≤◌, suc, None, OnOk};
 ghost use Rattle.two_wire.specs.declared.Bus.{Bus as AnyBus};
 ghost use Rattle.model_lab.specs.Played.{fault_at, happens};
-ghost use Rattle.lab_run.specs.Shown.{ForShown, Becomes, Steps, idles_in};
+ghost use Rattle.lab_run.specs.Shown.{ForShown, Becomes, Steps, CanCountOn, idles_in};
 ghost use Rattle.lab_run.specs.Hearing.{Did};
 ghost use Rattle.bmc_board.specs.Sensing.{bench_of};
 
@@ -60,7 +60,7 @@ impl Lab {
     /// An event without a fault happens.
     fn happen(&mut self, event: &Event) -> Result<(), AllocError>
         requires taken { ForShown self.now (λ file x. fault_at file x event.now ≡ None) }
-        requires few { (on : AnyBus) → idles_in on self.now.idles < 9223372036854775807 }
+        requires few { CanCountOn self.now.idles }
         ensures becomes { OnOk result (Becomes self.old self.new (λ file. happens file event.now)) }
         ensures done { OnOk result (Did event.now self.old self.new) }
         ensures few { (on : AnyBus)
@@ -85,7 +85,7 @@ impl Lab {
 
     /// One event happens. On a fault nothing changes.
     pub fn step(&mut self, event: &Event) -> Result<(), Refused>
-        requires { (on : AnyBus) → idles_in on self.now.idles < 9223372036854775807 }
+        requires { CanCountOn self.now.idles }
         ensures steps { Steps event.now self.old result self.new }
         ensures done { OnOk result (Did event.now self.old self.new) }
         ensures few { (on : AnyBus)
