@@ -1,6 +1,9 @@
--- That a history replays is a proposition.
-use Rattle.std.specs.Prelude.{List, [], ◌∷◌}
+-- A history replays in one way at most, and a board has one file in one way at most.
+use Rattle.std.specs.Prelude.{◌≡◌, List, [], ◌∷◌}
+use Rattle.std.specs.Coded.{Coded-set, codes}
 use Rattle.std.proofs.Props.{props}
+use Rattle.record_base.specs.UsersLaws.{AreUsers-prop}
+use Rattle.record_base.specs.AttributesLaws.{AreInPlace-prop}
 use Rattle.cfg_records.specs.declared.board_file.BoardFile.{BoardFile}
 use Rattle.bmc_board.specs.State.{State}
 use Rattle.bmc_history.specs.declared.event.Call.{Call}
@@ -15,3 +18,6 @@ IsAnswered-prop setup before (Benched bench answered) = hlevel props
 pub Replays-prop : (setup : BoardFile) (first : State) (events : List Event) (last : State) → IsProp (Replays setup first events last)
 Replays-prop setup first [] last = hlevel props
 Replays-prop setup first (event ∷ later) last = hlevel (IsAnswered-prop setup first event.call, Replays-prop setup (after_call setup first event.call) later last)
+
+pub same_file-prop : (file other : BoardFile) → IsProp (file ≡ other)
+same_file-prop file other = Coded-set (Prim.hlevel (AreUsers-prop, AreInPlace-prop, codes)) file other

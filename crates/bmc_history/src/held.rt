@@ -6,7 +6,7 @@ ghost use Rattle.bmc_carry.specs.Asking.{meant};
 ghost use Rattle.bmc_history.specs.Replay.{Replays, IsRoom};
 ghost use Rattle.bmc_history.specs.Matching.{Matches};
 ghost use Rattle.bmc_history.specs.Calls.{IsRow, IsReply, IsHappening, GainsEvent, ExchangesHere};
-ghost use Rattle.bmc_history.specs.ReplayLaws.{Replays-prop};
+ghost use Rattle.bmc_history.specs.ReplayLaws.{Replays-prop, same_file-prop};
 ghost use Rattle.bmc_history.specs.declared.event.Call.TheVariants.{Exchanged, Benched};
 ghost use Rattle.bmc_history.specs.declared.held.OpenFault.TheVariants.{Room};
 
@@ -42,7 +42,7 @@ pub struct Held<J: Opening, S: Store> {
     history: Events,
     room: usize,
     of: PhantomData<J>,
-    ghost setup: { board.setup ≡ J.setup },
+    ghost setup: { board.setup ≡ J.setup } by { same_file-prop board.setup J.setup },
     ghost room_is: { room ≡ J.room },
     ghost within: { length history.items ≤ room },
     ghost roomy: { history.room ≡ room },
