@@ -61,7 +61,7 @@ pub record Ends (file : BoardFile) (steps : List Op) (retries : ℕ) (events : L
   pub promise : broken_in given ≡ None → Promise file steps (taken_by events ending) (told_by ending)
   pub clean : EndsClean file steps retries events ending
 
--- so it ends, unless memory is refused
+-- a play ends so, unless memory is refused
 abbrev pub Plays : BoardFile → List Op → (retries : ℕ) → List Event → Result Played LabFault → Type 0
 Plays file steps retries events (Err fault.Memory) = Unit {0}
 Plays file steps retries events given = Ends file steps retries events given

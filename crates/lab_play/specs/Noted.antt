@@ -34,34 +34,34 @@ pub record Noted : Type 0 where
   pub phase : Phase
 
 -- the note says it
-pub record IsNote (note : Note) (n : Noted) : Type 0 where
-  pub event : note.event.now ≡ n.event
-  pub came : note.came ≡ n.came
-  pub done : note.done ≡ n.done
-  pub sends : note.sends ≡ n.sends
-  pub before : note.before ≡ n.before
-  pub after : note.after ≡ n.after
-  pub phase : note.phase ≡ n.phase
+pub record IsNote (note : Note) (noted : Noted) : Type 0 where
+  pub event : note.event.now ≡ noted.event
+  pub came : note.came ≡ noted.came
+  pub done : note.done ≡ noted.done
+  pub sends : note.sends ≡ noted.sends
+  pub before : note.before ≡ noted.before
+  pub after : note.after ≡ noted.after
+  pub phase : note.phase ≡ noted.phase
 
 module _ (file : BoardFile) where
   -- what there is to note of an event that happens in a lab: frames are numbered as they are sent
   abbrev pub noted_at : LabModel plans → Event → Noted
-  noted_at x e =
-      let y = happens file e x in
+  noted_at lab_model event =
+      let y = happens file event lab_model in
       record {
-        event = e;
-        came = comes_at x e;
-        done = done_at x e;
-        sends = option_map (λ f. f.on) (slice_get y.frames (length x.frames));
-        before = length x.frames;
+        event = event;
+        came = comes_at lab_model event;
+        done = done_at lab_model event;
+        sends = option_map (λ f. f.on) (slice_get y.frames (length lab_model.frames));
+        before = length lab_model.frames;
         after = length y.frames;
         phase = phase_of plans.words y.manager.machine;
       }
 
   -- and of events, one after another
   abbrev pub noted_from : List Event → LabModel plans → List Noted
-  noted_from [] x = []
-  noted_from (e ∷ es) x = noted_at x e ∷ noted_from es (happens file e x)
+  noted_from [] lab_model = []
+  noted_from (event ∷ events) lab_model = noted_at lab_model event ∷ noted_from events (happens file event lab_model)
 
 -- the notes are those of a play's first events, as many as there are notes
 pub record AreNotes (file : BoardFile) (steps : List Op) (retries : ℕ) (events : List Event) (notes : List Note) : Type 0 where
@@ -71,14 +71,14 @@ pub record AreNotes (file : BoardFile) (steps : List Op) (retries : ℕ) (events
 
 -- an event is asked of a lab: a note is added where it happens, and none where it has a fault; where memory was refused, nothing is said
 abbrev pub NotesStep : Event → Lab → Result (Unit {0}) Refused → (before after : List Note) → Type 0
-NotesStep e old (Ok done) before after =
-    (note : Note) × (after ≡ before ++ note ∷ []) × ((file : BoardFile) (x : LabModel plans) → Shows file old x → IsNote note (noted_at file x e))
-NotesStep e old (Err (refused.Fault why)) before after = after ≡ before
-NotesStep e old (Err refused.Memory) before after = Unit {0}
+NotesStep event old (Ok done) before after =
+    (note : Note) × (after ≡ before ++ note ∷ []) × ((file : BoardFile) (lab_model : LabModel plans) → Shows file old lab_model → IsNote note (noted_at file lab_model event))
+NotesStep event old (Err (refused.Fault why)) before after = after ≡ before
+NotesStep event old (Err refused.Memory) before after = Unit {0}
 
 -- of events that were asked of a lab, these were noted: whatever lab of the model it showed
 abbrev pub Notes : List Event → Lab → List Note → Type 0
-Notes events old notes = (file : BoardFile) (x : LabModel plans) → Shows file old x → AllZip IsNote notes (noted_from file events x)
+Notes events old notes = (file : BoardFile) (lab_model : LabModel plans) → Shows file old lab_model → AllZip IsNote notes (noted_from file events lab_model)
 
 -- all events were noted, or those before the one that isn't taken; where memory was refused, nothing is said
 abbrev pub NotesRun : {E : Type 0} → List Event → Lab → Result (Option Stopped) E → List Note → Type 0

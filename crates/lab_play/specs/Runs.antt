@@ -13,7 +13,7 @@ use Rattle.lab_run.specs.declared.step.Refused.TheVariants as refused
 -- whatever lab of the model it showed, on a board of whatever file, the events are taken, and it goes on to the one after them
 abbrev pub Take : List Event → Lab → Lab → Type 0
 Take events old new =
-    (file : BoardFile) (x : LabModel plans) → Shows file old x → AreTaken file events x × Shows file new (after file events x)
+    (file : BoardFile) (lab_model : LabModel plans) → Shows file old lab_model → AreTaken file events lab_model × Shows file new (after file events lab_model)
 
 -- the events were taken up to the one at the place, which has the fault, and the lab is the one before it
 pub record StopsAt (events : List Event) (old new : Lab) (stopped : Stopped) : Type 0 where
@@ -22,7 +22,7 @@ pub record StopsAt (events : List Event) (old new : Lab) (stopped : Stopped) : T
   pub rest : List Event
   pub all : events ≡ before ++ event ∷ rest
   pub place : stopped.place ≡ length before + 1
-  pub refuses : (file : BoardFile) (x : LabModel plans) → Shows file old x → fault_at file (after file before x) event ≡ Some stopped.fault
+  pub refuses : (file : BoardFile) (lab_model : LabModel plans) → Shows file old lab_model → fault_at file (after file before lab_model) event ≡ Some stopped.fault
   pub left : Take before old new
 
 -- a schedule is asked of a lab: all events are taken, or those up to one that isn't; where memory was refused, nothing is said

@@ -27,13 +27,13 @@ took _ = true
 
 abbrev pub took_by : Option Done → Bool
 took_by None = false
-took_by (Some d) = took d
+took_by (Some done) = took done
 
 -- more requests were begun from the one on that was opened under the tag than the span
 abbrev pub waits_long : List ℕ → (tag begun : ℕ) → Bool
 waits_long opened tag begun = nat_lt (span_of Smbus) (begun - slice_index opened tag)
 
--- what is opened under each tag, once a packet came
+-- the request that is opened under each tag, once a packet came
 abbrev pub opened_in : ManagerPart → List ℕ → List ℕ
 opened_in part opened = if part.start && part.ours then slice_set opened part.tag part.request else opened
 
@@ -45,9 +45,9 @@ broken_at watch part begun taken place = if is_none watch.broken && not part.sta
 
 -- under each tag, the request whose start came last
 abbrev pub Watches : Watch → LabModel plans → Type 0
-Watches watch x = (tag : ℕ) → tag < tags → slice_get watch.opened tag ≡ Some (x.opened tag)
+Watches watch lab_model = (tag : ℕ) → tag < tags → slice_get watch.opened tag ≡ Some (lab_model.opened tag)
 
--- the first event to break the premise is the same after one more, of this place, unless it's that
+-- the first event to break the premise stays the first after one more event, unless that event, of this place, is the first
 abbrev pub TellsNext : Option ℕ → Option ℕ → (place : ℕ) → Type 0 → Type 0
 TellsNext (Some first) next place Keeps = next ≡ Some first
 TellsNext None None place Keeps = Keeps
@@ -55,15 +55,15 @@ TellsNext None (Some first) place Keeps = (first ≡ place) × (¬ Keeps)
 
 -- an event of this place is asked of a lab, and watched if it happens; where memory was refused, nothing is said
 abbrev pub WatchesStep : Event → (place : ℕ) → Lab → Watch → Result (Unit {0}) Refused → Watch → Type 0
-WatchesStep e place lab old (Ok did) new = (file : BoardFile) (x : LabModel plans) → Shows file lab x → Watches old x
-    → Watches new (happens file e x) × TellsNext old.broken new.broken place (KeepsPremise file x e)
-WatchesStep e place lab old (Err (refused.Fault why)) new = new ≡ old
-WatchesStep e place lab old (Err refused.Memory) new = Unit {0}
+WatchesStep event place lab old (Ok did) new = (file : BoardFile) (lab_model : LabModel plans) → Shows file lab lab_model → Watches old lab_model
+    → Watches new (happens file event lab_model) × TellsNext old.broken new.broken place (KeepsPremise file lab_model event)
+WatchesStep event place lab old (Err (refused.Fault why)) new = new ≡ old
+WatchesStep event place lab old (Err refused.Memory) new = Unit {0}
 
 -- events happened, and this is told of the premise
 abbrev pub WatchesAll : List Event → Lab → Watch → Watch → Type 0
-WatchesAll events lab old new = (file : BoardFile) (x : LabModel plans) → Shows file lab x → Watches old x
-    → Watches new (after file events x) × TellsPremise file events x new.broken
+WatchesAll events lab old new = (file : BoardFile) (lab_model : LabModel plans) → Shows file lab lab_model → Watches old lab_model
+    → Watches new (after file events lab_model) × TellsPremise file events lab_model new.broken
 
 -- events are asked of a lab, up to the first that isn't taken; where memory was refused, nothing is said
 abbrev pub WatchesRun : {E : Type 0} → List Event → Lab → Watch → Result (Option Stopped) E → Watch → Type 0

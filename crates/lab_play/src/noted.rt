@@ -1,7 +1,7 @@
 //! Schedules, with a note of each event.
-ghost use Rattle.std.specs.Prelude.{◌≡◌, ◌<◌, ◌≤◌, suc, [], None};
+ghost use Rattle.std.specs.Prelude.{◌≡◌, ◌≤◌, suc, [], None};
 ghost use Rattle.two_wire.specs.declared.Bus.{Bus as AnyBus};
-ghost use Rattle.lab_run.specs.Shown.{Steps, idles_in};
+ghost use Rattle.lab_run.specs.Shown.{Steps, CanCountOn, idles_in};
 ghost use Rattle.lab_play.specs.Runs.{Runs};
 ghost use Rattle.lab_play.specs.Noted.{NotesStep, NotesRun};
 ghost use Rattle.lab_play.specs.Watched.{WatchesStep, WatchesRun};
@@ -20,7 +20,7 @@ fn step_noted<'a>(
     place: usize,
     notes: &mut Vec<Note<'a>>,
 ) -> Result<(), Refused>
-    requires { (on : AnyBus) → idles_in on lab.now.idles < 9223372036854775807 }
+    requires { CanCountOn lab.now.idles }
     ensures steps { Steps event.now lab.old result lab.new }
     ensures few { (on : AnyBus) → idles_in on lab.new.idles ≤ suc (idles_in on lab.old.idles) }
     ensures noted { NotesStep event.now lab.old result notes.old.items notes.new.items }

@@ -48,14 +48,16 @@ impl Played {
 
     /// The requests that undo what was done.
     pub fn undo(&self) -> &UndoList
-        ensures { (told : Told) → Tells self.now told → backs lab_names result.now.requests ≡ told.undo }
+        ensures { (told : Told) → Tells self.now told
+            → backs lab_names result.now.requests ≡ told.undo }
     {
         self.lab.undo_list()
     }
 
     /// The records.
     pub fn records(&self) -> &Records
-        ensures { (told : Told) → Tells self.now told → ⟦<Records as Store>⟧.records result.now ≡ told.records }
+        ensures { (told : Told) → Tells self.now told
+            → ⟦<Records as Store>⟧.records result.now ≡ told.records }
     {
         self.lab.store()
     }
@@ -77,7 +79,8 @@ impl Played {
 
     /// How many records have another value than they began with.
     pub fn changed(&self) -> usize
-        ensures { (told : Told) → Tells self.now told → result ≡ changed_in told.records self.now.start.items }
+        ensures { (told : Told) → Tells self.now told
+            → result ≡ changed_in told.records self.now.start.items }
     {
         changed_count(self.records(), self.start.as_slice())
     }

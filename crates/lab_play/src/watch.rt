@@ -2,7 +2,7 @@
 ghost use Rattle.std.specs.Prelude.{◌≡◌, ◌<◌, ◌≤◌, ℕ, suc, slice_get, Some, None, OnOk};
 ghost use Rattle.two_wire.specs.declared.Bus.{Bus as AnyBus};
 ghost use Rattle.model_bus.specs.Circle.{tags};
-ghost use Rattle.lab_run.specs.Shown.{Steps, idles_in};
+ghost use Rattle.lab_run.specs.Shown.{Steps, CanCountOn, idles_in};
 ghost use Rattle.lab_run.specs.Hearing.{Did};
 ghost use Rattle.lab_play.specs.Watched.{took_by, waits_long, opened_in, broken_at, WatchesStep};
 
@@ -88,7 +88,7 @@ pub fn step_watched(
     event: &Event,
     place: usize,
 ) -> Result<(), Refused>
-    requires { (on : AnyBus) → idles_in on lab.now.idles < 9223372036854775807 }
+    requires { CanCountOn lab.now.idles }
     ensures steps { Steps event.now lab.old result lab.new }
     ensures done { OnOk result (Did event.now lab.old lab.new) }
     ensures few { (on : AnyBus) → idles_in on lab.new.idles ≤ suc (idles_in on lab.old.idles) }
