@@ -2,6 +2,7 @@
 #![tactic(auto)]
 
 mod entry;
+pub mod laws;
 pub mod set_part;
 pub mod stagings;
 
