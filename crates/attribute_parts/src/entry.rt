@@ -1,5 +1,5 @@
 //! Entries of strings, as they come in parts: an attribute, its type, the text's length, and the text.
-ghost use Rattle.std.specs.Prelude.{◌≡◌, ◌==◌, nat_lt};
+ghost use Rattle.std.specs.Prelude.{◌≡◌, ◌==◌};
 ghost use Rattle.attribute_parts.specs.Entries.{text_length, whole_length, op_of, begins_string, allows_length, first_fault, middle_fault, last_fault};
 ghost use Rattle.attribute_parts.specs.Stagings.{unless};
 

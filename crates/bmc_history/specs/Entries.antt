@@ -56,12 +56,16 @@ pub record Lies (bytes : ℕ) (mark : Mark) : Type 0 where
   pub short_request : mark.reply ≤ mark.request + most_request mark.head
   pub short_reply : mark.end ≤ mark.reply + most_pldm_reply_data
 
+-- the most bytes that an event has
+abbrev pub most_event : ℕ
+most_event = most_pldm_request_data + most_pldm_reply_data
+
 -- of the room for so many events, each with its longest bytes, so many marks and bytes are written
 pub record HasRoom (room marked for_marks written for_bytes : ℕ) : Type 0 where
   pub few : marked ≤ room
   pub marks_fit : room ≤ for_marks
-  pub short : written ≤ 503 * marked
-  pub bytes_fit : 503 * room ≤ for_bytes
+  pub short : written ≤ most_event * marked
+  pub bytes_fit : most_event * room ≤ for_bytes
 
 -- the calls of events, in order
 abbrev pub calls_in : List Event → List Call

@@ -3,7 +3,6 @@ use super::expect_told;
 use attribute_parts::{SetPart, Stagings, part_in};
 use bios_attr::AttributeLimits;
 use cfg_records::{AttributeRange, TextLengths};
-use std::process::Abort;
 use std::test::Fail;
 use two_wire::code::{PLDM_INVALID_DATA, PLDM_INVALID_LENGTH};
 
