@@ -22,11 +22,25 @@ mod watchdog;
 
 use std::alloc::Global;
 use std::process::Abort;
-use std::test::Fail;
 use stories::play;
 
+/// This is said of the stories: of each line that comes otherwise than it is told, what came.
+pub(crate) fn expect_report(rt: &impl Abort, alloc: Global, stories: &str, told: &str) {
+    let report = play(alloc, stories).expect(rt, "memory");
+    assert_eq!(rt; report.as_str(), told);
+}
+
 /// Each line of the stories comes as it is told.
-pub(crate) fn expect_told(rt: &impl Abort, alloc: Global, stories: &str) -> Result<(), Fail> {
-    assert_eq!(rt; play(alloc, stories)?.as_str(), "");
-    Ok(())
+pub(crate) fn expect_told(rt: &impl Abort, alloc: Global, stories: &str) {
+    expect_report(rt, alloc, stories, "");
+}
+
+/// The bytes are these.
+pub(crate) fn expect_bytes(rt: &impl Abort, came: &[u8], told: &[u8]) {
+    assert_eq!(rt; came, told);
+}
+
+/// So it is. What that says comes where it isn't so.
+pub(crate) fn expect(rt: &impl Abort, holds: bool, what: &str) {
+    assert!(rt; holds, "{what}");
 }

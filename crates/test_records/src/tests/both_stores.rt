@@ -2,9 +2,8 @@
 use bmc_board::Board;
 use cfg_records::{BoardFile, Key, PlainStore, Store, Value};
 use packed_store::PackedStore;
-use std::alloc::{AllocError, Global};
+use std::alloc::Global;
 use std::process::Abort;
-use std::test::Fail;
 use stories::{asks, board_of};
 
 /// The sample board with numeric effecter 4, from 0 to 1000, state effecter 9, of two fields, and LAN parameters of channel 1.
@@ -75,20 +74,19 @@ fn packed(rt: &impl Abort, alloc: Global) -> Board<PackedStore> {
     Board::open(alloc, file, store).expect(rt, "memory")
 }
 
+/// The line's request has its reply.
+fn expect_reply<S: Store>(rt: &impl Abort, alloc: Global, board: &mut Board<S>, line: &str) {
+    let (words, told) = line.split_once(" -> ").unwrap_or((line, ""));
+    let (over, digits) = words.split_once(' ').unwrap_or((words, ""));
+    let came = asks(alloc, board, 0x2C, over, digits).expect(rt, "memory");
+    assert_eq!(rt; came.as_str().trim_end(), told);
+}
+
 /// Each line's request has its reply.
-fn expect_replies<S: Store>(
-    rt: &impl Abort,
-    alloc: Global,
-    board: &mut Board<S>,
-    lines: &str,
-) -> Result<(), AllocError> {
+fn expect_replies<S: Store>(rt: &impl Abort, alloc: Global, board: &mut Board<S>, lines: &str) {
     for line in lines.lines() {
-        let (words, told) = line.split_once(" -> ").unwrap_or((line, ""));
-        let (over, digits) = words.split_once(' ').unwrap_or((words, ""));
-        let came = asks(alloc, board, 0x2C, over, digits)?;
-        assert_eq!(rt; came.as_str().trim_end(), told);
+        expect_reply(rt, alloc, board, line);
     }
-    Ok(())
 }
 
 /// Whether the store has another value at the key of this record.
@@ -113,16 +111,34 @@ fn changed(
     start.iter().filter(|r| is_changed(plain, r)).count()
 }
 
+/// Over both stores each line's request has its reply, and then so many records have another value than the list has.
+fn expect_alike(
+    rt: &impl Abort,
+    alloc: Global,
+    plain: &mut Board<PlainStore>,
+    packed: &mut Board<PackedStore>,
+    start: &[(Key, Value)],
+    lines: &str,
+    differ: usize,
+) {
+    expect_replies(rt, alloc, plain, lines);
+    expect_replies(rt, alloc, packed, lines);
+    assert_eq!(rt; changed(rt, plain.store(), packed.store(), start), differ);
+}
+
+/// The records of the sample board with effecters.
+fn records(rt: &impl Abort, alloc: Global) -> Vec<(Key, Value)> {
+    file(rt, alloc).records(alloc).expect(rt, "memory")
+}
+
 #[test]
-fn records_are_the_same_over_both_stores(rt: HostRuntime) -> Result<(), Fail> {
-    let start = file(&rt, rt.alloc()).records(rt.alloc())?;
-    let mut plain = plain(&rt, rt.alloc());
-    let mut packed = packed(&rt, rt.alloc());
-    for (lines, differ) in [(PLAN, 3), (UNDO, 0), (SETS, 6)] {
-        expect_replies(&rt, rt.alloc(), &mut plain, lines)?;
-        expect_replies(&rt, rt.alloc(), &mut packed, lines)?;
-        let changed = changed(&rt, plain.store(), packed.store(), start.as_slice());
-        assert_eq!(rt; changed, differ);
-    }
-    Ok(())
+fn records_are_the_same_over_both_stores(rt: HostRuntime) {
+    let alloc = rt.alloc();
+    let start = records(&rt, alloc);
+    let start = start.as_slice();
+    let mut plain = plain(&rt, alloc);
+    let mut packed = packed(&rt, alloc);
+    expect_alike(&rt, alloc, &mut plain, &mut packed, start, PLAN, 3);
+    expect_alike(&rt, alloc, &mut plain, &mut packed, start, UNDO, 0);
+    expect_alike(&rt, alloc, &mut plain, &mut packed, start, SETS, 6);
 }

@@ -1,5 +1,6 @@
 //! Calls of a board, of its tables of commands, and of the kinds of record.
-use bmc_board::{Bench, Board, Command, Lengths, NoSensor, is_changing, read_request};
+use super::{expect, expect_bytes};
+use bmc_board::{Bench, Board, Command, Lengths, NoSensor, Records, is_changing, read_request};
 use cfg_records::{
     AccessStore, Asked, BootChange, BootFlags, BootParameter, ChannelChange, ChannelNumber,
     EventChange, EventMasks, FieldChange, FieldChanges, Key, MaskedBits, NumericBytes, Op,
@@ -19,50 +20,82 @@ const UPPER_CRITICAL: Op = Op::Thresholds(SetThresholds {
     values: [0, 0, 0, 0, 0x5A, 0],
 });
 
-#[test]
-fn a_board_answers_a_set_and_a_get_and_keeps_the_record(rt: HostRuntime) {
-    let file = sample_board(rt.alloc()).expect(&rt, "memory");
-    let mut board = Board::of_file(rt.alloc(), file).expect(&rt, "memory");
-    let reply = board.answer(&Limits::set_asked(&UPPER_CRITICAL));
-    assert_eq!(rt; (reply.code, reply.body.as_slice().len()), (0, 0));
-    let reply = board.answer(&Limits::get_asked(&Key::Thresholds(5)));
-    assert_eq!(rt; reply.code, 0);
-    assert_eq!(rt;
-        reply.body.as_slice(),
-        [0x3F, 0x14, 0x0A, 0x05, 0x50, 0x5A, 0x6E].as_slice()
-    );
-    let kept = board.store().get(&Key::Thresholds(5));
-    assert_eq!(rt; kept, Some([0x14, 0x0A, 0x05, 0x50, 0x5A, 0x6E].as_slice()));
-    assert_eq!(rt;
-        board.bench(Bench::Reading {
-            sensor: 9,
-            raw: 0x60
-        }),
-        Err(NoSensor)
-    );
-    assert_eq!(rt; board.bench(Bench::Tick), Ok(()));
+/// A board with the sample board's records.
+fn sample(rt: &impl Abort, alloc: Global) -> Board<Records> {
+    let file = sample_board(alloc).expect(rt, "memory");
+    Board::of_file(alloc, file).expect(rt, "memory")
+}
+
+/// The board carries the request out, and replies so.
+fn expect_reply(rt: &impl Abort, board: &mut Board<Records>, asked: &Asked, data: &[u8]) {
+    let reply = board.answer(asked);
+    expect(rt, reply.code == 0, "it is carried out");
+    expect_bytes(rt, reply.body.as_slice(), data);
 }
 
 #[test]
-fn a_change_is_asked_and_undone(rt: HostRuntime) {
-    assert!(rt; Limits::key(&UPPER_CRITICAL) == Key::Thresholds(5));
+fn a_board_answers_a_set_and_a_get_and_keeps_the_record(rt: HostRuntime) {
+    let mut board = sample(&rt, rt.alloc());
+    expect_reply(&rt, &mut board, &Limits::set_asked(&UPPER_CRITICAL), &[]);
+    let get = Limits::get_asked(&Key::Thresholds(5));
+    let shown = [0x3F, 0x14, 0x0A, 0x05, 0x50, 0x5A, 0x6E];
+    expect_reply(&rt, &mut board, &get, &shown);
+    let kept = board
+        .store()
+        .get(&Key::Thresholds(5))
+        .expect(&rt, "a record");
+    expect_bytes(&rt, kept, &shown[1..]);
+}
+
+#[test]
+fn what_happens_at_the_bench_reaches_a_board(rt: HostRuntime) {
+    let mut board = sample(&rt, rt.alloc());
+    let reading = Bench::Reading {
+        sensor: 9,
+        raw: 0x60,
+    };
+    expect(&rt, board.bench(reading) == Err(NoSensor), "no such sensor");
+    expect(&rt, board.bench(Bench::Tick) == Ok(()), "a tick");
+}
+
+/// The data of the request that makes upper critical of sensor 5 this.
+fn set_data(upper_critical: u8) -> [u8; 8] {
+    [5, 0x10, 0, 0, 0, 0, upper_critical, 0]
+}
+
+#[test]
+fn a_change_is_asked(rt: HostRuntime) {
+    expect(
+        &rt,
+        Limits::key(&UPPER_CRITICAL) == Key::Thresholds(5),
+        "the key",
+    );
     let set = Limits::set_asked(&UPPER_CRITICAL);
     let asked = Asked::Ipmi {
         from: 0,
         net_fn: NetFn::new(4),
         lun: Lun::new(0),
         command: 0x26,
-        body: Bytes::from_slice(&[5, 0x10, 0, 0, 0, 0, 0x5A, 0]),
+        body: Bytes::from_slice(&set_data(0x5A)),
     };
-    assert!(rt; set.is(&asked));
-    assert!(rt; is_changing(&set));
+    expect(&rt, set.is(&asked), "the request");
+    expect(&rt, is_changing(&set), "it changes records");
+}
+
+#[test]
+fn a_request_is_read(rt: HostRuntime) {
+    let set = Limits::set_asked(&UPPER_CRITICAL);
     let (command, body) = read_request(&set);
-    assert_eq!(rt; command, Ok(Command::Set(PlainKind::Thresholds)));
-    assert_eq!(rt; body, [5, 0x10, 0, 0, 0, 0, 0x5A, 0].as_slice());
+    let thresholds = Command::Set(PlainKind::Thresholds);
+    expect(&rt, command == Ok(thresholds), "the command");
+    expect_bytes(&rt, body, &set_data(0x5A));
+}
+
+#[test]
+fn a_change_is_undone(rt: HostRuntime) {
     let reply = [0x3F, 0x14, 0x0A, 0x05, 0x50, 0x5F, 0x6E];
     let undo = Limits::inverse(&UPPER_CRITICAL, &reply).expect(&rt, "an undo");
-    let data = Limits::set_data(&undo);
-    assert_eq!(rt; data.as_slice(), [5, 0x10, 0, 0, 0, 0, 0x5F, 0].as_slice());
+    expect_bytes(&rt, Limits::set_data(&undo).as_slice(), &set_data(0x5F));
 }
 
 /// Of the lengths from 0 on, those that the command takes: `+` for each, and `.` for each other.

@@ -1,6 +1,5 @@
 //! Numeric effecters and state effecters, over PLDM.
 use super::expect_told;
-use std::test::Fail;
 
 /// Numeric effecter 4 goes from 0 to 1000, 5 from -2 to 1, 6 is disabled, and 261 goes from -70,000 to -1. State effecter 9 has two fields, and 10 has one
 /// and is disabled.
@@ -180,6 +179,6 @@ undo pldm 02 39 0900 02 0000 0101 : 01010101 -> none
 ";
 
 #[test]
-fn effecters_are_set_refused_in_order_and_undone(rt: HostRuntime) -> Result<(), Fail> {
-    expect_told(&rt, rt.alloc(), EFFECTERS)
+fn effecters_are_set_refused_in_order_and_undone(rt: HostRuntime) {
+    expect_told(&rt, rt.alloc(), EFFECTERS);
 }

@@ -1,7 +1,6 @@
 //! LAN parameters: each refusal in the order of the checks, what is shown, and changes that are undone. Channels 1 and 15 have LAN
 //! parameters, 2 has none, and the other channels aren't there.
 use super::expect_told;
-use std::test::Fail;
 
 /// What is refused.
 const REFUSED: &str = "story the unit, the command and the length of LAN requests come first
@@ -171,8 +170,8 @@ kept ipmi 30 02 01040000 -> none
 ";
 
 #[test]
-fn requests_on_lan_parameters_refuse_in_order(rt: HostRuntime) -> Result<(), Fail> {
-    expect_told(&rt, rt.alloc(), REFUSED)
+fn requests_on_lan_parameters_refuse_in_order(rt: HostRuntime) {
+    expect_told(&rt, rt.alloc(), REFUSED);
 }
 
 /// What is shown, and what bits are ignored.
@@ -270,8 +269,8 @@ marked ipmi 30 03 -> gets
 ";
 
 #[test]
-fn lan_parameters_are_shown_as_they_were_set(rt: HostRuntime) -> Result<(), Fail> {
-    expect_told(&rt, rt.alloc(), SHOWN)
+fn lan_parameters_are_shown_as_they_were_set(rt: HostRuntime) {
+    expect_told(&rt, rt.alloc(), SHOWN);
 }
 
 /// Changes that are undone, and what undoes them.
@@ -323,6 +322,6 @@ undo ipmi 30 01 010402 : 110000 -> none
 ";
 
 #[test]
-fn changes_of_lan_parameters_are_undone(rt: HostRuntime) -> Result<(), Fail> {
-    expect_told(&rt, rt.alloc(), CHANGES)
+fn changes_of_lan_parameters_are_undone(rt: HostRuntime) {
+    expect_told(&rt, rt.alloc(), CHANGES);
 }

@@ -2,6 +2,7 @@
 ghost use Rattle.std.specs.Prelude.{◌<◌, IsTrue, length};
 ghost use Rattle.record_base.specs.Keys.{is_length};
 
+use super::{expect, expect_bytes};
 use cfg_records::{
     Answered, Asked, BootFlags, BootOptions, BootParameter, EventEnable, EventMasks, Hysteresis,
     Key, Live, NoKey, PlainStore, Sensor, Sensors, Store, StoreFault, ThresholdMasks, Thresholds,
@@ -10,7 +11,6 @@ use cfg_records::{
 use packed_store::PackedStore;
 use std::alloc::{AllocError, Global};
 use std::process::Abort;
-use std::test::Fail;
 use two_wire::{Below, Bytes, Lun, NetFn, code};
 
 /// The records that the sample board begins with, in order.
@@ -37,24 +37,58 @@ BiosAttribute(1) 06007261636B2D31
 BiosAttribute(2) 1E00000000000000
 ";
 
+/// Appends the line of a record.
+fn push_record(
+    alloc: Global,
+    text: &mut String,
+    key: &Key,
+    value: &Value,
+) -> Result<(), AllocError> {
+    write!(text, "{key:?} ")?;
+    let digits = hex::encode_upper(alloc, value.as_slice())?;
+    text.push_str(digits.as_str())?;
+    text.push_str("\n")
+}
+
 /// The records, a line for each.
 fn spelt(alloc: Global, pairs: &[(Key, Value)]) -> Result<String, AllocError> {
     let mut text = String::new(alloc);
     for (key, value) in pairs {
-        let bytes = hex::encode_upper(alloc, value.as_slice())?;
-        let line = format!(in alloc; "{key:?} {}\n", bytes.as_str())?;
-        text.push_str(line.as_str())?;
+        push_record(alloc, &mut text, key, value)?;
     }
     Ok(text)
 }
 
+/// The records of the sample board, a line for each.
+fn spelt_sample(rt: &impl Abort, alloc: Global) -> String {
+    let file = sample_board(alloc).expect(rt, "memory");
+    let pairs = file.records(alloc).expect(rt, "memory");
+    spelt(alloc, pairs.as_slice()).expect(rt, "memory")
+}
+
 #[test]
-fn the_sample_board_begins_with_its_records(rt: HostRuntime) -> Result<(), Fail> {
-    let file = sample_board(rt.alloc())?;
-    assert_eq!(rt; file.tid, 5);
-    let pairs = file.records(rt.alloc())?;
-    assert_eq!(rt; spelt(rt.alloc(), pairs.as_slice())?.as_str(), RECORDS);
-    Ok(())
+fn the_sample_board_begins_with_its_records(rt: HostRuntime) {
+    assert_eq!(rt; spelt_sample(&rt, rt.alloc()).as_str(), RECORDS);
+}
+
+#[test]
+fn the_sample_board_has_a_terminus(rt: HostRuntime) {
+    let file = sample_board(rt.alloc()).expect(&rt, "memory");
+    expect(&rt, file.tid == 5, "the terminus");
+}
+
+/// The store has this record.
+fn expect_record<S: Store>(rt: &impl Abort, store: &S, key: &Key, value: &[u8]) {
+    let record = store.get(key).expect(rt, "a record");
+    expect_bytes(rt, record, value);
+}
+
+/// The record has the new value once that was put.
+fn expect_put<S: Store>(rt: &impl Abort, store: &mut S, key: &Key, new: &[u8])
+    requires { IsTrue (is_length key.now (length new.now)) }
+{
+    assert_eq!(rt; store.put(key, new), Ok(()));
+    expect_record(rt, store, key, new);
 }
 
 /// The record has the old value where it lies, and the new one once that was written there.
@@ -62,79 +96,83 @@ fn expect_written<S: Store>(rt: &impl Abort, store: &mut S, key: &Key, old: &[u8
     requires { IsTrue (is_length key.now (length new.now)) }
 {
     let place = store.find(key).expect(rt, "a place");
-    assert_eq!(rt; store.value(place), old);
+    expect_bytes(rt, store.value(place), old);
     store.write(place, new);
-    assert_eq!(rt; store.get(key).expect(rt, "a record"), new);
+    expect_record(rt, store, key, new);
+}
+
+/// A store of the sample board's records.
+fn sample_store(rt: &impl Abort, alloc: Global) -> PlainStore {
+    let file = sample_board(alloc).expect(rt, "memory");
+    PlainStore::of_file(alloc, &file).expect(rt, "memory")
 }
 
 #[test]
-fn a_store_has_what_was_put(rt: HostRuntime) -> Result<(), Fail> {
-    let mut store = PlainStore::of_file(rt.alloc(), &sample_board(rt.alloc())?)?;
+fn a_store_has_what_was_put(rt: HostRuntime) {
+    let mut store = sample_store(&rt, rt.alloc());
     let key = Key::Hysteresis(7);
-    assert_eq!(rt; store.put(&key, &[3, 1]), Ok(()));
-    assert_eq!(rt;
-        store.get(&key).expect(&rt, "hysteresis"),
-        [3, 1].as_slice()
-    );
+    expect_put(&rt, &mut store, &key, &[3, 1]);
     let place = store.find(&key);
     expect_written(&rt, &mut store, &key, &[3, 1], &[4, 2]);
-    assert!(rt; store.find(&key) == place);
+    expect(
+        &rt,
+        store.find(&key) == place,
+        "the record stays in its place",
+    );
+}
+
+#[test]
+fn nothing_is_put_where_there_is_no_record(rt: HostRuntime) {
+    let mut store = sample_store(&rt, rt.alloc());
     let missing = Key::Hysteresis(9);
-    assert_eq!(rt; store.put(&missing, &[3, 1]), Err(NoKey));
-    assert!(rt; store.get(&missing).is_none());
-    Ok(())
+    expect(&rt, store.put(&missing, &[3, 1]) == Err(NoKey), "no record");
+    expect(&rt, store.get(&missing).is_none(), "none is made");
+}
+
+/// Why neither store is made of the pairs.
+fn faults_of(alloc: Global, pairs: &[(Key, Value)]) -> Option<(StoreFault, StoreFault)> {
+    let plain = PlainStore::new(alloc, pairs).err()?;
+    let packed = PackedStore::new(alloc, pairs).err()?;
+    Some((plain, packed))
 }
 
 #[test]
 fn a_store_refuses_a_key_twice_before_a_bad_value(rt: HostRuntime) {
     let pair = || (Key::Hysteresis(5), Value::from_slice(&[1]));
     let bad = vec![in rt.alloc(); pair()].expect(&rt, "memory");
+    let faults = faults_of(rt.alloc(), bad.as_slice());
+    expect(
+        &rt,
+        faults == Some((StoreFault::BadValue, StoreFault::BadValue)),
+        "a bad value",
+    );
     let twice = vec![in rt.alloc(); pair(), pair()].expect(&rt, "memory");
-    assert!(rt;
-        matches!(
-            PlainStore::new(rt.alloc(), bad.as_slice()),
-            Err(StoreFault::BadValue)
-        )
-    );
-    assert!(rt;
-        matches!(
-            PlainStore::new(rt.alloc(), twice.as_slice()),
-            Err(StoreFault::TwiceTheSameKey)
-        )
-    );
-    assert!(rt;
-        matches!(
-            PackedStore::new(rt.alloc(), bad.as_slice()),
-            Err(StoreFault::BadValue)
-        )
-    );
-    assert!(rt;
-        matches!(
-            PackedStore::new(rt.alloc(), twice.as_slice()),
-            Err(StoreFault::TwiceTheSameKey)
-        )
-    );
+    let faults = faults_of(rt.alloc(), twice.as_slice());
+    let same = StoreFault::TwiceTheSameKey;
+    expect(&rt, faults == Some((same, same)), "a key twice");
+}
+
+/// A packed store of a delay and a policy.
+fn packed(rt: &impl Abort, alloc: Global) -> PackedStore {
+    let delay = Value::from_slice(&[3, 1, 4, 1, 5, 9, 2, 6]);
+    let policy = (Key::PowerPolicy, Value::from_slice(&[2]));
+    let pairs = vec![in alloc; (Key::BiosAttribute(2), delay), policy].expect(rt, "memory");
+    let store = PackedStore::new(alloc, pairs.as_slice());
+    store.ok().expect(rt, "two keys, with a value each")
 }
 
 #[test]
-fn a_packed_store_has_its_pairs(rt: HostRuntime) -> Result<(), Fail> {
-    let (delay, policy) = (Key::BiosAttribute(2), Key::PowerPolicy);
-    let first = (delay, Value::from_slice(&[3, 1, 4, 1, 5, 9, 2, 6]));
-    let pairs = vec![in rt.alloc(); first, (policy, Value::from_slice(&[2]))]?;
-    let Ok(mut store) = PackedStore::new(rt.alloc(), pairs.as_slice()) else {
-        assert!(rt; false, "two keys, with a value each");
-        return Ok(());
-    };
-    assert_eq!(rt;
-        store.get(&delay).expect(&rt, "a value"),
-        [3, 1, 4, 1, 5, 9, 2, 6].as_slice()
+fn a_packed_store_has_its_pairs(rt: HostRuntime) {
+    let mut store = packed(&rt, rt.alloc());
+    let delay = Key::BiosAttribute(2);
+    expect_record(&rt, &store, &delay, &[3, 1, 4, 1, 5, 9, 2, 6]);
+    expect_put(&rt, &mut store, &Key::PowerPolicy, &[1]);
+    expect_put(&rt, &mut store, &delay, &[2, 7]);
+    expect(
+        &rt,
+        store.put(&Key::Watchdog, &[0; 5]) == Err(NoKey),
+        "no such key",
     );
-    assert_eq!(rt; store.put(&policy, &[1]), Ok(()));
-    assert_eq!(rt; store.get(&policy).expect(&rt, "a value"), [1].as_slice());
-    assert_eq!(rt; store.put(&delay, &[2, 7]), Ok(()));
-    assert_eq!(rt; store.get(&delay).expect(&rt, "a value"), [2, 7].as_slice());
-    assert_eq!(rt; store.put(&Key::Watchdog, &[0; 5]), Err(NoKey));
-    Ok(())
 }
 
 /// No event.
@@ -174,12 +212,18 @@ fn bare_sensors(rt: &impl Abort, alloc: Global, count: u8, again: bool) -> Vec<S
     sensors
 }
 
+/// Whether a board has so many sensors, and the first of them once more where it is asked for.
+fn are_sensors(rt: &impl Abort, alloc: Global, count: u8, again: bool) -> bool {
+    Sensors::new(bare_sensors(rt, alloc, count, again)).is_some()
+}
+
 #[test]
 fn a_board_has_at_most_32_sensors_with_numbers_of_their_own(rt: HostRuntime) {
-    assert!(rt; Sensors::new(bare_sensors(&rt, rt.alloc(), 2, false)).is_some());
-    assert!(rt; Sensors::new(bare_sensors(&rt, rt.alloc(), 2, true)).is_none());
-    assert!(rt; Sensors::new(bare_sensors(&rt, rt.alloc(), 32, false)).is_some());
-    assert!(rt; Sensors::new(bare_sensors(&rt, rt.alloc(), 33, false)).is_none());
+    let alloc = rt.alloc();
+    expect(&rt, are_sensors(&rt, alloc, 2, false), "2");
+    expect(&rt, !are_sensors(&rt, alloc, 2, true), "one number twice");
+    expect(&rt, are_sensors(&rt, alloc, 32, false), "32");
+    expect(&rt, !are_sensors(&rt, alloc, 33, false), "33");
 }
 
 #[test]
@@ -193,13 +237,13 @@ fn boot_parameter_3_has_five_bits(rt: HostRuntime) {
     };
     let boot = BootOptions::new(0x1F, 0xFF, flags).expect(&rt, "boot options");
     let (key, value) = boot.pair(BootParameter::Flags);
-    assert!(rt; key == Key::BootParam(BootParameter::Flags));
-    assert!(rt; value.is(&[0, 1, 2, 3, 4, 5]));
-    assert!(rt; BootOptions::new(0x20, 0, flags).is_none());
+    expect(&rt, key == Key::BootParam(BootParameter::Flags), "the key");
+    expect(&rt, value.is(&[0, 1, 2, 3, 4, 5]), "the value");
+    expect(&rt, BootOptions::new(0x20, 0, flags).is_none(), "six bits");
 }
 
 #[test]
-fn requests_and_replies_are_compared_whole(rt: HostRuntime) {
+fn requests_are_compared_whole(rt: HostRuntime) {
     let asked = Asked::Ipmi {
         from: 0x2C,
         net_fn: NetFn::new(4),
@@ -213,17 +257,22 @@ fn requests_and_replies_are_compared_whole(rt: HostRuntime) {
         command: 0x27,
         body: Bytes::from_slice(&[5]),
     };
-    assert!(rt; asked.copy().is(&asked));
-    assert!(rt; !asked.is(&other));
+    expect(&rt, asked.copy().is(&asked), "a copy");
+    expect(&rt, !asked.is(&other), "another bus");
+}
+
+#[test]
+fn replies_are_compared_whole(rt: HostRuntime) {
     let done = Answered::done(&[1]);
     let refused = Answered::refused(code::NOT_PRESENT);
-    assert!(rt; done.copy().is(&done));
-    assert!(rt; !done.is(&refused));
+    expect(&rt, done.copy().is(&done), "a copy");
+    expect(&rt, !done.is(&refused), "another code");
 }
 
 #[test]
 fn a_board_begins_with_its_watchdog_stopped(rt: HostRuntime) {
     let live = Live::opening();
-    assert_eq!(rt; live.chassis.number(), 0);
-    assert!(rt; !live.running && live.expired == 0 && live.countdown == 0);
+    expect(&rt, live.chassis.number() == 0, "no chassis bits");
+    expect(&rt, !live.running && live.countdown == 0, "stopped");
+    expect(&rt, live.expired == 0, "no flag");
 }

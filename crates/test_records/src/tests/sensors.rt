@@ -1,40 +1,59 @@
 //! Calls of a sensor's records: thresholds, hysteresis and readings.
+ghost use Rattle.std.specs.Prelude.{◌≡◌, ◌<◌};
+
+use super::{expect, expect_bytes};
 use cfg_records::{
     EventMasks, Hysteresis, Live, RecordData, RecordKind, SetHysteresis, SetThresholds,
     ThresholdMasks, Value,
 };
 use sensor_recs::{Compared, Event, HysteresisLimits, ThresholdLimits};
+use std::process::Abort;
 use two_wire::code::INVALID_DATA_FIELD;
 
 /// The thresholds of a temperature sensor.
 const THRESHOLDS: [u8; 6] = [0x14, 0x0A, 0x05, 0x50, 0x5F, 0x6E];
 
-#[test]
-fn thresholds_out_of_order_are_refused(rt: HostRuntime) {
-    let limits = ThresholdLimits {
-        masks: ThresholdMasks::new(0x3F, 0x3F).expect(&rt, "masks"),
-    };
-    let mut set = SetThresholds {
+/// The limits of its thresholds, which can all be read and set.
+fn limits(rt: &impl Abort) -> ThresholdLimits
+    ensures readable { result.masks.readable ≡ 0x3F }
+    ensures settable { result.masks.settable ≡ 0x3F }
+{
+    ThresholdLimits {
+        masks: ThresholdMasks::new(0x3F, 0x3F).expect(rt, "masks"),
+    }
+}
+
+/// A Set of upper critical.
+fn upper_critical(value: u8) -> SetThresholds {
+    SetThresholds {
         sensor: 5,
         mask: 0x10,
-        values: [0, 0, 0, 0, 0x70, 0],
-    };
-    let mut new = Value::from_slice(&[0xEE]);
-    let high = limits.apply(&set, &THRESHOLDS, &mut new);
-    assert!(rt; matches!(high, Err(INVALID_DATA_FIELD)));
-    assert!(rt; new.is(&[0xEE]));
+        values: [0, 0, 0, 0, value, 0],
+    }
+}
 
-    set.values[4] = 0x60;
-    let low = limits.apply(&set, &THRESHOLDS, &mut new);
-    assert!(rt; low.is_ok());
-    assert!(rt; new.is(&[0x14, 0x0A, 0x05, 0x50, 0x60, 0x6E]));
+#[test]
+fn thresholds_out_of_order_are_refused(rt: HostRuntime) {
+    let mut new = Value::from_slice(&[0xEE]);
+    let refused = limits(&rt).apply(&upper_critical(0x70), &THRESHOLDS, &mut new);
+    expect(
+        &rt,
+        refused == Err(INVALID_DATA_FIELD),
+        "above upper non-recoverable",
+    );
+    expect_bytes(&rt, new.as_slice(), &[0xEE]);
+}
+
+#[test]
+fn thresholds_in_order_are_set(rt: HostRuntime) {
+    let mut new = Value::from_slice(&[0xEE]);
+    let set = limits(&rt).apply(&upper_critical(0x60), &THRESHOLDS, &mut new);
+    expect(&rt, set.is_ok(), "in order");
+    expect_bytes(&rt, new.as_slice(), &[0x14, 0x0A, 0x05, 0x50, 0x60, 0x6E]);
 }
 
 #[test]
 fn replies_are_appended(rt: HostRuntime) {
-    let limits = ThresholdLimits {
-        masks: ThresholdMasks::new(0x3F, 0x3F).expect(&rt, "masks"),
-    };
     let live = Live::opening();
     let op = SetHysteresis {
         sensor: 5,
@@ -44,42 +63,56 @@ fn replies_are_appended(rt: HostRuntime) {
     let mut reply = RecordData::from_slice(&[0xEE]);
     HysteresisLimits::set_reply(&op, &mut reply);
     HysteresisLimits.get_data(&[3, 1], &live, &mut reply);
-    limits.get_data(&THRESHOLDS, &live, &mut reply);
-    assert!(rt; reply.is(&[0xEE, 3, 1, 0x3F, 0x14, 0x0A, 0x05, 0x50, 0x5F, 0x6E]));
+    limits(&rt).get_data(&THRESHOLDS, &live, &mut reply);
+    let shown = [0xEE, 3, 1, 0x3F, 0x14, 0x0A, 0x05, 0x50, 0x5F, 0x6E];
+    expect_bytes(&rt, reply.as_slice(), &shown);
 }
 
-#[test]
-fn upper_critical_rises_and_falls(rt: HostRuntime) {
-    let both = EventMasks {
-        assertions: 0x200,
-        deassertions: 0x200,
-    };
-    let sensor = Compared {
-        masks: ThresholdMasks::new(0x3F, 0x3F).expect(&rt, "masks"),
+/// The sensor, of whose events upper critical alone is enabled, in both directions.
+fn compared(rt: &impl Abort) -> Compared {
+    Compared {
+        masks: ThresholdMasks::new(0x3F, 0x3F).expect(rt, "masks"),
         thresholds: THRESHOLDS,
         hysteresis: Hysteresis {
             positive: 2,
             negative: 2,
         },
         messages: true,
-        enabled: both,
-    };
-    let rises = Event {
+        enabled: EventMasks {
+            assertions: 0x200,
+            deassertions: 0x200,
+        },
+    }
+}
+
+/// Upper critical is crossed, or is not any more.
+fn crossed(deasserted: bool) -> Event
+    ensures { result.place < 6 }
+{
+    Event {
         place: 4,
         high: true,
-        deasserted: false,
-    };
-    assert_eq!(rt; rises.offset(), 9);
+        deasserted,
+    }
+}
+
+/// A reading makes this event alone, and leaves these thresholds crossed.
+fn expect_reading(rt: &impl Abort, beyond: &mut [bool; 6], raw: u8, event: Event, then: [bool; 6]) {
+    let made = compared(rt).read_taken(beyond, raw);
+    assert!(rt; made.as_slice() == [event].as_slice());
+    assert!(rt; *beyond == then);
+}
+
+#[test]
+fn upper_critical_rises_and_falls(rt: HostRuntime) {
+    expect(
+        &rt,
+        crossed(false).offset() == 9,
+        "the offset of upper critical",
+    );
     let mut beyond = [false; 6];
-    let made = sensor.read_taken(&mut beyond, 0x60);
-    assert!(rt; made.as_slice() == [rises].as_slice());
-    assert!(rt; beyond == [false, false, false, true, true, false]);
-    let falls = Event {
-        place: 4,
-        high: true,
-        deasserted: true,
-    };
-    let made = sensor.read_taken(&mut beyond, 0x5C);
-    assert!(rt; made.as_slice() == [falls].as_slice());
-    assert!(rt; beyond == [false, false, false, true, false, false]);
+    let both = [false, false, false, true, true, false];
+    expect_reading(&rt, &mut beyond, 0x60, crossed(false), both);
+    let one = [false, false, false, true, false, false];
+    expect_reading(&rt, &mut beyond, 0x5C, crossed(true), one);
 }

@@ -1,4 +1,5 @@
 //! Tables of attributes, by their bytes, and the calls that make and read them.
+use super::{expect, expect_bytes};
 use bios_attr::attribute_entry::{KindFields, attribute_at};
 use bios_attr::string_entry::string_at;
 use bios_attr::table_entry::entry_at;
@@ -8,7 +9,6 @@ use cfg_records::sample_board;
 use pldm_base::{GET_FIRST_PART, GET_NEXT_PART, TransferFlag, crc32};
 use std::alloc::{AllocError, Global};
 use std::process::Abort;
-use std::test::Fail;
 use two_wire::Bytes;
 
 /// What is read of bytes, a line each: `table values HEX` counts the entries of a table, whose bytes the table's CRC-32 ends, `whole` the
@@ -107,31 +107,56 @@ fn read(
 fn found(alloc: Global, what: &str) -> Result<String, AllocError> {
     let (word, rest) = what.split_once(' ').unwrap_or((what, ""));
     let (name, digits) = rest.split_once(' ').unwrap_or((rest, ""));
-    match (table_of(name), bytes_of(alloc, digits)?) {
-        (Some(table), Some(mut bytes)) => read(alloc, word, table, &mut bytes),
-        _ => String::from_str(alloc, "no line"),
+    let Some(table) = table_of(name) else {
+        return String::from_str(alloc, "no line");
+    };
+    match bytes_of(alloc, digits)? {
+        Some(mut bytes) => read(alloc, word, table, &mut bytes),
+        None => String::from_str(alloc, "no line"),
     }
+}
+
+/// Appends the line with what came.
+fn push_row(report: &mut String, line: &str, came: &str) -> Result<(), AllocError> {
+    report.push_str(line)?;
+    report.push_str(": ")?;
+    report.push_str(came)?;
+    report.push_str("\n")
+}
+
+/// Appends the line, where it comes otherwise than told.
+fn push_otherwise(alloc: Global, report: &mut String, line: &str) -> Result<(), AllocError> {
+    let (what, want) = line.split_once(" -> ").unwrap_or((line, ""));
+    let came = found(alloc, what)?;
+    if came.as_str() == want || line.starts_with("#") {
+        return Ok(());
+    }
+    push_row(report, line, came.as_str())
 }
 
 /// The lines that come otherwise than told, with what came.
 fn otherwise(alloc: Global, lines: &str) -> Result<String, AllocError> {
     let mut report = String::new(alloc);
     for line in lines.lines() {
-        let (what, want) = line.split_once(" -> ").unwrap_or((line, ""));
-        let came = found(alloc, what)?;
-        if came.as_str() != want && !line.starts_with("#") {
-            let row = format!(in alloc; "{line}: {}\n", came.as_str())?;
-            report.push_str(row.as_str())?;
-        }
+        push_otherwise(alloc, &mut report, line)?;
     }
     Ok(report)
 }
 
+/// This comes otherwise than the lines tell.
+fn expect_otherwise(rt: &impl Abort, alloc: Global, lines: &str, said: &str) {
+    let report = otherwise(alloc, lines).expect(rt, "memory");
+    assert_eq!(rt; report.as_str(), said);
+}
+
 #[test]
-fn tables_and_entries_are_read_from_their_bytes(rt: HostRuntime) -> Result<(), Fail> {
-    assert_eq!(rt; otherwise(rt.alloc(), READ)?.as_str(), "");
-    assert_eq!(rt; otherwise(rt.alloc(), WRONG)?.as_str(), SAID);
-    Ok(())
+fn tables_and_entries_are_read_from_their_bytes(rt: HostRuntime) {
+    expect_otherwise(&rt, rt.alloc(), READ, "");
+}
+
+#[test]
+fn lines_that_are_told_wrong_are_noticed(rt: HostRuntime) {
+    expect_otherwise(&rt, rt.alloc(), WRONG, SAID);
 }
 
 /// The strings of an attribute and its possible values.
@@ -145,17 +170,17 @@ const ATTRIBUTE: [u8; 13] = [0, 0, 0, 0, 0, 2, 1, 0, 2, 0, 1, 0, 1];
 #[test]
 fn a_string_is_shown_where_it_lies(rt: HostRuntime) {
     let (entry, rest) = string_at(&STRINGS).expect(&rt, "a string");
-    assert_eq!(rt; entry.handle, 0);
-    assert!(rt; entry.text.as_slice() == b"Quiet".as_slice());
-    assert!(rt; rest.as_slice() == &STRINGS[9..]);
+    expect(&rt, entry.handle == 0, "the handle");
+    expect_bytes(&rt, entry.text.as_slice(), b"Quiet");
+    expect_bytes(&rt, rest.as_slice(), &STRINGS[9..]);
 }
 
 /// An enumeration of two values, of which the first is its default.
 fn expect_enumeration(rt: &impl Abort, kind: &KindFields<'_>) {
     match kind {
         KindFields::Enumeration(fields) => {
-            assert!(rt; fields.values.as_slice() == [1, 0, 2, 0].as_slice());
-            assert!(rt; fields.default.as_slice() == [0].as_slice());
+            expect_bytes(rt, fields.values.as_slice(), &[1, 0, 2, 0]);
+            expect_bytes(rt, fields.default.as_slice(), &[0]);
         }
         _ => panic!(rt; "an enumeration"),
     }
@@ -164,8 +189,9 @@ fn expect_enumeration(rt: &impl Abort, kind: &KindFields<'_>) {
 #[test]
 fn an_attribute_is_shown_where_it_lies(rt: HostRuntime) {
     let (entry, rest) = attribute_at(&ATTRIBUTE).expect(&rt, "an attribute");
-    assert!(rt; entry.attribute == 0 && entry.name == 0 && !entry.read_only);
-    assert!(rt; rest.as_slice() == [1].as_slice());
+    expect(&rt, entry.attribute == 0 && entry.name == 0, "the handles");
+    expect(&rt, !entry.read_only, "it can be set");
+    expect_bytes(&rt, rest.as_slice(), &[1]);
     expect_enumeration(&rt, &entry.kind);
 }
 
@@ -209,23 +235,26 @@ fn sample_tables(rt: &impl Abort, alloc: Global) -> Tables {
 }
 
 /// The table is given in one part, as long as this, and has so many entries.
-fn expect_whole(rt: &impl Abort, tables: &Tables, table: BiosTable, sizes: (usize, usize)) {
-    let (length, entries) = sizes;
-    let part = tables
-        .part(table, GET_FIRST_PART, 9)
-        .ok()
-        .expect(rt, "a part");
-    assert!(rt; part.next == 0 && part.flag == TransferFlag::StartAndEnd);
-    assert_eq!(rt; part.bytes.len(), length);
-    assert!(rt; part.bytes == tables.table(table));
-    assert!(rt; tables.part(table, GET_NEXT_PART, 192).is_err());
-    assert!(rt; count_table(table, part.bytes) == Ok(entries));
+fn expect_whole(rt: &impl Abort, tables: &Tables, table: BiosTable, length: usize, entries: usize) {
+    let given = tables.part(table, GET_FIRST_PART, 9).ok();
+    let part = given.expect(rt, "a part");
+    expect(rt, part.next == 0, "the last part");
+    expect(rt, part.flag == TransferFlag::StartAndEnd, "the only part");
+    expect(rt, part.bytes.len() == length, "its length");
+    expect_bytes(rt, part.bytes, tables.table(table));
+    let more = tables.part(table, GET_NEXT_PART, 192);
+    expect(rt, more.is_err(), "no part follows");
+    expect(
+        rt,
+        count_table(table, part.bytes) == Ok(entries),
+        "its entries",
+    );
 }
 
 #[test]
 fn the_tables_of_the_sample_board_are_whole(rt: HostRuntime) {
     let tables = sample_tables(&rt, rt.alloc());
-    expect_whole(&rt, &tables, BiosTable::Strings, (44, 5));
-    expect_whole(&rt, &tables, BiosTable::Attributes, (64, 3));
-    expect_whole(&rt, &tables, BiosTable::Values, (32, 3));
+    expect_whole(&rt, &tables, BiosTable::Strings, 44, 5);
+    expect_whole(&rt, &tables, BiosTable::Attributes, 64, 3);
+    expect_whole(&rt, &tables, BiosTable::Values, 32, 3);
 }

@@ -1,6 +1,5 @@
 //! Stories that are told wrong on purpose: the player says of each line what came.
-use std::test::Fail;
-use stories::play;
+use super::expect_report;
 
 /// Each kind of line, told otherwise than it comes, and lines, boards and texts that can't be read.
 const WRONG: &str = "# Before the first story only remarks stand.
@@ -101,14 +100,14 @@ no line comes: no line
 ";
 
 #[test]
-fn a_story_that_is_told_wrong_is_noticed(rt: HostRuntime) -> Result<(), Fail> {
-    assert_eq!(rt; play(rt.alloc(), WRONG)?.as_str(), SAID);
-    assert_eq!(rt; play(rt.alloc(), "")?.as_str(), "no story\n");
-    assert_eq!(rt;
-        play(rt.alloc(), "# A remark.\ntick")?.as_str(),
-        "no story\n"
-    );
-    assert_eq!(rt; play(rt.alloc(), "story")?.as_str(), "no story\n");
-    assert_eq!(rt; play(rt.alloc(), "story ")?.as_str(), ": no line\n");
-    Ok(())
+fn a_story_that_is_told_wrong_is_noticed(rt: HostRuntime) {
+    expect_report(&rt, rt.alloc(), WRONG, SAID);
+}
+
+#[test]
+fn a_text_without_a_story_is_noticed(rt: HostRuntime) {
+    expect_report(&rt, rt.alloc(), "", "no story\n");
+    expect_report(&rt, rt.alloc(), "# A remark.\ntick", "no story\n");
+    expect_report(&rt, rt.alloc(), "story", "no story\n");
+    expect_report(&rt, rt.alloc(), "story ", ": no line\n");
 }
