@@ -1,6 +1,5 @@
 //! Records and their kinds: stories by theme, and calls one by one.
 mod attribute;
-mod attribute_parts;
 mod attributes;
 mod bench;
 mod both_stores;
@@ -13,6 +12,7 @@ mod parts;
 mod records;
 mod sel;
 mod sensors;
+mod string_parts;
 mod tables;
 mod told_wrong;
 mod undo;
@@ -27,7 +27,7 @@ use stories::play;
 /// This is said of the stories: of each line that comes otherwise than it is told, what came.
 pub(crate) fn expect_report(rt: &impl Abort, alloc: Global, stories: &str, told: &str) {
     let report = play(alloc, stories).expect(rt, "memory");
-    assert_eq!(rt; report.as_str(), told);
+    expect_text(rt, report.as_str(), told);
 }
 
 /// Each line of the stories comes as it is told.
@@ -37,6 +37,11 @@ pub(crate) fn expect_told(rt: &impl Abort, alloc: Global, stories: &str) {
 
 /// The bytes are these.
 pub(crate) fn expect_bytes(rt: &impl Abort, came: &[u8], told: &[u8]) {
+    assert_eq!(rt; came, told);
+}
+
+/// The text is this.
+pub(crate) fn expect_text(rt: &impl Abort, came: &str, told: &str) {
     assert_eq!(rt; came, told);
 }
 

@@ -1,10 +1,11 @@
 //! Calls of one attribute, and of what a reply shows of it.
+ghost use Rattle.std.specs.Prelude.{◌≡◌};
+ghost use Rattle.record_base.specs.declared.attribute_range.AttributeRange.TheVariants as range;
+
 use super::{expect, expect_bytes};
 use bios_attr::AttributeLimits;
 use bios_attr::bios_attribute::attribute_in;
 use cfg_records::{AttributeRange, RecordData, RecordKind, SetBiosAttribute, TextLengths, Value};
-use std::process::Abort;
-use two_wire::code::PLDM_INVALID_ATTRIBUTE;
 
 /// The value of the sample board's string.
 const VALUE: [u8; 8] = [6, 0, 0x72, 0x61, 0x63, 0x6B, 0x2D, 0x31];
@@ -14,19 +15,23 @@ const SHOWN: [u8; 16] = [
     0, 0, 0, 0, 5, 1, 0, 1, 6, 0, 0x72, 0x61, 0x63, 0x6B, 0x2D, 0x31,
 ];
 
-/// The limits of that string.
-fn asset(rt: &impl Abort) -> AttributeLimits {
+/// The limits of a string that has these lengths.
+fn asset(lengths: TextLengths) -> AttributeLimits
+    ensures handle { result.handle ≡ 1 }
+    ensures text { result.range ≡ range.Text lengths }
+{
     AttributeLimits {
         handle: 1,
         read_only: false,
-        range: AttributeRange::Text(TextLengths::new(0, 200).expect(rt, "lengths")),
+        range: AttributeRange::Text(lengths),
     }
 }
 
 #[test]
 fn a_reply_shows_the_entry(rt: HostRuntime) {
+    let lengths = TextLengths::new(0, 200).expect(&rt, "lengths");
     let mut reply = RecordData::new();
-    asset(&rt).show(&VALUE, &mut reply);
+    asset(lengths).show(&VALUE, &mut reply);
     expect_bytes(&rt, reply.as_slice(), &SHOWN);
 }
 
@@ -37,15 +42,12 @@ fn undo_of(rt: &impl Abort, reply: &[u8]) -> SetBiosAttribute {
 }
 
 #[test]
-fn a_set_is_undone_by_the_whole_entry(rt: HostRuntime) {
-    let undo = undo_of(&rt, &SHOWN);
-    expect_bytes(&rt, AttributeLimits::set_data(&undo).as_slice(), &SHOWN);
+fn a_set_gives_its_value(rt: HostRuntime) {
+    let lengths = TextLengths::new(0, 200).expect(&rt, "lengths");
+    let set = SetBiosAttribute::of(1, 1, &VALUE);
     let mut new = Value::new();
-    expect(
-        &rt,
-        asset(&rt).set(&undo, &mut new).is_ok(),
-        "the undo is carried out",
-    );
+    let done = asset(lengths).apply(&set, &[0, 0], &mut new);
+    expect(&rt, done.is_ok(), "it is carried out");
     expect_bytes(&rt, new.as_slice(), &VALUE);
 }
 

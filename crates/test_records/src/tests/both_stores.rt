@@ -1,4 +1,5 @@
 //! The same requests to a board over each of the two stores.
+use super::{expect, expect_bytes, expect_text};
 use bmc_board::Board;
 use cfg_records::{BoardFile, Key, PlainStore, Store, Value};
 use packed_store::PackedStore;
@@ -74,12 +75,17 @@ fn packed(rt: &impl Abort, alloc: Global) -> Board<PackedStore> {
     Board::open(alloc, file, store).expect(rt, "memory")
 }
 
+/// What the board replies to the request of these words.
+fn reply<S: Store>(rt: &impl Abort, alloc: Global, board: &mut Board<S>, words: &str) -> String {
+    let (over, digits) = words.split_once(' ').unwrap_or((words, ""));
+    asks(alloc, board, 0x2C, over, digits).expect(rt, "memory")
+}
+
 /// The line's request has its reply.
 fn expect_reply<S: Store>(rt: &impl Abort, alloc: Global, board: &mut Board<S>, line: &str) {
     let (words, told) = line.split_once(" -> ").unwrap_or((line, ""));
-    let (over, digits) = words.split_once(' ').unwrap_or((words, ""));
-    let came = asks(alloc, board, 0x2C, over, digits).expect(rt, "memory");
-    assert_eq!(rt; came.as_str().trim_end(), told);
+    let came = reply(rt, alloc, board, words);
+    expect_text(rt, came.as_str().trim_end(), told);
 }
 
 /// Each line's request has its reply.
@@ -106,7 +112,7 @@ fn changed(
 ) -> usize {
     for (key, _) in start {
         let value = plain.get(key).expect(rt, "a record");
-        assert_eq!(rt; packed.get(key).expect(rt, "a record"), value);
+        expect_bytes(rt, packed.get(key).expect(rt, "a record"), value);
     }
     start.iter().filter(|r| is_changed(plain, r)).count()
 }
@@ -123,7 +129,8 @@ fn expect_alike(
 ) {
     expect_replies(rt, alloc, plain, lines);
     expect_replies(rt, alloc, packed, lines);
-    assert_eq!(rt; changed(rt, plain.store(), packed.store(), start), differ);
+    let changed = changed(rt, plain.store(), packed.store(), start);
+    expect(rt, changed == differ, "so many differ");
 }
 
 /// The records of the sample board with effecters.

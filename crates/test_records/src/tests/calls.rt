@@ -1,5 +1,5 @@
 //! Calls of a board, of its tables of commands, and of the kinds of record.
-use super::{expect, expect_bytes};
+use super::{expect, expect_bytes, expect_text};
 use bmc_board::{Bench, Board, Command, Lengths, NoSensor, Records, is_changing, read_request};
 use cfg_records::{
     AccessStore, Asked, BootChange, BootFlags, BootParameter, ChannelChange, ChannelNumber,
@@ -112,7 +112,7 @@ fn allowed(alloc: Global, lengths: Lengths) -> Result<String, AllocError> {
 /// The command takes these lengths.
 fn expect_allowed(rt: &impl Abort, alloc: Global, lengths: Lengths, want: &str) {
     let allowed = allowed(alloc, lengths).expect(rt, "memory");
-    assert_eq!(rt; allowed.as_str(), want);
+    expect_text(rt, allowed.as_str(), want);
 }
 
 #[test]
@@ -156,7 +156,7 @@ fn a_command_takes_the_lengths_of_its_line(rt: HostRuntime) {
 fn expect_data(rt: &impl Abort, alloc: Global, op: Op, want: &str) {
     let data = Limits::set_data(&op);
     let digits = hex::encode_upper(alloc, data.as_slice()).expect(rt, "memory");
-    assert_eq!(rt; digits.as_str(), want);
+    expect_text(rt, digits.as_str(), want);
 }
 
 #[test]

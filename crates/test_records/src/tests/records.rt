@@ -2,7 +2,7 @@
 ghost use Rattle.std.specs.Prelude.{◌<◌, IsTrue, length};
 ghost use Rattle.record_base.specs.Keys.{is_length};
 
-use super::{expect, expect_bytes};
+use super::{expect, expect_bytes, expect_text};
 use cfg_records::{
     Answered, Asked, BootFlags, BootOptions, BootParameter, EventEnable, EventMasks, Hysteresis,
     Key, Live, NoKey, PlainStore, Sensor, Sensors, Store, StoreFault, ThresholdMasks, Thresholds,
@@ -68,7 +68,8 @@ fn spelt_sample(rt: &impl Abort, alloc: Global) -> String {
 
 #[test]
 fn the_sample_board_begins_with_its_records(rt: HostRuntime) {
-    assert_eq!(rt; spelt_sample(&rt, rt.alloc()).as_str(), RECORDS);
+    let spelt = spelt_sample(&rt, rt.alloc());
+    expect_text(&rt, spelt.as_str(), RECORDS);
 }
 
 #[test]

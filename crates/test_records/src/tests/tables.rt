@@ -1,5 +1,5 @@
 //! Tables of attributes, by their bytes, and the calls that make and read them.
-use super::{expect, expect_bytes};
+use super::{expect, expect_bytes, expect_text};
 use bios_attr::attribute_entry::{KindFields, attribute_at};
 use bios_attr::string_entry::string_at;
 use bios_attr::table_entry::entry_at;
@@ -146,7 +146,7 @@ fn otherwise(alloc: Global, lines: &str) -> Result<String, AllocError> {
 /// This comes otherwise than the lines tell.
 fn expect_otherwise(rt: &impl Abort, alloc: Global, lines: &str, said: &str) {
     let report = otherwise(alloc, lines).expect(rt, "memory");
-    assert_eq!(rt; report.as_str(), said);
+    expect_text(rt, report.as_str(), said);
 }
 
 #[test]

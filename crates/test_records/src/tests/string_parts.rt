@@ -211,23 +211,31 @@ fn a_requester_has_what_it_staged_until_it_ends(rt: HostRuntime) {
     let Ok(SetPart::Start(entry)) = part_in(&body) else {
         panic!(rt; "no first part");
     };
-    let mut stagings = Stagings::opening(rt.alloc()).expect(&rt, "memory");
-    let started = stagings.start(Some(&asset), 0x0B, entry.as_slice());
-    assert_eq!(rt; started, Ok(192));
-    assert_eq!(rt;
-        stagings.add(0x0B, 192, &[0; 192]),
-        Err(PLDM_INVALID_LENGTH)
-    );
-    assert_eq!(rt; stagings.add(0x0C, 192, &[0; 192]), Err(PLDM_INVALID_DATA));
-    let op = stagings
-        .ended(0x0B, 192, &[9; 13])
-        .ok()
-        .expect(&rt, "an operation");
-    assert_eq!(rt;
-        (op.attribute, op.attribute_type, op.value.len()),
-        (1, 1, 202)
-    );
-    assert_eq!(rt; &op.value.as_slice()[189..], [9; 13].as_slice());
+    let mut stagings = Stagings::opening(alloc).expect(rt, "memory");
+    let started = stagings.start(Some(&asset(rt)), 0x0B, entry.as_slice());
+    expect(rt, started == Ok(192), "it is staged");
+    stagings
+}
+
+#[test]
+fn a_middle_part_that_ends_the_entry_is_refused(rt: HostRuntime) {
+    let mut stagings = staged(&rt, rt.alloc());
+    let long = stagings.add(0x0B, 192, &[0; 192]);
+    expect(&rt, long == Err(PLDM_INVALID_LENGTH), "too long");
+    let other = stagings.add(0x0C, 192, &[0; 192]);
+    expect(&rt, other == Err(PLDM_INVALID_DATA), "nothing is staged");
+    let ended = stagings.ended(0x0B, 192, &[9; 13]);
+    expect(&rt, ended.is_ok(), "what is staged stays");
+}
+
+#[test]
+fn a_requester_has_what_it_staged_until_it_ends(rt: HostRuntime) {
+    let mut stagings = staged(&rt, rt.alloc());
+    let ended = stagings.ended(0x0B, 192, &[9; 13]).ok();
+    let op = ended.expect(&rt, "an operation");
+    expect(&rt, op.attribute == 1 && op.attribute_type == 1, "a string");
+    assert_eq!(rt; op.value.len(), 202);
+    expect_bytes(&rt, &op.value.as_slice()[189..], &[9; 13]);
     stagings.end(0x0B);
     assert!(rt; stagings.ended(0x0B, 192, &[9; 13]).is_err());
 }
