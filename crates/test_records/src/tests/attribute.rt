@@ -16,7 +16,7 @@ const SHOWN: [u8; 16] = [
 ];
 
 /// The limits of a string that has these lengths.
-fn asset(lengths: TextLengths) -> AttributeLimits
+pub(crate) fn asset(lengths: TextLengths) -> AttributeLimits
     ensures handle { result.handle ≡ 1 }
     ensures text { result.range ≡ range.Text lengths }
 {

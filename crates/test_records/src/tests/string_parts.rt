@@ -1,9 +1,10 @@
 //! Strings that are set in parts, over PLDM.
-use super::expect_told;
+use super::attribute::asset;
+use super::{expect, expect_bytes, expect_told};
 use attribute_parts::{SetPart, Stagings, part_in};
-use bios_attr::AttributeLimits;
-use cfg_records::{AttributeRange, TextLengths};
-use std::test::Fail;
+use cfg_records::TextLengths;
+use std::alloc::Global;
+use std::process::Abort;
 use two_wire::code::{PLDM_INVALID_DATA, PLDM_INVALID_LENGTH};
 
 /// A text of 200 bytes has an entry of 205: a first part of 192 and a last one of 13. Every code stands in the order of the rules.
@@ -200,19 +201,15 @@ fn first_part() -> [u8; 197] {
     body
 }
 
-#[test]
-fn a_requester_has_what_it_staged_until_it_ends(rt: HostRuntime) {
-    let asset = AttributeLimits {
-        handle: 1,
-        read_only: false,
-        range: AttributeRange::Text(TextLengths::new(0, 200).expect(&rt, "lengths")),
-    };
+/// What requester 0Bh staged by that part: 192 bytes of an entry.
+fn staged(rt: &impl Abort, alloc: Global) -> Stagings {
     let body = first_part();
     let Ok(SetPart::Start(entry)) = part_in(&body) else {
         panic!(rt; "no first part");
     };
+    let lengths = TextLengths::new(0, 200).expect(rt, "lengths");
     let mut stagings = Stagings::opening(alloc).expect(rt, "memory");
-    let started = stagings.start(Some(&asset(rt)), 0x0B, entry.as_slice());
+    let started = stagings.start(Some(&asset(lengths)), 0x0B, entry.as_slice());
     expect(rt, started == Ok(192), "it is staged");
     stagings
 }
