@@ -35,10 +35,11 @@ fn a_reply_shows_the_entry(rt: HostRuntime) {
     expect_bytes(&rt, reply.as_slice(), &SHOWN);
 }
 
-/// The Set that undoes another, whichever it is, where a reply shows this.
-fn undo_of(rt: &impl Abort, reply: &[u8]) -> SetBiosAttribute {
+#[test]
+fn a_set_is_undone_by_the_whole_entry(rt: HostRuntime) {
     let any_op = SetBiosAttribute::of(0, 0, &[]);
-    AttributeLimits::inverse(&any_op, reply).expect(rt, "a reply")
+    let undo = AttributeLimits::inverse(&any_op, &SHOWN).expect(&rt, "a reply");
+    expect_bytes(&rt, AttributeLimits::set_data(&undo).as_slice(), &SHOWN);
 }
 
 #[test]
@@ -49,14 +50,6 @@ fn a_set_gives_its_value(rt: HostRuntime) {
     let done = asset(lengths).apply(&set, &[0, 0], &mut new);
     expect(&rt, done.is_ok(), "it is carried out");
     expect_bytes(&rt, new.as_slice(), &VALUE);
-}
-
-#[test]
-fn a_set_of_another_attribute_is_refused(rt: HostRuntime) {
-    let other = SetBiosAttribute::of(0, 0, &[]);
-    let mut new = Value::new();
-    let refused = asset(&rt).set(&other, &mut new);
-    expect(&rt, refused == Err(PLDM_INVALID_ATTRIBUTE), "the code");
 }
 
 #[test]
