@@ -123,12 +123,11 @@ pub(super) fn board_with_more(alloc: Global) -> Result<BoardFile, Fail> {
     }
     let mut state_effecters = Vec::new(alloc);
     state_effecters.push(states(alloc)?)?;
-    Ok(BoardFile {
-        state_effecters: Distinct::new(state_effecters).ok_or("state effecters")?,
-        numeric_effecters: Distinct::new(effecters).ok_or("effecters")?,
-        lans: lans(alloc)?,
-        ..sample_board(alloc)?
-    })
+    let mut file = sample_board(alloc)?;
+    file.state_effecters = Distinct::new(state_effecters).ok_or("state effecters")?;
+    file.numeric_effecters = Distinct::new(effecters).ok_or("effecters")?;
+    file.lans = lans(alloc)?;
+    Ok(file)
 }
 
 /// A sensor: the temperature, the fan, or seldom one that isn't there.
