@@ -26,12 +26,9 @@ use Rattle.record_base.specs.declared.boot_param.BootChange.TheVariants.{MarkAlo
 use Rattle.record_base.specs.declared.boot_param.SetBootParam.{SetBootParam}
 use Rattle.record_base.specs.declared.channel.AccessStore.{AccessStore}
 use Rattle.record_base.specs.declared.channel.AccessStore.TheVariants.{NonVolatile, Volatile, Neither}
-use Rattle.record_base.specs.declared.channel.ChannelNumber.{ChannelNumber}
-use Rattle.record_base.specs.declared.channel.SixBits.{SixBits}
 use Rattle.record_base.specs.declared.channel.ChannelChange.{ChannelChange}
 use Rattle.record_base.specs.declared.channel.ChannelChange.TheVariants.{Access, Limit, Both}
 use Rattle.record_base.specs.declared.channel.SetChannelAccess.{SetChannelAccess}
-use Rattle.record_base.specs.declared.user.UserNumber.{UserNumber}
 use Rattle.record_base.specs.declared.user.SetUserName.{SetUserName}
 use Rattle.record_base.specs.declared.user.SetUserAccess.{SetUserAccess}
 use Rattle.two_wire.specs.Codes.{pldm_invalid_length}
@@ -41,8 +38,8 @@ use Rattle.effecter_recs.specs.State.{state_body}
 use Rattle.bmc_board.specs.declared.command.Lengths.TheVariants.{PairsCountedAt}
 use Rattle.bmc_board.specs.Table.{allow}
 use Rattle.record_base.specs.Values.{stored}
-use Rattle.record_base.specs.Numbers.{channel_in, user_in, six_bits_in}
-use Rattle.record_base.specs.NumberLaws.{same_channel, same_user, same_bits}
+use Rattle.record_base.specs.Numbers.{ChannelNumber, UserNumber, SixBits, low_bits, channel_in, user_in}
+use Rattle.record_base.specs.NumberLaws.{same_field}
 use Rattle.user_chan.specs.ChannelAccess.{in_store}
 use Rattle.user_chan.specs.ChannelRequests.{store_at, named, change, asked_for}
 use Rattle.user_chan.specs.UserNamesLaws.{sixteen}
@@ -196,10 +193,10 @@ user_again : (n : ℕ) → n < 64 → n % 64 ≡ n
 user_again n lt = omega arith
 
 channel_read : (c : ChannelNumber) → channel_in c.number ≡ c
-channel_read c = same_channel (channel_in c.number) c (channel_again c.number c.four_bits)
+channel_read c = same_field (channel_in c.number) c (channel_again c.number c.below)
 
 user_read : (u : UserNumber) → user_in u.number ≡ u
-user_read u = same_user (user_in u.number) u (user_again u.number u.six_bits)
+user_read u = same_field (user_in u.number) u (user_again u.number u.below)
 
 -- what stands behind a store's bits is read, and the store
 behind_1 : (n : ℕ) → n < 64 → (1 * 64 + n) / 64 ≡ 1
@@ -225,10 +222,10 @@ low_2 n lt = omega arith
 low_3 : (n : ℕ) → n < 64 → (3 * 64 + n) % 64 ≡ n
 low_3 n lt = omega arith
 
-bits_read : (s : AccessStore) (b : SixBits) → six_bits_in (in_store s b.number) ≡ b
-bits_read NonVolatile b = same_bits (six_bits_in (in_store NonVolatile b.number)) b (low_1 b.number b.six_bits)
-bits_read Volatile b = same_bits (six_bits_in (in_store Volatile b.number)) b (low_2 b.number b.six_bits)
-bits_read Neither b = same_bits (six_bits_in (in_store Neither b.number)) b (low_3 b.number b.six_bits)
+bits_read : (s : AccessStore) (b : SixBits) → low_bits 6 (in_store s b.number) ≡ b
+bits_read NonVolatile b = same_field (low_bits 6 (in_store NonVolatile b.number)) b (low_1 b.number b.below)
+bits_read Volatile b = same_field (low_bits 6 (in_store Volatile b.number)) b (low_2 b.number b.below)
+bits_read Neither b = same_field (low_bits 6 (in_store Neither b.number)) b (low_3 b.number b.below)
 
 -- what is asked for
 abbrev asks : ChannelNumber → Option AccessStore → Option AccessStore → SixBits → SixBits → Result Request ℕ
@@ -243,9 +240,9 @@ one_store c Volatile a l = refl
 one_store c Neither a l = refl
 
 store_read : (c : ChannelNumber) (s : AccessStore) (what : ChannelChange) → StoreIsRead (change c s what)
-store_read c s (Access a) = λ i. asks (channel_read c i) (named_is s a.number a.six_bits i) None (bits_read s a i) (six_bits_in 0)
-store_read c s (Limit l) = λ i. asks (channel_read c i) None (named_is s l.number l.six_bits i) (six_bits_in 0) (bits_read s l i)
-store_read c s (Both a l) = (λ i. asks (channel_read c i) (named_is s a.number a.six_bits i) (named_is s l.number l.six_bits i) (bits_read s a i) (bits_read s l i)) ∙ one_store c s a l
+store_read c s (Access a) = λ i. asks (channel_read c i) (named_is s a.number a.below i) None (bits_read s a i) (low_bits 6 0)
+store_read c s (Limit l) = λ i. asks (channel_read c i) None (named_is s l.number l.below i) (low_bits 6 0) (bits_read s l i)
+store_read c s (Both a l) = (λ i. asks (channel_read c i) (named_is s a.number a.below i) (named_is s l.number l.below i) (bits_read s a i) (bits_read s l i)) ∙ one_store c s a l
 
 get_read : (s : AccessStore) → store_at (in_store s 0 / 64) ≡ s
 get_read NonVolatile = refl

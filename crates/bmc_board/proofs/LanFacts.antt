@@ -2,7 +2,6 @@
 use Rattle.std.proofs.Common.{◌≡◌, ℕ, ◌/◌, ◌%◌, ◌<◌, ◌==◌, ap, List, Bool, true, false, if◌then◌else◌, Option, Some, None, Result, Ok, refl, arith, lit≤}
 use Rattle.two_wire.specs.Codes.{invalid_length, invalid_data_field}
 use Rattle.record_base.specs.declared.op.Op.TheVariants as op
-use Rattle.record_base.specs.declared.channel.ChannelNumber.{ChannelNumber}
 use Rattle.record_base.specs.declared.lan.LanAddress.TheVariants.{Ip, SubnetMask, DefaultGateway}
 use Rattle.record_base.specs.declared.lan.LanParameter.{LanParameter}
 use Rattle.record_base.specs.declared.lan.LanParameter.TheVariants as parameter
@@ -11,7 +10,7 @@ use Rattle.record_base.specs.declared.lan.LanChange.TheVariants.{Address, Addres
 use Rattle.record_base.specs.declared.lan_item.Lan.{Lan}
 use Rattle.record_base.specs.LanItems.{lan_key}
 use Rattle.record_base.specs.Masks.{has}
-use Rattle.record_base.specs.Numbers.{channel_in}
+use Rattle.record_base.specs.Numbers.{ChannelNumber, channel_in}
 use Rattle.cfg_records.specs.declared.board_file.BoardFile.{BoardFile}
 use Rattle.cfg_records.specs.Records.{Records}
 use Rattle.user_chan.specs.LanRequests.{lan_request_in, lan_shown_in, shown_in}
@@ -58,7 +57,7 @@ low : (n : ℕ) → n < 16 → n / 128 % 2 ≡ 0
 low n lt = omega arith
 
 no_mark : (c : ChannelNumber) → has c.number 7 ≡ false
-no_mark c = ap (λ (bit : ℕ). bit == 1) (low c.number c.four_bits)
+no_mark c = ap (λ (bit : ℕ). bit == 1) (low c.number c.below)
 
 -- what a Get asks for, by whether it has the mark
 abbrev asks_where : Bool → ChannelNumber → LanShown → Result Request ℕ

@@ -10,12 +10,11 @@ use Rattle.record_base.specs.declared.message.Answered.{Answered}
 use Rattle.record_base.specs.declared.device.Device.{Device}
 use Rattle.cfg_records.specs.declared.board_file.BoardFile.{BoardFile}
 use Rattle.record_base.specs.declared.channel.Channel.{Channel}
-use Rattle.record_base.specs.declared.channel.ChannelNumber.{ChannelNumber}
 use Rattle.record_base.specs.declared.channel.AccessStore.TheVariants.{Neither}
 use Rattle.record_base.specs.Values.{stored}
 use Rattle.record_kinds.specs.Boards.{channel_at, user_at}
 use Rattle.record_base.specs.declared.user.User.{User}
-use Rattle.record_base.specs.Numbers.{user_in}
+use Rattle.record_base.specs.Numbers.{ChannelNumber, user_in}
 use Rattle.user_chan.specs.declared.password.PasswordChange.{PasswordChange}
 use Rattle.user_chan.specs.declared.password.PasswordChange.TheVariants.{Disable, Enable, Set, Test}
 use Rattle.user_chan.specs.Passwords.{change_of, test_answer, password_of, after_set, with_enabled}

@@ -8,8 +8,7 @@ use Rattle.record_base.specs.declared.state_effecter.StateEffecter.{StateEffecte
 use Rattle.record_base.specs.declared.user.UserAccess.{UserAccess}
 use Rattle.record_base.specs.declared.lan_item.Lan.{Lan}
 use Rattle.record_base.specs.declared.channel.Channel.{Channel}
-use Rattle.record_base.specs.declared.channel.ChannelNumber.{ChannelNumber}
-use Rattle.record_base.specs.Numbers.{number_on}
+use Rattle.record_base.specs.Numbers.{ChannelNumber, number_on}
 use Rattle.record_base.specs.Sdr.{sdr_id}
 use Rattle.record_base.specs.Distinct.{NamesDiffer}
 use Rattle.record_base.specs.UsersLaws.{first_user, one_user}

@@ -2,7 +2,7 @@
 use Rattle.std.proofs.Common.{◌≡◌, ℕ, ◌≤◌, List, [], ◌∷◌, length, map, lit≤, arith}
 use Rattle.record_base.specs.Distinct.{NamesDiffer}
 use Rattle.record_base.specs.declared.channel.Channel.{Channel}
-use Rattle.record_base.specs.declared.channel.ChannelNumber.{ChannelNumber}
+use Rattle.record_base.specs.Numbers.{ChannelNumber}
 use Rattle.record_base.specs.declared.user.User.{User}
 use Rattle.record_base.specs.declared.user.UserAccess.{UserAccess}
 use Rattle.cfg_records.specs.BoardChannels.{channel_numbers, on_numbers, each_user_on}

@@ -2,7 +2,7 @@
 use Rattle.std.specs.Prelude.{ℕ, List, ◌++◌, map}
 use Rattle.std.specs.List.{flat_map}
 use Rattle.record_base.specs.declared.channel.Channel.{Channel}
-use Rattle.record_base.specs.declared.channel.ChannelNumber.{ChannelNumber}
+use Rattle.record_base.specs.Numbers.{ChannelNumber}
 use Rattle.record_base.specs.declared.user.User.{User}
 use Rattle.record_base.specs.declared.user.UserAccess.{UserAccess}
 

@@ -15,7 +15,7 @@ AreUsers-prop users = hlevel (props, BeginUnnamed-prop, AreNumbered-prop)
 
 -- user 1, who has no name
 abbrev pub first_user : User
-first_user = record { number = record { number = 1; six_bits = lit< tt }; name = replicate 16 0; sixteen = refl }
+first_user = record { number = record { number = 1; below = lit< tt }; name = replicate 16 0; sixteen = refl }
 
 -- a board may have that user alone
 pub one_user : AreUsers (first_user ∷ [])

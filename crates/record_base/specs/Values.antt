@@ -6,7 +6,7 @@ use Rattle.record_base.specs.declared.global_enables.GlobalEnables.{GlobalEnable
 use Rattle.record_base.specs.declared.numeric_effecter.NumericEffecter.{NumericEffecter}
 use Rattle.record_base.specs.declared.channel.ChannelAccess.{ChannelAccess}
 use Rattle.record_base.specs.declared.channel.StoredAccess.{StoredAccess}
-use Rattle.record_base.specs.declared.channel.ChannelNumber.{ChannelNumber}
+use Rattle.record_base.specs.Numbers.{ChannelNumber}
 use Rattle.record_base.specs.declared.channel.AccessStore.{AccessStore}
 use Rattle.record_base.specs.Watchdog.{watchdog_value}
 use Rattle.record_base.specs.declared.boot_param.BootOptions.{BootOptions}

@@ -1,18 +1,15 @@
 //! Channels: in a board file, and as their access is set.
-ghost use Rattle.std.specs.Prelude.{◌<◌, [], ◌∷◌};
+ghost use Rattle.std.specs.Prelude.{[], ◌∷◌};
 ghost use Rattle.record_base.specs.ChannelAccess.{IsChannelAccess};
 ghost use Rattle.record_base.specs.PartLaws.{IsChannelAccess-prop};
 
+use crate::bit_field::BitField;
 use crate::distinct::{Distinct, Numbered};
 use crate::key::Key;
 use crate::value::Value;
 
 /// The number of a channel (IPMI 2.0): 4 bits of a request.
-#[derive(Clone, Copy, Debug, PartialEq, Eq, PartialOrd, Ord)]
-pub struct ChannelNumber {
-    pub number: u8,
-    pub ghost four_bits: { number < 16 },
-}
+pub type ChannelNumber = BitField<4>;
 
 /// Where the access of a channel is kept (IPMI 2.0, Set and Get Channel Access).
 #[derive(Clone, Copy, Debug, PartialEq, Eq, PartialOrd, Ord)]
@@ -56,11 +53,7 @@ pub type Channels = Distinct<Channel, 8>;
 pub type SessionlessChannels = Distinct<ChannelNumber, 8>;
 
 /// Six bits of a byte of a request, beside the two that name a store.
-#[derive(Clone, Copy, Debug, PartialEq, Eq)]
-pub struct SixBits {
-    pub number: u8,
-    pub ghost six_bits: { number < 64 },
-}
+pub type SixBits = BitField<6>;
 
 /// Which of a channel's access and limit become what a request says. Of a limit only bits 3:0 count.
 #[derive(Clone, Copy, Debug, PartialEq, Eq)]
@@ -83,38 +76,6 @@ impl Numbered for Channel {
 
     fn number(&self) -> u16 {
         u16::from(self.number.number)
-    }
-}
-
-impl Numbered for ChannelNumber {
-    ghost number_of = { λ channel. channel.number };
-
-    fn number(&self) -> u16 {
-        u16::from(self.number)
-    }
-}
-
-impl ChannelNumber {
-    ghost use Rattle.std.specs.Prelude.{◌≡◌};
-    ghost use Rattle.record_base.specs.Numbers.{channel_in};
-
-    /// The channel in bits 3:0 of a byte.
-    pub fn of(byte: u8) -> Self
-        ensures { result ≡ channel_in byte }
-    {
-        ChannelNumber { number: byte % 16 }
-    }
-}
-
-impl SixBits {
-    ghost use Rattle.std.specs.Prelude.{◌≡◌};
-    ghost use Rattle.record_base.specs.Numbers.{six_bits_in};
-
-    /// Bits 5:0 of a byte.
-    pub fn of(byte: u8) -> Self
-        ensures { result ≡ six_bits_in byte }
-    {
-        SixBits { number: byte % 64 }
     }
 }
 

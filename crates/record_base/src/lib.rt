@@ -8,6 +8,7 @@ pub mod attribute_sizes;
 pub mod attribute_value;
 pub mod attributes;
 pub mod bios_attribute;
+pub mod bit_field;
 pub mod boot_param;
 pub mod channel;
 pub mod command_reader;
@@ -51,6 +52,7 @@ pub use attribute_range::{AttributeRange, IntegerSteps, PossibleValues, TextLeng
 pub use attribute_value::AttributeValue;
 pub use attributes::Attributes;
 pub use bios_attribute::SetBiosAttribute;
+pub use bit_field::BitField;
 pub use boot_param::{BootChange, BootFlags, BootOptions, BootParameter, MaskedBits, SetBootParam};
 pub use channel::{
     AccessStore, Channel, ChannelAccess, ChannelChange, ChannelNumber, Channels,

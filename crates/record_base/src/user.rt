@@ -1,19 +1,16 @@
 //! Users: in a board file, and as they are set.
-ghost use Rattle.std.specs.Prelude.{◌≡◌, ◌<◌, [], ◌∷◌, length};
+ghost use Rattle.std.specs.Prelude.{◌≡◌, [], ◌∷◌, length};
 ghost use Rattle.record_base.specs.UserAccess.{is_limit, IsUserAccess};
 ghost use Rattle.record_base.specs.PartLaws.{IsUserAccess-prop};
 
+use crate::bit_field::BitField;
 use crate::channel::ChannelNumber;
 use crate::distinct::{Distinct, Numbered};
 use crate::key::Key;
 use crate::value::Value;
 
 /// The number of a user (IPMI 2.0): 6 bits of a request. No user has the number 0.
-#[derive(Clone, Copy, Debug, PartialEq, Eq, PartialOrd, Ord)]
-pub struct UserNumber {
-    pub number: u8,
-    pub ghost six_bits: { number < 64 },
-}
+pub type UserNumber = BitField<6>;
 
 /// A user, as far as one channel goes.
 #[derive(Clone, Copy, Debug, PartialEq, Eq, PartialOrd, Ord)]
@@ -77,18 +74,6 @@ impl Numbered for UserAccess {
 
     fn number(&self) -> u16 {
         u16::from(self.on.channel.number) * 64 + u16::from(self.on.user.number)
-    }
-}
-
-impl UserNumber {
-    ghost use Rattle.std.specs.Prelude.{◌≡◌};
-    ghost use Rattle.record_base.specs.Numbers.{user_in};
-
-    /// The user in bits 5:0 of a byte.
-    pub fn of(byte: u8) -> Self
-        ensures { result ≡ user_in byte }
-    {
-        UserNumber { number: byte % 64 }
     }
 }
 

@@ -1,6 +1,6 @@
 -- LAN parameters begin with values that they can have, and a channel's are found by its number.
 use Rattle.std.proofs.Common.{◌≡◌, ◌==◌, true, refl, subst, eq-eqb}
-use Rattle.record_base.specs.declared.channel.ChannelNumber.{ChannelNumber}
+use Rattle.record_base.specs.Numbers.{ChannelNumber}
 use Rattle.record_base.specs.declared.lan.LanAddress.TheVariants.{Ip, SubnetMask, DefaultGateway}
 use Rattle.record_base.specs.declared.lan.LanParameter.{LanParameter}
 use Rattle.record_base.specs.declared.lan.LanParameter.TheVariants.{Address, AddressSource, Vlan}
@@ -11,7 +11,7 @@ use Rattle.record_base.specs.KeyLaws.{exact_key, same_key_self}
 use Rattle.record_base.specs.Lan.{IsLanParam}
 use Rattle.record_base.specs.LanItems.{lan_key, lan_value}
 use Rattle.record_base.specs.MaskLaws.{same_test}
-use Rattle.record_base.specs.NumberLaws.{same_channel}
+use Rattle.record_base.specs.NumberLaws.{same_field}
 use Rattle.cfg_records.specs.declared.board_file.BoardFile.{BoardFile}
 use Rattle.cfg_records.specs.Records.{Pair}
 use Rattle.cfg_records.specs.LanBoards.{lan_pairs}
@@ -35,7 +35,7 @@ pub same_lan_key : (p : LanParameter) (a b : ChannelNumber) → same_key (lan_ke
 same_lan_key p a b =
     same_test _ _
     (λ h. eq-eqb a.number b.number (lan_channel (exact_key (lan_key a p) (lan_key b p) h)))
-    (λ h. subst (λ (c : ChannelNumber). same_key (lan_key a p) (lan_key c p) ≡ true) (same_channel a b (tested_same _ _ h)) (same_key_self (lan_key a p)))
+    (λ h. subst (λ (c : ChannelNumber). same_key (lan_key a p) (lan_key c p) ≡ true) (same_field a b (tested_same _ _ h)) (same_key_self (lan_key a p)))
 
 -- a parameter begins with a value that it can have
 pub lan_begins : (p : LanParameter) (lan : Lan) → IsLanParam p (lan_value lan p)

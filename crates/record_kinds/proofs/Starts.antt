@@ -11,11 +11,10 @@ use Rattle.cfg_records.specs.declared.board_file.BoardFile.{BoardFile}
 use Rattle.record_base.specs.Keys.{same_key}
 use Rattle.record_base.specs.KeyLaws.{exact_key, same_key_self}
 use Rattle.record_base.specs.MaskLaws.{same_test, both, both_true}
-use Rattle.record_base.specs.NumberLaws.{same_channel, same_user}
-use Rattle.record_base.specs.declared.user.UserNumber.{UserNumber}
+use Rattle.record_base.specs.NumberLaws.{same_field}
+use Rattle.record_base.specs.Numbers.{ChannelNumber, UserNumber}
 use Rattle.record_base.specs.declared.user.UserOnChannel.{UserOnChannel}
 use Rattle.record_base.specs.declared.channel.Channel.{Channel}
-use Rattle.record_base.specs.declared.channel.ChannelNumber.{ChannelNumber}
 use Rattle.record_base.specs.declared.channel.AccessStore.{AccessStore}
 use Rattle.record_base.specs.declared.channel.AccessStore.TheVariants.{NonVolatile, Volatile, Neither}
 use Rattle.cfg_records.specs.Records.{Pair, value_of, records_of}
@@ -69,7 +68,7 @@ same_user_key : (a b : UserNumber) → same_key (key.UserName a) (key.UserName b
 same_user_key a b =
     same_test _ _
     (λ h. eq-eqb a.number b.number (ap user_number (exact_key (key.UserName a) (key.UserName b) h)))
-    (λ h. subst (λ (u : UserNumber). same_key (key.UserName a) (key.UserName u) ≡ true) (same_user a b (same_number _ _ h)) (same_key_self (key.UserName a)))
+    (λ h. subst (λ (u : UserNumber). same_key (key.UserName a) (key.UserName u) ≡ true) (same_field a b (same_number _ _ h)) (same_key_self (key.UserName a)))
 
 on_of : Key → UserOnChannel → UserOnChannel
 on_of (key.UserAccess on) other = on
@@ -87,14 +86,14 @@ same_on_key a b =
     both _ _ (eq-eqb _ _ (ap (λ (o : UserOnChannel). o.channel.number) one)) (eq-eqb _ _ (ap (λ (o : UserOnChannel). o.user.number) one)))
     (λ h.
     let tests = both_true _ _ h in
-    let one : a ≡ b = one_on a.channel b.channel a.user b.user (same_channel a.channel b.channel (same_number _ _ tests.0)) (same_user a.user b.user (same_number _ _ tests.1)) in
+    let one : a ≡ b = one_on a.channel b.channel a.user b.user (same_field a.channel b.channel (same_number _ _ tests.0)) (same_field a.user b.user (same_number _ _ tests.1)) in
     subst (λ (o : UserOnChannel). same_key (key.UserAccess a) (key.UserAccess o) ≡ true) one (same_key_self (key.UserAccess a)))
 
 same_store_key : (store : AccessStore) (a b : ChannelNumber) → same_key (key.ChannelAccess (stored a store)) (key.ChannelAccess (stored b store)) ≡ (a.number == b.number)
 same_store_key store a b =
     same_test _ _
     (λ h. eq-eqb a.number b.number (ap channel_number (exact_key (key.ChannelAccess (stored a store)) (key.ChannelAccess (stored b store)) h)))
-    (λ h. subst (λ (c : ChannelNumber). same_key (key.ChannelAccess (stored a store)) (key.ChannelAccess (stored c store)) ≡ true) (same_channel a b (same_number _ _ h)) (same_key_self (key.ChannelAccess (stored a store))))
+    (λ h. subst (λ (c : ChannelNumber). same_key (key.ChannelAccess (stored a store)) (key.ChannelAccess (stored c store)) ≡ true) (same_field a b (same_number _ _ h)) (same_key_self (key.ChannelAccess (stored a store))))
 
 store_of : Key → AccessStore
 store_of (key.ChannelAccess at) = at.store

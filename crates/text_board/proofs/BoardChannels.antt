@@ -8,7 +8,7 @@ use Rattle.std.proofs.lemmas.List.Kept.{AllPairs-filter}
 use Rattle.std.specs.List.{All, AllZip, AllByRecursion}
 use Rattle.toml.specs.Data.{Data}
 use Rattle.record_base.specs.declared.channel.Channel.{Channel}
-use Rattle.record_base.specs.declared.channel.ChannelNumber.{ChannelNumber}
+use Rattle.record_base.specs.Numbers.{ChannelNumber}
 use Rattle.record_base.specs.declared.user.User.{User}
 use Rattle.record_base.specs.declared.user.UserAccess.{UserAccess}
 use Rattle.record_base.specs.Distinct.{NamesDiffer}

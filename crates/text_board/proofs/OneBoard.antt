@@ -12,8 +12,8 @@ use Rattle.record_base.specs.Attributes.{AreInPlace}
 use Rattle.record_base.specs.AttributesLaws.{AreInPlace-prop}
 use Rattle.record_base.specs.Users.{AreUsers}
 use Rattle.record_base.specs.UsersLaws.{AreUsers-prop}
-use Rattle.record_base.specs.NumberLaws.{same_channel, same_user}
-use Rattle.record_base.specs.Numbers.{number_on}
+use Rattle.record_base.specs.NumberLaws.{same_field}
+use Rattle.record_base.specs.Numbers.{ChannelNumber, number_on}
 use Rattle.record_base.specs.Sdr.{sdr_id}
 use Rattle.record_base.specs.AttributeSizes.{most_indexes, most_text, most_attributes}
 use Rattle.record_base.specs.AttributeRange.{AllowsIndexes, AllowsText, AllowsNumber}
@@ -49,7 +49,6 @@ use Rattle.record_base.specs.declared.user.User.{User}
 use Rattle.record_base.specs.declared.user.UserAccess.{UserAccess}
 use Rattle.record_base.specs.declared.channel.Channel.{Channel}
 use Rattle.record_base.specs.declared.channel.ChannelAccess.{ChannelAccess}
-use Rattle.record_base.specs.declared.channel.ChannelNumber.{ChannelNumber}
 use Rattle.record_base.specs.declared.boot_param.BootOptions.{BootOptions}
 use Rattle.record_base.specs.declared.watchdog.Watchdog.{Watchdog}
 use Rattle.record_base.specs.declared.power_policy.PowerPolicy.{PowerPolicy}
@@ -322,7 +321,7 @@ module _ {X : Type 0} (Holds : Data → X → Type 0) (number_of : X → ℕ) (o
 
 one_user : (d : Data) (a b : User) → IsNameIn d a → IsNameIn d b → a.number.number ≡ b.number.number → a ≡ b
 one_user d a b p q e =
-    let number = same_user a.number b.number e in
+    let number = same_field a.number b.number e in
     let name = one_found (name_of d) a.name b.name p q in
     λ i. record { number = number i; name = name i; sixteen = is_prop→PathP (λ j. length (name j) ≡ 16) (λ j. hlevel props) a.sixteen b.sixteen i }
 
@@ -335,7 +334,7 @@ one_access a b p q = λ i. record {
 
 one_channel : (tree : Members) (a b : Channel) → HoldsChannel tree a → HoldsChannel tree b → a ≡ b
 one_channel tree a b p q =
-    let number = same_channel a.number b.number (one_number field.Number tree a.number.number b.number.number p.numbered q.numbered) in
+    let number = same_field a.number b.number (one_number field.Number tree a.number.number b.number.number p.numbered q.numbered) in
     let access = one_pair field.Access tree p.access q.access in
     let limit = one_pair field.Limit tree p.limit q.limit in
     let non_volatile = one_access a.non_volatile b.non_volatile access.0 limit.0 in
@@ -343,12 +342,12 @@ one_channel tree a b p q =
     λ i. record { number = number i; non_volatile = non_volatile i; volatile = volatile i }
 
 one_sessionless : (d : Data) (a b : ChannelNumber) → IsNumberIn d a → IsNumberIn d b → a ≡ b
-one_sessionless d a b p q = same_channel a b (one_number field.Number (table_of d) a.number b.number p q)
+one_sessionless d a b p q = same_field a b (one_number field.Number (table_of d) a.number b.number p q)
 
 one_right : (a b : UserAccess) → parts_of a ≡ parts_of b → a ≡ b
 one_right a b e =
-    let channel = same_channel a.on.channel b.on.channel (ap (λ (s : ℕ × (ℕ × ℕ)). s.0) e) in
-    let user = same_user a.on.user b.on.user (ap (λ (s : ℕ × (ℕ × ℕ)). s.1.0) e) in
+    let channel = same_field a.on.channel b.on.channel (ap (λ (s : ℕ × (ℕ × ℕ)). s.0) e) in
+    let user = same_field a.on.user b.on.user (ap (λ (s : ℕ × (ℕ × ℕ)). s.1.0) e) in
     let byte : a.byte ≡ b.byte = ap (λ (s : ℕ × (ℕ × ℕ)). s.1.1) e in
     λ i. record {
       on = record { channel = channel i; user = user i };

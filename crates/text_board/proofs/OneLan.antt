@@ -5,7 +5,7 @@ use mathlib.Core.HLevel.{is_prop→PathP}
 use Rattle.toml.specs.Data.{Members}
 use Rattle.record_base.specs.Lan.{address_bytes, vlan_bytes}
 use Rattle.record_base.specs.Vlan.{vlan_high}
-use Rattle.record_base.specs.NumberLaws.{same_channel}
+use Rattle.record_base.specs.NumberLaws.{same_field}
 use Rattle.record_base.specs.declared.lan.Ipv4Address.{Ipv4Address}
 use Rattle.record_base.specs.declared.lan.VlanBytes.{VlanBytes}
 use Rattle.record_base.specs.declared.lan_item.Lan.{Lan}
@@ -32,7 +32,7 @@ one_vlan named tree a b p q =
 
 pub one_lan : (tree : Members) (a b : Lan) → HoldsLan tree a → HoldsLan tree b → a ≡ b
 one_lan tree a b p q =
-    let number = same_channel a.number b.number (one_number field.Channel tree a.number.number b.number.number p.numbered q.numbered) in
+    let number = same_field a.number b.number (one_number field.Channel tree a.number.number b.number.number p.numbered q.numbered) in
     let ip = one_address (field.Lan lan.Ip) tree a.ip b.ip p.ip q.ip in
     let source = one_number (field.Lan lan.Source) tree a.source b.source p.source q.source in
     let mask = one_address (field.Lan lan.Mask) tree a.mask b.mask p.mask q.mask in

@@ -16,7 +16,7 @@ use Rattle.record_base.specs.declared.device.Device.{Device}
 use Rattle.record_base.specs.declared.event_enable.EventEnable.{EventEnable}
 use Rattle.record_base.specs.declared.sensor.Sensor.{Sensor}
 use Rattle.record_base.specs.declared.channel.Channel.{Channel}
-use Rattle.record_base.specs.declared.channel.ChannelNumber.{ChannelNumber}
+use Rattle.record_base.specs.Numbers.{ChannelNumber}
 use Rattle.record_base.specs.declared.user.User.{User}
 use Rattle.record_base.specs.declared.user.UserAccess.{UserAccess}
 use Rattle.cfg_records.specs.declared.board_file.BoardFile.{BoardFile}

@@ -16,7 +16,7 @@ use Rattle.record_base.specs.Kind.{KindWords, RecordWords}
 use Rattle.record_base.specs.AllKinds.{Place}
 use Rattle.record_base.specs.Values.{stored}
 use Rattle.record_base.specs.ChannelAccess.{IsChannelAccess}
-use Rattle.record_base.specs.Numbers.{six_bits_in}
+use Rattle.record_base.specs.Numbers.{low_bits}
 use Rattle.record_base.specs.Requests.{application, ipmi_request}
 
 -- the Set command and the Get command
@@ -83,9 +83,9 @@ channel_body op = op.channel.number ∷ change_bytes op.store op.change
 
 -- the same parts, with the bytes that a reply shows
 abbrev pub undo_change : ChannelChange → List ℕ → ChannelChange
-undo_change (Access access) reply = Access (six_bits_in (slice_index reply 0))
-undo_change (Limit limit) reply = Limit (six_bits_in (slice_index reply 1 % 16))
-undo_change (Both access limit) reply = Both (six_bits_in (slice_index reply 0)) (six_bits_in (slice_index reply 1 % 16))
+undo_change (Access access) reply = Access (low_bits 6 (slice_index reply 0))
+undo_change (Limit limit) reply = Limit (low_bits 6 (slice_index reply 1 % 16))
+undo_change (Both access limit) reply = Both (low_bits 6 (slice_index reply 0)) (low_bits 6 (slice_index reply 1 % 16))
 
 abbrev pub undo_channel : SetChannelAccess → List ℕ → SetChannelAccess
 undo_channel op reply = record { channel = op.channel; store = op.store; change = undo_change op.change reply }

@@ -45,12 +45,12 @@ two_long (Limit limit) old = refl
 two_long (Both access limit) old = refl
 
 keeps_change : (change : ChannelChange) (old : List ℕ) → IsTrue (is_change change) → IsChannelAccess old → IsChannelAccess (changed change old)
-keeps_change (Access access) old is v = record { two = refl; six_bits = access.six_bits; mode = true_le _ _ is; least = v.least; most = v.most }
+keeps_change (Access access) old is v = record { two = refl; six_bits = access.below; mode = true_le _ _ is; least = v.least; most = v.most }
 keeps_change (Limit limit) old is v = let tests = both_true _ _ is in record { two = refl; six_bits = v.six_bits; mode = v.mode; least = true_le _ _ tests.0; most = true_le _ _ tests.1 }
 keeps_change (Both access limit) old is v =
     let tests = both_true _ _ is in
     let limits = both_true _ _ tests.1 in
-    record { two = refl; six_bits = access.six_bits; mode = true_le _ _ tests.0; least = true_le _ _ limits.0; most = true_le _ _ limits.1 }
+    record { two = refl; six_bits = access.below; mode = true_le _ _ tests.0; least = true_le _ _ limits.0; most = true_le _ _ limits.1 }
 
 -- ---- what an undo brings back
 

@@ -3,14 +3,12 @@
 use Rattle.std.specs.Prelude.{ℕ, ◌/◌, ◌==◌, List, Bool, Option, Some, None, if◌then◌else◌}
 use Rattle.record_base.specs.declared.channel.AccessStore.{AccessStore}
 use Rattle.record_base.specs.declared.channel.AccessStore.TheVariants.{NonVolatile, Volatile, Neither}
-use Rattle.record_base.specs.declared.channel.ChannelNumber.{ChannelNumber}
 use Rattle.record_base.specs.declared.channel.StoredAccess.{StoredAccess}
-use Rattle.record_base.specs.declared.channel.SixBits.{SixBits}
 use Rattle.record_base.specs.declared.channel.ChannelChange.{ChannelChange}
 use Rattle.record_base.specs.declared.channel.ChannelChange.TheVariants.{Access, Limit, Both}
 use Rattle.record_base.specs.declared.channel.SetChannelAccess.{SetChannelAccess}
 use Rattle.record_base.specs.Values.{stored}
-use Rattle.record_base.specs.Numbers.{channel_in, six_bits_in}
+use Rattle.record_base.specs.Numbers.{ChannelNumber, SixBits, low_bits, channel_in}
 use Rattle.record_base.specs.Requests.{byte_at}
 use Rattle.user_chan.specs.ChannelAccess.{store_bits}
 use Rattle.user_chan.specs.declared.channel_request.ChannelRequest.{ChannelRequest}
@@ -49,4 +47,4 @@ asked_for channel (Some store) (Some other) access limit =
 
 abbrev pub channel_request_in : List ℕ → ChannelRequest
 channel_request_in body =
-    asked_for (channel_in (byte_at body 0)) (named (byte_at body 1 / 64)) (named (byte_at body 2 / 64)) (six_bits_in (byte_at body 1)) (six_bits_in (byte_at body 2))
+    asked_for (channel_in (byte_at body 0)) (named (byte_at body 1 / 64)) (named (byte_at body 2 / 64)) (low_bits 6 (byte_at body 1)) (low_bits 6 (byte_at body 2))

@@ -1,7 +1,6 @@
 -- Requests of the commands of LAN parameters, from their data (IPMI 2.0, Set and Get LAN Configuration Parameters): the channel in bits 3:0
 -- of the first byte, the selector of the parameter in the second byte, and behind them the data of a Set, or the set and the block of a Get.
 use Rattle.std.specs.Prelude.{ℕ, List, [], ◌∷◌, drop, if◌then◌else◌, Option, Some, None}
-use Rattle.record_base.specs.declared.channel.ChannelNumber.{ChannelNumber}
 use Rattle.record_base.specs.declared.lan.LanParameter.{LanParameter}
 use Rattle.record_base.specs.declared.lan.LanParameter.TheVariants as parameter
 use Rattle.record_base.specs.declared.lan.LanChange.{LanChange}
@@ -9,7 +8,7 @@ use Rattle.record_base.specs.declared.lan.LanChange.TheVariants.{Address, Addres
 use Rattle.record_base.specs.Lan.{lan_parameter_at}
 use Rattle.record_base.specs.LanItems.{parameter_on}
 use Rattle.record_base.specs.Masks.{has}
-use Rattle.record_base.specs.Numbers.{channel_in}
+use Rattle.record_base.specs.Numbers.{ChannelNumber, channel_in}
 use Rattle.record_base.specs.Requests.{byte_at}
 use Rattle.user_chan.specs.declared.lan_request.LanAnswer.TheVariants.{Revision, Unsupported, WrongLength}
 use Rattle.user_chan.specs.declared.lan_request.LanRequest.{LanRequest}

@@ -11,7 +11,7 @@ use Rattle.record_base.specs.InverseLaws.{some_where, made_where, tested_same, s
 use Rattle.record_base.specs.Kind.{KindLaws, RecordLaws}
 use Rattle.record_base.specs.RefusalLaws.{refused_field}
 use Rattle.record_base.specs.Numbers.{channel_in, user_in, user_on}
-use Rattle.record_base.specs.NumberLaws.{below_64, same_channel, same_user}
+use Rattle.record_base.specs.NumberLaws.{low_below, same_field}
 use Rattle.record_base.specs.UserAccess.{is_limit, IsUserAccess}
 use Rattle.record_base.specs.PartLaws.{IsUserAccess-prop}
 use Rattle.user_chan.specs.declared.user_access.UserAccessLimits.{UserAccessLimits}
@@ -124,7 +124,7 @@ undo_is_plain op reply =
     let bits : ℕ = bits_of (slice_index reply 3) in
     let same : changes_bits (undo_access op reply) ≡ changes_bits op = first_changes (changes_bits op) bits (low_of op.first) (few_bits _) (small_low _) in
     record {
-      user = below_64 op.user;
+      user = low_below 6 op.user;
       limit = small_low _;
       unchanged = λ off. no_bits (changes_bits op) bits (low_of op.first) (small_low _) (sym same ∙ off);
       three = refl;
@@ -138,8 +138,8 @@ same_on : (op : SetUserAccess) (reply : List ℕ) → user_on (undo_access op re
 same_on op reply =
     let bits : ℕ = bits_of (slice_index reply 3) in
     users_on _ _ _ _
-    (same_channel (channel_in (first_byte op bits)) (channel_in op.first) (first_low (changes_bits op) bits (low_of op.first) (few_bits _) (small_low _)))
-    (same_user (user_in (op.user % 64)) (user_in op.user) (again op.user))
+    (same_field (channel_in (first_byte op bits)) (channel_in op.first) (first_low (changes_bits op) bits (low_of op.first) (few_bits _) (small_low _)))
+    (same_field (user_in (op.user % 64)) (user_in op.user) (again op.user))
 
 -- the inverse brings the old value back
 undoes_access : (limits : UserAccessLimits) (op : SetUserAccess) (old new : List ℕ) (live : Live) → IsUserAccess old → SetsUserAccess op old new → SetsUserAccess (undo_access op (access_view limits old live)) new old

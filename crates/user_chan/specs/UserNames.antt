@@ -5,11 +5,10 @@ use Rattle.record_base.specs.declared.key.Key.{Key}
 use Rattle.record_base.specs.declared.key.Key.TheVariants as key
 use Rattle.record_base.specs.declared.op.Op.{Op}
 use Rattle.record_base.specs.declared.op.Op.TheVariants as op
-use Rattle.record_base.specs.declared.user.UserNumber.{UserNumber}
 use Rattle.record_base.specs.declared.user.SetUserName.{SetUserName}
 use Rattle.record_base.specs.Kind.{KindWords, RecordWords}
 use Rattle.record_base.specs.AllKinds.{Place}
-use Rattle.record_base.specs.Numbers.{user_in}
+use Rattle.record_base.specs.Numbers.{UserNumber, user_in}
 use Rattle.record_base.specs.Requests.{application, ipmi_request, byte_at}
 
 -- the Set command and the Get command

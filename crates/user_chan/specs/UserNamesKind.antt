@@ -1,11 +1,10 @@
 -- The kind UserName, and its place among all kinds.
-use Rattle.record_base.specs.declared.user.UserNumber.{UserNumber}
 use Rattle.record_base.specs.declared.user.SetUserName.{SetUserName}
 use Rattle.record_base.specs.Kind.{Kind}
 use Rattle.record_base.specs.Member.{Member}
 use Rattle.record_base.specs.Reader.{Reader}
 use Rattle.record_base.specs.Requests.{byte_at}
-use Rattle.record_base.specs.Numbers.{user_in}
+use Rattle.record_base.specs.Numbers.{UserNumber, user_in}
 use Rattle.user_chan.specs.declared.user_name.UserNameLimits.{UserNameLimits}
 use Rattle.user_chan.specs.UserNames.{name_in, words, record_words, place}
 use Rattle.user_chan.specs.UserNamesLaws.{kind_laws, record_laws}

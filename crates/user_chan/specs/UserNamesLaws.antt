@@ -9,7 +9,7 @@ use Rattle.record_base.specs.InverseLaws.{some_where, made_where, tested_same, s
 use Rattle.record_base.specs.Kind.{KindLaws, RecordLaws}
 use Rattle.record_base.specs.RefusalLaws.{refused_field}
 use Rattle.record_base.specs.Numbers.{user_in}
-use Rattle.record_base.specs.NumberLaws.{below_64, same_user}
+use Rattle.record_base.specs.NumberLaws.{low_below, same_field}
 use Rattle.user_chan.specs.UserNames.{nameless, user_of, SetsUserName, shown_name, undo_name, words, record_words}
 
 -- what holds of all lists of sixteen holds of a list of that length
@@ -59,7 +59,7 @@ undoes_name : (op : SetUserName) (old : List ℕ) → length old ≡ 16 → user
 undoes_name op old long other = record { has_name = λ same. other (sym (again op.user) ∙ same); all = shown_is old long }
 
 same_named : (op : SetUserName) → user_in (user_of op) ≡ user_in op.user
-same_named op = same_user (user_in (user_of op)) (user_in op.user) (again op.user)
+same_named op = same_field (user_in (user_of op)) (user_in op.user) (again op.user)
 
 sixteen_proofs : (value : List ℕ) → IsProp (length value ≡ 16)
 sixteen_proofs value = hlevel props
@@ -74,7 +74,7 @@ pub kind_laws : KindLaws words
 kind_laws = record {
   set_short = λ op. omega arith;
   invertible = λ op reply. some_where (length reply == 16) (undo_name op reply) _ (λ is. (tested_same _ _ is, tt)) (λ h. same_tested _ _ h.0);
-  plain = λ op made reply is. subst words.is_plain (made_name op made reply is).1 (below_64 op.user);
+  plain = λ op made reply is. subst words.is_plain (made_name op made reply is).1 (low_below 6 op.user);
 }
 
 pub record_laws : RecordLaws words record_words

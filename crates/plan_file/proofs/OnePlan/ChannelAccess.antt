@@ -1,9 +1,9 @@
 -- A table holds one step that sets the access to a channel, at most.
 use Rattle.std.proofs.Common.{◌≡◌, ◌∙◌, ℕ, Some, None, option_and_then, sym, ap}
 use Rattle.toml.specs.Data.{Members}
-use Rattle.record_base.specs.NumberLaws.{same_channel, same_bits}
+use Rattle.record_base.specs.NumberLaws.{same_field}
 use Rattle.record_base.specs.declared.op.Op.TheVariants as op
-use Rattle.record_base.specs.declared.channel.SixBits.{SixBits}
+use Rattle.record_base.specs.Numbers.{SixBits}
 use Rattle.record_base.specs.declared.channel.ChannelChange.{ChannelChange}
 use Rattle.record_base.specs.declared.channel.ChannelChange.TheVariants as channel
 use Rattle.record_base.specs.declared.channel.SetChannelAccess.{SetChannelAccess}
@@ -19,7 +19,7 @@ lacked : (named : Field) (tree : Members) (n : ℕ) → in_field named tree ≡ 
 lacked named tree n lacks is = let none : number_in named tree ≡ None = ap (option_and_then natural) lacks in let both : None ≡ Some n = sym none ∙ is in cc both
 
 one_six : (named : Field) (tree : Members) (a b : SixBits) → number_in named tree ≡ Some a.number → number_in named tree ≡ Some b.number → a ≡ b
-one_six named tree a b p q = same_bits a b (one_number named tree a.number b.number p q)
+one_six named tree a b p q = same_field a b (one_number named tree a.number b.number p q)
 
 one_channel_change : (tree : Members) (a b : ChannelChange) → HoldsChannelChange tree a → HoldsChannelChange tree b → a ≡ b
 one_channel_change tree (channel.Access a) (channel.Access b) p q = ap channel.Access (one_six field.Access tree a b p.0 q.0)
@@ -37,7 +37,7 @@ one_channel_change tree (channel.Both a b) (channel.Both c d) p q =
 
 one : (tree : Members) (a b : SetChannelAccess) → HoldsChannelAccess tree a → HoldsChannelAccess tree b → a ≡ b
 one tree a b p q =
-    let channel = same_channel a.channel b.channel (one_number field.Channel tree a.channel.number b.channel.number p.channel q.channel) in
+    let channel = same_field a.channel b.channel (one_number field.Channel tree a.channel.number b.channel.number p.channel q.channel) in
     let store = one_found (option_and_then store_of (in_field field.Store tree)) a.store b.store p.store q.store in
     let change = one_channel_change tree a.change b.change p.change q.change in
     λ i. record { channel = channel i; store = store i; change = change i }

@@ -2,7 +2,7 @@
 use Rattle.std.proofs.Common.{◌≡◌, ◌∙◌, ℕ, List, length, Option, Some, None, option_and_then, refl, sym, ap}
 use Rattle.std.proofs.lemmas.Option.{same_Some}
 use Rattle.toml.specs.Data.{Data, Members}
-use Rattle.record_base.specs.NumberLaws.{same_channel}
+use Rattle.record_base.specs.NumberLaws.{same_field}
 use Rattle.record_base.specs.Lan.{lan_selector, lan_parameter_at, changed_parameter, lan_data, address_bytes}
 use Rattle.record_base.specs.declared.op.Op.TheVariants as op
 use Rattle.record_base.specs.declared.lan.LanAddress.TheVariants.{Ip, SubnetMask, DefaultGateway}
@@ -59,7 +59,7 @@ one_lan_change tree a b p q =
 
 one : (tree : Members) (a b : SetLanParam) → HoldsLanParam tree a → HoldsLanParam tree b → a ≡ b
 one tree a b p q =
-    let channel = same_channel a.channel b.channel (one_number field.Channel tree a.channel.number b.channel.number p.channel q.channel) in
+    let channel = same_field a.channel b.channel (one_number field.Channel tree a.channel.number b.channel.number p.channel q.channel) in
     let change = one_lan_change tree a.change b.change p.change q.change in
     λ i. record { channel = channel i; change = change i }
 

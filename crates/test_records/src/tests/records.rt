@@ -20,12 +20,12 @@ Hysteresis(5) 0202
 Hysteresis(7) 0000
 EventEnable(5) C000020000
 EventEnable(7) 0000000000
-UserName(UserNumber { number: 1 }) 00000000000000000000000000000000
-UserName(UserNumber { number: 2 }) 61646D696E0000000000000000000000
-UserAccess(UserOnChannel { channel: ChannelNumber { number: 1 }, user: UserNumber { number: 1 } }) 14
-UserAccess(UserOnChannel { channel: ChannelNumber { number: 1 }, user: UserNumber { number: 2 } }) 14
-ChannelAccess(StoredAccess { channel: ChannelNumber { number: 1 }, store: NonVolatile }) 0204
-ChannelAccess(StoredAccess { channel: ChannelNumber { number: 1 }, store: Volatile }) 0204
+UserName(BitField { number: 1 }) 00000000000000000000000000000000
+UserName(BitField { number: 2 }) 61646D696E0000000000000000000000
+UserAccess(UserOnChannel { channel: BitField { number: 1 }, user: BitField { number: 1 } }) 14
+UserAccess(UserOnChannel { channel: BitField { number: 1 }, user: BitField { number: 2 } }) 14
+ChannelAccess(StoredAccess { channel: BitField { number: 1 }, store: NonVolatile }) 0204
+ChannelAccess(StoredAccess { channel: BitField { number: 1 }, store: Volatile }) 0204
 PowerPolicy 01
 Watchdog 0000000000
 GlobalEnables 08

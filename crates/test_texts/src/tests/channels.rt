@@ -18,10 +18,10 @@ until users = [""] -> users = ["", "admin"] => reads
 + number = 15
 + sessions = false
 
-=> holds 1 channels: Distinct { items: Items { items: [Channel { number: ChannelNumber { number: 1 }, non_volatile: ChannelAccess { access: 2, limit: 4 }, volatile: ChannelAccess { access: 59, limit: 5 } }] } }
-=> holds 1 sessionless: Distinct { items: Items { items: [ChannelNumber { number: 15 }] } }
+=> holds 1 channels: Distinct { items: Items { items: [Channel { number: BitField { number: 1 }, non_volatile: ChannelAccess { access: 2, limit: 4 }, volatile: ChannelAccess { access: 59, limit: 5 } }] } }
+=> holds 1 sessionless: Distinct { items: Items { items: [BitField { number: 15 }] } }
 # 14h is 20, and 2Fh is 47.
-=> holds 1 user_accesses: Distinct { items: Items { items: [UserAccess { on: UserOnChannel { channel: ChannelNumber { number: 1 }, user: UserNumber { number: 1 } }, byte: 20 }, UserAccess { on: UserOnChannel { channel: ChannelNumber { number: 1 }, user: UserNumber { number: 2 } }, byte: 47 }] } }
+=> holds 1 user_accesses: Distinct { items: Items { items: [UserAccess { on: UserOnChannel { channel: BitField { number: 1 }, user: BitField { number: 1 } }, byte: 20 }, UserAccess { on: UserOnChannel { channel: BitField { number: 1 }, user: BitField { number: 2 } }, byte: 47 }] } }
 
 # Each field left out, of another type, just beyond its range and just inside, and more.
 at number = 1
@@ -95,7 +95,7 @@ behind
 => holds 8 non_volatile:
 => holds 128 UserAccess {
 # The last is that of user 16 on channel 7.
-=> holds 1 UserAccess { on: UserOnChannel { channel: ChannelNumber { number: 7 }, user: UserNumber { number: 16 } }, byte: 20 }] } }
+=> holds 1 UserAccess { on: UserOnChannel { channel: BitField { number: 7 }, user: BitField { number: 16 } }, byte: 20 }] } }
 "#;
 
 #[test]

@@ -24,7 +24,7 @@ until users = [""] -> users = [""]\nchannel = [{number = 2, sessions = true, acc
 + vlan = [0, 0]
 
 # 2Ah is 42, and 81h is 129.
-=> holds 1 lans: Distinct { items: Items { items: [Lan { number: ChannelNumber { number: 2 }, ip: Ipv4Address { first: 192, second: 0, third: 2, fourth: 1 }, source: 1, mask: Ipv4Address { first: 255, second: 255, third: 255, fourth: 0 }, gateway: Ipv4Address { first: 192, second: 0, third: 2, fourth: 254 }, vlan: VlanBytes { low: 42, high: 129 } }, Lan { number: ChannelNumber { number: 15 }, ip: Ipv4Address { first: 198, second: 51, third: 100, fourth: 7 }, source: 0, mask: Ipv4Address { first: 255, second: 255, third: 0, fourth: 0 }, gateway: Ipv4Address { first: 0, second: 0, third: 0, fourth: 0 }, vlan: VlanBytes { low: 0, high: 0 } }] } }
+=> holds 1 lans: Distinct { items: Items { items: [Lan { number: BitField { number: 2 }, ip: Ipv4Address { first: 192, second: 0, third: 2, fourth: 1 }, source: 1, mask: Ipv4Address { first: 255, second: 255, third: 255, fourth: 0 }, gateway: Ipv4Address { first: 192, second: 0, third: 2, fourth: 254 }, vlan: VlanBytes { low: 42, high: 129 } }, Lan { number: BitField { number: 15 }, ip: Ipv4Address { first: 198, second: 51, third: 100, fourth: 7 }, source: 0, mask: Ipv4Address { first: 255, second: 255, third: 0, fourth: 0 }, gateway: Ipv4Address { first: 0, second: 0, third: 0, fourth: 0 }, vlan: VlanBytes { low: 0, high: 0 } }] } }
 
 # Each field left out, of another type, just beyond its range and just inside, and more. The channel is one that the file lists.
 at channel = 2

@@ -1,6 +1,6 @@
 use Rattle.std.proofs.Common.{map, ap}
 use Rattle.toml.specs.View.{view}
-use Rattle.record_base.specs.declared.channel.ChannelNumber.{ChannelNumber}
+use Rattle.record_base.specs.Numbers.{ChannelNumber}
 use Rattle.text_fields.specs.Ranges.{or_zero}
 use Rattle.text_board.specs.Holds.{IsNumberIn, channel_of}
 use Rattle.text_board.proofs.ChannelLists.{differ_back}

@@ -6,7 +6,7 @@ use Rattle.std.specs.List.{AllZip}
 use Rattle.toml.specs.Data.{Data}
 use Rattle.toml.specs.View.{view}
 use Rattle.record_base.specs.declared.channel.Channel.{Channel}
-use Rattle.record_base.specs.declared.channel.ChannelNumber.{ChannelNumber}
+use Rattle.record_base.specs.Numbers.{ChannelNumber}
 use Rattle.text_fields.specs.Ranges.{or_zero}
 use Rattle.text_board.specs.Holds.{IsChannelIn, IsNumberIn, serves, with_sessions, without_sessions, channel_of}
 use Rattle.text_board.proofs.ChannelLists.{differ_zip, filter_few, accesses_differ, accesses_few}
