@@ -38,8 +38,8 @@ use Rattle.effecter_recs.specs.State.{state_body}
 use Rattle.bmc_board.specs.declared.command.Lengths.TheVariants.{PairsCountedAt}
 use Rattle.bmc_board.specs.Table.{allow}
 use Rattle.record_base.specs.Values.{stored}
-use Rattle.record_base.specs.Numbers.{ChannelNumber, UserNumber, SixBits, low_bits, channel_in, user_in}
-use Rattle.record_base.specs.NumberLaws.{same_field}
+use Rattle.record_base.specs.Numbers.{ChannelNumber, UserNumber, SixBits, low_bits}
+use Rattle.record_base.specs.NumberLaws.{same_field, low_bits_again}
 use Rattle.user_chan.specs.ChannelAccess.{in_store}
 use Rattle.user_chan.specs.ChannelRequests.{store_at, named, change, asked_for}
 use Rattle.user_chan.specs.UserNamesLaws.{sixteen}
@@ -186,18 +186,6 @@ access_read first user limit (Some n) = refl
 access_read first user limit None = refl
 
 -- and one for the access of a channel
-channel_again : (n : ℕ) → n < 16 → n % 16 ≡ n
-channel_again n lt = omega arith
-
-user_again : (n : ℕ) → n < 64 → n % 64 ≡ n
-user_again n lt = omega arith
-
-channel_read : (c : ChannelNumber) → channel_in c.number ≡ c
-channel_read c = same_field (channel_in c.number) c (channel_again c.number c.below)
-
-user_read : (u : UserNumber) → user_in u.number ≡ u
-user_read u = same_field (user_in u.number) u (user_again u.number u.below)
-
 -- what stands behind a store's bits is read, and the store
 behind_1 : (n : ℕ) → n < 64 → (1 * 64 + n) / 64 ≡ 1
 behind_1 n lt = omega arith
@@ -240,9 +228,9 @@ one_store c Volatile a l = refl
 one_store c Neither a l = refl
 
 store_read : (c : ChannelNumber) (s : AccessStore) (what : ChannelChange) → StoreIsRead (change c s what)
-store_read c s (Access a) = λ i. asks (channel_read c i) (named_is s a.number a.below i) None (bits_read s a i) (low_bits 6 0)
-store_read c s (Limit l) = λ i. asks (channel_read c i) None (named_is s l.number l.below i) (low_bits 6 0) (bits_read s l i)
-store_read c s (Both a l) = (λ i. asks (channel_read c i) (named_is s a.number a.below i) (named_is s l.number l.below i) (bits_read s a i) (bits_read s l i)) ∙ one_store c s a l
+store_read c s (Access a) = λ i. asks (low_bits_again c i) (named_is s a.number a.below i) None (bits_read s a i) (low_bits 6 0)
+store_read c s (Limit l) = λ i. asks (low_bits_again c i) None (named_is s l.number l.below i) (low_bits 6 0) (bits_read s l i)
+store_read c s (Both a l) = (λ i. asks (low_bits_again c i) (named_is s a.number a.below i) (named_is s l.number l.below i) (bits_read s a i) (bits_read s l i)) ∙ one_store c s a l
 
 get_read : (s : AccessStore) → store_at (in_store s 0 / 64) ≡ s
 get_read NonVolatile = refl
@@ -276,9 +264,9 @@ attribute_read o =
     ∙ ap (λ (change : SetBiosAttribute). Ok (request.Set (op.BiosAttribute change))) (same_setting o.attribute o.attribute_type (take most_sent o.value) o.value (few_sent o.value) o.fits (sent_whole o.value o.fits))
 
 pub gets_are_read : GetsAreRead
-gets_are_read (key.UserName user) = record { is_read = ap (λ (u : UserNumber). Ok (request.Get (key.UserName u))) (user_read user); from_nobody = (refl, refl) }
-gets_are_read (key.UserAccess on) = record { is_read = λ i. gets_access (channel_read on.channel i) (user_read on.user i); from_nobody = (refl, refl) }
-gets_are_read (key.ChannelAccess at) = record { is_read = λ i. Ok (request.Get (key.ChannelAccess (stored (channel_read at.channel i) (get_read at.store i)))); from_nobody = (refl, refl) }
+gets_are_read (key.UserName user) = record { is_read = ap (λ (u : UserNumber). Ok (request.Get (key.UserName u))) (low_bits_again user); from_nobody = (refl, refl) }
+gets_are_read (key.UserAccess on) = record { is_read = λ i. gets_access (low_bits_again on.channel i) (low_bits_again on.user i); from_nobody = (refl, refl) }
+gets_are_read (key.ChannelAccess at) = record { is_read = λ i. Ok (request.Get (key.ChannelAccess (stored (low_bits_again at.channel i) (get_read at.store i)))); from_nobody = (refl, refl) }
 gets_are_read (key.BootParam parameter.ValidBitClearing) = record { is_read = refl; from_nobody = (refl, refl) }
 gets_are_read (key.BootParam parameter.InfoAcknowledge) = record { is_read = refl; from_nobody = (refl, refl) }
 gets_are_read (key.BootParam parameter.Flags) = record { is_read = refl; from_nobody = (refl, refl) }
@@ -286,7 +274,7 @@ gets_are_read (key.Thresholds sensor) = record { is_read = refl; from_nobody = (
 gets_are_read (key.NumericEffecter id) = record { is_read = ap (λ (n : ℕ). Ok (request.Get (key.NumericEffecter n))) (two_bytes id); from_nobody = refl }
 gets_are_read (key.StateEffecter id) = record { is_read = ap (λ (n : ℕ). Ok (request.Get (key.StateEffecter n))) (two_bytes id); from_nobody = refl }
 gets_are_read (key.BiosAttribute handle) = record { is_read = ap (λ (n : ℕ). Ok (request.Get (key.BiosAttribute n))) (two_bytes handle); from_nobody = refl }
-gets_are_read (key.LanParam on) = record { is_read = lan.get_read channel_read on.channel on.parameter; from_nobody = (refl, refl) }
+gets_are_read (key.LanParam on) = record { is_read = lan.get_read on.channel on.parameter; from_nobody = (refl, refl) }
 gets_are_read _ = record { is_read = refl; from_nobody = (refl, refl) }
 
 pub sets_are_read : SetsAreRead
@@ -300,5 +288,5 @@ sets_are_read (op.UserName o) = record { is_read = name_read o; from_nobody = (r
 sets_are_read (op.UserAccess o) = record { is_read = access_read o.first o.user o.limit o.session_limit; from_nobody = (refl, refl) }
 sets_are_read (op.ChannelAccess o) = record { is_read = store_read o.channel o.store o.change; from_nobody = (refl, refl) }
 sets_are_read (op.BiosAttribute o) = record { is_read = attribute_read o; from_nobody = refl }
-sets_are_read (op.LanParam o) = record { is_read = lan.set_read channel_read o.channel o.change; from_nobody = (refl, refl) }
+sets_are_read (op.LanParam o) = record { is_read = lan.set_read o.channel o.change; from_nobody = (refl, refl) }
 sets_are_read _ = record { is_read = refl; from_nobody = (refl, refl) }

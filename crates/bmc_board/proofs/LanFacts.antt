@@ -10,7 +10,8 @@ use Rattle.record_base.specs.declared.lan.LanChange.TheVariants.{Address, Addres
 use Rattle.record_base.specs.declared.lan_item.Lan.{Lan}
 use Rattle.record_base.specs.LanItems.{lan_key}
 use Rattle.record_base.specs.Masks.{has}
-use Rattle.record_base.specs.Numbers.{ChannelNumber, channel_in}
+use Rattle.record_base.specs.Numbers.{ChannelNumber}
+use Rattle.record_base.specs.NumberLaws.{low_bits_again}
 use Rattle.cfg_records.specs.declared.board_file.BoardFile.{BoardFile}
 use Rattle.cfg_records.specs.Records.{Records}
 use Rattle.user_chan.specs.LanRequests.{lan_request_in, lan_shown_in, shown_in}
@@ -66,13 +67,12 @@ asks_where mark channel shown = Ok (lan_get (if mark then to_show.Other channel 
 abbrev GetIsRead : ChannelNumber → LanParameter → Type 0
 GetIsRead c p = asked_by (get_asked (lan_key c p)) ≡ Ok (request.Get (lan_key c p))
 
--- channels are read by this
-pub get_read : ((c : ChannelNumber) → channel_in c.number ≡ c) → (c : ChannelNumber) (p : LanParameter) → GetIsRead c p
-get_read channel_read c (parameter.Address Ip) = λ i. asks_where (no_mark c i) (channel_read c i) (shown_in (channel_read c i) (Some (parameter.Address Ip)))
-get_read channel_read c parameter.AddressSource = λ i. asks_where (no_mark c i) (channel_read c i) (shown_in (channel_read c i) (Some parameter.AddressSource))
-get_read channel_read c (parameter.Address SubnetMask) = λ i. asks_where (no_mark c i) (channel_read c i) (shown_in (channel_read c i) (Some (parameter.Address SubnetMask)))
-get_read channel_read c (parameter.Address DefaultGateway) = λ i. asks_where (no_mark c i) (channel_read c i) (shown_in (channel_read c i) (Some (parameter.Address DefaultGateway)))
-get_read channel_read c parameter.Vlan = λ i. asks_where (no_mark c i) (channel_read c i) (shown_in (channel_read c i) (Some parameter.Vlan))
+pub get_read : (c : ChannelNumber) (p : LanParameter) → GetIsRead c p
+get_read c (parameter.Address Ip) = λ i. asks_where (no_mark c i) (low_bits_again c i) (shown_in (low_bits_again c i) (Some (parameter.Address Ip)))
+get_read c parameter.AddressSource = λ i. asks_where (no_mark c i) (low_bits_again c i) (shown_in (low_bits_again c i) (Some parameter.AddressSource))
+get_read c (parameter.Address SubnetMask) = λ i. asks_where (no_mark c i) (low_bits_again c i) (shown_in (low_bits_again c i) (Some (parameter.Address SubnetMask)))
+get_read c (parameter.Address DefaultGateway) = λ i. asks_where (no_mark c i) (low_bits_again c i) (shown_in (low_bits_again c i) (Some (parameter.Address DefaultGateway)))
+get_read c parameter.Vlan = λ i. asks_where (no_mark c i) (low_bits_again c i) (shown_in (low_bits_again c i) (Some parameter.Vlan))
 
 -- the operation with another channel
 abbrev asks_to_set : ChannelNumber → LanChange → Result Request ℕ
@@ -81,12 +81,12 @@ asks_to_set c change = Ok (request.Set (op.LanParam (record { channel = c; chang
 abbrev SetIsRead : ChannelNumber → LanChange → Type 0
 SetIsRead c change = asked_by (set_asked (op.LanParam (record { channel = c; change = change }))) ≡ asks_to_set c change
 
-pub set_read : ((c : ChannelNumber) → channel_in c.number ≡ c) → (c : ChannelNumber) (change : LanChange) → SetIsRead c change
-set_read channel_read c (Address Ip a) = λ i. asks_to_set (channel_read c i) (Address Ip a)
-set_read channel_read c (Address SubnetMask a) = λ i. asks_to_set (channel_read c i) (Address SubnetMask a)
-set_read channel_read c (Address DefaultGateway a) = λ i. asks_to_set (channel_read c i) (Address DefaultGateway a)
-set_read channel_read c (AddressSource byte) = λ i. asks_to_set (channel_read c i) (AddressSource byte)
-set_read channel_read c (Vlan vlan) = λ i. asks_to_set (channel_read c i) (Vlan vlan)
+pub set_read : (c : ChannelNumber) (change : LanChange) → SetIsRead c change
+set_read c (Address Ip a) = λ i. asks_to_set (low_bits_again c i) (Address Ip a)
+set_read c (Address SubnetMask a) = λ i. asks_to_set (low_bits_again c i) (Address SubnetMask a)
+set_read c (Address DefaultGateway a) = λ i. asks_to_set (low_bits_again c i) (Address DefaultGateway a)
+set_read c (AddressSource byte) = λ i. asks_to_set (low_bits_again c i) (AddressSource byte)
+set_read c (Vlan vlan) = λ i. asks_to_set (low_bits_again c i) (Vlan vlan)
 
 -- ---- a request that names no parameter is answered
 

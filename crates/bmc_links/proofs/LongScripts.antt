@@ -1,10 +1,11 @@
 -- Scripts with a frame that is too long.
 use Rattle.std.proofs.Common.{◌<◌, ℕ, List, [], Bor, All, length, map, arith, sym, subst, slice_index_or}
 use Rattle.std.proofs.lemmas.List.{get_or-map, length-map}
+use Rattle.two_wire.specs.Sizes.{most_frame_bytes}
 use Rattle.bmc_links.specs.Scripts.{fits}
 
 -- where one is, not all fit
-pub has_a_long_one : (script : List (Bor (List ℕ))) (place : ℕ) (d : Bor (List ℕ)) → place < length script → 80 < length (slice_index_or script place d).now
+pub has_a_long_one : (script : List (Bor (List ℕ))) (place : ℕ) (d : Bor (List ℕ)) → place < length script → most_frame_bytes < length (slice_index_or script place d).now
     → All fits (map (λ bytes. bytes.now) script) → ⊥
 has_a_long_one script place d within long all =
     let shown : Bor (List ℕ) → List ℕ = λ bytes. bytes.now in

@@ -1,5 +1,6 @@
 -- What a link in memory hears.
 use Rattle.std.specs.Prelude.{ℕ, ◌≤◌, List, [], ◌∷◌, length}
+use Rattle.two_wire.specs.Sizes.{most_frame_bytes}
 use Rattle.bmc_links.specs.declared.link.Heard.{Heard}
 use Rattle.bmc_links.specs.declared.link.Heard.TheVariants.{Frame, Quiet}
 
@@ -9,7 +10,7 @@ most_kept = 256
 
 -- the bytes fit a frame
 abbrev pub fits : List ℕ → Type 0
-fits bytes = length bytes ≤ 80
+fits bytes = length bytes ≤ most_frame_bytes
 
 -- what a script's beginning is heard as: no bytes are no frame, and nor is a script's end
 abbrev pub head_of : List (List ℕ) → Heard

@@ -9,9 +9,7 @@ use crate::link::{Counts, Heard, Link, LinkFault};
 use std::alloc::Global;
 use std::vec::IntoIter;
 use two_wire::Frame;
-
-/// The most bytes of a frame.
-const MOST_BYTES: usize = 80;
+use two_wire::size::MOST_FRAME_BYTES;
 
 /// So many frames of those that are sent can be read.
 pub const MOST_KEPT: usize = 256;
@@ -20,7 +18,7 @@ pub const MOST_KEPT: usize = 256;
 #[derive(Clone, Copy, Debug, PartialEq, Eq)]
 pub enum MemFault {
     Memory,
-    /// A frame of the script has over 80 bytes.
+    /// A frame of the script is longer than any on either bus.
     TooLong,
 }
 
@@ -45,7 +43,7 @@ fn read_script(alloc: Global, script: &[&[u8]]) -> Result<Vec<Frame>, MemFault>
         return Err(MemFault::Memory);
     };
     for bytes in script {
-        if bytes.len() > MOST_BYTES {
+        if bytes.len() > MOST_FRAME_BYTES {
             return Err(MemFault::TooLong);
         }
         frames.push_reserved(Frame::from_slice(bytes));

@@ -8,12 +8,10 @@ use std::io::ErrorKind;
 use std::net::{Ipv4Addr, Net, SocketAddr, SocketAddrV4, UdpSocket};
 use std::time::Duration;
 use two_wire::Frame;
-
-/// The most bytes of a frame.
-const MOST_BYTES: usize = 80;
+use two_wire::size::MOST_FRAME_BYTES;
 
 /// Room for a frame, and for one byte more, by which a datagram that is too long is known.
-const ROOM: usize = MOST_BYTES + 1;
+const ROOM: usize = MOST_FRAME_BYTES + 1;
 
 /// A link over datagrams between programs of one host, a frame in each. It is bound to the loopback address alone.
 ///
@@ -107,7 +105,7 @@ impl UdpLink {
             Err(_) => return Err(LinkFault),
         };
         self.peer = Some(sender);
-        if length > MOST_BYTES {
+        if length > MOST_FRAME_BYTES {
             return Ok(Heard::Frame(Frame::new()));
         }
         Ok(Heard::Frame(Frame::from_slice(&bytes[..length])))

@@ -1,5 +1,6 @@
 -- The channels of the sample board, and what its users may do on them.
 use Rattle.std.proofs.Common.{◌≡◌, ℕ, ◌≤◌, List, [], ◌∷◌, length, map, lit≤, arith}
+use Rattle.record_base.specs.BoardSizes.{most_channels}
 use Rattle.record_base.specs.Distinct.{NamesDiffer}
 use Rattle.record_base.specs.declared.channel.Channel.{Channel}
 use Rattle.record_base.specs.Numbers.{ChannelNumber}
@@ -17,7 +18,7 @@ sample_apart [] sessionless is none = absurd is
 sample_apart (c ∷ e ∷ channels) sessionless is none = absurd is
 
 pub sample_few : (channels : List Channel) (sessionless : List ChannelNumber) → AreSampleChannels channels → sessionless ≡ []
-    → length (channel_numbers channels sessionless) ≤ 8
+    → length (channel_numbers channels sessionless) ≤ most_channels
 sample_few (c ∷ []) [] is none = lit≤ tt
 sample_few (c ∷ []) (s ∷ sessionless) is none = absurd cc
 sample_few [] sessionless is none = absurd is

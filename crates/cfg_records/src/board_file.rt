@@ -1,5 +1,6 @@
 //! What a board begins with.
 ghost use Rattle.std.specs.Prelude.{◌≡◌, ◌≤◌, map, length};
+ghost use Rattle.record_base.specs.BoardSizes.{most_channels};
 ghost use Rattle.record_base.specs.Distinct.{NamesDiffer};
 ghost use Rattle.cfg_records.specs.BoardChannels.{channel_numbers, on_numbers, each_user_on};
 
@@ -28,7 +29,7 @@ pub struct BoardFile {
     pub numeric_effecters: NumericEffecters,
     pub state_effecters: StateEffecters,
     pub users: Users,
-    /// The channels with sessions, and those without: at most eight, of which no two have one number.
+    /// The channels with sessions, and those without: few together, and no two have one number.
     pub channels: Channels,
     pub sessionless: SessionlessChannels,
     /// What each user may do on each channel with sessions, in the channels' order and then in the users'.
@@ -39,7 +40,8 @@ pub struct BoardFile {
     pub lans: Lans,
     ghost apart: { NamesDiffer (λ number. number)
         (channel_numbers channels.items sessionless.items) },
-    ghost few: { length (channel_numbers channels.items sessionless.items) ≤ 8 },
+    ghost few: { length (channel_numbers channels.items sessionless.items)
+        ≤ most_channels },
     ghost each: { map on_numbers user_accesses.items ≡ each_user_on channels.items users.items },
 }
 

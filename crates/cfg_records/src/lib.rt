@@ -24,7 +24,8 @@ pub use record_base::{
     SetStateEffecter, SetThresholds, SetUserAccess, SetUserName, SetWatchdog, SixBits,
     StateEffecter, StateEffecters, StateField, StoredAccess, StringAttribute, Text, TextLengths,
     ThresholdMasks, Thresholds, User, UserAccess, UserAccesses, UserNumber, UserOnChannel, Users,
-    Value, Watchdog, attribute_sizes, byte_at, event_enable, lan, lan_item, mask, there_and_back,
+    Value, Watchdog, attribute_sizes, board_sizes, byte_at, event_enable, lan, lan_item, mask,
+    there_and_back,
 };
 pub use sample::sample_board;
 pub use store::{NoKey, Store};

@@ -1,6 +1,7 @@
 -- What bytes that are no frame of the bus have wrong (Intelligent Platform Management Bus, communications protocol 1.0).
 use Rattle.std.specs.Prelude.{◌≡◌, ℕ, ◌/◌, ◌%◌, ◌≤◌, List, [], ◌∷◌, length, take, drop, slice_index, codes, Bool, nat_lt, ◌==◌, ◌||◌, ◌&&◌, not, find, Some}
 use Rattle.two_wire.specs.Check.{check_byte}
+use Rattle.two_wire.specs.Sizes.{most_ipmb_bytes}
 use Rattle.ipmb_frame.specs.declared.fault.FrameFault.{FrameFault}
 use Rattle.ipmb_frame.specs.declared.fault.FrameFault.TheVariants.{Short, Long, HeadSum, BodySum, OddAddress}
 
@@ -11,7 +12,7 @@ net_fn_of bytes = slice_index bytes 1 / 4
 -- the bytes have the fault
 abbrev pub has_fault : List ℕ → FrameFault → Bool
 has_fault bytes Short = nat_lt (length bytes) 7 || (length bytes == 7 && net_fn_of bytes % 2 == 1)
-has_fault bytes Long = nat_lt 32 (length bytes)
+has_fault bytes Long = nat_lt most_ipmb_bytes (length bytes)
 has_fault bytes HeadSum = not (check_byte (take 3 bytes) == 0)
 has_fault bytes BodySum = not (check_byte (drop 3 bytes) == 0)
 has_fault bytes OddAddress = slice_index bytes 0 % 2 == 1 || slice_index bytes 3 % 2 == 1
@@ -36,7 +37,7 @@ fault_name OddAddress = codes "OddAddress"
 pub record IsFaultless (bytes : List ℕ) : Type 0 where
   pub least : 7 ≤ length bytes
   pub has_code : net_fn_of bytes % 2 ≡ 1 → 8 ≤ length bytes
-  pub most : length bytes ≤ 32
+  pub most : length bytes ≤ most_ipmb_bytes
   pub head : check_byte (take 3 bytes) ≡ 0
   pub body : check_byte (drop 3 bytes) ≡ 0
   pub first : slice_index bytes 0 % 2 ≡ 0

@@ -6,12 +6,10 @@ ghost use Rattle.ipmb_frame.specs.declared.fault.FrameFault.TheVariants.{Short};
 use std::error::Error;
 use std::fmt;
 use two_wire::check_byte;
+use two_wire::size::MOST_IPMB_BYTES;
 
 /// A frame has at least so many bytes: no data, and no completion code.
 const SHORTEST: usize = 7;
-
-/// A frame has at most so many bytes.
-const LONGEST: usize = 32;
 
 /// A frame's first checksum is the last of so many bytes.
 const HEAD: usize = 3;
@@ -59,7 +57,7 @@ pub(crate) fn fault_of(bytes: &[u8]) -> Option<FrameFault>
     if is_short(bytes) {
         return Some(FrameFault::Short);
     }
-    if bytes.len() > LONGEST {
+    if bytes.len() > MOST_IPMB_BYTES {
         return Some(FrameFault::Long);
     }
     if check_byte(&bytes[..HEAD]) != 0 {

@@ -1,6 +1,6 @@
 //! Messages to frames.
 ghost use Rattle.std.specs.Prelude.{◌≡◌, ◌+◌, ◌<◌, ◌≤◌, List, ℕ, [], ◌∷◌, ◌++◌, length, drop};
-ghost use Rattle.two_wire.specs.Sizes.{most_ipmi_reply_data};
+ghost use Rattle.two_wire.specs.Sizes.{most_frame_bytes, most_ipmi_reply_data};
 ghost use Rattle.two_wire.specs.Check.{check_byte};
 ghost use Rattle.ipmb_frame.specs.declared.message.Header.{Header as TheHeader};
 ghost use Rattle.ipmb_frame.specs.Grammar.{IsParty, IsHeader, IsRequest, IsResponse, packed, checked, response_start, response_lead};
@@ -88,7 +88,7 @@ pub fn begin_response(frame: &mut Frame, header: &Header, code: u8)
 /// Appends the second checksum to a response that was begun, and whose data are there.
 pub fn end_response(frame: &mut Frame)
     requires started { 3 ≤ length frame.old }
-    requires room { length frame.old < 80 }
+    requires room { length frame.old < most_frame_bytes }
     ensures response { (header : TheHeader) (code : ℕ) (body : List ℕ) → IsHeader header → length body ≤ most_ipmi_reply_data
         → frame.old ≡ response_start header code ++ body
         → IsResponse (record { header = header; code = code; body = body }) frame.new }
@@ -117,7 +117,7 @@ fn start(frame: &mut Frame, to: Party, function: u8, from: Party, sequence: Sequ
 /// Appends the second checksum.
 fn finish(frame: &mut Frame)
     requires started { 3 ≤ length frame.old }
-    requires room { length frame.old < 80 }
+    requires room { length frame.old < most_frame_bytes }
     ensures { frame.new ≡ frame.old ++ check_byte (drop 3 frame.old) ∷ [] }
 {
     frame.push(check_byte(&frame.as_slice()[3..]));

@@ -9,6 +9,7 @@ pub mod Sdr
 pub mod PowerPolicy
 pub mod Watchdog
 pub mod GlobalEnables
+pub mod BoardSizes
 pub mod BootParam
 pub mod NumericSize
 pub mod NumericEffecter

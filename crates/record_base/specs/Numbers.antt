@@ -1,8 +1,12 @@
 -- Numbers of channels and users in the bytes of requests (IPMI 2.0): a channel has 4 bits, and a user 6.
-use Rattle.std.specs.Prelude.{ℕ, ◌+◌, ◌*◌, ◌%◌, ◌^◌}
+use Rattle.std.specs.Prelude.{ℕ, ◌+◌, ◌*◌, ◌%◌, ◌^◌, ◌<◌}
 use Rattle.record_base.specs.declared.bit_field.BitField.{BitField}
 use Rattle.record_base.specs.declared.user.UserOnChannel.{UserOnChannel}
-use Rattle.record_base.specs.NumberLaws.{low_below}
+use Rattle.std.proofs.Math.Nat.{mod-lt}
+use Rattle.std.proofs.lemmas.Nat.{pow_pos}
+
+pub low_below : (bits n : ℕ) → n % 2 ^ bits < 2 ^ bits
+low_below bits n = mod-lt n (pow_pos bits)
 
 -- the number in the low bits of a byte
 abbrev pub low_bits : (bits : ℕ) → ℕ → BitField bits

@@ -4,6 +4,7 @@ ghost use Rattle.record_base.specs.ChannelAccess.{IsChannelAccess};
 ghost use Rattle.record_base.specs.PartLaws.{IsChannelAccess-prop};
 
 use crate::bit_field::BitField;
+use crate::board_sizes::MOST_CHANNELS;
 use crate::distinct::{Distinct, Numbered};
 use crate::key::Key;
 use crate::value::Value;
@@ -47,10 +48,10 @@ pub struct Channel {
 }
 
 /// The channels of a board that have sessions.
-pub type Channels = Distinct<Channel, 8>;
+pub type Channels = Distinct<Channel, { MOST_CHANNELS }>;
 
 /// The channels of a board that have none.
-pub type SessionlessChannels = Distinct<ChannelNumber, 8>;
+pub type SessionlessChannels = Distinct<ChannelNumber, { MOST_CHANNELS }>;
 
 /// Six bits of a byte of a request, beside the two that name a store.
 pub type SixBits = BitField<6>;

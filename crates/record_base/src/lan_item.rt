@@ -2,6 +2,7 @@
 ghost use Rattle.std.specs.Prelude.{◌≡◌, ◌≤◌};
 ghost use Rattle.record_base.specs.Vlan.{vlan_high};
 
+use crate::board_sizes::MOST_CHANNELS;
 use crate::channel::ChannelNumber;
 use crate::distinct::{Distinct, Numbered};
 use crate::key::Key;
@@ -25,7 +26,7 @@ pub struct Lan {
 }
 
 /// The LAN parameters of a board's channels.
-pub type Lans = Distinct<Lan, 8>;
+pub type Lans = Distinct<Lan, { MOST_CHANNELS }>;
 
 impl Numbered for Lan {
     ghost number_of = { λ lan. lan.number.number };

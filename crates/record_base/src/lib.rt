@@ -9,6 +9,7 @@ pub mod attribute_value;
 pub mod attributes;
 pub mod bios_attribute;
 pub mod bit_field;
+pub mod board_sizes;
 pub mod boot_param;
 pub mod channel;
 pub mod command_reader;

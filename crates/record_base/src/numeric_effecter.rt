@@ -4,6 +4,7 @@ ghost use Rattle.record_base.specs.NumericSize.{numbers_of, bytes_of};
 ghost use Rattle.record_base.specs.NumericEffecter.{IsNumeric};
 ghost use Rattle.record_base.specs.PartLaws.{IsNumeric-prop};
 
+use crate::board_sizes::MOST_EFFECTERS;
 use crate::distinct::{Distinct, Numbered};
 use crate::key::Key;
 use crate::numeric_range::NumericRange;
@@ -22,7 +23,7 @@ pub struct NumericEffecter {
 }
 
 /// The numeric effecters of a board.
-pub type NumericEffecters = Distinct<NumericEffecter, 32>;
+pub type NumericEffecters = Distinct<NumericEffecter, { MOST_EFFECTERS }>;
 
 /// The bytes of a value in a request, the low byte first: as many as a size has, or another number of bytes.
 #[derive(Clone, Copy, Debug, PartialEq, Eq)]

@@ -1,7 +1,9 @@
 //! The sensor data records of a board file.
 ghost use Rattle.std.specs.Prelude.{◌≡◌, ◌≤◌, length};
+ghost use Rattle.record_base.specs.BoardSizes.{most_sdr_bytes};
 ghost use Rattle.record_base.specs.Sdr.{sdr_id};
 
+use crate::board_sizes::{MOST_SDR_BYTES, MOST_SDRS};
 use crate::distinct::{Distinct, Numbered};
 use std::marker::Model;
 use two_wire::Bytes;
@@ -9,14 +11,11 @@ use two_wire::Bytes;
 /// How many bytes of a record stand before the bytes that its length counts.
 const HEADER_SIZE: usize = 5;
 
-/// The most bytes that a record has.
-pub const MOST_SDR_BYTES: usize = 64;
-
-/// The bytes of a sensor data record (IPMI 2.0), at most 64: its id in two bytes, the low byte first, the version, the type, the
+/// The bytes of a sensor data record (IPMI 2.0): its id in two bytes, the low byte first, the version, the type, the
 /// number of bytes that follow, and these bytes.
 #[derive(Debug, Drop)]
 pub struct SdrRecord {
-    bytes: Bytes<64>,
+    bytes: Bytes<{ MOST_SDR_BYTES }>,
 }
 
 impl Model for SdrRecord {
@@ -31,7 +30,7 @@ impl Model for SdrRecord {
 }
 
 /// The records of a board's repository, each under an id of its own.
-pub type SdrRecords = Distinct<SdrRecord, 64>;
+pub type SdrRecords = Distinct<SdrRecord, { MOST_SDRS }>;
 
 /// The id in the first two bytes.
 fn id_in(bytes: &[u8]) -> u16
@@ -43,11 +42,12 @@ fn id_in(bytes: &[u8]) -> u16
 
 impl SdrRecord {
     ghost use Rattle.std.specs.Prelude.{◌≡◌, ◌≤◌, ◌↔◌, IsSome, IfSome, length};
+    ghost use Rattle.record_base.specs.BoardSizes.{most_sdr_bytes};
     ghost use Rattle.record_base.specs.Sdr.{IsSdrRecord};
 
     /// The record with these bytes, or nothing where they are no record.
     pub fn new(bytes: &[u8]) -> Option<SdrRecord>
-        ensures made { IsSome result ↔ (IsSdrRecord bytes.now × (length bytes.now ≤ 64)) }
+        ensures made { IsSome result ↔ (IsSdrRecord bytes.now × (length bytes.now ≤ most_sdr_bytes)) }
         ensures bytes { IfSome result (λ made. made ≡ bytes.now) }
     {
         if bytes.len() < HEADER_SIZE || bytes.len() > MOST_SDR_BYTES {
@@ -65,7 +65,7 @@ impl SdrRecord {
     pub fn as_slice(&self) -> &[u8]
         ensures value { result.now ≡ self.now }
         ensures sound { IsSdrRecord result.now }
-        ensures few { length result.now ≤ 64 }
+        ensures few { length result.now ≤ most_sdr_bytes }
     {
         self.bytes.as_slice()
     }

@@ -1,6 +1,7 @@
 //! The sensors of a board file.
 ghost use Rattle.std.specs.Prelude.{◌<◌};
 
+use crate::board_sizes::MOST_SENSORS;
 use crate::distinct::{Distinct, Numbered};
 use crate::event_enable::EventEnable;
 use crate::hysteresis::Hysteresis;
@@ -18,7 +19,7 @@ pub struct Sensor {
 }
 
 /// The sensors of a board.
-pub type Sensors = Distinct<Sensor, 32>;
+pub type Sensors = Distinct<Sensor, { MOST_SENSORS }>;
 
 impl Numbered for Sensor {
     ghost number_of = { λ sensor. sensor.number };

@@ -2,6 +2,7 @@
 ghost use Rattle.std.specs.Prelude.{◌≡◌, ◌≤◌, IsTrue, length};
 ghost use Rattle.record_base.specs.StateField.{allows};
 
+use crate::board_sizes::MOST_EFFECTERS;
 use crate::distinct::{Distinct, Numbered};
 use crate::field_changes::FieldChanges;
 use crate::items::Items;
@@ -27,7 +28,7 @@ pub struct StateEffecter {
 }
 
 /// The state effecters of a board.
-pub type StateEffecters = Distinct<StateEffecter, 32>;
+pub type StateEffecters = Distinct<StateEffecter, { MOST_EFFECTERS }>;
 
 /// Sets fields of a state effecter, by the bytes of the request. No effecter has more than 8 fields. So 9 changes stand for the
 /// changes of any longer request: every effecter refuses them.

@@ -4,6 +4,7 @@ ghost use Rattle.record_base.specs.UserAccess.{is_limit, IsUserAccess};
 ghost use Rattle.record_base.specs.PartLaws.{IsUserAccess-prop};
 
 use crate::bit_field::BitField;
+use crate::board_sizes::MOST_ACCESSES;
 use crate::channel::ChannelNumber;
 use crate::distinct::{Distinct, Numbered};
 use crate::key::Key;
@@ -37,7 +38,7 @@ pub struct UserAccess {
 }
 
 /// What the users of a board may do on each of its channels with sessions.
-pub type UserAccesses = Distinct<UserAccess, 128>;
+pub type UserAccesses = Distinct<UserAccess, { MOST_ACCESSES }>;
 
 /// Sets what a user may do on a channel, by the bytes of the request: the first has bit 7 where bits 6:4 are to become the user's,
 /// and the channel in bits 3:0; the user's number, in bits 5:0; the limit of privileges, in bits 3:0; and the limit of sessions, if it

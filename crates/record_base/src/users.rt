@@ -2,12 +2,10 @@
 ghost use Rattle.record_base.specs.Users.{AreUsers};
 ghost use Rattle.record_base.specs.UsersLaws.{AreUsers-prop};
 
+use crate::board_sizes::MOST_USERS;
 use crate::in_order::are_numbered;
 use crate::items::Items;
 use crate::user::User;
-
-/// The most users that a board has.
-const MOST_USERS: usize = 16;
 
 /// The users of a board: at most 16, of numbers 1, 2 and so on in order. The first has no name.
 #[derive(Debug, Drop)]

@@ -1,6 +1,7 @@
 //! The parts of a board that never change.
 ghost use Rattle.std.specs.Prelude.{◌≡◌, ◌≤◌, IfOk, length};
 ghost use Rattle.std.specs.Option.{option_copied};
+ghost use Rattle.record_base.specs.BoardSizes.{most_sensors};
 ghost use Rattle.record_base.specs.Distinct.{NamesDiffer};
 ghost use Rattle.record_kinds.specs.Places.{ArePlaces};
 
@@ -43,7 +44,7 @@ impl Model for Setup {
 
 /// For each number, where the sensor of this number stands.
 fn places_of(sensors: &[Sensor]) -> [u8; 256]
-    requires few { length sensors.now ≤ 32 }
+    requires few { length sensors.now ≤ most_sensors }
     requires differ { NamesDiffer (λ sensor. sensor.number) sensors.now }
     ensures { ArePlaces sensors.now result }
 {

@@ -22,7 +22,7 @@ use Rattle.text_schedule.specs.declared.event.OtherMessage.{OtherMessage}
 use Rattle.text_schedule.specs.declared.event.Event.{Event}
 use Rattle.text_schedule.specs.declared.event.Event.TheVariants.{ToBmc, ToMgr, OtherIpmb, OtherSmbus, Noise, Idle, Scan}
 use Rattle.text_schedule.specs.Text.{lines_of, words_of, IsNumber, IsByte}
-use Rattle.text_schedule.specs.Line.{bus_name, AreSome, IsRequest, Says}
+use Rattle.text_schedule.specs.Line.{bus_name, most_noise, AreSome, IsRequest, Says}
 use Rattle.text_schedule.specs.Schedule.{spoken, Say}
 use Rattle.schedule_writer.specs.Written.{said, byte_digits, bytes_of, line_of, text_of, Stands}
 
@@ -191,7 +191,7 @@ request_is r net_fn responder lun body address f p l b a even low under few plai
   address = subst (λ (n : ℕ). n % 2 ≡ 0) a plain;
 }
 
-pub noise_stands : (on : Bus) (bytes : List ℕ) → IsBytes bytes → AreSome 80 bytes → Stands (line_of (Noise on bytes)) (Noise on bytes)
+pub noise_stands : (on : Bus) (bytes : List ℕ) → IsBytes bytes → AreSome most_noise bytes → Stands (line_of (Noise on bytes)) (Noise on bytes)
 noise_stands on bytes small some =
     let digits = encode_upper bytes in
     let w = word_before (codes "noise") _ (bus_name on ∷ digits ∷ []) (one_word (codes "noise") refl refl)

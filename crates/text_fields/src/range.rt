@@ -19,8 +19,8 @@ use crate::row::Shape;
 use crate::states::{are_changes, are_present, are_state_lists};
 use crate::tree::{bytes, members, natural, naturals, number};
 use crate::users::{are_names, is_user_limit, name};
+use record_base::board_sizes::MOST_SDR_BYTES;
 use record_base::event_enable::are_within;
-use record_base::sdr_record::MOST_SDR_BYTES;
 use record_base::{
     Bcd, BootChange, BootFlags, BootParameter, GlobalEnables, MaskedBits, SdrRecord,
     ThresholdMasks, Thresholds, Watchdog,

@@ -2,7 +2,7 @@
 use Rattle.std.specs.Prelude.{◌≡◌, ℕ, ◌<◌, ◌≤◌, ◌%◌, List, [], ◌∷◌, length, codes}
 use Rattle.two_wire.specs.declared.Bus.{Bus}
 use Rattle.two_wire.specs.declared.Bus.TheVariants.{Ipmb, Smbus}
-use Rattle.two_wire.specs.Sizes.{most_ipmi_request_data, most_message_bytes}
+use Rattle.two_wire.specs.Sizes.{most_frame_bytes, most_ipmi_request_data, most_message_bytes}
 use Rattle.ipmb_frame.specs.Grammar.{packed}
 use Rattle.text_schedule.specs.declared.event.Call.{Call as Called}
 use Rattle.text_schedule.specs.declared.event.Call.TheVariants.{Start, Quiet, Stop, Again, Undo}
@@ -26,7 +26,7 @@ bus_name Smbus = codes "smbus"
 
 -- noise has at most so many bytes, as many as a frame
 abbrev pub most_noise : ℕ
-most_noise = 80
+most_noise = most_frame_bytes
 
 -- so many bytes at most, and at least one
 pub record AreSome (most : ℕ) (bytes : List ℕ) : Type 0 where

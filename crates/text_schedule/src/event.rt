@@ -1,11 +1,11 @@
 //! What happens in a lab.
 use crate::octets::Octets;
 use ipmb_frame::{Party, Sequence};
-use two_wire::size::{MOST_IPMI_REQUEST_DATA, MOST_MESSAGE_BYTES};
+use two_wire::size::{MOST_FRAME_BYTES, MOST_IPMI_REQUEST_DATA, MOST_MESSAGE_BYTES};
 use two_wire::{Bus, Bytes, Lun, NetFn};
 
 /// The most bytes of noise: as many as a frame has.
-pub const MOST_NOISE: usize = 80;
+pub const MOST_NOISE: usize = MOST_FRAME_BYTES;
 
 /// A call of the manager.
 #[derive(Clone, Copy, Debug, PartialEq, Eq)]

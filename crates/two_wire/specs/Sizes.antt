@@ -1,5 +1,13 @@
--- How many bytes a message has at most (IPMB 1.0: a frame has 32 bytes; DSP0240: a PLDM header has three).
+-- How many bytes a frame and a message have at most (IPMB 1.0; DSP0240: a PLDM header has three).
 use Rattle.std.specs.Prelude.{ℕ}
+
+-- a frame of either bus has room for so many
+abbrev pub most_frame_bytes : ℕ
+most_frame_bytes = 80
+
+-- a frame of IPMB
+abbrev pub most_ipmb_bytes : ℕ
+most_ipmb_bytes = 32
 
 -- the data of an IPMI request: a frame has seven bytes beside them
 abbrev pub most_ipmi_request_data : ℕ

@@ -1,6 +1,7 @@
 //! Byte lists of a fixed capacity.
 ghost use Rattle.std.specs.Prelude.{◌≡◌, ◌+◌, ◌<◌, ◌≤◌, ◌↔◌, [], ◌∷◌, ◌++◌, length, IsTrue};
 
+use crate::size::MOST_FRAME_BYTES;
 use arrayvec::ArrayVec;
 use std::marker::Model;
 
@@ -116,4 +117,4 @@ impl<const CAP: usize> Default for Bytes<CAP> {
 }
 
 /// The bytes of one frame of either bus.
-pub type Frame = Bytes<80>;
+pub type Frame = Bytes<{ MOST_FRAME_BYTES }>;

@@ -10,8 +10,8 @@ use Rattle.record_base.specs.Meaning.{Decides, IsRefusal}
 use Rattle.record_base.specs.InverseLaws.{some_where, made_where, tested_same, same_tested}
 use Rattle.record_base.specs.Kind.{KindLaws, RecordLaws}
 use Rattle.record_base.specs.RefusalLaws.{refused_field}
-use Rattle.record_base.specs.Numbers.{channel_in, user_in, user_on}
-use Rattle.record_base.specs.NumberLaws.{low_below, same_field}
+use Rattle.record_base.specs.Numbers.{low_below, channel_in, user_in, user_on}
+use Rattle.record_base.specs.NumberLaws.{same_field}
 use Rattle.record_base.specs.UserAccess.{is_limit, IsUserAccess}
 use Rattle.record_base.specs.PartLaws.{IsUserAccess-prop}
 use Rattle.user_chan.specs.declared.user_access.UserAccessLimits.{UserAccessLimits}

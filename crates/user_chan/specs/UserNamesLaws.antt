@@ -8,8 +8,8 @@ use Rattle.record_base.specs.Meaning.{Decides, IsRefusal}
 use Rattle.record_base.specs.InverseLaws.{some_where, made_where, tested_same, same_tested}
 use Rattle.record_base.specs.Kind.{KindLaws, RecordLaws}
 use Rattle.record_base.specs.RefusalLaws.{refused_field}
-use Rattle.record_base.specs.Numbers.{user_in}
-use Rattle.record_base.specs.NumberLaws.{low_below, same_field}
+use Rattle.record_base.specs.Numbers.{low_below, user_in}
+use Rattle.record_base.specs.NumberLaws.{same_field}
 use Rattle.user_chan.specs.UserNames.{nameless, user_of, SetsUserName, shown_name, undo_name, words, record_words}
 
 -- what holds of all lists of sixteen holds of a list of that length

@@ -1,6 +1,6 @@
 //! What a port replies to requests, and what it keeps of them.
 ghost use Rattle.std.specs.Prelude.{◌≡◌, ◌≤◌, ◌-◌, ◌∷◌, [], length, drop, slice_index, true, false, Some, IfOk, IfErr, OnErr};
-ghost use Rattle.two_wire.specs.Sizes.{most_ipmi_reply_data};
+ghost use Rattle.two_wire.specs.Sizes.{most_ipmb_bytes, most_ipmi_reply_data};
 ghost use Rattle.two_wire.specs.declared.Bus.TheVariants.{Ipmb};
 ghost use Rattle.ipmb_frame.specs.declared.message.Request.{Request as AnyRequest};
 ghost use Rattle.ipmb_frame.specs.Grammar.{IsResponse, response_start};
@@ -18,11 +18,12 @@ use bmc_carry::Carrier;
 use bmc_windows::{Found, Windows};
 use cfg_records::{Answered, byte_at};
 use ipmb_frame::{Header, begin_response, end_response, write_response_into};
+use two_wire::size::MOST_IPMB_BYTES;
 use two_wire::{Code, Frame, code};
 
 /// The requests that a port carried out, with the frames of their responses. A response has at most 32 bytes, and a request at most 27
 /// behind the first that is kept.
-pub(super) type Kept = Windows<{ SEQUENCE_NUMBERS }, 32>;
+pub(super) type Kept = Windows<{ SEQUENCE_NUMBERS }, { MOST_IPMB_BYTES }>;
 
 /// Has a request carried out, and makes the frame its response.
 fn respond<C: Carrier>(
@@ -95,7 +96,7 @@ fn reply_in(frame: &[u8]) -> (u8, &[u8])
 #[inline(always)]
 fn repeat(out: &mut Out, header: &Header, kept: &[u8])
     requires units { HasUnits header.now }
-    requires fits { length kept.now ≤ 32 }
+    requires fits { length kept.now ≤ most_ipmb_bytes }
     ensures { (r : AnyRequest) → r.header ≡ header.now
         → IsAnswered (record { request = heard_in r; reply = kept.now })
         → IsSent (response_after r (Some (reading.reply kept.now))) out.old.done out.new }

@@ -1,5 +1,6 @@
 use Rattle.std.proofs.Common.{◌≡◌, ◌≤◌, ◌<◌, ◌+◌, ℕ, List, ◌++◌, length, Result, Ok, Err, refl, sym, ◌∙◌, ap, subst, arith, lit≤}
 use Rattle.std.proofs.lemmas.List.{append-nil, length-append}
+use Rattle.two_wire.specs.Sizes.{most_frame_bytes}
 use Rattle.ipmb_frame.specs.declared.message.Header.{Header}
 use Rattle.ipmb_frame.specs.Grammar.{response_start}
 use Rattle.record_base.specs.declared.message.Answered.{Answered as Reply}
@@ -21,7 +22,7 @@ refused_frame {A} code result h start whole made answer is starts gives =
     starts ∙ sym (append-nil (response_start h code)) ∙ ap (λ (a : Reply). response_start h a.code ++ a.body) (sym at.0)
 
 -- the frame of a response with so few bytes of data has a start, and room for its check byte
-has_room : (h : Header) (code : ℕ) (body frame : List ℕ) → length body ≤ 24 → frame ≡ response_start h code ++ body → (3 ≤ length frame) × (length frame < 80)
+has_room : (h : Header) (code : ℕ) (body frame : List ℕ) → length body ≤ 24 → frame ≡ response_start h code ++ body → (3 ≤ length frame) × (length frame < most_frame_bytes)
 has_room h code body frame few is =
     let least : 3 ≤ length (response_start h code) = lit≤ tt in
     let start : length (response_start h code) ≤ 8 = lit≤ tt in
