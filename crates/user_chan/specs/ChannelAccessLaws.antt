@@ -1,7 +1,5 @@
 -- The laws of the kind ChannelAccess.
-use Rattle.std.proofs.Common.{◌≡◌, ℕ, ◌%◌, ◌<◌, ◌≤◌, List, [], ◌∷◌, length, slice_index, ◌==◌, nat_le, Bool, true, false, IsTrue, if◌then◌else◌, Ok, Err, Some, refl, sym, ◌∙◌, ap, subst, arith}
-use Rattle.std.proofs.lemmas.Bool.Decides.{nat_tests}
-use Rattle.std.proofs.lemmas.Grind.{same_number_lists, common_steps}
+use Rattle.std.proofs.Common.{◌≡◌, ℕ, ◌%◌, ◌<◌, ◌≤◌, List, [], ◌∷◌, length, slice_index, ◌==◌, Bool, true, false, IsTrue, if◌then◌else◌, Ok, Err, Some, refl, sym, ◌∙◌, ap, subst, arith}
 use Rattle.two_wire.specs.Codes.{invalid_data_field}
 use Rattle.record_base.specs.declared.channel.ChannelChange.{ChannelChange}
 use Rattle.record_base.specs.declared.channel.ChannelChange.TheVariants.{Access, Limit, Both}
@@ -14,20 +12,9 @@ use Rattle.record_base.specs.RefusalLaws.{refused_field}
 use Rattle.record_base.specs.Values.{stored}
 use Rattle.record_base.specs.ChannelAccess.{IsChannelAccess}
 use Rattle.record_base.specs.PartLaws.{IsChannelAccess-prop}
+use Rattle.record_base.specs.AttributeRangeLaws.{le_true, true_le}
+use Rattle.user_chan.specs.CommonLaws.{two, true_not_false}
 use Rattle.user_chan.specs.ChannelAccess.{is_access, is_limit, is_change, changed, SetsChannelAccess, undo_change, undo_channel, is_plain_change, words, record_words}
-
--- a list of two is its two members
-two : (xs : List ℕ) → length xs ≡ 2 → xs ≡ slice_index xs 0 ∷ slice_index xs 1 ∷ []
-two xs h = same_number_lists _ _ h (λ k lt. grind (arith, common_steps))
-
-true_not_false : (b : Bool) → b ≡ true → b ≡ false → ⊥
-true_not_false b t f = cc
-
-true_le : (a b : ℕ) → nat_le a b ≡ true → a ≤ b
-true_le a b h = grind (arith, nat_tests)
-
-le_true : (a b : ℕ) → a ≤ b → nat_le a b ≡ true
-le_true a b h = grind (arith, nat_tests)
 
 -- ---- what a Set makes
 

@@ -1,7 +1,5 @@
 -- The laws of the kind LanParam.
-use Rattle.std.proofs.Common.{◌≡◌, ℕ, ◌%◌, ◌<◌, ◌≤◌, List, [], ◌∷◌, length, slice_index, ◌==◌, nat_le, Bool, true, false, IsTrue, if◌then◌else◌, Ok, Err, Some, refl, sym, ◌∙◌, ap, subst, arith, lit≤}
-use Rattle.std.proofs.lemmas.Bool.Decides.{nat_tests}
-use Rattle.std.proofs.lemmas.Grind.{same_number_lists, common_steps}
+use Rattle.std.proofs.Common.{◌≡◌, ℕ, ◌%◌, ◌<◌, ◌≤◌, List, [], ◌∷◌, length, ◌==◌, Bool, true, false, IsTrue, if◌then◌else◌, Ok, Err, Some, refl, sym, ◌∙◌, ap, subst, arith, lit≤}
 use Rattle.two_wire.specs.Codes.{invalid_data_field}
 use Rattle.record_base.specs.declared.key.Key.TheVariants as key
 use Rattle.record_base.specs.declared.lan.LanAddress.TheVariants.{Ip, SubnetMask, DefaultGateway}
@@ -20,6 +18,8 @@ use Rattle.record_base.specs.Vlan.{vlan_high}
 use Rattle.record_base.specs.Lan.{lan_selector, lan_parameter_at, lan_length, changed_parameter, IsLanParam}
 use Rattle.record_base.specs.LanItems.{parameter_on}
 use Rattle.record_base.specs.LanLaws.{IsLanParam-prop}
+use Rattle.record_base.specs.AttributeRangeLaws.{le_true, true_le}
+use Rattle.user_chan.specs.CommonLaws.{one, two, four, true_not_false}
 use Rattle.user_chan.specs.LanParam.{same_parameter, is_change, value_after, SetsLanParam, is_taken, lan_view, lan_reply_length, undo_change, undo_lan, is_plain_change, words, record_words}
 
 -- ---- parameters
@@ -47,24 +47,6 @@ same_self parameter.AddressSource = refl
 same_self parameter.Vlan = refl
 
 -- ---- values
-
-one : (xs : List ℕ) → length xs ≡ 1 → xs ≡ slice_index xs 0 ∷ []
-one xs h = same_number_lists _ _ h (λ k lt. grind (arith, common_steps))
-
-two : (xs : List ℕ) → length xs ≡ 2 → xs ≡ slice_index xs 0 ∷ slice_index xs 1 ∷ []
-two xs h = same_number_lists _ _ h (λ k lt. grind (arith, common_steps))
-
-four : (xs : List ℕ) → length xs ≡ 4 → xs ≡ slice_index xs 0 ∷ slice_index xs 1 ∷ slice_index xs 2 ∷ slice_index xs 3 ∷ []
-four xs h = same_number_lists _ _ h (λ k lt. grind (arith, common_steps))
-
-true_not_false : (b : Bool) → b ≡ true → b ≡ false → ⊥
-true_not_false b t f = cc
-
-true_le : (a b : ℕ) → nat_le a b ≡ true → a ≤ b
-true_le a b h = grind (arith, nat_tests)
-
-le_true : (a b : ℕ) → a ≤ b → nat_le a b ≡ true
-le_true a b h = grind (arith, nat_tests)
 
 -- to clear the ignored bits twice is to clear them once
 high_again : (byte : ℕ) → vlan_high (vlan_high byte) ≡ vlan_high byte

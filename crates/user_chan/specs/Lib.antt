@@ -1,3 +1,4 @@
+pub mod CommonLaws
 pub mod Passwords
 pub mod PasswordLaws
 pub mod UserNames

@@ -8,6 +8,7 @@ use Rattle.std.proofs.lemmas.List.{get_or-set_other}
 use Rattle.std.proofs.lemmas.Grind.{get_or-set_at}
 use Rattle.record_base.specs.InverseLaws.{tested_same, same_tested}
 use Rattle.record_base.specs.MaskLaws.{both_true, both}
+use Rattle.user_chan.specs.CommonLaws.{true_not_false}
 use Rattle.user_chan.specs.declared.password.Password.{Password}
 use Rattle.user_chan.specs.declared.password.Password.TheVariants.{Sixteen, Twenty}
 use Rattle.user_chan.specs.Passwords.{wrong_text, wrong_size, same_bytes, same_password, same_size, test_answer, opening_password, enabled_after, TestsTell, AllTestsTell, AllSetsAreKept, ChangesOneStatus}
@@ -43,9 +44,6 @@ true_password a b same = subst (λ (p : Password). same_password a p ≡ true) s
 size_self : (a : Password) → same_size a a ≡ true
 size_self (Sixteen a) = refl
 size_self (Twenty a) = refl
-
-true_not_false : (b : Bool) → b ≡ true → b ≡ false → ⊥
-true_not_false b t f = cc
 
 told : (kept given : Password) (b c : Bool) → same_password kept given ≡ b → same_size kept given ≡ c → (let r : Result (Unit {0}) ℕ = if b then Ok tt else Err (if c then wrong_text else wrong_size) in r) ≡ test_answer kept given → TestsTell kept given
 told kept given true c is size answers = record {

@@ -1,7 +1,6 @@
 -- The laws of the kind UserAccess.
 use Rattle.std.proofs.Common.{◌≡◌, ℕ, ◌+◌, ◌*◌, ◌/◌, ◌%◌, ◌<◌, List, [], ◌∷◌, length, slice_index, ◌==◌, Bool, true, false, IsTrue, if◌then◌else◌, Ok, Err, Some, refl, sym, ◌∙◌, ap, subst, arith}
 use Rattle.std.proofs.lemmas.Bool.Decides.{nat_tests}
-use Rattle.std.proofs.lemmas.Grind.{same_number_lists, common_steps}
 use Rattle.two_wire.specs.Codes.{invalid_data_field}
 use Rattle.record_base.specs.declared.live.Live.{Live}
 use Rattle.record_base.specs.declared.user.SetUserAccess.{SetUserAccess}
@@ -14,15 +13,9 @@ use Rattle.record_base.specs.Numbers.{low_below, channel_in, user_in, user_on}
 use Rattle.record_base.specs.NumberLaws.{same_field}
 use Rattle.record_base.specs.UserAccess.{is_limit, IsUserAccess}
 use Rattle.record_base.specs.PartLaws.{IsUserAccess-prop}
+use Rattle.user_chan.specs.CommonLaws.{one, true_not_false, again}
 use Rattle.user_chan.specs.declared.user_access.UserAccessLimits.{UserAccessLimits}
 use Rattle.user_chan.specs.UserAccess.{bits_of, low_of, changes_bits, SetsUserAccess, next_bits, byte_of, access_view, first_byte, undo_access, IsPlainAccess, words, record_words}
-
--- a list of one is its member
-one_of : (xs : List ℕ) → length xs ≡ 1 → xs ≡ slice_index xs 0 ∷ []
-one_of xs h = same_number_lists _ _ h (λ k lt. grind (arith, common_steps))
-
-true_not_false : (b : Bool) → b ≡ true → b ≡ false → ⊥
-true_not_false b t f = cc
 
 -- ---- what a Set makes
 
@@ -66,7 +59,7 @@ whole byte bits low lt p q = omega arith
 -- the new value is the outcome's value
 next_only : (op : SetUserAccess) (old new : List ℕ) → SetsUserAccess op old new → new ≡ byte_of (next_bits op (slice_index old 0)) op.limit ∷ []
 next_only op old new s =
-    one_of new s.one ∙ ap (λ (n : ℕ). n ∷ []) (whole (slice_index new 0) _ _ s.seven_bits (bits_are op old new s (changes_bits op) refl) s.limited)
+    one new s.one ∙ ap (λ (n : ℕ). n ∷ []) (whole (slice_index new 0) _ _ s.seven_bits (bits_are op old new s (changes_bits op) refl) s.limited)
 
 decided : (op : SetUserAccess) (old : List ℕ) (b : Bool) → is_limit (low_of op.limit) ≡ b
     → Decides (if b then Ok (byte_of (next_bits op (slice_index old 0)) op.limit ∷ []) else Err invalid_data_field) (SetsUserAccess op old)
@@ -114,9 +107,6 @@ small_low n = omega arith
 
 low_again : (n : ℕ) → low_of (low_of n) ≡ low_of n
 low_again n = omega arith
-
-again : (n : ℕ) → n % 64 % 64 ≡ n % 64
-again n = omega arith
 
 -- the inverse is plain
 undo_is_plain : (op : SetUserAccess) (reply : List ℕ) → IsPlainAccess (undo_access op reply)
@@ -180,7 +170,7 @@ record_laws limits = record {
   replies = λ op value live here is_valid. refl;
   get_short = λ on value live here is_valid. omega arith;
   steady = λ value live other. refl;
-  tells = λ value other live is_valid is_other same. one_of value is_valid.one ∙ same ∙ sym (one_of other is_other.one);
+  tells = λ value other live is_valid is_other same. one value is_valid.one ∙ same ∙ sym (one other is_other.one);
   same_record = λ op made value live here is_valid is.
       ap (λ (o : SetUserAccess). user_on o.first o.user) (sym (made_access op made (access_view limits value live) is)) ∙ same_on op (access_view limits value live);
   undoes = λ op made old new live is_valid done is.

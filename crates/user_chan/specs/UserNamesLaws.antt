@@ -1,5 +1,5 @@
 -- The laws of the kind UserName.
-use Rattle.std.proofs.Common.{◌≡◌, ◌≢◌, ℕ, ◌%◌, List, [], ◌∷◌, length, ◌==◌, Bool, true, false, if◌then◌else◌, Ok, Err, Some, refl, sym, ◌∙◌, ap, subst, arith}
+use Rattle.std.proofs.Common.{◌≡◌, ◌≢◌, ℕ, List, [], ◌∷◌, length, ◌==◌, Bool, true, false, if◌then◌else◌, Ok, Err, Some, refl, sym, ◌∙◌, ap, subst, arith}
 use Rattle.std.proofs.Props.{props}
 use Rattle.std.proofs.lemmas.Bool.Decides.{nat_tests}
 use Rattle.two_wire.specs.Codes.{invalid_data_field}
@@ -10,6 +10,7 @@ use Rattle.record_base.specs.Kind.{KindLaws, RecordLaws}
 use Rattle.record_base.specs.RefusalLaws.{refused_field}
 use Rattle.record_base.specs.Numbers.{low_below, user_in}
 use Rattle.record_base.specs.NumberLaws.{same_field}
+use Rattle.user_chan.specs.CommonLaws.{again}
 use Rattle.user_chan.specs.UserNames.{nameless, user_of, SetsUserName, shown_name, undo_name, words, record_words}
 
 -- what holds of all lists of sixteen holds of a list of that length
@@ -51,9 +52,6 @@ refused made code true is = refused_field code (Err invalid_data_field) refl is
 refused made code false is = cc
 
 -- ---- what an undo brings back
-
-again : (n : ℕ) → n % 64 % 64 ≡ n % 64
-again n = omega arith
 
 undoes_name : (op : SetUserName) (old : List ℕ) → length old ≡ 16 → user_of op ≢ nameless → SetsUserName (undo_name op old) old
 undoes_name op old long other = record { has_name = λ same. other (sym (again op.user) ∙ same); all = shown_is old long }
