@@ -1,16 +1,19 @@
 //! The BIOS attributes of a board file.
-ghost use Rattle.std.specs.Prelude.{◌≡◌, ◌≤◌, ◌<◌, [], true, is_some, length, Some, IsSome, IfOk, IfErr, map};
+ghost use Rattle.std.specs.Prelude.{◌≡◌, ◌≤◌, ◌<◌, [], true, is_some, length, IfOk, IfErr, map};
 ghost use Rattle.std.specs.List.{list_all, AllZip};
+ghost use Rattle.record_base.specs.AttributeRange.{AllowsIndexes};
+ghost use Rattle.record_base.specs.AttributeSizes.{most_attributes};
 ghost use Rattle.record_base.specs.Attributes.{AreInPlace};
 ghost use Rattle.toml.specs.View.{view, table_view};
-ghost use Rattle.text_fields.specs.Trees.{IsNaturalIn, number_in, table_of, members_in};
-ghost use Rattle.text_fields.specs.Attributes.{text_of, are_indexes};
+ghost use Rattle.text_fields.specs.declared.row.Shape.TheVariants as shape;
+ghost use Rattle.text_fields.specs.Trees.{IsNaturalIn, HasNumber, table_of, members_in};
+ghost use Rattle.text_fields.specs.Attributes.{text_of};
+ghost use Rattle.text_fields.specs.CheckedRows.{row_of, is_always_there, shape_of};
 ghost use Rattle.text_board.specs.AttributeItems.{IsTextIn, HoldsEnumeration, HoldsString, HoldsInteger, HoldsKind, HoldsAttribute, IsAttributeIn};
 ghost use Rattle.text_fields.specs.Ranges.{is_table};
-ghost use Rattle.text_fields.specs.Faults.{field_faults};
 ghost use Rattle.text_board.specs.Faults.{IsFirstFault, attribute_rows, attribute_faults_at, attribute_faults};
 
-use crate::check::check;
+use crate::check::checked;
 use crate::fault::{FileFault, Item};
 use crate::tables::{ATTRIBUTE, ENUMERATION, INTEGER, STRING, TOP};
 use cfg_records::{
@@ -18,8 +21,8 @@ use cfg_records::{
     IntegerSteps, StringAttribute, Text, TextLengths,
 };
 use std::alloc::Global;
-use text_fields::attributes::{indexes_of, text, text_in};
-use text_fields::tree::{byte_in, flag, has_text, members_in, number, number_in, word_in};
+use text_fields::attributes::{indexes_of, text};
+use text_fields::tree::{has_text, members_of};
 use text_fields::{Checked, Field, Row};
 use toml::{Table, Value};
 
@@ -39,14 +42,6 @@ fn rows(table: &Table) -> &'static [Row]
     &ATTRIBUTE
 }
 
-/// The number that the table has in the field.
-fn natural_in(table: &Table, field: Field) -> u64
-    requires { IsSome (number_in field (table_view table.now)) }
-    ensures { number_in field (table_view table.now) ≡ Some result }
-{
-    number(table, field).unwrap()
-}
-
 /// The texts that these values are.
 fn texts_of(alloc: Global, values: &[Value]) -> Result<Vec<Text>, FileFault>
     requires { list_all (λ value. is_some (text_of (view value))) values.now ≡ true }
@@ -63,101 +58,102 @@ fn texts_of(alloc: Global, values: &[Value]) -> Result<Vec<Text>, FileFault>
     Ok(texts)
 }
 
-/// The indexes of its values that the table has in the field.
-fn indexes_in(table: &Table, field: Field) -> Indexes
-    requires few { length (members_in Field.Values (table_view table.now)) ≤ 16 }
-    requires known { are_indexes
-        (length (members_in Field.Values (table_view table.now)))
-        (length (members_in Field.Values (table_view table.now)))
-        (members_in field (table_view table.now)) ≡ true }
-    ensures { AllZip IsNaturalIn (members_in field (table_view table.now)) result }
+/// The indexes of the enumeration's values in the field.
+fn indexes(item: &Checked<'_>, field: Field) -> Indexes
+    requires rows { item.now.rows.now ≡ ENUMERATION }
+    requires always { is_always_there (row_of field ENUMERATION) ≡ true }
+    requires indexes { shape_of (row_of field ENUMERATION) ≡ shape.Indexes }
+    ensures held { AllZip IsNaturalIn (members_in field (table_view item.now.table.now)) result }
+    ensures allowed { AllowsIndexes
+        (length (members_in Field.Values (table_view item.now.table.now))) result }
 {
-    indexes_of(members_in(table, field))
+    indexes_of(members_of(item.value(field)))
 }
 
 /// The enumeration that the table is.
-fn enumeration(alloc: Global, table: &Table) -> Result<EnumerationAttribute, FileFault>
-    requires { field_faults ENUMERATION (table_view table.now) ≡ [] }
-    ensures held { IfOk result (HoldsEnumeration (table_view table.now)) }
+fn enumeration(alloc: Global, item: &Checked<'_>) -> Result<EnumerationAttribute, FileFault>
+    requires { item.now.rows.now ≡ ENUMERATION }
+    ensures held { IfOk result (HoldsEnumeration (table_view item.now.table.now)) }
     ensures err { IfErr result (λ why. why ≡ FileFault.Memory) }
 {
-    let values = texts_of(alloc, members_in(table, Field::Values))?;
-    let default = indexes_in(table, Field::Default);
-    let current = indexes_in(table, Field::Current);
+    let values = texts_of(alloc, members_of(item.value(Field::Values)))?;
+    let default = indexes(item, Field::Default);
+    let current = indexes(item, Field::Current);
     Ok(EnumerationAttribute::new(values, default, current).unwrap())
 }
 
 /// The lengths that the string that the table is can have.
-fn lengths(table: &Table) -> TextLengths
-    requires { field_faults STRING (table_view table.now) ≡ [] }
-    ensures least { number_in Field.Least (table_view table.now) ≡ Some result.least }
-    ensures most { number_in Field.Most (table_view table.now) ≡ Some result.most }
+fn lengths(item: &Checked<'_>) -> TextLengths
+    requires { item.now.rows.now ≡ STRING }
+    ensures least { HasNumber Field.Least (table_view item.now.table.now) result.least }
+    ensures most { HasNumber Field.Most (table_view item.now.table.now) result.most }
 {
-    let least = word_in(table, Field::Least);
-    TextLengths::new(least, word_in(table, Field::Most)).unwrap()
+    let least = item.word(Field::Least);
+    TextLengths::new(least, item.natural(Field::Most) as u16).unwrap()
 }
 
 /// The string that the table is.
-fn string(table: &Table) -> StringAttribute
-    requires { field_faults STRING (table_view table.now) ≡ [] }
-    ensures { HoldsString (table_view table.now) result }
+fn string(item: &Checked<'_>) -> StringAttribute
+    requires { item.now.rows.now ≡ STRING }
+    ensures { HoldsString (table_view item.now.table.now) result }
 {
-    let string_type = byte_in(table, Field::StringType);
-    let default = text_in(table, Field::Default);
-    let current = text_in(table, Field::Current);
-    StringAttribute::new(string_type, lengths(table), default, current).unwrap()
+    let string_type = item.byte(Field::StringType);
+    let lengths = lengths(item);
+    let default = text(item.value(Field::Default)).unwrap();
+    let current = text(item.value(Field::Current)).unwrap();
+    StringAttribute::new(string_type, lengths, default, current).unwrap()
 }
 
 /// The integer that the table is.
-fn integer(table: &Table) -> IntegerAttribute
-    requires { field_faults INTEGER (table_view table.now) ≡ [] }
-    ensures { HoldsInteger (table_view table.now) result }
+fn integer(item: &Checked<'_>) -> IntegerAttribute
+    requires { item.now.rows.now ≡ INTEGER }
+    ensures { HoldsInteger (table_view item.now.table.now) result }
 {
     let steps = IntegerSteps {
-        lower: natural_in(table, Field::Lower),
-        upper: natural_in(table, Field::Upper),
-        increment: number_in(table, Field::Increment),
+        lower: item.natural(Field::Lower),
+        upper: item.natural(Field::Upper),
+        increment: item.number(Field::Increment),
     };
-    let default = natural_in(table, Field::Default);
-    let current = natural_in(table, Field::Current);
+    let default = item.natural(Field::Default);
+    let current = item.natural(Field::Current);
     IntegerAttribute::new(steps, default, current).unwrap()
 }
 
 /// The kind of attribute that the table is, by the kind that it names.
-fn kind(alloc: Global, table: &Table) -> Result<AttributeKind, FileFault>
-    requires { field_faults (attribute_rows (table_view table.now)) (table_view table.now) ≡ [] }
-    ensures held { IfOk result (HoldsKind (table_view table.now)) }
+fn kind(alloc: Global, item: &Checked<'_>) -> Result<AttributeKind, FileFault>
+    requires { item.now.rows.now ≡ attribute_rows (table_view item.now.table.now) }
+    ensures held { IfOk result (HoldsKind (table_view item.now.table.now)) }
     ensures err { IfErr result (λ why. why ≡ FileFault.Memory) }
 {
-    if has_text(table, Field::Kind, "enumeration") {
-        let enumeration = enumeration(alloc, table)?;
+    if has_text(item.table, Field::Kind, "enumeration") {
+        let enumeration = enumeration(alloc, item)?;
         return Ok(AttributeKind::Enumeration(enumeration));
     }
-    if has_text(table, Field::Kind, "string") {
-        return Ok(AttributeKind::Text(string(table)));
+    if has_text(item.table, Field::Kind, "string") {
+        return Ok(AttributeKind::Text(string(item)));
     }
-    Ok(AttributeKind::Integer(integer(table)))
+    Ok(AttributeKind::Integer(integer(item)))
 }
 
 /// The attribute that the table is, with this handle.
-fn attribute(alloc: Global, handle: u16, table: &Table) -> Result<Attribute, FileFault>
-    requires { field_faults (attribute_rows (table_view table.now)) (table_view table.now) ≡ [] }
+fn attribute(alloc: Global, handle: u16, item: &Checked<'_>) -> Result<Attribute, FileFault>
+    requires { item.now.rows.now ≡ attribute_rows (table_view item.now.table.now) }
     ensures handle { IfOk result (λ attribute. attribute.handle ≡ handle) }
-    ensures held { IfOk result (HoldsAttribute (table_view table.now)) }
+    ensures held { IfOk result (HoldsAttribute (table_view item.now.table.now)) }
     ensures err { IfErr result (λ why. why ≡ FileFault.Memory) }
 {
-    let kind = kind(alloc, table)?;
+    let kind = kind(alloc, item)?;
     Ok(Attribute {
         handle,
-        name: text_in(table, Field::NameText),
-        read_only: flag(table, Field::ReadOnly),
+        name: item.text(Field::NameText),
+        read_only: item.flag(Field::ReadOnly),
         kind,
     })
 }
 
 /// The attribute that the value is, at this place of the file's attributes.
 fn attribute_at(alloc: Global, place: usize, value: &Value) -> Result<Attribute, FileFault>
-    requires few { place < 64 }
+    requires few { place < most_attributes }
     requires table { is_table (view value.now) ≡ true }
     ensures sound { IfOk result (λ _. attribute_faults_at place (table_of (view value.now)) ≡ []) }
     ensures handle { IfOk result (λ attribute. attribute.handle ≡ place) }
@@ -166,13 +162,13 @@ fn attribute_at(alloc: Global, place: usize, value: &Value) -> Result<Attribute,
         (IsFirstFault (attribute_faults_at place (table_of (view value.now)))) }
 {
     let table = value.as_table().unwrap();
-    check(Item::Attribute(place), rows(table), table)?;
-    attribute(alloc, place as u16, table)
+    let item = checked(Item::Attribute(place), rows(table), table)?;
+    attribute(alloc, place as u16, &item)
 }
 
 /// The attributes that these tables are, up to the first fault.
 fn attributes_of(alloc: Global, values: &[Value]) -> Result<Vec<Attribute>, FileFault>
-    requires few { length values.now ≤ 64 }
+    requires few { length values.now ≤ most_attributes }
     requires tables { list_all (λ value. is_table (view value)) values.now ≡ true }
     ensures sound { IfOk result (λ _. attribute_faults (map view values.now) ≡ []) }
     ensures held { IfOk result (λ attributes.

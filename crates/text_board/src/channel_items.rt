@@ -1,6 +1,7 @@
 //! The channels of a board file.
 ghost use Rattle.std.specs.Prelude.{◌≡◌, ◌<◌, ◌≤◌, [], true, Some, IfOk, IfErr, OnOk, map, length};
 ghost use Rattle.std.specs.List.{list_all, AllZip};
+ghost use Rattle.record_base.specs.BoardSizes.{most_channels};
 ghost use Rattle.record_base.specs.Distinct.{NamesDiffer};
 ghost use Rattle.cfg_records.specs.BoardChannels.{channel_numbers};
 ghost use Rattle.toml.specs.View.{view, table_view};
@@ -227,7 +228,8 @@ pub struct FileChannels {
     pub accesses: UserAccesses,
     ghost apart: { NamesDiffer (λ number. number)
         (channel_numbers channels.items sessionless.items) },
-    ghost few: { length (channel_numbers channels.items sessionless.items) ≤ 8 },
+    ghost few: { length (channel_numbers channels.items sessionless.items)
+        ≤ most_channels },
 }
 
 /// The channels that these tables are.
@@ -235,7 +237,7 @@ fn split(alloc: Global, users: usize, values: &[Value]) -> Result<FileChannels, 
     requires tables { list_all (λ value. is_table (view value)) values.now ≡ true }
     requires sound { channel_faults users (map view values.now) ≡ [] }
     requires few { users ≤ 16 }
-    requires most { length values.now ≤ 8 }
+    requires most { length values.now ≤ most_channels }
     requires differ { NamesDiffer channel_of (map view values.now) }
     ensures held { IfOk result (λ file. HoldChannels (map view values.now)
         file.channels.items file.sessionless.items file.accesses.items) }
@@ -255,7 +257,7 @@ fn split(alloc: Global, users: usize, values: &[Value]) -> Result<FileChannels, 
 fn channels_in(alloc: Global, users: usize, values: &[Value]) -> Result<FileChannels, FileFault>
     requires tables { list_all (λ value. is_table (view value)) values.now ≡ true }
     requires few { users ≤ 16 }
-    requires most { length values.now ≤ 8 }
+    requires most { length values.now ≤ most_channels }
     ensures sound { IfOk result (λ _. channel_faults users (map view values.now) ≡ []) }
     ensures held { IfOk result (λ file. HoldChannels (map view values.now)
         file.channels.items file.sessionless.items file.accesses.items) }

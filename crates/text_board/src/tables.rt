@@ -3,6 +3,8 @@
 ghost use Rattle.std.specs.Prelude.{◌≡◌};
 ghost use Rattle.text_board.specs.Faults.{session_rows};
 
+use record_base::attribute_sizes::MOST_ATTRIBUTES;
+use record_base::board_sizes::{MOST_CHANNELS, MOST_EFFECTERS, MOST_SDRS, MOST_SENSORS};
 use text_fields::{BYTE, Field, LanField, Need, Row, Shape};
 
 /// A board file's own fields.
@@ -17,14 +19,22 @@ pub const TOP: [Row; 18] = [
     Row(Field::Boot3, Shape::Number(0, 31), Need::Always),
     Row(Field::Boot4, BYTE, Need::Always),
     Row(Field::Boot5, Shape::BootFlags, Need::Always),
-    Row(Field::Sdr, Shape::Records(64), Need::Always),
+    Row(Field::Sdr, Shape::Records(MOST_SDRS), Need::Always),
     Row(Field::Device, Shape::Table, Need::Always),
-    Row(Field::Sensor, Shape::Tables(32), Need::Never),
-    Row(Field::Channel, Shape::Tables(8), Need::Never),
-    Row(Field::Lan(LanField::Lan), Shape::Tables(8), Need::Never),
-    Row(Field::Attribute, Shape::Tables(64), Need::Never),
-    Row(Field::State, Shape::Tables(32), Need::Never),
-    Row(Field::Numeric, Shape::Tables(32), Need::Never),
+    Row(Field::Sensor, Shape::Tables(MOST_SENSORS), Need::Never),
+    Row(Field::Channel, Shape::Tables(MOST_CHANNELS), Need::Never),
+    Row(
+        Field::Lan(LanField::Lan),
+        Shape::Tables(MOST_CHANNELS),
+        Need::Never,
+    ),
+    Row(
+        Field::Attribute,
+        Shape::Tables(MOST_ATTRIBUTES),
+        Need::Never,
+    ),
+    Row(Field::State, Shape::Tables(MOST_EFFECTERS), Need::Never),
+    Row(Field::Numeric, Shape::Tables(MOST_EFFECTERS), Need::Never),
 ];
 
 /// The fields of `[device]`.

@@ -1,5 +1,5 @@
 -- What a checked table has in a field, by the field's row.
-use Rattle.std.proofs.Common.{◌≡◌, ℕ, ◌≤◌, List, [], ◌∷◌, Bool, true, false, not, length, cond, Option, Some, None, refl, sym, ap, ◌∙◌, arith}
+use Rattle.std.proofs.Common.{◌≡◌, ℕ, ◌≤◌, List, [], ◌∷◌, Bool, true, false, not, length, cond, Option, Some, None, IsSome, is_some, refl, sym, ap, ◌∙◌, arith}
 use Rattle.std.proofs.lemmas.Bool.{and_parts}
 use Rattle.std.proofs.lemmas.Bool.Decides.{nat_tests}
 use Rattle.std.proofs.lemmas.Slice.Eq.{bytes_eq-Decides}
@@ -12,12 +12,16 @@ use Rattle.text_fields.specs.declared.row.Row.{Row}
 use Rattle.text_fields.specs.declared.row.Shape.{Shape}
 use Rattle.text_fields.specs.declared.row.Shape.TheVariants as shape
 use Rattle.text_fields.specs.Words.{word}
-use Rattle.text_fields.specs.Trees.{in_field, natural, members_in}
+use Rattle.text_fields.specs.Trees.{in_field, natural, number_in, members_in}
 use Rattle.text_fields.specs.Faults.{is_needed, field_faults}
-use Rattle.text_fields.specs.Ranges.{passes, has_type, is_in_range, is_table}
+use Rattle.text_fields.specs.Ranges.{passes, has_type, is_in_range, is_table, is_most, is_upper_natural, is_step}
 use Rattle.text_fields.proofs.Members.{tables_of}
-use Rattle.text_fields.specs.CheckedRows.{is_of, row_of, is_always, is_always_there, shape_of, is_array_shape, is_array, tables_in, most_tables, is_up_to, is_number, lowest, highest, least_of, most_of}
+use Rattle.text_fields.specs.CheckedRows.{is_of, row_of, is_always, is_always_there, shape_of, is_array_shape, is_array, tables_in, most_tables, is_up_to, is_number, is_natural_shape, is_natural, lowest, highest, least_of, most_of}
 use Rattle.text_fields.proofs.Rows.{Sound, all_sound, Value, value_of, Number, number_cases}
+
+passes_some : {A : Type 0} (p : A → Bool) (o : Option A) → passes p o ≡ true → is_some o ≡ true
+passes_some p (Some x) is = refl
+passes_some p None is = cc
 
 module _ (tree : Members) (named : Field) where
   found_here : (b : Bool) (r : Row) (rows : List Row) (row : Row) → is_of named r ≡ b → Sound tree r
@@ -60,6 +64,19 @@ module _ (tree : Members) (named : Field) where
   numbered limit rows sound test =
       let (always, up_to) = and_parts (is_always_there (row_of named rows)) (is_up_to limit (shape_of (row_of named rows))) test in
       numbers limit (shape_of (row_of named rows)) (there rows sound always) up_to
+
+  naturals : (s : Shape) → Value tree named s → is_natural_shape s ≡ true → IsSome (number_in named tree)
+  naturals shape.Natural v test = rw v.found v.within
+  naturals shape.UpperNatural v test = rw v.found (passes_some (is_upper_natural tree) (natural v.value) v.within)
+  naturals shape.MostLength v test = rw v.found (passes_some (is_most tree) (natural v.value) v.within)
+  naturals shape.Stepped v test = rw v.found (passes_some (is_step tree) (natural v.value) v.within)
+  naturals other v test = cc
+
+  -- a natural number, where each item has one
+  pub natural_there : (rows : List Row) → field_faults rows tree ≡ [] → is_natural (row_of named rows) ≡ true → IsSome (number_in named tree)
+  natural_there rows sound test =
+      let (always, natural) = and_parts (is_always_there (row_of named rows)) (is_natural_shape (shape_of (row_of named rows))) test in
+      naturals (shape_of (row_of named rows)) (there rows sound always) natural
 
   tables_here : (s : Shape) (o : Option Data) → in_field named tree ≡ o → (typed : passes (λ d. not (has_type s d)) o ≡ false) → passes (λ d. not (is_in_range tree s d)) o ≡ false → is_array_shape s ≡ true
       → (list_all is_table (members_in named tree) ≡ true) × (length (members_in named tree) ≤ tables_in s)

@@ -1,5 +1,5 @@
 -- What an item without a fault has in its fields.
-use Rattle.std.proofs.Common.{◌≡◌, ℕ, ◌<◌, ◌≤◌, List, [], ◌∷◌, ◌++◌, map, Bool, true, false, not, cond, Option, Some, None, refl, sym, ◌∙◌, arith, nat_le, IsSome, subst}
+use Rattle.std.proofs.Common.{◌≡◌, ℕ, ◌<◌, ◌≤◌, List, [], ◌∷◌, ◌++◌, map, Bool, true, false, not, cond, Option, Some, None, refl, sym, ◌∙◌, arith, nat_le, subst}
 use Rattle.std.proofs.lemmas.Bool.{and_parts}
 use Rattle.std.proofs.lemmas.Bool.Decides.{nat_tests}
 use Rattle.std.proofs.lemmas.Option.{same_Some}
@@ -11,7 +11,7 @@ use Rattle.text_fields.specs.declared.row.Shape.{Shape}
 use Rattle.text_fields.specs.declared.row.Shape.TheVariants as shape
 use Rattle.text_fields.specs.declared.row.Need.TheVariants as need
 use Rattle.text_fields.specs.declared.fault.FieldFault.TheVariants as fault
-use Rattle.text_fields.specs.Trees.{in_field, natural, number_in, HasBelow, flag_in}
+use Rattle.text_fields.specs.Trees.{in_field, natural, number_in, HasBelow}
 use Rattle.text_fields.specs.Ranges.{passes, has_type, is_between, is_in_range}
 use Rattle.text_fields.specs.Faults.{is_needed, is_missing, is_mistyped, is_beyond, field_faults}
 
@@ -108,9 +108,3 @@ at_least n v is = let same : v.number ≡ n = same_Some _ _ (sym v.found ∙ is)
 -- that a value that is found is the item's
 pub same_value : {A : Type 0} (a b : A) (o : Option A) → o ≡ Some a → o ≡ Some b → a ≡ b
 same_value a b o is also = same_Some a b (sym is ∙ also)
-
--- a boolean that the step has
-pub flag_there : (tree : Members) (named : Field) → Sound tree (record { 0 = named; 1 = shape.Flag; 2 = need.Always }) → IsSome (flag_in named tree)
-flag_there tree named sound =
-    let v = value_of tree (record { 0 = named; 1 = shape.Flag; 2 = need.Always }) (in_field named tree) refl refl sound in
-    rw v.found v.typed

@@ -64,6 +64,18 @@ least_of row = lowest (shape_of row)
 abbrev pub most_of : Option Row → ℕ
 most_of row = highest (shape_of row)
 
+-- a value of this shape is a natural number
+abbrev pub is_natural_shape : Shape → Bool
+is_natural_shape shape.Natural = true
+is_natural_shape shape.UpperNatural = true
+is_natural_shape shape.MostLength = true
+is_natural_shape shape.Stepped = true
+is_natural_shape other = false
+
+-- each item has a natural number in the field
+abbrev pub is_natural : Option Row → Bool
+is_natural row = is_always_there row && is_natural_shape (shape_of row)
+
 -- an item may have an array of tables in the field
 abbrev pub is_array_shape : Shape → Bool
 is_array_shape (shape.Tables most) = true

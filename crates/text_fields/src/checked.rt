@@ -6,13 +6,18 @@ ghost use Rattle.text_fields.specs.declared.row.Shape.TheVariants as shape;
 ghost use Rattle.text_fields.specs.Trees.{in_field, members, or_none, members_in, numbers_in, table_in, HasNumber, HasFlag};
 ghost use Rattle.text_fields.specs.Ranges.{is_in_range, has_type, is_table};
 ghost use Rattle.text_fields.specs.Faults.{field_faults, first};
-ghost use Rattle.text_fields.specs.CheckedRows.{row_of, is_always_there, shape_of, is_number, least_of, most_of, is_array, most_tables};
+ghost use Rattle.text_fields.specs.CheckedRows.{row_of, is_always_there, shape_of, is_number, is_natural, least_of, most_of, is_array, most_tables};
+ghost use Rattle.text_fields.specs.Attributes.{text_in};
 
+use crate::attributes::text_in;
 use crate::check::first_fault;
 use crate::fault::FieldFault;
 use crate::field::Field;
 use crate::row::Row;
-use crate::tree::{byte_in, flag, members_in, number_in, pair_in, table_in, value_in, word_in};
+use crate::tree::{
+    byte_in, flag, members_in, number, number_in, pair_in, table_in, value_in, word_in,
+};
+use record_base::Text;
 use toml::{Table, Value};
 
 /// A table that has no fault in the fields of these rows.
@@ -89,6 +94,23 @@ impl<'a> Checked<'a> {
         ensures most { result ≤ most_of (row_of field self.now.rows.now) }
     {
         word_in(self.table, field)
+    }
+
+    /// The natural number in the field, which each item has.
+    pub fn natural(&self, field: Field) -> u64
+        requires { is_natural (row_of field self.now.rows.now) ≡ true }
+        ensures { HasNumber field (table_view self.now.table.now) result }
+    {
+        number(self.table, field).unwrap()
+    }
+
+    /// The text in the field, which each item has.
+    pub fn text(&self, field: Field) -> Text
+        requires always { is_always_there (row_of field self.now.rows.now) ≡ true }
+        requires text { shape_of (row_of field self.now.rows.now) ≡ shape.ShortText }
+        ensures { text_in field (table_view self.now.table.now) ≡ Some result }
+    {
+        text_in(self.table, field)
     }
 
     /// The flag in the field, which each item has.

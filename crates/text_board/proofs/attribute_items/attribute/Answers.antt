@@ -1,11 +1,24 @@
+use Rattle.std.proofs.Common.{◌≡◌, List, true, refl}
 use Rattle.toml.specs.View.{table_view}
 use Rattle.text_fields.specs.declared.field.Field.TheVariants as field
-use Rattle.text_board.proofs.AttributeFields.{text_there, common_there}
-use Rattle.text_fields.proofs.Rows.{flag_there}
+use Rattle.text_fields.specs.declared.row.Row.{Row}
+use Rattle.text_fields.specs.declared.row.Shape.TheVariants as shape
+use Rattle.text_fields.specs.CheckedRows.{row_of, is_always_there, shape_of}
+use Rattle.text_board.proofs.AttributeFields.{each_kind}
 use Rattle.text_board.proofs.attribute_items.attribute.Goals as goal
 
-pub text_in-requires : goal.text_in-requires
-text_in-requires c = text_there (table_view c.args.table.now) field.NameText (common_there (table_view c.args.table.now) c.requires).name
+pub text-requires-clause-always : goal.text-requires-clause-always
+text-requires-clause-always c =
+    rw c.requires (each_kind (λ (rows : List Row). is_always_there (row_of field.NameText rows) ≡ true) refl refl refl refl (table_view c.args.item.now.table.now))
 
-pub flag-requires : goal.flag-requires
-flag-requires c = flag_there (table_view c.args.table.now) field.ReadOnly (common_there (table_view c.args.table.now) c.requires).read_only
+pub text-requires-clause-text : goal.text-requires-clause-text
+text-requires-clause-text c =
+    rw c.requires (each_kind (λ (rows : List Row). shape_of (row_of field.NameText rows) ≡ shape.ShortText) refl refl refl refl (table_view c.args.item.now.table.now))
+
+pub flag-requires-clause-always : goal.flag-requires-clause-always
+flag-requires-clause-always c =
+    rw c.requires (each_kind (λ (rows : List Row). is_always_there (row_of field.ReadOnly rows) ≡ true) refl refl refl refl (table_view c.args.item.now.table.now))
+
+pub flag-requires-clause-flag : goal.flag-requires-clause-flag
+flag-requires-clause-flag c =
+    rw c.requires (each_kind (λ (rows : List Row). shape_of (row_of field.ReadOnly rows) ≡ shape.Flag) refl refl refl refl (table_view c.args.item.now.table.now))
