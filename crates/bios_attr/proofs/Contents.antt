@@ -7,7 +7,7 @@ use Rattle.record_base.specs.declared.attribute.Attribute.{Attribute}
 use Rattle.record_base.specs.declared.attribute.AttributeKind.{AttributeKind}
 use Rattle.record_base.specs.declared.attribute.AttributeKind.TheVariants as kind
 use Rattle.record_base.specs.Attribute.{type_of_kind}
-use Rattle.record_base.specs.AttributeValue.{two_bytes, value_bytes, value_in}
+use Rattle.record_base.specs.AttributeValue.{two_bytes, value_in, HasEightBytes}
 use Rattle.record_base.specs.declared.attribute_value.AttributeValue.{AttributeValue}
 use Rattle.bios_attr.specs.declared.table_entry.TableEntry.TheVariants as entry
 use Rattle.bios_attr.specs.declared.bios_table.BiosTable.TheVariants.{Attributes, Values}
@@ -15,7 +15,7 @@ use Rattle.bios_attr.specs.Attributes.{handle_of, handles_of, kind_fields, attri
 use Rattle.bios_attr.specs.ValueEntry.{shown_type, entry_bytes}
 use Rattle.bios_attr.specs.AttributeEntry.{HasItsBytes, type_of_fields, fields_bytes, attribute_bytes}
 use Rattle.bios_attr.specs.declared.current_values.EntryHead.{EntryHead}
-use Rattle.bios_attr.specs.TableEntry.{written, IsValueEntry, AreOf, IsTableOf}
+use Rattle.bios_attr.specs.TableEntry.{written, AreOf, IsTableOf}
 use Rattle.bios_attr.specs.Tables.{IsTable}
 use Rattle.bios_attr.specs.Values.{head_of, value_entries, IsShown}
 use Rattle.bios_attr.specs.ValueEntryLaws.{value_told}
@@ -81,15 +81,14 @@ others_of p x xs all = λ k d within. all (suc k) d (omega (arith, within))
 -- what is read of an attribute's bytes is written as these behind its head, and is a value entry
 record IsEntry (values : ℕ → List ℕ) (current : ℕ → AttributeValue) (a : Attribute) : Type 0 where
   spelled : entry_bytes (value_entry_of current a) ≡ two_bytes a.handle ++ shown_type a.read_only (type_of_kind a.kind) ∷ values a.handle
-  whole : IsValueEntry (value_entry_of current a)
+  whole : HasEightBytes (current a.handle)
 
 entry_found : (values : ℕ → List ℕ) (current : ℕ → AttributeValue) (a : Attribute) → IsShown (values a.handle) → value_in (type_of_kind a.kind) (values a.handle) ≡ Some (current a.handle) → IsEntry values current a
 entry_found values current a shown read =
     let is = value_told (type_of_kind a.kind) (values a.handle) (current a.handle) shown.small read in
-    let long : length (value_bytes (current a.handle)) ≡ length (values a.handle) = ap (λ (xs : List ℕ). length xs) is.spelled in
     record {
       spelled = λ i. two_bytes a.handle ++ shown_type a.read_only (is.of_type i) ∷ is.spelled i;
-      whole = record { small = value_fits (type_of_kind a.kind) (values a.handle) (current a.handle) shown.small _ _ _ read; short = omega (arith, long, shown.short) };
+      whole = value_fits (type_of_kind a.kind) (values a.handle) (current a.handle) shown.small _ _ _ read;
     }
 
 entries_whole : (values : ℕ → List ℕ) (current : ℕ → AttributeValue) (attributes : List Attribute) → AreShown values (map head_of attributes) → AreValuesOf attributes values current → AreOf Values (value_contents current attributes)

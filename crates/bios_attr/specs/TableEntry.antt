@@ -4,8 +4,7 @@ use Rattle.std.specs.List.{flat_map, list_all}
 use Rattle.std.specs.Int.{w32, to_le_bytes}
 use Rattle.pldm_base.specs.Crc.{IsCrc32}
 use Rattle.std.specs.Option.{option_map}
-use Rattle.record_base.specs.AttributeSizes.{most_sent}
-use Rattle.record_base.specs.AttributeValue.{number_of, enumeration_type, string_type, value_bytes, value_in, HasEightBytes}
+use Rattle.record_base.specs.AttributeValue.{number_of, enumeration_type, string_type, value_in, HasEightBytes}
 use Rattle.bios_attr.specs.declared.bios_table.BiosTable.{BiosTable}
 use Rattle.bios_attr.specs.declared.bios_table.BiosTable.TheVariants as table
 use Rattle.bios_attr.specs.declared.value_entry.ValueEntry.{ValueEntry}
@@ -27,13 +26,11 @@ value_size code bytes =
     else (if code == string_type then 2 + number_of (slice_index bytes 0) (slice_index bytes 1)
     else 8)
 
--- the value entry at the front of the bytes, and what is behind it: its value is no longer than one in a request
+-- the value entry at the front of the bytes, and what is behind it
 abbrev pub value_at : List ℕ → Option (ValueEntry × List ℕ)
 value_at (low ∷ high ∷ code ∷ bytes) =
-    if nat_le (value_size (code % read_only_bit) bytes) most_sent
-    then piece (value_size (code % read_only_bit) bytes) bytes (λ value rest.
+    piece (value_size (code % read_only_bit) bytes) bytes (λ value rest.
     option_map (λ v. (record { attribute = number_of low high; read_only = nat_le read_only_bit code; value = v }, rest)) (value_in (code % read_only_bit) value))
-    else None
 value_at _ = None
 
 -- ---- entries of any table
@@ -50,16 +47,11 @@ written (String e) = string_bytes e
 written (Attribute e) = attribute_bytes e
 written (Value e) = entry_bytes e
 
--- a value has no more bytes than one in a request, and a number has eight
-pub record IsValueEntry (e : ValueEntry) : Type 0 where
-  pub small : HasEightBytes e.value
-  pub short : length (value_bytes e.value) ≤ most_sent
-
 -- each part of the entry has the bytes that the standard gives it
 abbrev pub IsWhole : TableEntry → Type 0
 IsWhole (String e) = Unit {0}
 IsWhole (Attribute e) = HasItsBytes e.kind
-IsWhole (Value e) = IsValueEntry e
+IsWhole (Value e) = HasEightBytes e.value
 
 -- the entry of a table at the front of the bytes, and what is behind it
 abbrev pub entry_at : BiosTable → List ℕ → Option (TableEntry × List ℕ)

@@ -4,7 +4,6 @@ use Rattle.std.specs.Option.{option_map}
 use Rattle.std.specs.Int.{w64, from_le_bytes}
 use Rattle.std.proofs.lemmas.List.{take-append-drop, length-take-le}
 use Rattle.record_base.specs.AttributeRangeLaws.{le_true, true_le, value_back}
-use Rattle.record_base.specs.AttributeSizes.{most_sent}
 use Rattle.record_base.specs.declared.attribute_value.AttributeValue.{AttributeValue}
 use Rattle.record_base.specs.declared.attribute_value.AttributeValue.TheVariants.{Indexes, Text, Number}
 use Rattle.record_base.specs.AttributeValue.{number_of, type_of_value, value_bytes, indexes_in, text_in, number_in, value_in, HasEightBytes}
@@ -20,7 +19,7 @@ use Rattle.bios_attr.specs.ValueEntryLaws.{entry_told, type_back, bit_back}
 use Rattle.bios_attr.specs.StringEntry.{piece, string_at}
 use Rattle.bios_attr.specs.AttributeEntry.{attribute_bytes, attribute_at}
 use Rattle.bios_attr.specs.EntryLaws.{told, fits, comes_of, piece_back, piece_told, fits_eight, mapped, small_front, string_back, string_told, attribute_back, attribute_told}
-use Rattle.bios_attr.specs.TableEntry.{value_size, value_at, table_of, written, IsValueEntry, IsWhole, IsRead, entry_at}
+use Rattle.bios_attr.specs.TableEntry.{value_size, value_at, table_of, written, IsWhole, IsRead, entry_at}
 
 -- ---- value entries, written, then read
 
@@ -29,7 +28,7 @@ size_back (Indexes indexes) rest = omega arith
 size_back (Text text) rest = omega (arith, told (length text))
 size_back (Number n) rest = refl
 
-value_entry_back : (entry : ValueEntry) (rest : List ℕ) → IsValueEntry entry → value_at (entry_bytes entry ++ rest) ≡ Some (entry, rest)
+value_entry_back : (entry : ValueEntry) (rest : List ℕ) → HasEightBytes entry.value → value_at (entry_bytes entry ++ rest) ≡ Some (entry, rest)
 value_entry_back entry rest whole =
     let code : ℕ = shown_type entry.read_only (type_of_value entry.value) in
     let kind : ℕ = type_of_value entry.value in
@@ -37,11 +36,9 @@ value_entry_back entry rest whole =
     let make : AttributeValue → List ℕ → ValueEntry × List ℕ = λ v rest. (record { attribute = number_of (entry.attribute % 256) (entry.attribute / 256); read_only = nat_le 128 code; value = v }, rest) in
     let next : ℕ → List ℕ → List ℕ → Option (ValueEntry × List ℕ) = λ kind value rest. option_map (λ v. make v rest) (value_in kind value) in
     let size : value_size kind (bytes ++ rest) ≡ length bytes = size_back entry.value rest in
-    let short : nat_le (value_size kind (bytes ++ rest)) most_sent ≡ true = le_true _ _ (omega (arith, size, whole.short)) in
-    ap (λ (kind : ℕ). if nat_le (value_size kind (bytes ++ rest)) most_sent then piece (value_size kind (bytes ++ rest)) (bytes ++ rest) (next kind) else None) (type_back entry.read_only entry.value)
-    ∙ fits _ (piece (value_size kind (bytes ++ rest)) (bytes ++ rest) (next kind)) short
+    ap (λ (kind : ℕ). piece (value_size kind (bytes ++ rest)) (bytes ++ rest) (next kind)) (type_back entry.read_only entry.value)
     ∙ piece_back (value_size kind (bytes ++ rest)) bytes rest (next kind) size
-    ∙ ap (option_map (λ v. make v rest)) (value_back entry.value whole.small)
+    ∙ ap (option_map (λ v. make v rest)) (value_back entry.value whole)
     ∙ (λ i. Some (record { attribute = told entry.attribute i; read_only = bit_back entry.read_only entry.value i; value = entry.value }, rest))
 
 -- ---- value entries, read, then written
@@ -65,7 +62,7 @@ value_fits code bytes v small false false false h = absurd cc
 -- an entry and what is behind it, as they were read from these bytes
 record IsValueRead (bytes : List ℕ) (read : ValueEntry × List ℕ) : Type 0 where
   spelled : entry_bytes read.0 ++ read.1 ≡ bytes
-  whole : IsValueEntry read.0
+  whole : HasEightBytes read.0.value
 
 value_told : (bytes : List ℕ) (read : ValueEntry × List ℕ) → AreBytes bytes → value_at bytes ≡ Some read → IsValueRead bytes read
 value_told [] read small h = absurd cc
@@ -76,8 +73,7 @@ value_told (low ∷ high ∷ code ∷ bytes) read small h =
     let size : ℕ = value_size kind bytes in
     let make : AttributeValue → ValueEntry = λ v. record { attribute = number_of low high; read_only = nat_le 128 code; value = v } in
     let next : List ℕ → List ℕ → Option (ValueEntry × List ℕ) = λ value rest. option_map (λ v. (make v, rest)) (value_in kind value) in
-    let fitting = comes_of (nat_le size most_sent) (piece size bytes next) read h in
-    let found = piece_told size bytes next read fitting.1 in
+    let found = piece_told size bytes next read h in
     let got = mapped (λ v. (make v, drop size bytes)) (value_in kind (take size bytes)) read found.1 in
     let v : AttributeValue = got.0 in
     let front : List ℕ = low ∷ high ∷ code ∷ take size bytes in
@@ -85,13 +81,10 @@ value_told (low ∷ high ∷ code ∷ bytes) read small h =
     let small_value : AreBytes (take size bytes) = small_front size bytes small_behind in
     let small_entry : AreBytes front = small_front (suc (suc (suc size))) (low ∷ high ∷ code ∷ bytes) small in
     let spelled : entry_bytes (make v) ≡ front = entry_told front (make v) small_entry (ap (option_map make) got.1) in
-    let most : size ≤ most_sent = true_le _ _ fitting.0 in
-    let long : length (take size bytes) ≡ size = length-take-le size bytes found.0 in
-    let all : length (entry_bytes (make v)) ≡ length front = ap (λ (xs : List ℕ). length xs) spelled in
     subst (IsValueRead (low ∷ high ∷ code ∷ bytes)) got.2
     (record {
       spelled = ap (λ (xs : List ℕ). xs ++ drop size bytes) spelled ∙ ap (λ (xs : List ℕ). low ∷ high ∷ code ∷ xs) (take-append-drop size bytes);
-      whole = record { small = value_fits kind (take size bytes) v small_value _ _ _ got.1; short = omega (arith, most, long, all) };
+      whole = value_fits kind (take size bytes) v small_value _ _ _ got.1;
     })
 
 -- ---- entries of any table

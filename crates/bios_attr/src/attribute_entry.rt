@@ -5,13 +5,10 @@ ghost use Rattle.bios_attr.specs.declared.attribute_entry.KindFields.TheVariants
 ghost use Rattle.bios_attr.specs.AttributeEntry.{type_of_fields, fields_bytes, attribute_bytes, default_at, enumeration_at, text_at, numbers_in, integer_at, fields_at, attribute_at};
 
 use crate::rest::Rest;
-use crate::string_entry::LONGEST_TEXT;
 use crate::value_entry::{READ_ONLY_BIT, shown_type};
+use record_base::attribute_sizes::{LONGEST_TEXT, MOST_COUNTED};
 use record_base::attribute_value::{ENUMERATION_TYPE, INTEGER_TYPE, STRING_TYPE};
 use two_wire::{Buffer, Data};
-
-/// How many bytes an entry can count by one byte.
-const MOST_COUNTED: usize = 255;
 
 /// How many bytes the handles have at most that an entry counts by one byte.
 const MOST_HANDLES: usize = 510;

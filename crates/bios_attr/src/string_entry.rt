@@ -3,10 +3,8 @@ ghost use Rattle.std.specs.Prelude.{◌≡◌, ◌+◌, ◌≤◌, ◌++◌, len
 ghost use Rattle.bios_attr.specs.StringEntry.{string_bytes, string_at};
 
 use crate::rest::Rest;
+use record_base::attribute_sizes::LONGEST_TEXT;
 use two_wire::{Buffer, Data};
-
-/// How many bytes a text has at most whose length stands in two bytes.
-pub const LONGEST_TEXT: usize = 65535;
 
 /// A string's handle, and its text. The text lies where it is read from.
 #[derive(Debug, Drop)]

@@ -1,12 +1,10 @@
 //! Value entries: an attribute's handle, its type, and its value.
 ghost use Rattle.std.specs.Prelude.{◌≡◌, ◌+◌, ◌≤◌, ◌++◌, length};
-ghost use Rattle.record_base.specs.AttributeSizes.{most_sent};
 ghost use Rattle.record_base.specs.AttributeValue.{value_in};
 ghost use Rattle.bios_attr.specs.ValueEntry.{shown_type, entry_bytes, entry_in};
 ghost use Rattle.bios_attr.specs.TableEntry.{value_size, value_at};
 
 use crate::rest::Rest;
-use record_base::attribute_sizes::MOST_SENT;
 use record_base::attribute_value::{AttributeValue, ENUMERATION_TYPE, STRING_TYPE, value_in};
 use record_base::byte_at;
 use two_wire::Buffer;
@@ -48,7 +46,6 @@ impl ValueEntry<'_> {
 
 /// The entry that the bytes are, if they are one.
 pub fn entry_in(bytes: &[u8]) -> Option<ValueEntry<'_>>
-    requires { length bytes.now ≤ 3 + most_sent }
     ensures { result ≡ entry_in bytes.now }
 {
     if bytes.len() < 3 {
@@ -75,7 +72,7 @@ fn value_size(code: u8, bytes: &[u8]) -> usize
     }
 }
 
-/// The value entry at the front of the bytes, and what is behind it. Its value is no longer than one in a request.
+/// The value entry at the front of the bytes, and what is behind it.
 pub fn value_at(bytes: &[u8]) -> Option<(ValueEntry<'_>, Rest<'_>)>
     ensures { result ≡ value_at bytes.now }
 {
@@ -85,7 +82,7 @@ pub fn value_at(bytes: &[u8]) -> Option<(ValueEntry<'_>, Rest<'_>)>
     let code = bytes[2] % READ_ONLY_BIT;
     let behind = &bytes[3..];
     let size = value_size(code, behind);
-    if size > MOST_SENT || behind.len() < size {
+    if behind.len() < size {
         return None;
     }
     let value = value_in(code, &behind[..size])?;

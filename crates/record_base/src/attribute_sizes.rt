@@ -13,6 +13,12 @@ pub const LEAST_VALUE: usize = 2;
 /// How many bytes the value of an attribute has at most: the length of a text, and the text.
 pub const MOST_VALUE: usize = 2 + MOST_TEXT;
 
+/// How many indexes a value counts by its first byte at most.
+pub const MOST_COUNTED: usize = 255;
+
+/// How many bytes a text has at most whose length stands in two bytes.
+pub const LONGEST_TEXT: usize = 65535;
+
 /// How many bytes stand before the value in the data of a Set or of a Get reply: handle, flag, attribute and type.
 pub const BEFORE_VALUE: usize = 8;
 

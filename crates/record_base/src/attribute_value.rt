@@ -1,9 +1,8 @@
 //! The values of BIOS attributes, and their bytes.
 ghost use Rattle.std.specs.Prelude.{◌≡◌, ◌+◌, ◌≤◌, ◌++◌, length};
-ghost use Rattle.record_base.specs.AttributeSizes.{most_sent};
 ghost use Rattle.record_base.specs.AttributeValue.{type_of_value, value_bytes, indexes_in, text_in, number_in, value_in};
 
-use crate::attribute_sizes::MOST_SENT;
+use crate::attribute_sizes::{LONGEST_TEXT, MOST_COUNTED};
 use two_wire::{Buffer, Data};
 
 /// The type of an enumeration.
@@ -19,9 +18,9 @@ pub const INTEGER_TYPE: u8 = 0x03;
 #[derive(Debug, Drop)]
 pub enum AttributeValue<'a> {
     /// The indexes of the possible values that an enumeration has.
-    Indexes(Data<'a, { MOST_SENT }>),
+    Indexes(Data<'a, { MOST_COUNTED }>),
     /// The text of a string.
-    Text(Data<'a, { MOST_SENT }>),
+    Text(Data<'a, { LONGEST_TEXT }>),
     /// The number of an integer.
     Number(u64),
 }
@@ -60,7 +59,6 @@ impl AttributeValue<'_> {
 
 /// The indexes behind a byte that counts them.
 fn read_indexes(bytes: &[u8]) -> Option<AttributeValue<'_>>
-    requires { length bytes.now ≤ most_sent }
     ensures { result ≡ indexes_in bytes.now }
 {
     let (count, indexes) = bytes.split_first()?;
@@ -72,7 +70,6 @@ fn read_indexes(bytes: &[u8]) -> Option<AttributeValue<'_>>
 
 /// The text behind two bytes with its length.
 fn read_text(bytes: &[u8]) -> Option<AttributeValue<'_>>
-    requires { length bytes.now ≤ most_sent }
     ensures { result ≡ text_in bytes.now }
 {
     if bytes.len() < 2 {
@@ -97,7 +94,6 @@ fn read_number(bytes: &[u8]) -> Option<AttributeValue<'static>>
 
 /// The value of this type with these bytes, or nothing where a value of the type can't have so many.
 pub fn value_in(code: u8, bytes: &[u8]) -> Option<AttributeValue<'_>>
-    requires { length bytes.now ≤ most_sent }
     ensures { result ≡ value_in code bytes.now }
 {
     match code {

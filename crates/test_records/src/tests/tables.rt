@@ -159,6 +159,23 @@ fn lines_that_are_told_wrong_are_noticed(rt: HostRuntime) {
     expect_otherwise(&rt, rt.alloc(), WRONG, SAID);
 }
 
+/// The entry of a text of 300 bytes, which no request carries whole.
+fn long_entry(alloc: Global) -> Result<Vec<u8>, AllocError> {
+    let mut bytes = Vec::new(alloc);
+    bytes.extend_from_slice(&[7, 0, 1, 0x2C, 0x01])?;
+    bytes.extend_from_slice(&[0x61; 300])?;
+    Ok(bytes)
+}
+
+#[test]
+fn the_length_field_alone_bounds_a_value(rt: HostRuntime) {
+    let bytes = long_entry(rt.alloc()).expect(&rt, "memory");
+    let whole = first_length(BiosTable::Values, bytes.as_slice());
+    expect(&rt, whole == Some(305), "the whole entry");
+    let part = first_length(BiosTable::Values, &bytes.as_slice()[..304]);
+    expect(&rt, part.is_none(), "a byte is missing");
+}
+
 /// The strings of an attribute and its possible values.
 const STRINGS: [u8; 18] = [
     0, 0, 5, 0, 0x51, 0x75, 0x69, 0x65, 0x74, 1, 0, 3, 0, 0x6F, 0x66, 0x66, 2, 0,
