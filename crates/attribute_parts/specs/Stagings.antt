@@ -1,9 +1,9 @@
 -- What requesters have staged of entries that come in parts (DSP0247, "SetBIOSAttributeCurrentValue"): one entry a requester, and eight
 -- requesters at most.
-use Rattle.std.specs.Prelude.{ℕ, nat_le, List, [], ◌∷◌, ◌++◌, length, find, Bool, not, ◌==◌, if◌then◌else◌, Option, Some, None, Result, Ok, Err}
+use Rattle.std.specs.Prelude.{◌≡◌, ℕ, nat_le, List, [], ◌∷◌, ◌++◌, length, find, Bool, not, ◌==◌, if◌then◌else◌, Option, Some, None, Result, Ok, Err}
 use Rattle.std.specs.List.{filter}
 use Rattle.std.specs.Option.{option_map}
-use Rattle.two_wire.specs.Codes.{pldm_invalid_data, pldm_invalid_attribute}
+use Rattle.two_wire.specs.Codes.{pldm_error, pldm_invalid_data, pldm_invalid_attribute}
 use Rattle.record_base.specs.declared.bios_attribute.SetBiosAttribute.{SetBiosAttribute}
 use Rattle.bios_attr.specs.declared.bios_attribute.AttributeLimits.{AttributeLimits}
 use Rattle.attribute_parts.specs.declared.stagings.Staging.{Staging}
@@ -12,10 +12,6 @@ use Rattle.attribute_parts.specs.Entries.{first_fault, middle_fault, last_fault,
 -- how many requesters can have a staging at once
 abbrev pub most_stagings : ℕ
 most_stagings = 8
-
--- PLDM: the request isn't carried out, for no reason that has a code of its own (DSP0240)
-abbrev pub pldm_error : ℕ
-pldm_error = 0x01
 
 -- what each requester has staged, the one that was added to last behind the others
 abbrev pub Staged : Type 0
@@ -96,3 +92,7 @@ counted (Err code) = Err code
 abbrev pub after_part : ℕ → Result (List ℕ) ℕ → Staged → Staged
 after_part from (Ok entry) stagings = with_staged from entry stagings
 after_part from (Err code) stagings = stagings
+
+-- the reply to a part with this outcome is the handle of the part behind it, and these are the stagings before and after
+abbrev pub Leaves : ℕ → Result (List ℕ) ℕ → Result ℕ ℕ → Staged → Staged → Type 0
+Leaves from outcome reply before after = (reply ≡ counted outcome) × (after ≡ after_part from outcome before)

@@ -8,7 +8,7 @@ use pldm_base::PART_LENGTH;
 use record_base::attribute_sizes::MOST_VALUE;
 use record_base::attribute_value::STRING_TYPE;
 use record_base::{AttributeRange, SetBiosAttribute, byte_at};
-use two_wire::Code;
+use two_wire::{Bytes, Code};
 use two_wire::code::{PLDM_INVALID_DATA, PLDM_INVALID_LENGTH};
 
 /// How many bytes an entry has before its value: the attribute, and its type.
@@ -19,6 +19,9 @@ const BEFORE_TEXT: usize = 5;
 
 /// How many bytes an attribute's entry has at most.
 pub const MOST_ENTRY: usize = BEFORE_VALUE + MOST_VALUE;
+
+/// The bytes of an entry, or of what came of it so far.
+pub type Entry = Bytes<{ MOST_ENTRY }>;
 
 /// How long the text of a string's entry is, by its length field.
 fn text_length(entry: &[u8]) -> u16
@@ -35,7 +38,7 @@ fn whole_length(entry: &[u8]) -> usize
 }
 
 /// The operation of a whole entry.
-pub(crate) fn op_in(entry: &[u8]) -> SetBiosAttribute
+pub(crate) fn op_in(entry: &[u8]) -> SetBiosAttribute<'_>
     ensures { result ≡ op_of entry.now }
 {
     let attribute = u16::from_le_bytes([byte_at(entry, 0), byte_at(entry, 1)]);

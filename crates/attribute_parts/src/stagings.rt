@@ -6,19 +6,16 @@ ghost use Rattle.attribute_parts.specs.Entries.{most_entry};
 ghost use Rattle.attribute_parts.specs.Stagings.{most_stagings, is_by, staged_by, without, with_staged};
 ghost use Rattle.attribute_parts.specs.StagingsLaws.{IsBegun};
 
-use crate::entry::{MOST_ENTRY, check_first, check_last, check_middle, op_in};
+use crate::entry::{Entry, check_first, check_last, check_middle, op_in};
 use bios_attr::AttributeLimits;
 use record_base::SetBiosAttribute;
 use std::alloc::{AllocError, Global};
 use std::marker::Model;
-use two_wire::code::{PLDM_INVALID_ATTRIBUTE, PLDM_INVALID_DATA};
-use two_wire::{Bytes, Code};
+use two_wire::Code;
+use two_wire::code::{PLDM_ERROR, PLDM_INVALID_ATTRIBUTE, PLDM_INVALID_DATA};
 
 /// How many requesters can have a staging at once.
 pub const MOST_STAGINGS: usize = 8;
-
-/// PLDM: the request isn't carried out, for no reason that has a code of its own.
-const ERROR: u8 = 0x01;
 
 /// What a requester has staged of an entry.
 #[derive(Debug, Drop)]
@@ -26,7 +23,7 @@ pub struct Staging {
     /// The requester, by its byte.
     pub from: u8,
     /// The bytes so far.
-    pub entry: Bytes<{ MOST_ENTRY }>,
+    pub entry: Entry,
 }
 
 /// What requesters have staged, at most `MOST_STAGINGS` of them. It is seen as the list of this, in the order in which each was last added
@@ -37,7 +34,7 @@ pub struct Stagings {
 }
 
 /// What is staged, and these bytes behind it.
-fn joined(staged: &Bytes<{ MOST_ENTRY }>, bytes: &[u8]) -> Bytes<{ MOST_ENTRY }>
+fn joined(staged: &Entry, bytes: &[u8]) -> Entry
     requires { length staged.now + length bytes.now ≤ most_entry }
     ensures { result ≡ staged.now ++ bytes.now }
 {
@@ -59,7 +56,7 @@ impl Model for Stagings {
 }
 
 impl Stagings {
-    ghost use Rattle.attribute_parts.specs.Stagings.{start_outcome, add_outcome, end_outcome, counted, after_part};
+    ghost use Rattle.attribute_parts.specs.Stagings.{start_outcome, add_outcome, end_outcome, Leaves};
 
     /// Nothing is staged.
     pub fn opening(alloc: Global) -> Result<Self, AllocError>
@@ -79,7 +76,7 @@ impl Stagings {
     }
 
     /// What the requester has staged, or the code that refuses a later part without it.
-    fn staged(&self, from: u8) -> Result<&Bytes<{ MOST_ENTRY }>, Code>
+    fn staged(&self, from: u8) -> Result<&Entry, Code>
         ensures value { MatchOption (staged_by from self.now) (result ≡ Err pldm_invalid_data)
             (λ entry. IsOkAnd result (λ staged. staged.now ≡ entry)) }
         ensures begun { IfOk result (λ staged. IsBegun staged.now) }
@@ -103,7 +100,7 @@ impl Stagings {
     }
 
     /// These bytes become what the requester has staged, in place of others.
-    fn keep(&mut self, from: u8, entry: Bytes<{ MOST_ENTRY }>)
+    fn keep(&mut self, from: u8, entry: Entry)
         requires room { length (without from self.old) < most_stagings }
         requires begun { IsBegun entry }
         ensures { self.new ≡ with_staged from entry self.old }
@@ -119,24 +116,24 @@ impl Stagings {
         from: u8,
         entry: &[u8],
     ) -> Result<u32, Code>
-        ensures handle { result ≡ counted (start_outcome (option_copied limits.entry) self.old from entry.now) }
-        ensures after { self.new ≡ after_part from (start_outcome (option_copied limits.entry) self.old from entry.now) self.old }
+        ensures { Leaves from (start_outcome (option_copied limits.entry) self.old from entry.now)
+            result self.old self.new }
     {
         let Some(limits) = limits else {
             return Err(PLDM_INVALID_ATTRIBUTE);
         };
         check_first(limits, entry)?;
         if self.others(from) >= MOST_STAGINGS {
-            return Err(Code::new(ERROR).unwrap());
+            return Err(PLDM_ERROR);
         }
-        self.keep(from, Bytes::from_slice(entry));
+        self.keep(from, Entry::from_slice(entry));
         Ok(entry.len() as u32)
     }
 
     /// Carries out a part between the first and the last: the handle of the part behind it.
     pub fn add(&mut self, from: u8, handle: u32, bytes: &[u8]) -> Result<u32, Code>
-        ensures handle { result ≡ counted (add_outcome self.old from handle bytes.now) }
-        ensures after { self.new ≡ after_part from (add_outcome self.old from handle bytes.now) self.old }
+        ensures { Leaves from (add_outcome self.old from handle bytes.now)
+            result self.old self.new }
     {
         let staged = self.staged(from)?;
         check_middle(staged.as_slice(), handle, bytes)?;
@@ -146,13 +143,22 @@ impl Stagings {
         Ok(count)
     }
 
-    /// The operation of the whole entry, which the last part ends. The staging stays until `end`.
-    pub fn ended(&self, from: u8, handle: u32, bytes: &[u8]) -> Result<SetBiosAttribute, Code>
+    /// The operation of the whole entry, which the last part ends. Its bytes are joined in the caller's place, whatever that had. The
+    /// staging stays until `end`.
+    pub fn ended<'e>(
+        &self,
+        from: u8,
+        handle: u32,
+        bytes: &[u8],
+        place: &'e mut Entry,
+    ) -> Result<SetBiosAttribute<'e>, Code>
         ensures { result ≡ end_outcome self.now from handle bytes.now }
     {
         let staged = self.staged(from)?;
         check_last(staged.as_slice(), handle, bytes)?;
-        Ok(op_in(joined(staged, bytes).as_slice()))
+        place.replace(staged.as_slice());
+        place.extend_from_slice(bytes);
+        Ok(op_in(place.as_slice()))
     }
 
     /// The requester has nothing staged any more.

@@ -62,7 +62,7 @@ fn write_entry<B: Buffer>(attribute: u16, code: u8, value: &[u8], out: &mut B)
 }
 
 /// The data of the request that carries out the operation.
-fn body(op: &SetBiosAttribute) -> RecordData
+fn body(op: &SetBiosAttribute<'_>) -> RecordData
     ensures value { result ≡ attribute_body op.now }
     ensures short { length result ≤ most_data }
 {
@@ -90,7 +90,7 @@ pub fn transfer_handle(body: &[u8]) -> u32
 }
 
 /// The operation that the data of its request says: nothing where they are too short, or where their flag says that they are a part.
-pub fn attribute_in(body: &[u8]) -> Result<SetBiosAttribute, Code>
+pub fn attribute_in(body: &[u8]) -> Result<SetBiosAttribute<'_>, Code>
     ensures { result ≡ attribute_in body.now }
 {
     if body.len() < LEAST_SET {
@@ -184,15 +184,15 @@ impl<'a> RecordKind<'a> for AttributeLimits {
 
     type Key = u16;
 
-    type Op = SetBiosAttribute;
+    type Op = SetBiosAttribute<'a>;
 
     ghost kind = { attribute.kind };
 
-    fn key(op: &SetBiosAttribute) -> Key {
+    fn key(op: &SetBiosAttribute<'a>) -> Key {
         Key::BiosAttribute(op.attribute)
     }
 
-    fn apply(&self, op: &SetBiosAttribute, _value: &[u8], new: &mut Value) -> Result<(), Code> {
+    fn apply(&self, op: &SetBiosAttribute<'a>, _value: &[u8], new: &mut Value) -> Result<(), Code> {
         if op.attribute_type != self.range.type_code() || self.read_only {
             return Err(PLDM_INVALID_DATA);
         }
@@ -207,11 +207,11 @@ impl<'a> RecordKind<'a> for AttributeLimits {
         Ok(())
     }
 
-    fn set_reply<B: Buffer>(_op: &SetBiosAttribute, reply: &mut B) {
+    fn set_reply<B: Buffer>(_op: &SetBiosAttribute<'a>, reply: &mut B) {
         reply.extend_from_slice(&NO_HANDLE);
     }
 
-    fn next_live(_op: &SetBiosAttribute, _live: &mut Live) {}
+    fn next_live(_op: &SetBiosAttribute<'a>, _live: &mut Live) {}
 
     fn get_data<B: Buffer>(&self, value: &[u8], _live: &Live, reply: &mut B) {
         self.show(value, reply);
@@ -221,15 +221,15 @@ impl<'a> RecordKind<'a> for AttributeLimits {
         Asked::pldm(Below::new(BIOS), GET_CURRENT_VALUE, &get_body(*handle))
     }
 
-    fn set_data(op: &SetBiosAttribute) -> RecordData {
+    fn set_data(op: &SetBiosAttribute<'a>) -> RecordData {
         body(op)
     }
 
-    fn set_asked(op: &SetBiosAttribute) -> Asked {
+    fn set_asked(op: &SetBiosAttribute<'a>) -> Asked {
         Asked::pldm(Below::new(BIOS), SET_CURRENT_VALUE, body(op).as_slice())
     }
 
-    fn inverse(_op: &SetBiosAttribute, get_data: &'a [u8]) -> Option<SetBiosAttribute> {
+    fn inverse(_op: &SetBiosAttribute<'a>, get_data: &'a [u8]) -> Option<SetBiosAttribute<'a>> {
         if !is_attribute_reply(get_data) {
             return None;
         }

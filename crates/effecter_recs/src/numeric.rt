@@ -129,7 +129,7 @@ impl CommandReader for NumericLimits {
     }
 
     #[inline(always)]
-    fn op_in(body: &[u8]) -> Op {
+    fn op_in(body: &[u8]) -> Op<'_> {
         Op::NumericEffecter(numeric_effecter_in(body))
     }
 }

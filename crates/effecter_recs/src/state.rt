@@ -121,7 +121,7 @@ impl CommandReader for StateLimits<'_> {
     }
 
     #[inline(always)]
-    fn op_in(body: &[u8]) -> Op
+    fn op_in(body: &[u8]) -> Op<'_>
         ensures { result ≡ state.reader.op_in body.now }
     {
         Op::StateEffecter(state_effecter_in(body))

@@ -3,15 +3,15 @@ ghost use Rattle.std.specs.Prelude.{◌≡◌, ◌≤◌, take, length};
 ghost use Rattle.record_base.specs.AttributeSizes.{most_sent};
 
 use crate::attribute_sizes::MOST_SENT;
-use two_wire::Bytes;
+use two_wire::Data;
 
-/// Sets the value of an attribute, by the bytes of the request's entry: the attribute, its type, and the value. The operation owns
-/// these bytes.
+/// Sets the value of an attribute, by the bytes of the request's entry: the attribute, its type, and the value. The operation borrows
+/// the value's bytes where they lie, in a request or in a reply.
 #[derive(Debug, Drop)]
-pub struct SetBiosAttribute {
+pub struct SetBiosAttribute<'a> {
     pub attribute: u16,
     pub attribute_type: u8,
-    pub value: Bytes<{ MOST_SENT }>,
+    pub value: Data<'a, { MOST_SENT }>,
     pub ghost fits: { length value ≤ most_sent },
 }
 
@@ -26,18 +26,18 @@ fn first(bytes: &[u8], most: usize) -> &[u8]
     bytes
 }
 
-impl SetBiosAttribute {
+impl<'a> SetBiosAttribute<'a> {
     ghost use Rattle.std.specs.Prelude.{◌≡◌};
     ghost use Rattle.record_base.specs.BiosAttribute.{setting};
 
     /// Sets the value of an attribute to the first of these bytes, as many as a request has at most.
-    pub fn of(attribute: u16, attribute_type: u8, bytes: &[u8]) -> Self
+    pub fn of(attribute: u16, attribute_type: u8, bytes: &'a [u8]) -> Self
         ensures { result ≡ setting attribute attribute_type bytes.now }
     {
         SetBiosAttribute {
             attribute,
             attribute_type,
-            value: Bytes::from_slice(first(bytes, MOST_SENT)),
+            value: Data::new(first(bytes, MOST_SENT)),
         }
     }
 }

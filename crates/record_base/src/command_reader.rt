@@ -15,6 +15,6 @@ pub trait CommandReader {
         ensures { result ≡ reader.key_in body.now };
 
     /// The operation that the data of a Set name.
-    fn op_in(body: &[u8]) -> Op
+    fn op_in(body: &[u8]) -> Op<'_>
         ensures { result ≡ reader.op_in body.now };
 }

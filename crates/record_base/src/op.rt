@@ -13,9 +13,9 @@ use crate::state_effecter::SetStateEffecter;
 use crate::user::{SetUserAccess, SetUserName};
 use crate::watchdog::SetWatchdog;
 
-/// A change of one record, as a request asks for it: any bytes that the request may carry. Its users borrow it, and don't move it.
+/// A change of one record, as a request asks for it: any bytes that the request may carry. The value of an attribute lies where it came.
 #[derive(Debug, Drop)]
-pub enum Op {
+pub enum Op<'a> {
     Thresholds(SetThresholds),
     Hysteresis(SetHysteresis),
     EventEnable(SetEventEnable),
@@ -28,6 +28,6 @@ pub enum Op {
     UserName(SetUserName),
     UserAccess(SetUserAccess),
     ChannelAccess(SetChannelAccess),
-    BiosAttribute(SetBiosAttribute),
+    BiosAttribute(SetBiosAttribute<'a>),
     LanParam(SetLanParam),
 }

@@ -218,21 +218,21 @@ impl<'a, 'f> RecordKind<'a> for Limits<'f> {
 
     type Key = Key;
 
-    type Op = Op;
+    type Op = Op<'a>;
 
     ghost kind = { all.kind };
 
-    fn key(op: &Op) -> Key
+    fn key(op: &Op<'a>) -> Key
         ensures { result ≡ all.kind.words.name (all.kind.words.key_of op.now) }
     {
         of_each_kind!(by_op [op, key()])
     }
 
-    fn apply(&self, op: &Op, value: &[u8], new: &mut Value) -> Result<(), Code> {
+    fn apply(&self, op: &Op<'a>, value: &[u8], new: &mut Value) -> Result<(), Code> {
         of_each_kind!(by_both [self, op, value, new])
     }
 
-    fn set_reply<B: Buffer>(op: &Op, reply: &mut B)
+    fn set_reply<B: Buffer>(op: &Op<'a>, reply: &mut B)
         requires room { length (B.bytes reply.old)
             + length (all.kind.words.set_reply op.now) ≤ B.capacity }
         ensures { B.bytes reply.new ≡ B.bytes reply.old ++ all.kind.words.set_reply op.now }
@@ -240,7 +240,7 @@ impl<'a, 'f> RecordKind<'a> for Limits<'f> {
         of_each_kind!(by_op [op, set_reply(reply)])
     }
 
-    fn next_live(op: &Op, live: &mut Live)
+    fn next_live(op: &Op<'a>, live: &mut Live)
         ensures { live.new ≡ all.kind.words.next_live op.now live.old }
     {
         of_each_kind!(by_op [op, next_live(live)])
@@ -256,19 +256,19 @@ impl<'a, 'f> RecordKind<'a> for Limits<'f> {
         of_each_kind!(by_key [key, get_asked])
     }
 
-    fn set_data(op: &Op) -> RecordData
+    fn set_data(op: &Op<'a>) -> RecordData
         ensures { result ≡ all.kind.words.set_data op.now }
     {
         of_each_kind!(by_op [op, set_data()])
     }
 
-    fn set_asked(op: &Op) -> Asked
+    fn set_asked(op: &Op<'a>) -> Asked
         ensures { result ≡ all.kind.words.set_asked op.now }
     {
         of_each_kind!(by_op [op, set_asked()])
     }
 
-    fn inverse(op: &Op, get_data: &'a [u8]) -> Option<Op>
+    fn inverse(op: &Op<'a>, get_data: &'a [u8]) -> Option<Op<'a>>
         ensures { result ≡ all.kind.words.inverse op.now get_data.now }
     {
         of_each_kind!(op_by_op [op, inverse(get_data)])

@@ -206,7 +206,7 @@ impl CommandReader for EventEnableLimits {
     }
 
     #[inline(always)]
-    fn op_in(body: &[u8]) -> Op {
+    fn op_in(body: &[u8]) -> Op<'_> {
         Op::EventEnable(event_enable_in(body))
     }
 }

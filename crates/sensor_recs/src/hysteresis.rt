@@ -67,7 +67,7 @@ impl CommandReader for HysteresisLimits {
     }
 
     #[inline(always)]
-    fn op_in(body: &[u8]) -> Op {
+    fn op_in(body: &[u8]) -> Op<'_> {
         Op::Hysteresis(hysteresis_in(body))
     }
 }

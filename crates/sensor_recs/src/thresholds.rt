@@ -100,7 +100,7 @@ impl CommandReader for ThresholdLimits {
     }
 
     #[inline(always)]
-    fn op_in(body: &[u8]) -> Op {
+    fn op_in(body: &[u8]) -> Op<'_> {
         Op::Thresholds(thresholds_in(body))
     }
 }

@@ -42,6 +42,10 @@ invalid_data_field = 0xCC
 
 -- ---- PLDM
 
+-- the request isn't carried out, for no reason that has a code of its own
+abbrev pub pldm_error : ℕ
+pldm_error = 0x01
+
 abbrev pub pldm_invalid_data : ℕ
 pldm_invalid_data = 0x02
 

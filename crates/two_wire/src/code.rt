@@ -56,6 +56,9 @@ pub const NOT_PRESENT: Code = Code { value: 0xCB };
 /// IPMI: a field of the data isn't valid.
 pub const INVALID_DATA_FIELD: Code = Code { value: 0xCC };
 
+/// PLDM: the request isn't carried out, for no reason that has a code of its own.
+pub const PLDM_ERROR: Code = Code { value: 0x01 };
+
 /// PLDM: the data isn't valid.
 pub const PLDM_INVALID_DATA: Code = Code { value: 0x02 };
 
@@ -106,10 +109,11 @@ pub fn of_ipmi() -> [Code; 11]
 }
 
 /// The codes of PLDM, from the lowest, each by its constant.
-pub fn of_pldm() -> [Code; 10]
-    ensures { result ≡ codes.pldm_invalid_data ∷ codes.pldm_invalid_length ∷ codes.pldm_not_ready ∷ codes.pldm_unsupported_command ∷ codes.pldm_invalid_type ∷ codes.pldm_invalid_effecter ∷ codes.pldm_invalid_state ∷ codes.pldm_no_table ∷ codes.pldm_invalid_table ∷ codes.pldm_invalid_attribute ∷ [] }
+pub fn of_pldm() -> [Code; 11]
+    ensures { result ≡ codes.pldm_error ∷ codes.pldm_invalid_data ∷ codes.pldm_invalid_length ∷ codes.pldm_not_ready ∷ codes.pldm_unsupported_command ∷ codes.pldm_invalid_type ∷ codes.pldm_invalid_effecter ∷ codes.pldm_invalid_state ∷ codes.pldm_no_table ∷ codes.pldm_invalid_table ∷ codes.pldm_invalid_attribute ∷ [] }
 {
     [
+        PLDM_ERROR,
         PLDM_INVALID_DATA,
         PLDM_INVALID_LENGTH,
         PLDM_NOT_READY,

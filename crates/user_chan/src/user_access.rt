@@ -115,7 +115,7 @@ impl CommandReader for UserAccessLimits {
     }
 
     #[inline(always)]
-    fn op_in(body: &[u8]) -> Op {
+    fn op_in(body: &[u8]) -> Op<'_> {
         Op::UserAccess(access_in(body))
     }
 }

@@ -105,7 +105,7 @@ impl CommandReader for UserNameLimits {
     }
 
     #[inline(always)]
-    fn op_in(body: &[u8]) -> Op {
+    fn op_in(body: &[u8]) -> Op<'_> {
         Op::UserName(name_in(body))
     }
 }

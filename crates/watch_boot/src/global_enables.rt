@@ -40,7 +40,7 @@ impl CommandReader for GlobalEnablesLimits {
     }
 
     #[inline(always)]
-    fn op_in(body: &[u8]) -> Op {
+    fn op_in(body: &[u8]) -> Op<'_> {
         Op::GlobalEnables(enables_in(body))
     }
 }

@@ -45,7 +45,7 @@ impl CommandReader for PowerPolicyLimits {
     }
 
     #[inline(always)]
-    fn op_in(body: &[u8]) -> Op {
+    fn op_in(body: &[u8]) -> Op<'_> {
         Op::PowerPolicy(policy_in(body))
     }
 }

@@ -161,7 +161,7 @@ impl CommandReader for WatchdogLimits {
     }
 
     #[inline(always)]
-    fn op_in(body: &[u8]) -> Op {
+    fn op_in(body: &[u8]) -> Op<'_> {
         Op::Watchdog(watchdog_in(body))
     }
 }

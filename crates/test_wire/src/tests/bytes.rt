@@ -33,7 +33,9 @@ fn codes_are_those_of_the_standards(rt: HostRuntime) {
     for (code, byte) in code::of_ipmi().iter().zip(ipmi.iter()) {
         assert_eq!(rt; code.value(), *byte);
     }
-    let pldm = [0x02, 0x03, 0x04, 0x05, 0x20, 0x80, 0x81, 0x83, 0x85, 0x88];
+    let pldm = [
+        0x01, 0x02, 0x03, 0x04, 0x05, 0x20, 0x80, 0x81, 0x83, 0x85, 0x88,
+    ];
     for (code, byte) in code::of_pldm().iter().zip(pldm.iter()) {
         assert_eq!(rt; code.value(), *byte);
     }
