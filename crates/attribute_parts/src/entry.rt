@@ -8,8 +8,8 @@ use pldm_base::PART_LENGTH;
 use record_base::attribute_sizes::MOST_VALUE;
 use record_base::attribute_value::STRING_TYPE;
 use record_base::{AttributeRange, SetBiosAttribute, byte_at};
-use two_wire::{Bytes, Code};
 use two_wire::code::{PLDM_INVALID_DATA, PLDM_INVALID_LENGTH};
+use two_wire::{Bytes, Code};
 
 /// How many bytes an entry has before its value: the attribute, and its type.
 const BEFORE_VALUE: usize = 3;

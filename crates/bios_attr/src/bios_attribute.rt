@@ -213,11 +213,20 @@ impl<'a> RecordKind<'a> for AttributeLimits {
 
     fn next_live(_op: &SetBiosAttribute<'a>, _live: &mut Live) {}
 
-    fn get_data<B: Buffer>(&self, value: &[u8], _live: &Live, reply: &mut B) {
+    fn get_data<B: Buffer>(&self, value: &[u8], live: &Live, reply: &mut B)
+        requires is_valid { (attribute.kind.record_words self.now).valid value.now }
+        requires room { length (B.bytes reply.old)
+            + length ((attribute.kind.record_words self.now).view value.now live.now)
+            ≤ B.capacity }
+        ensures { B.bytes reply.new
+            ≡ B.bytes reply.old ++ (attribute.kind.record_words self.now).view value.now live.now }
+    {
         self.show(value, reply);
     }
 
-    fn get_asked(handle: &u16) -> Asked {
+    fn get_asked(handle: &u16) -> Asked
+        ensures { result ≡ attribute.kind.words.get_asked handle.now }
+    {
         Asked::pldm(Below::new(BIOS), GET_CURRENT_VALUE, &get_body(*handle))
     }
 
