@@ -1,5 +1,5 @@
 //! Entries of strings, as they come in parts: an attribute, its type, the text's length, and the text.
-ghost use Rattle.std.specs.Prelude.{◌≡◌, ◌==◌};
+ghost use Rattle.std.specs.Prelude.{◌≡◌, ◌==◌, drop};
 ghost use Rattle.attribute_parts.specs.Entries.{text_length, whole_length, op_of, begins_string, allows_length, first_fault, middle_fault, last_fault};
 ghost use Rattle.attribute_parts.specs.Stagings.{unless};
 
@@ -37,13 +37,22 @@ fn whole_length(entry: &[u8]) -> usize
     BEFORE_TEXT + usize::from(text_length(entry))
 }
 
+/// What stands behind an entry's attribute and type.
+fn value_in(entry: &[u8]) -> &[u8]
+    ensures { result.now ≡ drop 3 entry.now }
+{
+    match entry {
+        [_, _, _, value @ ..] => value,
+        _ => &[],
+    }
+}
+
 /// The operation of a whole entry.
 pub(crate) fn op_in(entry: &[u8]) -> SetBiosAttribute<'_>
     ensures { result ≡ op_of entry.now }
 {
     let attribute = u16::from_le_bytes([byte_at(entry, 0), byte_at(entry, 1)]);
-    let value = entry.get(BEFORE_VALUE..).unwrap_or(&[]);
-    SetBiosAttribute::of(attribute, byte_at(entry, 2), value)
+    SetBiosAttribute::of(attribute, byte_at(entry, 2), value_in(entry))
 }
 
 /// Whether the bytes are the first part of a string's entry that goes on.
