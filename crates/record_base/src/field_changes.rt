@@ -49,6 +49,15 @@ impl FieldChanges {
         self.items.as_slice()
     }
 
+    /// The same changes once more.
+    pub fn copy(&self) -> Self
+        ensures { result ≡ self.now }
+    {
+        let mut copy = FieldChanges::new();
+        copy.items.try_extend_from_slice(self.as_slice()).unwrap();
+        copy
+    }
+
     /// Appends a change.
     pub fn push(&mut self, change: FieldChange)
         requires { length self.old < 9 }

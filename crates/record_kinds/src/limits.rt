@@ -246,7 +246,13 @@ impl<'a, 'f> RecordKind<'a> for Limits<'f> {
         of_each_kind!(by_op [op, next_live(live)])
     }
 
-    fn get_data<B: Buffer>(&self, value: &[u8], live: &Live, reply: &mut B) {
+    fn get_data<B: Buffer>(&self, value: &[u8], live: &Live, reply: &mut B)
+        requires is_valid { (all.kind.record_words self.now).valid value.now }
+        requires room { length (B.bytes reply.old)
+            + length ((all.kind.record_words self.now).view value.now live.now) ≤ B.capacity }
+        ensures { B.bytes reply.new
+            ≡ B.bytes reply.old ++ (all.kind.record_words self.now).view value.now live.now }
+    {
         of_each_kind!(by_limits [self, get_data(value, live, reply)])
     }
 
