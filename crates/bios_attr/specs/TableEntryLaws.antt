@@ -2,8 +2,8 @@
 use Rattle.std.proofs.Common.{◌≡◌, ℕ, suc, ◌/◌, ◌%◌, ◌≤◌, List, [], ◌∷◌, ◌++◌, length, take, drop, Bool, true, false, ◌==◌, nat_le, if◌then◌else◌, Option, Some, None, refl, ◌∙◌, ap, subst, arith}
 use Rattle.std.specs.Option.{option_map}
 use Rattle.std.specs.Int.{w64, from_le_bytes}
-use Rattle.std.proofs.lemmas.List.{take-append-drop, length-take-le}
-use Rattle.record_base.specs.AttributeRangeLaws.{le_true, true_le, value_back}
+use Rattle.std.proofs.lemmas.List.{take-append-drop}
+use Rattle.record_base.specs.AttributeRangeLaws.{value_back}
 use Rattle.record_base.specs.declared.attribute_value.AttributeValue.{AttributeValue}
 use Rattle.record_base.specs.declared.attribute_value.AttributeValue.TheVariants.{Indexes, Text, Number}
 use Rattle.record_base.specs.AttributeValue.{number_of, type_of_value, value_bytes, indexes_in, text_in, number_in, value_in, HasEightBytes}
@@ -18,7 +18,7 @@ use Rattle.bios_attr.specs.ValueEntry.{shown_type, entry_bytes, AreBytes}
 use Rattle.bios_attr.specs.ValueEntryLaws.{entry_told, type_back, bit_back}
 use Rattle.bios_attr.specs.StringEntry.{piece, string_at}
 use Rattle.bios_attr.specs.AttributeEntry.{attribute_bytes, attribute_at}
-use Rattle.bios_attr.specs.EntryLaws.{told, fits, comes_of, piece_back, piece_told, fits_eight, mapped, small_front, string_back, string_told, attribute_back, attribute_told}
+use Rattle.bios_attr.specs.EntryLaws.{told, comes_of, piece_back, piece_told, fits_eight, mapped, small_front, string_back, string_told, attribute_back, attribute_told}
 use Rattle.bios_attr.specs.TableEntry.{value_size, value_at, table_of, written, IsWhole, IsRead, entry_at}
 
 -- ---- value entries, written, then read
