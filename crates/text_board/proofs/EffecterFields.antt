@@ -21,7 +21,8 @@ named_is tree size named is =
     let same : named.size ≡ size = same_Some _ _ (sym named.found ∙ is) in
     rw (← same) named.coded
 
-size_back : (size : NumericSize) → size_at (code_of size) ≡ Some size
+-- the number of a size finds the size
+pub size_back : (size : NumericSize) → size_at (code_of size) ≡ Some size
 unfolding size_at
 size_back U8 = refl
 size_back S8 = refl

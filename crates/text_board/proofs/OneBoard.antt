@@ -1,6 +1,7 @@
 -- A tree holds one board.
-use Rattle.std.proofs.Common.{◌≡◌, ◌≤◌, ◌<◌, ◌==◌, ◌/◌, ◌%◌, ◌^◌, ◌+◌, ◌∙◌, ℕ, List, [], ◌∷◌, length, map, Bool, true, false, if◌then◌else◌, Option, Some, None, MatchOption, Result, Ok, Err, IsTrue, refl, sym, ap, subst, codes}
+use Rattle.std.proofs.Common.{◌≡◌, ◌≤◌, ◌<◌, ◌==◌, ◌/◌, ◌%◌, ◌^◌, ◌+◌, ◌∙◌, ℕ, List, [], ◌∷◌, length, map, Bool, true, false, Option, Some, None, MatchOption, Result, Ok, Err, IsTrue, refl, sym, ap, subst, codes}
 use Rattle.std.proofs.Props.{props}
+use Rattle.std.proofs.lemmas.Option.{same_Some}
 use Rattle.std.specs.List.{AllZip}
 use Rattle.std.proofs.Math.Path.{PathP}
 use mathlib.Core.HLevel.{is_prop→PathP}
@@ -42,7 +43,6 @@ use Rattle.record_base.specs.declared.sensor.Sensor.{Sensor}
 use Rattle.record_base.specs.declared.state_effecter.StateField.{StateField}
 use Rattle.record_base.specs.declared.state_effecter.StateEffecter.{StateEffecter}
 use Rattle.record_base.specs.declared.numeric_size.NumericSize.{NumericSize}
-use Rattle.record_base.specs.declared.numeric_size.NumericSize.TheVariants.{U8, S8, U16, S16, U32, S32}
 use Rattle.record_base.specs.declared.numeric_range.NumericRange.{NumericRange}
 use Rattle.record_base.specs.declared.numeric_effecter.NumericEffecter.{NumericEffecter}
 use Rattle.record_base.specs.declared.user.User.{User}
@@ -65,7 +65,7 @@ use Rattle.text_fields.specs.declared.field.Field.TheVariants as field
 use Rattle.text_board.specs.declared.fault.FileFault.{FileFault}
 use Rattle.text_board.specs.declared.fault.FileFault.TheVariants as file
 use Rattle.text_fields.specs.Trees.{flag_in, table_of, table_in, members_in, members, or_none}
-use Rattle.text_fields.specs.Numeric.{sized_in}
+use Rattle.text_fields.specs.Numeric.{size_at, sized_in}
 use Rattle.text_fields.specs.Users.{name_of}
 use Rattle.text_fields.specs.Attributes.{text_of, text_in}
 use Rattle.text_fields.specs.Ranges.{record_in, has_text}
@@ -75,6 +75,7 @@ use Rattle.text_fields.specs.Ranges.{settings}
 use Rattle.text_board.specs.Faults.{board_faults}
 use Rattle.text_fields.specs.Faults.{first}
 use Rattle.text_board.specs.LanItems.{lans_in, channel_of}
+use Rattle.text_board.proofs.EffecterFields.{size_back}
 use Rattle.text_board.proofs.OneLan.{one_lan}
 use Rattle.text_fields.proofs.Unique.{one_found, one_list, one_natural, one_number, one_numbers, one_pair, one_word, same_flags}
 
@@ -258,20 +259,8 @@ one_state tree a b p q =
 
 -- ---- numeric effecters
 
-size_at : ℕ → NumericSize
-size_at n = if n == 0 then U8 else (if n == 1 then S8 else (if n == 2 then U16 else (if n == 3 then S16 else (if n == 4 then U32 else S32))))
-
-size_back : (size : NumericSize) → size_at (code_of size) ≡ size
-unfolding size_at
-size_back U8 = refl
-size_back S8 = refl
-size_back U16 = refl
-size_back S16 = refl
-size_back U32 = refl
-size_back S32 = refl
-
 one_size : (a b : NumericSize) → code_of a ≡ code_of b → a ≡ b
-one_size a b e = sym (size_back a) ∙ ap size_at e ∙ size_back b
+one_size a b e = same_Some a b (sym (size_back a) ∙ ap size_at e ∙ size_back b)
 
 one_sized : (named : Field) (tree : Members) (s t : NumericSize) (a b : ℕ) → s ≡ t → HasSized s named tree a → HasSized t named tree b → a ≡ b
 one_sized named tree s t a b e p q = one_found (sized_in t named tree) a b (subst (λ (size : NumericSize). HasSized size named tree a) e p) q

@@ -1,6 +1,6 @@
 -- Laws that several kinds of record take.
-use Rattle.std.proofs.Common.{◌≡◌, ℕ, ◌%◌, ◌∷◌, [], List, length, slice_index, Bool, true, false, arith, common_steps}
-use Rattle.std.proofs.lemmas.Grind.{same_number_lists}
+use Rattle.std.proofs.Common.{◌≡◌, ℕ, ◌%◌, ◌∷◌, [], List, length, slice_index, Bool, true, false, arith}
+use Rattle.std.proofs.lemmas.Grind.{same_number_lists, common_steps}
 
 -- a list of so many is its members
 pub one : (xs : List ℕ) → length xs ≡ 1 → xs ≡ slice_index xs 0 ∷ []
