@@ -1,13 +1,13 @@
 -- The parts of a Set: the codes that refuse one, and what its end leaves.
 use Rattle.std.proofs.Common.{◌≡◌, ◌≢◌, ℕ, ◌<◌, nat_le, nat_lt, ◌+◌, List, length, Option, Some, None, Result, Ok, Err, Bool, true, false, not, if◌then◌else◌, ◌==◌, ◌&&◌, refl, arith}
 use Rattle.std.proofs.lemmas.Bool.Decides.{nat_tests}
-use Rattle.two_wire.specs.Codes.{success, pldm_invalid_data, pldm_invalid_length, pldm_invalid_attribute}
+use Rattle.two_wire.specs.Codes.{success, pldm_error, pldm_invalid_data, pldm_invalid_length, pldm_invalid_attribute}
 use Rattle.pldm_base.specs.Parts.{part_length}
 use Rattle.record_base.specs.Meaning.{IsRefusal}
 use Rattle.bios_attr.specs.BiosAttribute.{is_settable}
 use Rattle.bios_attr.specs.declared.bios_attribute.AttributeLimits.{AttributeLimits}
 use Rattle.attribute_parts.specs.Entries.{text_length, whole_length, op_of, begins_string, allows_length, first_fault, middle_fault, last_fault}
-use Rattle.attribute_parts.specs.Stagings.{Staged, most_stagings, pldm_error, staged_by, without, or_else, room_fault, start_fault, later_fault, add_fault, end_fault, unless, joined, start_outcome, add_outcome, end_outcome}
+use Rattle.attribute_parts.specs.Stagings.{Staged, most_stagings, staged_by, without, or_else, room_fault, start_fault, later_fault, add_fault, end_fault, unless, joined, start_outcome, add_outcome, end_outcome}
 use Rattle.bmc_board.specs.State.{State}
 use Rattle.bmc_board.specs.AttributeParts.{with_stagings, unstaged}
 use Rattle.bmc_board.specs.Answer.{staged}

@@ -2,6 +2,7 @@
 use Rattle.std.specs.Prelude.{ℕ, List, [], ◌∷◌, ◌++◌, length, map, Option, Some, None, Result, Ok, Err, ◌==◌, ◌||◌, nat_lt, if◌then◌else◌}
 use Rattle.std.specs.Int.{w32, to_le_bytes, from_le_bytes}
 use Rattle.two_wire.specs.Codes.{pldm_invalid_data, pldm_no_table, pldm_invalid_table}
+use Rattle.pldm_base.specs.declared.table.Part.{Part}
 use Rattle.pldm_base.specs.Parts.{asked_offset, part_bytes, is_last, next_handle, flag_of, flag_byte}
 use Rattle.cfg_records.specs.Records.{Records}
 use Rattle.record_base.specs.Requests.{byte_at}
@@ -37,7 +38,11 @@ table_asked attributes number =
     else (if (number == 3) || (length attributes == 0) then Err pldm_no_table
     else Ok (table_numbered number))
 
--- what a part of a table says: the handle of the next part, its flag, and its bytes
+-- what a reply shows of a part: the handle of the next part, the part's flag, and its bytes
+abbrev pub shown_part : Part → List ℕ
+shown_part part = to_le_bytes w32 part.next ++ flag_byte part.flag ∷ part.bytes.now
+
+-- what it shows of the part of a table at an offset
 abbrev pub part_data : List ℕ → ℕ → List ℕ
 part_data table offset = to_le_bytes w32 (next_handle table offset) ++ flag_byte (flag_of (offset == 0) (is_last table offset)) ∷ part_bytes table offset
 

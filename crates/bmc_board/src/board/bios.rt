@@ -1,13 +1,14 @@
 //! The tables of a board's attributes.
-ghost use Rattle.std.specs.Prelude.{◌≡◌, ◌+◌, ◌≤◌, ℕ, length};
+ghost use Rattle.std.specs.Prelude.{◌≡◌, ◌+◌, ◌≤◌, ◌++◌, ℕ, length};
+ghost use Rattle.pldm_base.specs.Parts.{part_length};
 ghost use Rattle.record_base.specs.AttributeSizes.{most_value};
 ghost use Rattle.bmc_board.specs.Gives.{Gives};
-ghost use Rattle.bmc_board.specs.BiosTables.{values_in, table_asked, handle_in, asked_part, longest_part};
+ghost use Rattle.bmc_board.specs.BiosTables.{values_in, table_asked, handle_in, asked_part, longest_part, shown_part};
 
 use crate::board::serve::value_at;
 use bios_attr::{BiosTable, CurrentValues};
 use cfg_records::{Attributes, Key, Store, byte_at};
-use pldm_base::part;
+use pldm_base::{Part, part};
 use two_wire::{Buffer, Code, code};
 
 /// The number of the pending table, which is no table of this controller.
@@ -59,14 +60,23 @@ fn handle_in(body: &[u8]) -> u32
     ])
 }
 
+/// Appends a part, with what a requester needs to ask for the next.
+pub(super) fn push_part<B: Buffer>(part: Part<'_>, to: &mut B)
+    requires room { length (B.bytes to.old) + longest_part ≤ B.capacity }
+    requires short { length part.bytes.now ≤ part_length }
+    ensures { B.bytes to.new ≡ B.bytes to.old ++ shown_part part }
+{
+    to.extend_from_slice(&part.next.to_le_bytes());
+    to.push(part.flag.byte());
+    to.extend_from_slice(part.bytes);
+}
+
 /// Appends the part of a table that the request asks for.
 pub(super) fn show_part<B: Buffer>(body: &[u8], table: &[u8], to: &mut B) -> Result<(), Code>
     requires room { length (B.bytes to.old) + longest_part ≤ B.capacity }
     ensures { Gives result (B.bytes to.old) (B.bytes to.new) (asked_part body.now table.now) }
 {
     let part = part(table, byte_at(body, 4), handle_in(body))?;
-    to.extend_from_slice(&part.next.to_le_bytes());
-    to.push(part.flag.byte());
-    to.extend_from_slice(part.bytes);
+    push_part(part, to);
     Ok(())
 }

@@ -8,8 +8,9 @@ ghost use Rattle.bmc_board.specs.BiosTables.{longest_part};
 ghost use Rattle.bmc_board.specs.AttributeParts.{named_in, limits_named, later_part};
 
 use crate::board::Board;
+use crate::board::bios::push_part;
 use crate::board::serve::{show, unknown_code};
-use attribute_parts::{SetPart, part_in};
+use attribute_parts::{Entry, SetPart, part_in};
 use bios_attr::bios_attribute::{attribute_in, attribute_shown_in};
 use bios_attr::{AskedPart, AttributeLimits};
 use cfg_records::{Key, Op, RecordData, RecordKind, Store, byte_at};
@@ -42,9 +43,7 @@ fn show_later_part<B: Buffer>(entry: &[u8], transfer: u32, to: &mut B) -> Result
     ensures { Gives result (B.bytes to.old) (B.bytes to.new) (later_part entry.now transfer) }
 {
     let part = entry_part(entry, GET_NEXT_PART, transfer)?;
-    to.extend_from_slice(&part.next.to_le_bytes());
-    to.push(part.flag.byte());
-    to.extend_from_slice(part.bytes);
+    push_part(part, to);
     Ok(())
 }
 
@@ -92,7 +91,7 @@ impl<S: Store> Board<S> {
         show(&next.to_le_bytes(), to)
     }
 
-    /// Carries out the Set of the whole entry, which this part ends. The operation is made here and stays here.
+    /// Carries out the Set of the whole entry, which this part ends. Its parts are joined here, and stay here.
     #[inline(never)]
     fn end_set<B: Buffer>(
         &mut self,
@@ -106,7 +105,11 @@ impl<S: Store> Board<S> {
             (Ok (request.PartOfSet from (set_part.End handle bytes.now)))
             result (B.bytes to.old) (B.bytes to.new) }
     {
-        let op = self.activity.stagings.ended(from, handle, bytes)?;
+        let mut place = Entry::new();
+        let op = self
+            .activity
+            .stagings
+            .ended(from, handle, bytes, &mut place)?;
         self.set(&Op::BiosAttribute(op), to)?;
         self.activity.stagings.end(from);
         Ok(())
@@ -126,7 +129,7 @@ impl<S: Store> Board<S> {
         }
     }
 
-    /// Carries out the Set that the data are, whole. The operation is made here, of the data, and stays here.
+    /// Carries out the Set that the data are, whole.
     #[inline(never)]
     fn set_whole<B: Buffer>(&mut self, body: &[u8], to: &mut B) -> Result<(), Code>
         requires { Fits (whole_set (attribute_in body.now)) (B.bytes to.old) B.capacity }

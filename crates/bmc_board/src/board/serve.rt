@@ -315,7 +315,7 @@ impl<S: Store> Board<S> {
 
     /// Carries out the operation, where its record takes it, and appends what the Set replies.
     #[inline(always)]
-    pub(super) fn set<B: Buffer>(&mut self, op: &Op, to: &mut B) -> Result<(), Code>
+    pub(super) fn set<B: Buffer>(&mut self, op: &Op<'_>, to: &mut B) -> Result<(), Code>
         requires room { length (B.bytes to.old) + longest_reply (request.Set op.now) ≤ B.capacity }
         ensures { Serves S.records self.old self.new (Ok (request.Set op.now))
             result (B.bytes to.old) (B.bytes to.new) }
@@ -333,8 +333,8 @@ impl<S: Store> Board<S> {
         }
     }
 
-    /// Carries out the operation that the data say, which is made here and stays here. Each kind has a function of its own: an operation has
-    /// room for that of the bulkiest kind, and a function fills all operations of its own with zeros.
+    /// Carries out the operation that the data say. Each kind has a function of its own: a function fills all operations of its own with
+    /// zeros.
     #[inline(never)]
     fn carry_out<K: CommandReader, B: Buffer>(
         &mut self,
@@ -384,7 +384,7 @@ impl<S: Store> Board<S> {
     }
 
     /// Makes the value that the operation makes of its record, and gives the record's place: nothing is written.
-    fn try_set(&mut self, op: &Op) -> Result<S::Place, Code>
+    fn try_set(&mut self, op: &Op<'_>) -> Result<S::Place, Code>
         ensures made { told result self.new.made
             ≡ outcome_at self.old.setup (state_of S.records self.old) op.now }
         ensures place { IfOk result (λ at. S.places self.old.store (key_of op.now) ≡ Some at) }

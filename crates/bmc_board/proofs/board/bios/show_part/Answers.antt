@@ -1,4 +1,4 @@
-use Rattle.std.proofs.Common.{◌≡◌, ◌≤◌, ◌+◌, ℕ, List, length, drop, Option, Some, None, Ok, Err, ap, ◌∙◌, length-append, arith}
+use Rattle.std.proofs.Common.{◌≡◌, ◌≤◌, ℕ, List, length, drop, Option, Some, None, Ok, Err, ap, arith}
 use Rattle.std.proofs.lemmas.List.{length-take}
 use Rattle.std.specs.Prelude.{MatchOption, IsOkAnd}
 use Rattle.two_wire.specs.Codes.{pldm_invalid_data}
@@ -11,10 +11,5 @@ part_short : (asked : Option ℕ) (table : List ℕ) (part : Part) → MatchOpti
 part_short (Some offset) table part is = omega (arith, ap length is.bytes, length-take 192 (drop offset table))
 part_short None table part is = absurd cc
 
-pub extend_from_slice-requires-2 : goal.extend_from_slice-requires-2
-extend_from_slice-requires-2 g c =
-    let bytes = g.B.Buffer.bytes in
-    let size : length c.to_le_bytes.result ≡ 4 = ap length c.to_le_bytes.ensures in
-    let four : length (bytes c.extend_from_slice.new.self) ≡ length (bytes c.args.to.now) + length c.to_le_bytes.result = ap length c.extend_from_slice.ensures ∙ length-append _ _ in
-    let five : length (bytes c.push.new.self) ≡ length (bytes c.extend_from_slice.new.self) + 1 = ap length c.push.ensures ∙ length-append _ _ in
-    omega (arith, c.requires.room, size, four, five, part_short _ _ _ c.in_ok-part.ensures)
+pub push_part-requires-short : goal.push_part-requires-short
+push_part-requires-short g c = part_short _ _ _ c.in_ok-part.ensures

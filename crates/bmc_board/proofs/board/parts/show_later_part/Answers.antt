@@ -1,4 +1,4 @@
-use Rattle.std.proofs.Common.{◌≡◌, ◌≤◌, ◌+◌, ℕ, List, length, drop, Bool, true, false, if◌then◌else◌, Option, Some, None, Ok, Err, refl, ap, ◌∙◌, length-append, arith}
+use Rattle.std.proofs.Common.{◌≡◌, ◌≤◌, ℕ, List, length, drop, Bool, true, false, if◌then◌else◌, Option, Some, None, Ok, Err, refl, ap, ◌∙◌, arith}
 use Rattle.std.proofs.lemmas.List.{length-take}
 use Rattle.std.specs.Prelude.{MatchOption, IsOkAnd}
 use Rattle.two_wire.specs.Codes.{pldm_invalid_data}
@@ -14,11 +14,7 @@ later_short entry (Some o) part false e is =
     omega (arith, ap length (is.bytes ∙ ap (λ (whole : Bool). if whole then entry else part_bytes entry o) e), length-take 192 (drop o entry))
 later_short entry None part false e is = absurd cc
 
-pub extend_from_slice-requires-2 : goal.extend_from_slice-requires-2
-extend_from_slice-requires-2 g c =
-    let bytes = g.B.Buffer.bytes in
+pub push_part-requires-short : goal.push_part-requires-short
+push_part-requires-short g c =
     let entry : List ℕ = c.args.entry.now in
-    let size : length c.to_le_bytes.result ≡ 4 = ap length c.to_le_bytes.ensures in
-    let four : length (bytes c.extend_from_slice.new.self) ≡ length (bytes c.args.to.now) + length c.to_le_bytes.result = ap length c.extend_from_slice.ensures ∙ length-append _ _ in
-    let five : length (bytes c.push.new.self) ≡ length (bytes c.extend_from_slice.new.self) + 1 = ap length c.push.ensures ∙ length-append _ _ in
-    omega (arith, c.requires.room, size, four, five, later_short entry (asked_offset entry get_next_part c.args.transfer) c.in_ok-part.part (goes_whole entry) refl c.in_ok-part.ensures)
+    later_short entry (asked_offset entry get_next_part c.args.transfer) c.in_ok-part.part (goes_whole entry) refl c.in_ok-part.ensures
