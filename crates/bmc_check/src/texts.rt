@@ -55,7 +55,7 @@ fn push_last(text: &mut String, name: &str, file: BoardFile) -> Result<(), Alloc
 /// Adds the line of a plan.
 fn push_plan(text: &mut String, name: &str, plan: &Plan) -> Result<(), AllocError> {
     write!(text, "{name}: plan")?;
-    push_count(text, plan.steps.as_slice().len(), "step")?;
+    push_count(text, plan.steps.len(), "step")?;
     writeln!(text, ", retries {}", plan.retries.number())
 }
 

@@ -106,7 +106,7 @@ impl Played {
         ensures unbroken { IfOk result (λ played. played.watch.broken ≡ None) }
         ensures never { IfOk result (λ played. (on : AnyBus) → idles_in on played.lab.idles ≡ 0) }
     {
-        let _steps = plan.steps.as_slice();
+        let _steps = plan.steps.len();
         let start = file.records(alloc)?;
         let lab = Lab::open(alloc, file, plan)?;
         let watch = Watch::new();

@@ -68,7 +68,7 @@ pub(crate) fn clean_events(
 ) -> Result<Vec<Event>, AllocError>
     ensures { IfOk result (λ events. IsMade file plan.steps plan.retries (record { links = links.Clean; undo = undo }) events.items) }
 {
-    let _steps = plan.steps.as_slice();
+    let _steps = plan.steps.len();
     let mut drawing = Drawing::open(alloc, file, plan, true)?;
     drawing.carry_out(Call::Start)?;
     if undo {

@@ -8,6 +8,7 @@ use record_base::Op;
 use std::alloc::{AllocError, Global};
 use std::io;
 use undo_core::Phase;
+use undo_plans::Steps;
 
 /// Where a manager is, as a line tells it.
 #[derive(Clone, Copy, Debug, PartialEq, Eq)]
@@ -37,7 +38,7 @@ pub struct Progress<P> {
 }
 
 /// The kind of step that makes such a change.
-fn kind_of(op: &Op) -> Kind
+fn kind_of(op: &Op<'_>) -> Kind
     ensures { result ≡ kind_of op.now }
 {
     match op {
@@ -59,10 +60,15 @@ fn kind_of(op: &Op) -> Kind
 }
 
 /// The kinds of a plan's steps, in their order.
-pub(crate) fn kinds_of(alloc: Global, steps: &[Op]) -> Result<Vec<Kind>, AllocError>
+pub(crate) fn kinds_of(alloc: Global, steps: &Steps) -> Result<Vec<Kind>, AllocError>
     ensures { IfOk result (λ kinds. kinds.items ≡ map kind_of steps.now) }
 {
-    steps.iter().map(kind_of).collect(alloc)
+    let mut kinds = Vec::new(alloc);
+    for place in 0..steps.len() {
+        let op = steps.get(place).unwrap();
+        kinds.push(kind_of(&op))?;
+    }
+    Ok(kinds)
 }
 
 /// Whether a line tells of this phase.

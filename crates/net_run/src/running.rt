@@ -224,7 +224,7 @@ fn make_ready(alloc: Global, plan: Plan) -> Result<Ready, AllocError>
     ensures manager { IfOk result (λ ready. Shows lab_names ready.manager (opened_with plan)) }
     ensures kinds { IfOk result (λ ready. ready.kinds.items ≡ map kind_of plan.steps) }
 {
-    let kinds = kinds_of(alloc, plan.steps.as_slice())?;
+    let kinds = kinds_of(alloc, &plan.steps)?;
     let manager = open_manager(alloc, plan)?;
     Ok(Ready { manager, kinds })
 }

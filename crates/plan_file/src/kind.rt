@@ -20,9 +20,11 @@ mod user_name;
 mod watchdog;
 
 use record_base::Op;
+use record_base::attribute_sizes::MOST_SENT;
 use text_fields::tree::has_text;
 use text_fields::{Checked, Field, Need, Row, Shape};
 use toml::Table;
+use two_wire::Bytes;
 
 /// A kind of step, by the kind of record that it changes.
 #[derive(Clone, Copy, Debug, PartialEq, Eq)]
@@ -90,11 +92,21 @@ macro_rules! rows {
     };
 }
 
+/// What a step of the kind with this module makes of its record. The value of an attribute alone needs room.
+macro_rules! read {
+    (bios_attribute $step:expr, $room:expr) => {
+        bios_attribute::read($step, $room)
+    };
+    ($module:ident $step:expr, $room:expr) => {
+        $module::read($step)
+    };
+}
+
 /// The change that a step of the kind asks for.
 macro_rules! change {
-    (($any:expr, $step:expr) $($kind:ident $module:ident $word:literal)*) => {
+    (($any:expr, $step:expr, $room:expr) $($kind:ident $module:ident $word:literal)*) => {
         match $any {
-            $(Kind::$kind => Op::$kind($module::read($step)),)*
+            $(Kind::$kind => Op::$kind(read!($module $step, $room)),)*
         }
     };
 }
@@ -120,12 +132,12 @@ impl Kind {
         of_each_kind!(rows(self))
     }
 
-    /// The change that a step of this kind asks for.
-    pub fn change(&self, step: &Checked<'_>) -> Op
+    /// The change that a step of this kind asks for. What it gives to an attribute is written to `room`.
+    pub fn change<'v>(&self, step: &Checked<'_>, room: &'v mut Bytes<{ MOST_SENT }>) -> Op<'v>
         requires { step.now.rows.now ≡ (of_kind self.now).rows }
         ensures { (of_kind self.now).Holds (table_view step.now.table.now) result }
     {
-        of_each_kind!(change(self, step))
+        of_each_kind!(change(self, step, room))
     }
 }
 

@@ -1,8 +1,9 @@
 //! The text of a plan.
-ghost use Rattle.std.specs.Prelude.{◌≡◌, ◌⊎◌, ◌≤◌, [], true, Err, Some, IfOk, IfErr, map};
+ghost use Rattle.std.specs.Prelude.{◌≡◌, ◌⊎◌, ◌≤◌, [], true, Err, Some, IfOk, IfErr, length, map};
 ghost use Rattle.toml.specs.View.{table_view, view};
 ghost use Rattle.std.specs.List.{list_all, AllZip};
 ghost use Rattle.two_wire.specs.Retries.{most_retries};
+ghost use Rattle.undo_plans.specs.Steps.{most_steps};
 ghost use Rattle.text_fields.specs.Trees.{number_in, table_of};
 ghost use Rattle.text_fields.specs.Ranges.{is_table};
 ghost use Rattle.text_fields.specs.Faults.{field_faults, first};
@@ -12,11 +13,12 @@ ghost use Rattle.plan_file.specs.PlanHolds.{IsStepIn, or_three, AnswersPlan, Rea
 use crate::plan_fault::PlanFault;
 use crate::step::read_step;
 use record_base::Op;
+use record_base::attribute_sizes::MOST_SENT;
 use std::alloc::Global;
 use text_fields::tree::{members_in, number};
 use text_fields::{Field, FieldFault, Need, Row, Shape, first_fault};
 use toml::{Table, Value};
-use two_wire::{MOST_RETRIES, Retries};
+use two_wire::{Bytes, MOST_RETRIES, Retries};
 use undo_plans::{MOST_STEPS, Plan, Steps};
 
 /// A plan's own fields.
@@ -42,35 +44,41 @@ fn of_plan(fault: FieldFault) -> PlanFault
     }
 }
 
-/// The change that the step of this place asks for.
-fn step_at(place: usize, value: &Value) -> Result<Op, PlanFault>
+/// The change that the step of this place asks for. What it gives to an attribute is written to `room`.
+fn step_at<'v>(
+    place: usize,
+    value: &Value,
+    room: &'v mut Bytes<{ MOST_SENT }>,
+) -> Result<Op<'v>, PlanFault>
     requires { is_table (view value.now) ≡ true }
     ensures sound { IfOk result (λ _. step_faults (table_of (view value.now)) ≡ []) }
     ensures held { IfOk result (IsStepIn (view value.now)) }
     ensures err { IfErr result (λ why. first (map (PlanFault.Step place) (step_faults (table_of (view value.now)))) ≡ Some why) }
 {
-    match read_step(value.as_table().unwrap()) {
+    match read_step(value.as_table().unwrap(), room) {
         Ok(op) => Ok(op),
         Err(fault) => Err(PlanFault::Step(place, fault)),
     }
 }
 
 /// The changes that these steps ask for, up to the first fault.
-fn steps_of(alloc: Global, values: &[Value]) -> Result<Vec<Op>, PlanFault>
-    requires { list_all (λ value. is_table (view value)) values.now ≡ true }
+fn steps_of(alloc: Global, values: &[Value]) -> Result<Steps, PlanFault>
+    requires tables { list_all (λ value. is_table (view value)) values.now ≡ true }
+    requires few { length values.now ≤ most_steps }
     ensures sound { IfOk result (λ _. steps_faults 0 (map view values.now) ≡ []) }
-    ensures held { IfOk result (λ ops. AllZip IsStepIn (map view values.now) ops.items) }
+    ensures held { IfOk result (λ steps. AllZip IsStepIn (map view values.now) steps) }
     ensures err { IfErr result (λ why. (why ≡ PlanFault.Memory) ⊎ (first (steps_faults 0 (map view values.now)) ≡ Some why)) }
 {
-    let mut ops = Vec::new(alloc);
+    let mut steps = Steps::none(alloc);
     for (place, value) in values.iter().enumerate() {
-        let op = step_at(place, value)?;
-        match ops.push(op) {
+        let mut room = Bytes::new();
+        let op = step_at(place, value, &mut room)?;
+        match steps.push(&op) {
             Ok(()) => {}
             Err(_) => return Err(PlanFault::Memory),
         }
     }
-    Ok(ops)
+    Ok(steps)
 }
 
 /// The number, as one of retries.
@@ -99,9 +107,8 @@ fn plan_of(alloc: Global, tree: &Table) -> Result<Plan, PlanFault>
     if let Some(fault) = first_fault(&PLAN, tree) {
         return Err(of_plan(fault));
     }
-    let ops = steps_of(alloc, members_in(tree, Field::Step))?;
     Ok(Plan {
-        steps: Steps::new(ops).unwrap(),
+        steps: steps_of(alloc, members_in(tree, Field::Step))?,
         retries: retries(tree),
     })
 }

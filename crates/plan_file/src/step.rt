@@ -9,9 +9,11 @@ ghost use Rattle.plan_file.specs.PlanHolds.{HoldsStep};
 use crate::kind::{KIND, kind_in};
 use crate::plan_fault::{NoGet, OutsidePlan, StepFault};
 use record_base::Op;
+use record_base::attribute_sizes::MOST_SENT;
 use text_fields::tree::{has_text, in_field, number};
 use text_fields::{Checked, Field, first_fault};
 use toml::Table;
+use two_wire::Bytes;
 
 /// All that no plan changes.
 pub const OUTSIDE: [OutsidePlan; 3] = [OutsidePlan::Password, OutsidePlan::Clock, OutsidePlan::Log];
@@ -90,8 +92,11 @@ fn kind_fault(step: &Table) -> StepFault
     }
 }
 
-/// The change that the step asks for, or its first fault.
-pub fn read_step(step: &Table) -> Result<Op, StepFault>
+/// The change that the step asks for, or its first fault. What the change gives to an attribute is written to `room`.
+pub fn read_step<'v>(
+    step: &Table,
+    room: &'v mut Bytes<{ MOST_SENT }>,
+) -> Result<Op<'v>, StepFault>
     ensures sound { IfOk result (λ _. step_faults (table_view step.now) ≡ []) }
     ensures held { IfOk result (HoldsStep (table_view step.now)) }
     ensures err { IfErr result (λ why. first (step_faults (table_view step.now)) ≡ Some why) }
@@ -106,7 +111,7 @@ pub fn read_step(step: &Table) -> Result<Op, StepFault>
         return Err(kind_fault(step));
     };
     match Checked::new(kind.rows(), step) {
-        Ok(known) => Ok(kind.change(&known)),
+        Ok(known) => Ok(kind.change(&known, room)),
         Err(fault) => Err(StepFault::Field(fault)),
     }
 }

@@ -3,7 +3,7 @@ use crate::board_lines::reply_of;
 use crate::bytes::{bytes_of, push_digits};
 use crate::request::{asked_in, op_of, sent_by};
 use bmc_board::{Board, Records};
-use cfg_records::{Op, RecordKind};
+use cfg_records::{Asked, Op, RecordKind};
 use record_kinds::Limits;
 use std::alloc::{AllocError, Global};
 
@@ -12,19 +12,17 @@ const ONE: u8 = 0x2C;
 
 const OTHER: u8 = 0x40;
 
-/// The change that the words tell, where its request written again is the one that they tell.
-fn op_in(alloc: Global, words: &str) -> Result<Option<Op>, AllocError> {
-    let Some(asked) = asked_in(alloc, 0, words)? else {
-        return Ok(None);
-    };
-    Ok(match op_of(&asked) {
-        Some(op) if Limits::set_asked(&op).is(&asked) => Some(op),
-        _ => None,
-    })
+/// The change that the request asks for, where that written again is the request.
+fn change_of(asked: &Asked) -> Option<Op<'_>> {
+    let op = op_of(asked)?;
+    if !Limits::set_asked(&op).is(asked) {
+        return None;
+    }
+    Some(op)
 }
 
 /// The data of the request that undoes the change from the reply of a Get.
-fn undo_text(alloc: Global, op: &Op, reply: &[u8]) -> Result<String, AllocError> {
+fn undo_text(alloc: Global, op: &Op<'_>, reply: &[u8]) -> Result<String, AllocError> {
     match Limits::inverse(op, reply) {
         Some(undo) => hex::encode_upper(alloc, Limits::set_data(&undo).as_slice()),
         None => String::from_str(alloc, "none"),
@@ -34,7 +32,10 @@ fn undo_text(alloc: Global, op: &Op, reply: &[u8]) -> Result<String, AllocError>
 /// `undo ipmi 10 25 05FF0301 : 0202`: the data of the request that undoes this Set, where a Get replied these before it.
 pub fn undo(alloc: Global, rest: &str) -> Result<String, AllocError> {
     let (words, reply) = rest.split_once(" :").unwrap_or((rest, ""));
-    let Some(op) = op_in(alloc, words)? else {
+    let Some(asked) = asked_in(alloc, 0, words)? else {
+        return String::from_str(alloc, "no change");
+    };
+    let Some(op) = change_of(&asked) else {
         return String::from_str(alloc, "no change");
     };
     match bytes_of(alloc, reply.trim_start())? {
@@ -49,7 +50,7 @@ fn push_shown(
     board: &mut Board<Records>,
     text: &mut String,
     requester: u8,
-    op: &Op,
+    op: &Op<'_>,
 ) -> Result<(), AllocError> {
     let asked = sent_by(requester, Limits::get_asked(&Limits::key(op)));
     let reply = reply_of(alloc, board, &asked)?;
@@ -63,7 +64,7 @@ fn push_set(
     board: &mut Board<Records>,
     text: &mut String,
     requester: u8,
-    op: &Op,
+    op: &Op<'_>,
 ) -> Result<(), AllocError> {
     let reply = board.answer(&sent_by(requester, Limits::set_asked(op)));
     push_digits(alloc, text, [reply.code].as_slice())?;
@@ -76,8 +77,8 @@ fn way(
     alloc: Global,
     board: &mut Board<Records>,
     requesters: (u8, u8),
-    op: &Op,
-    undo: &Op,
+    op: &Op<'_>,
+    undo: &Op<'_>,
 ) -> Result<String, AllocError> {
     let (one, other) = requesters;
     let mut text = String::new(alloc);
@@ -105,7 +106,7 @@ fn between<'w>(alloc: Global, way: &'w str, before: &str) -> Result<Option<&'w s
 fn carried_out(
     alloc: Global,
     board: &mut Board<Records>,
-    ops: (&Op, &Op),
+    ops: (&Op<'_>, &Op<'_>),
     before: &str,
 ) -> Result<String, AllocError> {
     let (op, undo) = ops;
@@ -126,7 +127,7 @@ fn carried_out(
 fn changed(
     alloc: Global,
     board: &mut Board<Records>,
-    op: &Op,
+    op: &Op<'_>,
     before: &str,
 ) -> Result<String, AllocError> {
     let Some(reply) = bytes_of(alloc, before)? else {
@@ -143,7 +144,10 @@ fn changed(
 /// between, and the data of the request that undoes it. The Set and its undo come from two requesters, which then change places.
 pub fn change(alloc: Global, board: &mut Board<Records>, rest: &str) -> Result<String, AllocError> {
     let (words, before) = rest.split_once(" : ").unwrap_or((rest, ""));
-    match op_in(alloc, words)? {
+    let Some(asked) = asked_in(alloc, 0, words)? else {
+        return String::from_str(alloc, "no change");
+    };
+    match change_of(&asked) {
         Some(op) => changed(alloc, board, &op, before),
         None => String::from_str(alloc, "no change"),
     }

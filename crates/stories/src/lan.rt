@@ -3,7 +3,7 @@ use cfg_records::{Key, Op};
 use user_chan::lan_request::{LanRequest, LanShown, lan_request_in, lan_shown_in};
 
 /// The change of a LAN parameter that the data say, if they say one.
-pub fn lan_op(body: &[u8]) -> Option<Op> {
+pub fn lan_op(body: &[u8]) -> Option<Op<'_>> {
     match lan_request_in(body) {
         LanRequest::Param(op) => Some(Op::LanParam(op)),
         LanRequest::Other(_, _) => None,

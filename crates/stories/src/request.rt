@@ -109,12 +109,12 @@ macro_rules! changed {
     };
 }
 
-fn plain_op(kind: PlainKind, body: &[u8]) -> Op {
+fn plain_op(kind: PlainKind, body: &[u8]) -> Op<'_> {
     of_each_plain_kind!(changed [kind, body])
 }
 
 /// The change of boot options that the data say, if one alone.
-fn boot_op(body: &[u8]) -> Option<Op> {
+fn boot_op(body: &[u8]) -> Option<Op<'_>> {
     match boot_request_in(body) {
         Ok(BootRequest::Param(op)) => Some(Op::BootParam(op)),
         _ => None,
@@ -122,7 +122,7 @@ fn boot_op(body: &[u8]) -> Option<Op> {
 }
 
 /// The change of a channel's access that the data say, if they say one alone.
-fn channel_op(body: &[u8]) -> Option<Op> {
+fn channel_op(body: &[u8]) -> Option<Op<'_>> {
     match channel_request_in(body) {
         ChannelRequest::One(op) => Some(Op::ChannelAccess(op)),
         _ => None,
@@ -130,7 +130,7 @@ fn channel_op(body: &[u8]) -> Option<Op> {
 }
 
 /// The change of an attribute that the data say.
-fn attribute_op(body: &[u8]) -> Option<Op> {
+fn attribute_op(body: &[u8]) -> Option<Op<'_>> {
     match attribute_in(body) {
         Ok(op) => Some(Op::BiosAttribute(op)),
         Err(_) => None,
@@ -138,7 +138,7 @@ fn attribute_op(body: &[u8]) -> Option<Op> {
 }
 
 /// The change of one record that the request asks for, if it is a Set of one.
-pub fn op_of(asked: &Asked) -> Option<Op> {
+pub fn op_of(asked: &Asked) -> Option<Op<'_>> {
     let (command, body) = read_request(asked);
     match command {
         Ok(Command::Set(kind)) => Some(plain_op(kind, body)),

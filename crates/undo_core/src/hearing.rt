@@ -240,11 +240,11 @@ impl Manager {
         ensures left { (undone : ℕ) → suc (replies_left (length self.now.steps) undone result)
             ≤ 3 * (length self.now.steps - step) + undone }
     {
-        let op = &self.steps.as_slice()[step];
+        let op = self.steps.get(step).unwrap();
         if let Some(code) = Code::new(reply.code) {
             return Stage::AtHalt(step, Why::GetRefused(code));
         }
-        let Some(back) = Limits::inverse(op, reply.body) else {
+        let Some(back) = Limits::inverse(&op, reply.body) else {
             return Stage::AtHalt(step, Why::NotRestorable);
         };
         if self.stopped {
@@ -270,7 +270,7 @@ impl Manager {
         Stage::Opened {
             heeded: true,
             task: Task::Sets(step, back),
-            asked: Limits::set_asked(&self.steps.as_slice()[step]),
+            asked: Limits::set_asked(&self.steps.get(step).unwrap()),
         }
     }
 
@@ -288,7 +288,7 @@ impl Manager {
         ensures left { (undone : ℕ) → suc (suc (replies_left (length self.now.steps) undone result))
             ≤ 3 * (length self.now.steps - step) - 1 + undone }
     {
-        let _steps = self.steps.as_slice();
+        let _steps = self.steps.len();
         match Code::new(code) {
             Some(code) => Stage::AtHalt(step, Why::Refused(code)),
             None => self.step_stage(self.stopped, step + 1),

@@ -103,7 +103,7 @@ impl Manager {
         ensures left { (undone : ℕ) → replies_left (length self.now.steps) undone result
             ≤ 3 * (length self.now.steps - step) + undone }
     {
-        match self.steps.as_slice().get(step) {
+        match self.steps.get(step) {
             None => Stage::AtEnd,
             Some(op) => {
                 if stopped {
@@ -112,7 +112,7 @@ impl Manager {
                 Stage::Opened {
                     heeded: true,
                     task: Task::Gets(step),
-                    asked: Limits::get_asked(&Limits::key(op)),
+                    asked: Limits::get_asked(&Limits::key(&op)),
                 }
             }
         }

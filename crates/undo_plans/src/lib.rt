@@ -1,6 +1,7 @@
 //! Plans, the lists of requests that undo them, and the names of a manager and its controller on both buses.
 #![tactic(auto)]
 
+pub mod kept;
 mod names;
 mod plan;
 mod undo_list;

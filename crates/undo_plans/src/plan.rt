@@ -1,60 +1,83 @@
 //! Plans.
-ghost use Rattle.std.specs.Prelude.{◌≡◌, ◌≤◌, ◌↔◌, [], IsSome, IfSome, length};
+ghost use Rattle.std.specs.Prelude.{◌≡◌, ◌<◌, ◌≤◌, [], ◌∷◌, ◌++◌, OnErr, OnOk, length, slice_get};
 ghost use Rattle.undo_plans.specs.Steps.{most_steps};
 
+use crate::kept::{Kept, value_of, with_value};
 use record_base::Op;
-use std::alloc::Global;
+use std::alloc::{AllocError, Global};
 use std::marker::Model;
 use two_wire::Retries;
 
 /// The most steps that a plan can have.
 pub const MOST_STEPS: usize = 256;
 
-/// The steps of a plan, in its order: an operation each, and at most `MOST_STEPS`.
+/// The steps of a plan, in its order: an operation each, and at most `MOST_STEPS`. A step takes the room of a small operation, and that
+/// of the value that it gives to an attribute.
 #[derive(Debug, Drop)]
 pub struct Steps {
-    ops: Vec<Op>,
+    ops: Vec<Kept>,
+    /// The values, one behind another.
+    values: Vec<u8>,
 }
 
 impl Model for Steps {
-    ghost use Rattle.std.specs.Prelude.{List, length, ◌≤◌};
+    ghost use Rattle.std.specs.Prelude.{All, List, length, map, ◌≤◌};
     ghost use Rattle.record_base.specs.declared.op.Op.{Op};
+    ghost use Rattle.undo_plans.specs.Kept.{IsAmong, kept_op};
     ghost use Rattle.undo_plans.specs.Steps.{most_steps};
 
     ghost Value = { List Op };
 
-    ghost view = { λ s. s.ops.items };
+    ghost view = { λ s. map (kept_op s.values.items) s.ops.items };
 
-    ghost invariant = { λ s. length s.ops.items ≤ most_steps };
+    ghost invariant = { λ s. (length s.ops.items ≤ most_steps)
+        × All (IsAmong s.values.items) s.ops.items };
 }
 
 impl Steps {
-    /// These steps, or nothing where they are too many.
-    pub fn new(ops: Vec<Op>) -> Option<Self>
-        ensures made { IsSome result ↔ (length ops.items ≤ most_steps) }
-        ensures steps { IfSome result (λ steps. steps ≡ ops.items) }
-    {
-        if ops.len() > MOST_STEPS {
-            return None;
-        }
-        Some(Steps { ops })
-    }
-
     /// No step.
     pub fn none(alloc: Global) -> Self
         ensures { result ≡ [] }
     {
         Steps {
             ops: Vec::new(alloc),
+            values: Vec::new(alloc),
         }
     }
 
-    /// The steps.
-    pub fn as_slice(&self) -> &[Op]
-        ensures value { result.now ≡ self.now }
-        ensures few { length result.now ≤ most_steps }
+    /// How many there are.
+    pub fn len(&self) -> usize
+        ensures value { result ≡ length self.now }
+        ensures few { result ≤ most_steps }
     {
-        self.ops.as_slice()
+        self.ops.len()
+    }
+
+    /// The step of this place, counted from 0.
+    pub fn get(&self, place: usize) -> Option<Op<'_>>
+        ensures { result ≡ slice_get self.now place }
+    {
+        let kept = self.ops.get(place)?;
+        let value = &self.values[kept.from..kept.from + kept.count];
+        Some(with_value(&kept.op, value))
+    }
+
+    /// Adds a step, behind the others. Where memory is refused for it, the steps are what they were.
+    pub fn push(&mut self, op: &Op<'_>) -> Result<(), AllocError>
+        requires { length self.old < most_steps }
+        ensures added { OnOk result (self.new ≡ self.old ++ op.now ∷ []) }
+        ensures kept { OnErr result (self.new ≡ self.old) }
+    {
+        let value = value_of(op);
+        let kept = Kept {
+            op: with_value(op, &[]),
+            from: self.values.len(),
+            count: value.len(),
+        };
+        self.ops.reserve(1)?;
+        self.values.extend_from_slice(value)?;
+        self.ops.push_reserved(kept);
+        Ok(())
     }
 }
 

@@ -21,35 +21,45 @@ pub const FIELDS: [Row; 4] = [
     Row(Field::Number, Shape::Natural, Need::Never),
 ];
 
-/// The change of the step's attribute to this value.
-fn set_to(step: &Checked<'_>, value: &AttributeValue<'_>) -> SetBiosAttribute
+/// The change of the step's attribute to this value, which is written to `room`.
+fn set_to<'v>(
+    step: &Checked<'_>,
+    value: &AttributeValue<'_>,
+    room: &'v mut Bytes<{ MOST_SENT }>,
+) -> SetBiosAttribute<'v>
     requires rows { step.now.rows.now ≡ FIELDS }
     requires given { GivesValue (table_view step.now.table.now) value.now }
     requires few { length (value_bytes value.now) ≤ most_sent }
     ensures { HoldsBiosAttribute (table_view step.now.table.now) result }
 {
-    let mut bytes = Bytes::<{ MOST_SENT }>::new();
-    value.write(&mut bytes);
+    room.replace(&[]);
+    value.write(room);
     SetBiosAttribute {
         attribute: step.word(Field::Handle),
         attribute_type: value.type_code(),
-        value: bytes,
+        value: Data::new(room.as_slice()),
     }
 }
 
 /// The change of the step's attribute to the indexes that the step lists.
-fn set_indexes(step: &Checked<'_>) -> SetBiosAttribute
+fn set_indexes<'v>(
+    step: &Checked<'_>,
+    room: &'v mut Bytes<{ MOST_SENT }>,
+) -> SetBiosAttribute<'v>
     requires rows { step.now.rows.now ≡ FIELDS }
     requires given { is_some (in_field Field.Indexes (table_view step.now.table.now)) ≡ true }
     ensures { HoldsBiosAttribute (table_view step.now.table.now) result }
 {
     let indexes = indexes_of(members_in(step.table, Field::Indexes));
     let value = AttributeValue::Indexes(Data::new(indexes.as_slice()));
-    set_to(step, &value)
+    set_to(step, &value, room)
 }
 
 /// The change of the step's attribute to the text that the step gives.
-fn set_text(step: &Checked<'_>) -> SetBiosAttribute
+fn set_text<'v>(
+    step: &Checked<'_>,
+    room: &'v mut Bytes<{ MOST_SENT }>,
+) -> SetBiosAttribute<'v>
     requires rows { step.now.rows.now ≡ FIELDS }
     requires first { in_field Field.Indexes (table_view step.now.table.now) ≡ None }
     requires given { is_some (in_field Field.Text (table_view step.now.table.now)) ≡ true }
@@ -57,30 +67,36 @@ fn set_text(step: &Checked<'_>) -> SetBiosAttribute
 {
     let text = text_in(step.table, Field::Text);
     let value = AttributeValue::Text(Data::new(text.as_slice()));
-    set_to(step, &value)
+    set_to(step, &value, room)
 }
 
 /// The change of the step's attribute to the number that the step gives.
-fn set_number(step: &Checked<'_>) -> SetBiosAttribute
+fn set_number<'v>(
+    step: &Checked<'_>,
+    room: &'v mut Bytes<{ MOST_SENT }>,
+) -> SetBiosAttribute<'v>
     requires rows { step.now.rows.now ≡ FIELDS }
     requires first { in_field Field.Indexes (table_view step.now.table.now) ≡ None }
     requires second { in_field Field.Text (table_view step.now.table.now) ≡ None }
     ensures { HoldsBiosAttribute (table_view step.now.table.now) result }
 {
     let number = number(step.table, Field::Number).unwrap();
-    set_to(step, &AttributeValue::Number(number))
+    set_to(step, &AttributeValue::Number(number), room)
 }
 
-/// What the step makes of the value of an attribute.
-pub fn read(step: &Checked<'_>) -> SetBiosAttribute
+/// What the step makes of the value of an attribute. The value is written to `room`.
+pub fn read<'v>(
+    step: &Checked<'_>,
+    room: &'v mut Bytes<{ MOST_SENT }>,
+) -> SetBiosAttribute<'v>
     requires { step.now.rows.now ≡ FIELDS }
     ensures { HoldsBiosAttribute (table_view step.now.table.now) result }
 {
     if in_field(step.table, Field::Indexes).is_some() {
-        return set_indexes(step);
+        return set_indexes(step, room);
     }
     if in_field(step.table, Field::Text).is_some() {
-        return set_text(step);
+        return set_text(step, room);
     }
-    set_number(step)
+    set_number(step, room)
 }

@@ -27,7 +27,7 @@ pub fn other_names() -> Names {
 }
 
 /// A step that sets thresholds of sensor 5.
-fn step(mask: u8, values: [u8; 6]) -> Op {
+fn step(mask: u8, values: [u8; 6]) -> Op<'static> {
     Op::Thresholds(SetThresholds {
         sensor: 5,
         mask,
@@ -39,8 +39,9 @@ fn step(mask: u8, values: [u8; 6]) -> Op {
 pub fn plan(alloc: Global) -> Result<Plan, AllocError> {
     let first = step(0x18, [0, 0, 0, 0x4B, 0x5A, 0]);
     let second = step(0x30, [0, 0, 0, 0, 0x5C, 0x64]);
-    let ops = vec![in alloc; first, second]?;
-    let steps = Steps::new(ops).ok_or(AllocError)?;
+    let mut steps = Steps::none(alloc);
+    steps.push(&first)?;
+    steps.push(&second)?;
     Ok(Plan {
         steps,
         retries: Retries::new(3),

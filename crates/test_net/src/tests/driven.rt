@@ -28,7 +28,7 @@ fn names() -> Names {
 }
 
 /// Some thresholds of sensor 5.
-fn set_thresholds(mask: u8, values: [u8; 6]) -> Op {
+fn set_thresholds(mask: u8, values: [u8; 6]) -> Op<'static> {
     Op::Thresholds(SetThresholds {
         sensor: 5,
         mask,
@@ -36,31 +36,38 @@ fn set_thresholds(mask: u8, values: [u8; 6]) -> Op {
     })
 }
 
-/// A text of 200 bytes for attribute 1, which is a string.
-fn set_text() -> Op {
+/// The value of a string, with a text of 200 bytes.
+fn text_value() -> [u8; 202] {
     let mut value = [b'a'; 202];
     value[0] = 200;
     value[1] = 0;
-    Op::BiosAttribute(SetBiosAttribute::of(1, 0x01, &value))
+    value
 }
 
 /// On IPMB thresholds in two steps: upper non-critical 4Bh and critical 5Ah, then upper critical 5Ch and non-recoverable 64h. On SMBus the
-/// text.
-fn steps_on(rt: &impl Abort, alloc: Global, bus: Bus) -> Vec<Op> {
+/// text for attribute 1, which is a string.
+fn steps_on(rt: &impl Abort, alloc: Global, bus: Bus) -> Steps {
+    let mut steps = Steps::none(alloc);
     match bus {
         Bus::Ipmb => {
             let first = set_thresholds(0x18, [0, 0, 0, 0x4B, 0x5A, 0]);
             let second = set_thresholds(0x30, [0, 0, 0, 0, 0x5C, 0x64]);
-            vec![in alloc; first, second].expect(rt, "memory")
+            steps.push(&first).expect(rt, "memory");
+            steps.push(&second).expect(rt, "memory");
         }
-        Bus::Smbus => vec![in alloc; set_text()].expect(rt, "memory"),
+        Bus::Smbus => {
+            let value = text_value();
+            let set = Op::BiosAttribute(SetBiosAttribute::of(1, 0x01, &value));
+            steps.push(&set).expect(rt, "memory");
+        }
     }
+    steps
 }
 
 /// A manager of the steps on this bus, with three retries.
 fn manager_on(rt: &impl Abort, alloc: Global, bus: Bus) -> Manager {
     let plan = Plan {
-        steps: Steps::new(steps_on(rt, alloc, bus)).expect(rt, "steps"),
+        steps: steps_on(rt, alloc, bus),
         retries: Retries::new(3),
     };
     Manager::open(alloc, plan, names(), 3)

@@ -14,7 +14,7 @@ use std::process::Abort;
 use two_wire::{Bytes, Lun, NetFn};
 
 /// Upper critical of sensor 5 becomes 5Ah.
-const UPPER_CRITICAL: Op = Op::Thresholds(SetThresholds {
+const UPPER_CRITICAL: Op<'static> = Op::Thresholds(SetThresholds {
     sensor: 5,
     mask: 0x10,
     values: [0, 0, 0, 0, 0x5A, 0],
@@ -153,7 +153,7 @@ fn a_command_takes_the_lengths_of_its_line(rt: HostRuntime) {
 }
 
 /// The request of the change has these data, in hexadecimal.
-fn expect_data(rt: &impl Abort, alloc: Global, op: Op, want: &str) {
+fn expect_data(rt: &impl Abort, alloc: Global, op: Op<'_>, want: &str) {
     let data = Limits::set_data(&op);
     let digits = hex::encode_upper(alloc, data.as_slice()).expect(rt, "memory");
     expect_text(rt, digits.as_str(), want);

@@ -36,7 +36,7 @@ policy = 2
 #[test]
 fn a_plan_is_read(rt: HostRuntime) {
     let plan = read_plan(rt.alloc(), PLAN).expect(&rt, "a plan");
-    assert!(rt; plan.steps.as_slice().len() == 1 && plan.retries.number() == 2);
+    assert!(rt; plan.steps.len() == 1 && plan.retries.number() == 2);
 }
 
 #[test]

@@ -108,7 +108,7 @@ fn cut(alloc: Global, parts: Option<(&str, &str)>) -> Result<Came, AllocError> {
 }
 
 /// Adds the line of a step's request, as an undo text has it.
-fn push_step(alloc: Global, text: &mut String, step: &Op) -> Result<(), AllocError> {
+fn push_step(alloc: Global, text: &mut String, step: &Op<'_>) -> Result<(), AllocError> {
     let mut requests = Requests::new(alloc)?;
     requests.push(Limits::set_asked(step));
     push_requests(alloc, text, &requests)
@@ -117,8 +117,10 @@ fn push_step(alloc: Global, text: &mut String, step: &Op) -> Result<(), AllocErr
 /// How often the plan's frames are sent again, and the requests of its steps, a line each.
 fn sent(alloc: Global, plan: &Plan) -> Result<String, AllocError> {
     let mut text = format!(in alloc; "{}: ", plan.retries.number())?;
-    for step in plan.steps.as_slice() {
-        push_step(alloc, &mut text, step)?;
+    for place in 0..plan.steps.len() {
+        if let Some(step) = plan.steps.get(place) {
+            push_step(alloc, &mut text, &step)?;
+        }
     }
     String::from_str(alloc, text.as_str().trim_end())
 }

@@ -1,0 +1,76 @@
+-- A plan gives the operations again that it keeps, and goes on to do so when values are added behind the others.
+use Rattle.std.proofs.Common.{◌≡◌, ℕ, ◌+◌, ◌-◌, ◌<◌, ◌≤◌, List, [], ◌∷◌, ◌++◌, length, take, drop, map, refl, sym, ◌∙◌, ap, subst, arith, length-append}
+use Rattle.std.specs.List.{All, slice_index_or}
+use Rattle.std.proofs.lemmas.List.{map-append, length-drop, drop-append-le, take-append-le}
+use Rattle.std.proofs.Math.Seq.{drop-append_seam, take-length}
+use Rattle.std.proofs.lemmas.List.Elements.{All-append, All-cons, All-nil}
+use Rattle.record_base.specs.declared.op.Op.{Op}
+use Rattle.record_base.specs.declared.op.Op.TheVariants as op
+use Rattle.record_base.specs.BiosAttributeLaws.{few_sent, same_setting, sent_whole}
+use Rattle.undo_plans.specs.declared.kept.Kept.{Kept}
+use Rattle.undo_plans.specs.Kept.{value_of, with_value, IsAmong, kept_op}
+
+-- an operation without its value is the operation again, once it has the value
+put_together : (any : Op) → with_value (with_value any []) (value_of any) ≡ any
+put_together (op.BiosAttribute set) = ap op.BiosAttribute (same_setting set.attribute set.attribute_type _ set.value (few_sent set.value) set.fits (sent_whole set.value set.fits))
+put_together (op.Thresholds set) = refl
+put_together (op.Hysteresis set) = refl
+put_together (op.EventEnable set) = refl
+put_together (op.PowerPolicy set) = refl
+put_together (op.Watchdog set) = refl
+put_together (op.GlobalEnables set) = refl
+put_together (op.BootParam set) = refl
+put_together (op.NumericEffecter set) = refl
+put_together (op.StateEffecter set) = refl
+put_together (op.UserName set) = refl
+put_together (op.UserAccess set) = refl
+put_together (op.ChannelAccess set) = refl
+put_together (op.LanParam set) = refl
+
+-- bytes among others stay where they are, with more behind the others
+same_bytes : (values more : List ℕ) (from count : ℕ) → from + count ≤ length values → take count (drop from (values ++ more)) ≡ take count (drop from values)
+same_bytes values more from count within =
+    ap (take count) (drop-append-le from values more (omega (arith, within)))
+    ∙ take-append-le count (drop from values) more (omega (arith, within, length-drop from values))
+
+same_op : (values more : List ℕ) (kept : Kept) → IsAmong values kept → kept_op (values ++ more) kept ≡ kept_op values kept
+same_op values more kept within = ap (with_value kept.op) (same_bytes values more kept.from kept.count within)
+
+first_of : (values : List ℕ) (kept : Kept) (others : List Kept) → All (IsAmong values) (kept ∷ others) → IsAmong values kept
+first_of values kept others all = all 0 kept (omega arith)
+
+rest_of : (values : List ℕ) (kept : Kept) (others : List Kept) → All (IsAmong values) (kept ∷ others) → All (IsAmong values) others
+rest_of values kept others all k d below = all (suc k) d (omega (arith, below))
+
+same_ops : (values more : List ℕ) (ops : List Kept) → All (IsAmong values) ops → map (kept_op (values ++ more)) ops ≡ map (kept_op values) ops
+same_ops values more [] all = refl
+same_ops values more (kept ∷ others) all =
+    let here = same_op values more kept (first_of values kept others all) in
+    let there = same_ops values more others (rest_of values kept others all) in
+    λ i. here i ∷ there i
+
+-- how an operation is kept whose value comes behind these
+abbrev pub behind : List ℕ → Op → Kept
+behind values any = record { op = with_value any []; from = length values; count = length (value_of any) }
+
+last_op : (values : List ℕ) (any : Op) → kept_op (values ++ value_of any) (behind values any) ≡ any
+last_op values any =
+    ap (λ (bytes : List ℕ). with_value (with_value any []) (take (length (value_of any)) bytes)) (drop-append_seam values (value_of any))
+    ∙ ap (with_value (with_value any [])) (take-length (value_of any)) ∙ put_together any
+
+-- an operation is added
+pub one_more : (values : List ℕ) (ops : List Kept) (any : Op) → All (IsAmong values) ops
+    → map (kept_op (values ++ value_of any)) (ops ++ behind values any ∷ []) ≡ map (kept_op values) ops ++ any ∷ []
+one_more values ops any all =
+    let before = same_ops values (value_of any) ops all in
+    let last = last_op values any in
+    map-append (kept_op (values ++ value_of any)) ops (behind values any ∷ []) ∙ (λ i. before i ++ last i ∷ [])
+
+-- all lie among the values, with more behind these
+wider : (values more : List ℕ) (ops : List Kept) → All (IsAmong values) ops → All (IsAmong (values ++ more)) ops
+wider values more ops all k d below = omega (arith, all k d below, length-append values more)
+
+pub all_among : (values : List ℕ) (ops : List Kept) (any : Op) → All (IsAmong values) ops → All (IsAmong (values ++ value_of any)) (ops ++ behind values any ∷ [])
+all_among values ops any all =
+    All-append (IsAmong (values ++ value_of any)) ops (behind values any ∷ []) (wider values (value_of any) ops all)
+    (All-cons (IsAmong (values ++ value_of any)) (behind values any) [] (omega (arith, length-append values (value_of any))) (All-nil (IsAmong (values ++ value_of any))))
