@@ -35,7 +35,7 @@ starts_valid setup at = record {
 
 pub quiet_may : (setup : BoardFile) (at : Bus → Addresses) (L : Bus → Line) → QuietMay setup at L
 quiet_may setup at L bus e w asked a after is quiet row =
-    (is.0, is.1, subst (λ (o : Option Exchange). BoardMay (family setup at) L (wires at) bus o w.board after) (sym is.2) (keeps_records setup w.board asked a after quiet row))
+    (is.0, is.1, subst (λ (o : Option Exchange). BoardMay (family setup at) L (wires at) bus o w.board after) (sym is.2) (keeps_records setup w.board asked a after quiet row, λ series bodies ready. ready))
 
 pub answers_may : (setup : BoardFile) (at : Bus → Addresses) (L : Bus → Line) → AnswersMay setup at L
 answers_may setup at L bus e w x is replies =

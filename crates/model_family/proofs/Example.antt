@@ -51,7 +51,7 @@ module _ (setup : BoardFile) (others : Records) where
   set_carried = port_may (after setup others 3) 2 (0x04 ∷ 0x04 ∷ 0x06 ∷ 0x00 ∷ 0x07 ∷ []) (with_policy 1 (board setup others)) refl (does (after setup others 3) (0x00 ∷ 0x04 ∷ 0x06 ∷ 0x01 ∷ []) (0x04 ∷ 0x04 ∷ 0x06 ∷ 0x00 ∷ 0x07 ∷ []) refl)
 
   set_repeats : May (family setup addresses) messages (wires addresses) (after setup others 5) (to_port setup others 2 [] (with_policy 1 (board setup others)))
-  set_repeats = port_may (after setup others 5) 2 [] (with_policy 1 (board setup others)) refl refl
+  set_repeats = port_may (after setup others 5) 2 [] (with_policy 1 (board setup others)) refl (refl, λ series bodies ready. ready)
 
   undo_carried : May (family setup addresses) messages (wires addresses) (after setup others 7) (to_port setup others 5 (0x04 ∷ 0x08 ∷ 0x06 ∷ 0x00 ∷ 0x07 ∷ []) (with_policy 0 (with_policy 1 (board setup others))))
   undo_carried =
@@ -59,7 +59,7 @@ module _ (setup : BoardFile) (others : Records) where
 
   pub ends_undone : EndsUndone setup others
   ends_undone = record {
-    starts = λ all. record { on_bus = is_quiet; valid = is_valid all };
+    starts = λ all. record { on_bus = is_quiet; valid = is_valid all; ready = λ series. tt };
     may = (tt, (get_carried, (manager_may (after setup others 2) 1 refl, (set_carried, (manager_may (after setup others 4) 3 refl, (set_repeats, (tt, (undo_carried, (manager_may (after setup others 8) 6 refl, tt)))))))));
     sent = refl;
     set = refl;

@@ -36,7 +36,8 @@ use Rattle.bmc_board.proofs.Undone.{unknown_is_fault, Shows, shows}
 use Rattle.model_bus.specs.Answered.{Answered}
 use Rattle.model_undo.specs.Words.{is_busy}
 use Rattle.model_undo.specs.Family.{SetsTo}
-use Rattle.model_undo.specs.IsFamily.{Showed, IsFamily}
+use Rattle.model_undo.specs.IsFamily.{Showed, IsFamily, IsSingleFamily}
+use Rattle.model_undo.proofs.Single.{single_family}
 use Rattle.model_bus.specs.Addresses.{Addresses}
 use Rattle.model_ports.specs.Wires.{bus_of, board_answer}
 use Rattle.model_lab.specs.ManagerWords.{from_manager}
@@ -196,22 +197,25 @@ free setup before asked a after row =
     let is : IsCode a.code = subst IsCode (sym code) (never_busy setup before asked) in
     not_busy a.code is.not_busy is.is_ready
 
-pub is_family : (setup : BoardFile) (at : Bus → Addresses) → IsFamily (family setup at)
-is_family setup at = record {
-  single = record { none_next = λ series body. refl; shows_it = λ series body. refl };
-  put_back = λ records key old new had. with_record_back records key new old had;
-  get_put = λ records key old new had. with_record_same records key new;
-  put_valid = λ records key new all is. λ k v found. valid_where setup records key new all is k (same_key key k) refl v found;
-  sets_valid = λ op old new is_valid is_set. keeps_within (limits_at setup (key_of op)) op old new is_valid is_set;
-  sets_one = λ op old new other is again. one_within (limits_at setup (key_of op)) op old new other is again;
-  same_key = λ op back value body is_valid shown is. same_key_within (limits_at setup (key_of op)) op back value body (limits_are_of setup (key_of op)) is_valid shown is;
-  undoes = λ op back old new body is_valid is_set shown is.
-      subst (λ (k : Key). SetsWithin (limits_at setup k) back new old)
-      (sym (same_key_within (limits_at setup (key_of op)) op back old body (limits_are_of setup (key_of op)) is_valid shown is))
-      (undoes_within (limits_at setup (key_of op)) op back old new body is_valid is_set shown is);
-  restores = λ op back value body is_valid shown is. restores_from op back body is;
-  refuses = λ op value body is_valid shown none. refuses_within (limits_at setup (key_of op)) op value body (limits_are_of setup (key_of op)) is_valid shown none;
-  steady = λ key value body other is_valid shown again. steady_within (limits_at setup key) value body other shown again;
+pub is_single : (setup : BoardFile) (at : Bus → Addresses) → IsSingleFamily (family setup at)
+is_single setup at = record {
+  kinds = record {
+    put_back = λ records key old new had. with_record_back records key new old had;
+    get_put = λ records key old new had. with_record_same records key new;
+    put_valid = λ records key new all is. λ k v found. valid_where setup records key new all is k (same_key key k) refl v found;
+    sets_valid = λ op old new is_valid is_set. keeps_within (limits_at setup (key_of op)) op old new is_valid is_set;
+    sets_one = λ op old new other is again. one_within (limits_at setup (key_of op)) op old new other is again;
+    same_key = λ op back value body is_valid shown is. same_key_within (limits_at setup (key_of op)) op back value body (limits_are_of setup (key_of op)) is_valid shown is;
+    undoes = λ op back old new body is_valid is_set shown is.
+        subst (λ (k : Key). SetsWithin (limits_at setup k) back new old)
+        (sym (same_key_within (limits_at setup (key_of op)) op back old body (limits_are_of setup (key_of op)) is_valid shown is))
+        (undoes_within (limits_at setup (key_of op)) op back old new body is_valid is_set shown is);
+    restores = λ op back value body is_valid shown is. restores_from op back body is;
+    refuses = λ op value body is_valid shown none. refuses_within (limits_at setup (key_of op)) op value body (limits_are_of setup (key_of op)) is_valid shown none;
+    steady = λ key value body other is_valid shown again. steady_within (limits_at setup key) value body other shown again;
+  };
+  single = record { none_next = λ series bodies. refl; shows_it = λ series body. refl };
+  ready = λ board series bodies. tt;
   gets_are = get_is_read at;
   gets_keep = λ board after asked key a is row. ap (λ (g : Given). g.1.records) (read_as setup board asked (Get key) (board_answer a) after is row);
   gets_show = λ board after asked key a is row carried. get_shows setup at board asked key a after is row carried;
@@ -221,3 +225,6 @@ is_family setup at = record {
   refusals_say = λ board after op a row ne r s. (set_tells setup at board op a after row).says ne s.before s.after s.found s.sets;
   never_busy = λ board after asked a row. free setup board asked a after row;
 }
+
+pub is_family : (setup : BoardFile) (at : Bus → Addresses) → IsFamily (family setup at)
+is_family setup at = single_family (family setup at) (is_single setup at)

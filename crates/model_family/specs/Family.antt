@@ -53,6 +53,7 @@ family setup at = record {
   Restorable = restorable;
   Board = State;
   records = λ board. board.records;
+  Ready = λ board series bodies. Unit {0};
   IsGet = λ asked key. asked_by asked ≡ Ok (Get key);
   Row = λ board asked a after. Row setup board asked (board_answer a) after;
 }

@@ -316,8 +316,8 @@ module _ (setup : BoardFile) (names : Names) (plan : List Op) (start : Records) 
           ∙ ap (λ (q : Heard). exchange (new_bytes (outcome (is_above 64) q (on Ipmb).log) hold.bytes) (answer_to setup x.board r)) (sym heard_so)
 
       board_may : (o : Outcome) → world.BoardMay (F setup names) (L setup names) (W setup names) Ipmb (exchange (new_bytes o hold.bytes) (answer_to setup x.board r)) x.board (left_by o given.1 x.board)
-      board_may (Repeats reply) = refl
-      board_may IsBusy = refl
+      board_may (Repeats reply) = (refl, λ series bodies ready. ready)
+      board_may IsBusy = (refl, λ series bodies ready. ready)
       board_may IsNew = (
         family_answer given.0,
         ap (λ (b : List ℕ). reply_to Ipmb b (family_answer given.0)) bytes_so,

@@ -31,7 +31,7 @@ use Rattle.model_undo.specs.Clean.{Moment, answered_in_all, told, one, clean, St
 use Rattle.model_undo.proofs.Clean.{always_runs_clean}
 use Rattle.model_lab.specs.ManagerWords.{manager_words}
 use Rattle.model_family.specs.Family.{answer}
-use Rattle.model_family.proofs.IsFamily.{is_family}
+use Rattle.model_family.proofs.IsFamily.{is_single, is_family}
 use Rattle.model_family.proofs.Board.{starts_valid}
 use Rattle.undo_plans.specs.declared.names.Names.{Names}
 use Rattle.text_schedule.specs.declared.event.Call.{Call}
@@ -551,7 +551,7 @@ module _ (setup : BoardFile) (names : Names) where
     pub runs_on_clean_link : RunsOnCleanLink setup names plan retries
     runs_on_clean_link =
         let r : RunsClean (F setup names) (answer setup) plan x0.board (moment stage0 m0 x0.board) =
-        always_runs_clean (F setup names) (is_family setup (addresses names)) (answer setup) (λ b asked. has_answer setup b asked) plan retries x0.board (starts_valid setup (addresses names)).opened_valid in
+        always_runs_clean (F setup names) (is_family setup (addresses names)) (is_single setup (addresses names)).single (answer setup) (λ b asked. has_answer setup b asked) plan retries x0.board (starts_valid setup (addresses names)).opened_valid (λ series. tt) in
         let k = length r.steps in
         let n = k + k + r.more in
         let x = clean (F setup names) (answer setup) n (moment stage0 m0 x0.board) in

@@ -383,7 +383,7 @@ module _ (setup : BoardFile) (names : Names) where
           went = record {
             happenings = OnBench d.board ∷ [];
             left = now;
-            may = (keeps, tt);
+            may = ((keeps, λ series bodies ready. ready), tt);
             reaches = refl;
             tied = record {
               named = t.named;

@@ -118,7 +118,7 @@ module _ (setup : BoardFile) (names : Names) (plan : List Op) (start : Records) 
     bench_goes activity = record {
       happenings = OnBench (state x.board.records activity) ∷ [];
       left = on;
-      may = (refl, tt);
+      may = ((refl, λ series bodies ready. ready), tt);
       reaches = refl;
       gives = tt;
       tied = record {

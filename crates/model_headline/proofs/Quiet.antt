@@ -250,7 +250,7 @@ module _ (setup : BoardFile) (names : Names) (plan : List Op) (start : Records) 
         finish quiet (same ∙ sym (deed_is c e)) (record {
           happenings = OnBus Smbus arrives x.board ∷ [];
           left = now left;
-          may = (((tt, part.honest_part setup names plan start x on tied h f hold live mine ours slot), refl, subst (λ o. world.BoardMay (F setup names) (L setup names) (W setup names) Smbus o x.board x.board) (sym carried) refl), tt);
+          may = (((tt, part.honest_part setup names plan start x on tied h f hold live mine ours slot), refl, subst (λ o. world.BoardMay (F setup names) (L setup names) (W setup names) Smbus o x.board x.board) (sym carried) (refl, λ series bodies ready. ready)), tt);
           reaches = ap (λ (y : Ends). let w : World (F setup names) (L setup names) = record { machine = x.manager.machine; on = now y; board = x.board } in w) happened;
           gives = subst (λ o. Each (IsGiven setup names x (done_by quiet)) (given_by (F setup names) (L setup names) (W setup names) Smbus o x.board x.board ++ [])) (sym carried) tt;
           tied = leaves_tied quiet left (quiet_leaves (set_at (name_in p) after ends.port) port (part.still_opened setup names plan start x on tied h f hold live mine after waits));

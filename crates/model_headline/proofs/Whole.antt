@@ -275,8 +275,8 @@ module _ (setup : BoardFile) (names : Names) (plan : List Op) (start : Records) 
       }
 
       board_may : (o : Outcome) → world.BoardMay (F setup names) (L setup names) (W setup names) Smbus (exchange (new_bytes o r.bytes) kept.reply) x.board (left_by o given.1 x.board)
-      board_may (Repeats reply) = refl
-      board_may IsBusy = refl
+      board_may (Repeats reply) = (refl, λ series bodies ready. ready)
+      board_may IsBusy = (refl, λ series bodies ready. ready)
       board_may IsNew = (
         family_answer given.0,
         refl,

@@ -12,13 +12,13 @@ use Rattle.model_bus.specs.Start.{NothingUnderWay}
 use Rattle.model_bus.specs.Effect.{SameRequests, IsBegun, IsCarried, IsTaken}
 use Rattle.model_bus.proofs.Lists.{length_more}
 use Rattle.model_bus.specs.Answered.{Answered}
-use Rattle.model_undo.specs.Words.{is_busy}
+use Rattle.model_undo.specs.Words.{is_busy, AreSingle}
 use Rattle.model_undo.specs.declared.phase.Phase.{Phase}
 use Rattle.model_undo.specs.declared.phase.Phase.TheVariants.{Undone}
 use Rattle.model_undo.specs.Family.{Family}
 use Rattle.model_undo.specs.IsFamily.{IsFamily}
 use Rattle.model_undo.specs.Plan.{IsAfter}
-use Rattle.model_undo.specs.Machine.{Counts, count_of, one_answered, Task, Part, first_part, begun, refused, finished, Gets, Sets, Undoes, Stage, AtStart, Opened, AtEnd, AtHalt, AtUndone, AtRefused, Machine, Turn, bus_at, same_bus, sending, sends_at, enters, takes, replies as machine_replies, reply_of, set_stage, next_stage, undo_stage, first_stage, phase_at, undo_of, opened}
+use Rattle.model_undo.specs.Machine.{Counts, count_of, one_answered, Task, Part, series_of, bodies_with, next_asked, refused, goes_on, told_stage, finished, stage_after, Gets, Sets, Undoes, Stage, AtStart, Opened, AtEnd, AtHalt, AtUndone, AtRefused, Machine, Turn, bus_at, same_bus, sending, sends_at, enters, takes, replies as machine_replies, reply_of, set_stage, next_stage, undo_stage, first_stage, phase_at, undo_of, opened}
 use Rattle.model_undo.specs.Wires.{number_of, Wires}
 use Rattle.model_undo.specs.Line.{Exchange, Line}
 use Rattle.model_undo.specs.Joined.{IsClosed}
@@ -30,14 +30,14 @@ use Rattle.model_undo.specs.CleanBuses.{reach_port, asks, replies, exchange, exc
 use Rattle.model_undo.proofs.Undoable.{CanUndo}
 use Rattle.model_undo.proofs.StageSound.{task_made}
 use Rattle.model_undo.proofs.Calls.{first_good, undo_good}
-use Rattle.model_undo.proofs.Single.{stage_after_one, one_stage, one_undo}
 use Rattle.model_undo.proofs.Buses.{each_bus}
 use Rattle.model_undo.proofs.Orderly.{closed_taken}
 use Rattle.model_undo.proofs.LineLaws.{IsLine}
 use Rattle.model_undo.proofs.Delivery.{HasCarried, HasBrought, LosesNothing}
 use Rattle.model_undo.proofs.World.{count_here, count_there, here, there, WorldHolds, happens_holds, run_holds}
 use Rattle.model_undo.proofs.Headline.{run_on, opening_holds}
-use Rattle.model_undo.proofs.Clean.{at_stage, Good, replied, one_task, task_good, always_runs_clean}
+use Rattle.model_undo.proofs.CleanSteps.{at_stage, Good, replied, one_part, part_good}
+use Rattle.model_undo.proofs.Clean.{always_runs_clean}
 
 same_bus-itself : (bus : Bus) → same_bus bus bus ≡ true
 same_bus-itself Ipmb = refl
@@ -86,9 +86,21 @@ refused_heeded F code (Gets k op) = tt
 refused_heeded F code (Sets k op back) = tt
 refused_heeded F code (Undoes u us) = tt
 
-after_heeded : (F : Family) (stopped : Bool) (plan : List F.words.Op) (a : Answered) (task : Task F.words) → IsHeeded F (stage_after_one F.words stopped plan a task)
-after_heeded F stopped plan a task =
-    cond_both (eqb a.code success) (finished F.words stopped plan a.body task) (refused F.words a.code task) (IsHeeded F) (λ _. finished_heeded F stopped plan a.body task) (λ _. refused_heeded F a.code task)
+goes_on_heeded : (F : Family) (stopped : Bool) (task : Task F.words) (part : Part F.words) → IsHeeded F (goes_on F.words stopped task part)
+goes_on_heeded F true (Gets k op) part = tt
+goes_on_heeded F false (Gets k op) part = tt
+goes_on_heeded F stopped (Sets k op back) part = tt
+goes_on_heeded F stopped (Undoes u us) part = tt
+
+told_heeded : (F : Family) (stopped : Bool) (plan : List F.words.Op) (task : Task F.words) (bodies : List (List ℕ)) (o : Option F.words.Asked) → IsHeeded F (told_stage F.words stopped plan task bodies o)
+told_heeded F stopped plan task bodies (Some asked) = goes_on_heeded F stopped task (record { asked = asked; before = bodies })
+told_heeded F stopped plan task bodies None = finished_heeded F stopped plan (F.words.joined (series_of F.words task) bodies) task
+
+after_heeded : (F : Family) (stopped : Bool) (plan : List F.words.Op) (a : Answered) (task : Task F.words) (part : Part F.words) → IsHeeded F (stage_after F.words stopped plan a task part)
+after_heeded F stopped plan a task part =
+    let went = told_stage F.words stopped plan task (bodies_with F.words a part) (next_asked F.words a task part) in
+    cond_both (eqb a.code success) went (refused F.words a.code task) (IsHeeded F)
+    (λ _. told_heeded F stopped plan task (bodies_with F.words a part) (next_asked F.words a task part)) (λ _. refused_heeded F a.code task)
 
 module _ (F : Family) (L : Bus → Line) (W : Wires F.words) where
   pub all_append : (es fs : List (Happening F L)) (w : World F L) → AllMay F L W es w → AllMay F L W fs (run F L W es w) → AllMay F L W (es ++ fs) w
@@ -151,7 +163,7 @@ module _ (F : Family) (laws : IsFamily F) (L : Bus → Line) (lines : (bus : Bus
       let next = world_of w.machine (update L bus t w.on) w.board in
       let r = reaches bus (f ∷ es) x after next (subst (lines bus).Holds (sym (is_here bus t w.on)) ((lines bus).keeps s e held h.2))
       (subst (λ (y : (L bus).State). HasCarried (L bus) (f ∷ es) y x (λ z. (clean_lines bus).Answered z x.reply)) (sym (is_here bus t w.on)) h.4) may in (
-        (((h.0, h.2), h.1, subst (λ (o : Option Exchange). BoardMay F L W bus o w.board w.board) (sym h.3) refl), r.0),
+        (((h.0, h.2), h.1, subst (λ (o : Option Exchange). BoardMay F L W bus o w.board w.board) (sym h.3) (refl, (λ series bodies ready. ready))), r.0),
         record {
           now = r.1.now;
           is = r.1.is;
@@ -252,14 +264,13 @@ module _ (F : Family) (laws : IsFamily F) (L : Bus → Line) (lines : (bus : Bus
     place : HavePlace on
     exact : AreExact counts on
 
-  opens_ready : (task : Task F.words) (m : Machine F.words) (on : States L) (b : F.Board) → Good F laws answer by_row plan start (begun F.words task) m b → Rests m.counts on
-      → let now = begins F L W (sends_at F.words (begun F.words task) m.counts) on in Ready (begun F.words task) m.counts now × AreExact m.counts now
-  opens_ready task m on b good r =
-      let part = first_part F.words task in
+  opens_ready : (task : Task F.words) (part : Part F.words) (m : Machine F.words) (on : States L) (b : F.Board) → Good F laws answer by_row plan start (Opened true task part) m b → Rests m.counts on
+      → let now = begins F L W (sends_at F.words (Opened true task part) m.counts) on in Ready (Opened true task part) m.counts now × AreExact m.counts now
+  opens_ready task part m on b good r =
       let bus = bus_at F.words part in
       let bytes = bytes_sent F L W (sending F.words part m.counts) in
       let s = (L bus).happens (on bus) ((L bus).begins bytes) in
-      let made = task_made F plan start m.plan m.undo (F.records b) task good.sound.0 in
+      let made = task_made F plan start m.plan m.undo b task part good.sound.0 good.sound.2 in
       let asked = (clean_lines bus).begun (on bus) bytes (r.held bus) (r.closed bus) (r.place bus) (can.requests (number_of bus (count_of bus m.counts)) part.asked made) in
       let begun : IsBegun (request_on on bus) ((L bus).requests s) bytes = (lines bus).begun (on bus) bytes (r.held bus) (r.closed bus) in (
         (subst (λ (y : (L bus).State). (clean_lines bus).Asked y bytes) (sym (is_here bus s on)) asked, λ other ne. subst (D other).HasPlace (sym (is_there bus other s on ne)) (r.place other)),
@@ -270,10 +281,7 @@ module _ (F : Family) (laws : IsFamily F) (L : Bus → Line) (lines : (bus : Bus
 
   enters_ready : (stage : Stage F.words) (m : Machine F.words) (on : States L) (b : F.Board) → IsHeeded F stage → Good F laws answer by_row plan start stage m b → Rests m.counts on
       → let now = begins F L W (sends_at F.words stage m.counts) on in Ready stage m.counts now × AreExact m.counts now
-  enters_ready (Opened true task part) m on b heeded good r =
-      let is : first_part F.words task ≡ part = sym good.sound.2 in
-      subst (λ (p : Part F.words). Good F laws answer by_row plan start (Opened true task p) m b → let now = begins F L W (sends_at F.words (Opened true task p) m.counts) on in Ready (Opened true task p) m.counts now × AreExact m.counts now) is
-      (λ here_good. opens_ready task m on b here_good r) good
+  enters_ready (Opened true task part) m on b heeded good r = opens_ready task part m on b good r
   enters_ready (Opened false task part) m on b heeded good r = absurd heeded
   enters_ready AtStart m on b heeded good r = (r.place, r.exact)
   enters_ready AtEnd m on b heeded good r = (r.place, r.exact)
@@ -300,20 +308,19 @@ module _ (F : Family) (laws : IsFamily F) (L : Bus → Line) (lines : (bus : Bus
     is : w ≡ world_of (enters F.words stage machine).machine now board
     going : Going stage machine now board
 
-  exchange_task : (task : Task F.words) (m : Machine F.words) (on : States L) (b : F.Board) → Going (begun F.words task) m on b
-      → let w = world_of (enters F.words (begun F.words task) m).machine on b in
-      let es = exchange F L D W answer (begun F.words task) w in
-      AllMay F L W es w × Follows (one F answer (at_stage F laws answer by_row plan start (begun F.words task) m b)) (run F L W es w)
-  exchange_task task m on b g =
-      let w = world_of (enters F.words (begun F.words task) m).machine on b in
-      let part = first_part F.words task in
+  exchange_task : (task : Task F.words) (part : Part F.words) (m : Machine F.words) (on : States L) (b : F.Board) → Going (Opened true task part) m on b
+      → let w = world_of (enters F.words (Opened true task part) m).machine on b in
+      let es = exchange F L D W answer (Opened true task part) w in
+      AllMay F L W es w × Follows (one F answer (at_stage F laws answer by_row plan start (Opened true task part) m b)) (run F L W es w)
+  exchange_task task part m on b g =
+      let w = world_of (enters F.words (Opened true task part) m).machine on b in
       let bus = bus_at F.words part in
       let asked = part.asked in
       let number = number_of bus (count_of bus m.counts) in
       let r = answer b asked in
       let bytes = bytes_sent F L W (sending F.words part m.counts) in
       let reply = W.reply_to bus bytes r.0 in
-      let made = task_made F plan start m.plan m.undo (F.records b) task g.good.sound.0 in
+      let made = task_made F plan start m.plan m.undo b task part g.good.sound.0 g.good.sound.2 in
       let can_ask = can.requests number asked made in
       let can_answer = can.answers number asked b g.good.valid made in
       let may_board : BoardMay F L W bus (Some (record { bytes = bytes; reply = reply })) b r.1 = (r.0, refl, subst (λ (y : F.words.Asked). F.Row b y r.0 r.1) (sym (W.same number asked made)) (by_row b asked)) in
@@ -325,19 +332,18 @@ module _ (F : Family) (laws : IsFamily F) (L : Bus → Line) (lines : (bus : Bus
       let free : is_busy (W.answered_from bus reply).code ≡ false = ap (λ (a : Answered). is_busy a.code) told ∙ laws.never_busy b r.1 asked r.0 (by_row b asked) in
       let back = takes_reply bus ((D bus).to_manager (there.1.now bus)) task part reply v refl refl (holds_v.holds bus) ((clean_lines bus).brought (there.1.now bus) reply (holds_v.holds bus) there.1.answered can_answer) free in
       let mid = back.1.mid in
-      let es = exchange F L D W answer (begun F.words task) w in
+      let es = exchange F L D W answer (Opened true task part) w in
       let may : AllMay F L W es w = all_append F L W to (replies F L D W answer bus (run F L W to w)) w there.0
       (subst (λ (y : World F L). AllMay F L W (replies F L D W answer bus y) y) (sym there.1.is) back.0) in
-      let next = stage_after_one F.words m.stopped m.plan r.0 task in
-      let then_m = replied F laws answer by_row plan start task m r.0 in
+      let next = stage_after F.words m.stopped m.plan r.0 task part in
+      let then_m = replied F laws answer by_row plan start task part m r.0 in
       let on_after = begins F L W (sends_at F.words next then_m.counts) mid in
       let is : run F L W es w ≡ world_of (enters F.words next then_m).machine on_after r.1 =
       run_on F L W to (replies F L D W answer bus (run F L W to w)) w
       ∙ ap (λ (y : World F L). run F L W (replies F L D W answer bus y) y) there.1.is
       ∙ back.1.is
-      ∙ ap (λ (a : Answered). let t = takes F.words a task part w.machine in world_of t.machine (begins F L W t.sends mid) r.1) told
-      ∙ (λ i. let t = enters F.words (one_stage F.words laws.single m.stopped m.plan r.0 task i) (record then_m { undo = one_undo F.words laws.single r.0 task m.undo i }) in world_of t.machine (begins F L W t.sends mid) r.1) in
-      let good = task_good F laws answer by_row plan start task m b g.good in
+      ∙ ap (λ (a : Answered). let t = takes F.words a task part w.machine in world_of t.machine (begins F L W t.sends mid) r.1) told in
+      let good = part_good F laws answer by_row plan start task part m b g.good in
       let place : HavePlace mid = each_bus (λ any. (D any).HasPlace (mid any)) bus back.1.place
       (λ other ne. subst (D other).HasPlace (sym (back.1.others other ne ∙ there.1.others other ne)) (g.ready.1 other ne)) in
       let more : length (request_on mid bus).taken ≡ length (request_on there.1.now bus).taken + 1 = ap (λ (l : List (List ℕ)). length l) back.1.taken.taken ∙ length_more (request_on there.1.now bus).taken reply in
@@ -351,14 +357,14 @@ module _ (F : Family) (laws : IsFamily F) (L : Bus → Line) (lines : (bus : Bus
         place = place;
         exact = exact;
       } in
-      let ready = enters_ready next then_m mid r.1 (after_heeded F m.stopped m.plan r.0 task) good rests in (
+      let ready = enters_ready next then_m mid r.1 (after_heeded F m.stopped m.plan r.0 task part) good rests in (
         may,
         record {
           stage = next;
           machine = then_m;
           now = on_after;
           board = r.1;
-          same = one_task F laws answer by_row plan start task m b;
+          same = one_part F laws answer by_row plan start task part m b;
           is = is;
           going = record { good = good; holds = subst Holds is (run_holds F laws L lines W first plan start es w g.holds may); ready = ready.0; exact = ready.1 };
         },
@@ -370,9 +376,7 @@ module _ (F : Family) (laws : IsFamily F) (L : Bus → Line) (lines : (bus : Bus
       AllMay F L W (exchange F L D W answer stage w) w × Follows (one F answer (at_stage F laws answer by_row plan start stage m b)) (run F L W (exchange F L D W answer stage w) w)
 
   exchange_any : (stage : Stage F.words) (m : Machine F.words) (on : States L) (b : F.Board) → Going stage m on b → Exchanged stage m on b
-  exchange_any (Opened true task part) m on b g =
-      let is : first_part F.words task ≡ part = sym g.good.sound.2 in
-      subst (λ (p : Part F.words). Going (Opened true task p) m on b → Exchanged (Opened true task p) m on b) is (λ here_going. exchange_task task m on b here_going) g
+  exchange_any (Opened true task part) m on b g = exchange_task task part m on b g
   exchange_any (Opened false task part) m on b g = absurd g.ready
   exchange_any AtStart m on b g = (tt, record { stage = AtStart; machine = m; now = on; board = b; same = refl; is = refl; going = g })
   exchange_any AtEnd m on b g = (tt, record { stage = AtEnd; machine = m; now = on; board = b; same = refl; is = refl; going = g })
@@ -457,7 +461,7 @@ module _ (F : Family) (laws : IsFamily F) (L : Bus → Line) (lines : (bus : Bus
       let w = world_of from on b in
       let now = begins F L W t.sends on in
       let becomes : happens F L W w Undo ≡ world_of t.machine now b = ap (λ (o : Option (Turn F.words)). world.opens F L W o w) taken in
-      let good : Good F laws answer by_row plan start next from b = record { sound = undo_good F laws plan start m.plan m.undo j m.stopped m.undo (F.records b) back; valid = g.good.valid } in
+      let good : Good F laws answer by_row plan start next from b = record { sound = undo_good F laws plan start m.plan m.undo j m.stopped m.undo b back g.good.free; valid = g.good.valid; free = g.good.free } in
       let ready = enters_ready next from on b (undo_heeded F m.undo) good (record { held = g.holds.holds; closed = closed; place = place; exact = g.exact }) in
       let going : Going next from now b = record { good = good; holds = subst Holds becomes (happens_holds F laws L lines W first plan start w Undo g.holds tt); ready = ready.0; exact = ready.1 } in
       let all = exchange_all k next from now b going in
@@ -492,8 +496,8 @@ module _ (F : Family) (laws : IsFamily F) (L : Bus → Line) (lines : (bus : Bus
   none_taken Smbus s none = ap (λ (l : List (List ℕ)). length l) none.taken
 
 pub always_runs_over_buses : (F : Family) → IsFamily F → (L : Bus → Line) (lines : (bus : Bus) → IsLine (L bus)) (D : (bus : Bus) → Delivery (L bus)) → ((bus : Bus) → LosesNothing (L bus) (D bus) (lines bus))
-    → (W : Wires F.words) (answer : F.Board → F.words.Asked → Answered × F.Board) → AnswersByRow F answer → AlwaysRunsOverBuses F L D W answer
-always_runs_over_buses F laws L lines D clean_lines W answer by_row can plan retries on board started place =
+    → (W : Wires F.words) → AreSingle F.words → (answer : F.Board → F.words.Asked → Answered × F.Board) → AnswersByRow F answer → AlwaysRunsOverBuses F L D W answer
+always_runs_over_buses F laws L lines D clean_lines W single answer by_row can plan retries on board started place =
     let start = F.records board in
     let m = opened F.words plan retries in
     let w0 = opening F L plan retries on board in
@@ -501,7 +505,7 @@ always_runs_over_buses F laws L lines D clean_lines W answer by_row can plan ret
     let now = begins F L W (sends_at F.words stage m.counts) on in
     let first : Bus → ℕ = (λ bus. 0) in
     let holds0 = opening_holds F laws L lines W plan retries on board started in
-    let good : Good F laws answer by_row plan start stage m board = record { sound = first_good F laws plan start plan (slice_get plan 0) false [] start refl refl refl; valid = started.valid } in
+    let good : Good F laws answer by_row plan start stage m board = record { sound = first_good F laws plan start plan (slice_get plan 0) false [] board refl refl refl; valid = started.valid; free = started.ready } in
     let rests : Rests F laws L lines D clean_lines W answer by_row can plan start m.counts on = record {
       held = holds0.holds;
       closed = holds0.joined.are_open;
@@ -510,7 +514,7 @@ always_runs_over_buses F laws L lines D clean_lines W answer by_row can plan ret
     } in
     let ready = enters_ready F laws L lines D clean_lines W answer by_row can plan start stage m on board (first_heeded F laws L lines D clean_lines W answer by_row can plan start (slice_get plan 0)) good rests in
     let going : Going F laws L lines D clean_lines W answer by_row can plan start stage m now board = record { good = good; holds = happens_holds F laws L lines W first plan start w0 Start holds0 tt; ready = ready.0; exact = ready.1 } in
-    let r = always_runs_clean F laws answer by_row plan retries board started.valid in
+    let r = always_runs_clean F laws single answer by_row plan retries board started.valid started.ready in
     let k = length r.steps in
     let n = k + k + r.more in
     let all = exchange_all F laws L lines D clean_lines W answer by_row can plan start n stage m now board going in

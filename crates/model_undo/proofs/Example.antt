@@ -106,7 +106,7 @@ module _ (L : Bus → Line) (T : Tests L) (W : Wires register_words) where
   board_may bus (Some x) b after = bytes_eq x.reply (W.reply_to bus x.bytes (answer b (W.asked_from bus x.bytes)).0) && same_board after (board_after b (W.asked_from bus x.bytes))
 
   board_may-tells : (bus : Bus) (o : Option Exchange) (b after : Board) → board_may bus o b after ≡ true → BoardMay registers L W bus o b after
-  board_may-tells bus None b after t = same_halves-tells after.registers b.registers t
+  board_may-tells bus None b after t = (same_halves-tells after.registers b.registers t, λ series bodies ready. ready)
   board_may-tells bus (Some x) b after t =
       let parts = and_parts _ _ t in
       let asked = W.asked_from bus x.bytes in
@@ -129,7 +129,7 @@ module _ (L : Bus → Line) (T : Tests L) (W : Wires register_words) where
       let parts = and_parts _ _ t in
       let more = and_parts _ _ parts.1 in
       (T.tells bus (w.on bus) e parts.0, not-true _ more.0, board_may-tells bus ((L bus).carries (w.on bus) e) w.board after more.1)
-  may-tells w (OnBench after) t = same_halves-tells after.registers w.board.registers t
+  may-tells w (OnBench after) t = (same_halves-tells after.registers w.board.registers t, λ series bodies ready. ready)
   may-tells w Start t = tt
   may-tells w Quiet t = tt
   may-tells w Stop t = tt

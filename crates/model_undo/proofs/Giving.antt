@@ -8,16 +8,17 @@ use Rattle.model_bus.specs.Answered.{Answered}
 use Rattle.model_undo.specs.declared.phase.Why.TheVariants.{Stop, Refused, NotRestorable, GetRefused}
 use Rattle.model_undo.specs.declared.phase.Phase.{Phase}
 use Rattle.model_undo.specs.declared.phase.Phase.TheVariants.{Fresh, Getting, Setting, Done, Halted, Unsettled, Undoing, Undone, UndoRefused}
-use Rattle.model_undo.specs.Family.{Family, SetsTo}
-use Rattle.model_undo.specs.IsFamily.{Showed, IsFamily}
-use Rattle.model_undo.specs.Plan.{IsAfter, Stands, GaveGet, GaveSet, Halts}
+use Rattle.model_undo.specs.Family.{Family, Gave, SetsTo}
+use Rattle.model_undo.specs.IsFamily.{Showed, AnswersSet, AreKinds, IsFamily}
+use Rattle.model_undo.specs.Plan.{IsAfter, Stands, GaveGet, GaveSet, GaveUnrestorable, Halts}
 use Rattle.model_undo.specs.Machine.{Stage, AtStart, Opened, AtEnd, AtHalt, AtUndone, AtRefused, Turn, bus_at, same_bus, start_of, quiet_of, stop_of, again_of, undo_of, reply_of, phase_of}
 use Rattle.model_undo.specs.Wires.{Wires}
 use Rattle.model_undo.specs.Line.{Exchange, Line}
 use Rattle.model_undo.specs.World as world
 use Rattle.model_undo.specs.World.{World, Happening, Start, Quiet, Stop as StopCall, Again, Undo, Resume, ToManager, OnBus, OnBench, BoardMay, happens, run, May, AllMay, opening}
 use Rattle.model_undo.specs.Headline.{IsStart}
-use Rattle.model_undo.specs.Giving.{Giving, given_by, given_at, given_in, GaveGetIn, GaveSetIn, CausedIn, HaltsByAnswers}
+use Rattle.model_undo.specs.Giving.{Giving, given_by, given_at, given_in, GaveIn, GaveGetIn, GaveSetIn, GaveUnrestorableIn, CausedIn, HaltsByAnswers}
+use Rattle.model_undo.proofs.Series.{all_answered_as}
 use Rattle.model_undo.proofs.LineLaws.{IsLine}
 use Rattle.model_undo.proofs.Headline.{always_stands, may_prefix, stops_only_if_told}
 
@@ -37,26 +38,40 @@ module _ (F : Family) (laws : IsFamily F) (given : List (Giving F)) where
   did : (op : F.words.Op) (old new : F.Records) → SetsTo (giving F given) op old new → SetsTo F op old new
   did op old new s = record { before = s.before; after = s.after; found = s.found; sets = s.sets; changed = s.changed }
 
+  set_by : (b after : F.Board) (op : F.words.Op) (bodies : List (List ℕ)) (a : Answered) → AnswersSet (giving F given) op bodies b a after → AnswersSet F op bodies b a after
+  set_by b after op bodies a set = record { asked = set.asked; is_next = set.is_next; ready = set.ready; row = set.row.0 }
+
+  gave_by : (r : F.Records) (asked : F.words.Asked) (a : Answered) → Gave (giving F given) r asked a → Gave F r asked a
+  gave_by r asked a gave = (gave.0, gave.1, gave.2, gave.3.0)
+
+  giving_kinds : AreKinds (giving F given)
+  giving_kinds = record {
+    put_back = laws.kinds.put_back;
+    get_put = laws.kinds.get_put;
+    put_valid = laws.kinds.put_valid;
+    sets_valid = laws.kinds.sets_valid;
+    sets_one = laws.kinds.sets_one;
+    same_key = laws.kinds.same_key;
+    undoes = laws.kinds.undoes;
+    restores = laws.kinds.restores;
+    refuses = laws.kinds.refuses;
+    steady = laws.kinds.steady;
+  }
+
   giving_is_family : IsFamily (giving F given)
   giving_is_family = record {
-    single = laws.single;
-    put_back = laws.put_back;
-    get_put = laws.get_put;
-    put_valid = laws.put_valid;
-    sets_valid = laws.sets_valid;
-    sets_one = laws.sets_one;
-    same_key = laws.same_key;
-    undoes = laws.undoes;
-    restores = laws.restores;
-    refuses = laws.refuses;
-    steady = laws.steady;
-    gets_are = laws.gets_are;
-    gets_keep = λ b after asked key a is row. laws.gets_keep b after asked key a is row.0;
+    kinds = giving_kinds;
     gets_show = λ b after asked key a is row carried. showed key a.body (F.records b) (laws.gets_show b after asked key a is row.0 carried);
     gets_agree = λ b after c later asked other key a d is is_too same row row_too. laws.gets_agree b after c later asked other key a d is is_too same row.0 row_too.0;
-    sets_do = λ b after op a row carried. does op (F.records b) (F.records after) (laws.sets_do b after op a row.0 carried);
-    refusals_keep = λ b after op a row. laws.refusals_keep b after op a row.0;
-    refusals_say = λ b after op a row ne r s. laws.refusals_say b after op a row.0 ne r (did op (F.records b) r s);
+    parts_keep = λ b after key asked a is row. laws.parts_keep b after key asked a is row.0;
+    parts_show = λ r key bodies all.
+        let get = F.words.getting key in
+        showed key (F.words.joined get bodies) r (laws.parts_show r key bodies (all_answered_as F.words get (Gave (giving F given) r) (Gave F r) (gave_by r) bodies all));
+    sets_go_on = λ b after op bodies a asked set carried is. laws.sets_go_on b after op bodies a asked (set_by b after op bodies a set) carried is;
+    sets_do = λ b after op bodies a set carried is. does op (F.records b) (F.records after) (laws.sets_do b after op bodies a (set_by b after op bodies a set) carried is);
+    refusals_keep = λ b after op bodies a set ne. laws.refusals_keep b after op bodies a (set_by b after op bodies a set) ne;
+    refusals_say = λ b after op bodies a set ne r s. laws.refusals_say b after op bodies a (set_by b after op bodies a set) ne r (did op (F.records b) r s);
+    stays_ready = λ b after asked a made free row. laws.stays_ready b after asked a made free row.0;
     never_busy = λ b after asked a row. laws.never_busy b after asked a row.0;
   }
 
@@ -170,18 +185,21 @@ module _ (F : Family) (laws : IsFamily F) (given : List (Giving F)) where
     after_same plan start zero r h = h
     after_same plan start (suc k) r h = (h.0, h.1, after_same plan start k h.0 h.2, h.3, did h.1 h.0 r h.4)
 
-    abbrev gave_get : (plan : List F.words.Op) (start : F.Records) (k : ℕ) (a : Answered) (r : F.Records) → IsAfter F plan start k r → GaveGet (giving F given) plan k a r → GaveGetIn F L W given plan start k a
-    gave_get plan start k a r at g = record {
-      op = g.op;
-      step = g.step;
-      gave = record { before = g.gave.0; after = g.gave.1; is_one = g.gave.3.1; row = g.gave.3.0; at = subst (IsAfter F plan start k) (sym g.gave.2) at };
-    }
+    gave_one : (plan : List F.words.Op) (start : F.Records) (k : ℕ) (r : F.Records) → IsAfter F plan start k r → (asked : F.words.Asked) (a : Answered) → Gave (giving F given) r asked a → GaveIn F L W given plan start k asked a
+    gave_one plan start k r at asked a gave = record { before = gave.0; after = gave.1; is_one = gave.3.1; row = gave.3.0; at = subst (IsAfter F plan start k) (sym gave.2) at }
+
+    gave_get : (plan : List F.words.Op) (start : F.Records) (k : ℕ) (a : Answered) (r : F.Records) → IsAfter F plan start k r → GaveGet (giving F given) plan k a r → GaveGetIn F L W given plan start k a
+    gave_get plan start k a r at g = record { op = g.op; step = g.step; asked = g.asked; is_of = g.is_of; gave = gave_one plan start k r at g.asked a g.gave }
 
     gave_set : (plan : List F.words.Op) (start : F.Records) (k : ℕ) (a : Answered) (r : F.Records) → IsAfter F plan start k r → GaveSet (giving F given) plan k a r → GaveSetIn F L W given plan start k a
-    gave_set plan start k a r at g = record {
+    gave_set plan start k a r at g = record { op = g.op; step = g.step; asked = g.asked; is_of = g.is_of; gave = gave_one plan start k r at g.asked a g.gave }
+
+    gave_all : (plan : List F.words.Op) (start : F.Records) (k : ℕ) (bodies : List (List ℕ)) (r : F.Records) → IsAfter F plan start k r → GaveUnrestorable (giving F given) plan k bodies r → GaveUnrestorableIn F L W given plan start k bodies
+    gave_all plan start k bodies r at g = record {
       op = g.op;
       step = g.step;
-      gave = record { before = g.gave.0; after = g.gave.1; is_one = g.gave.3.1; row = g.gave.3.0; at = subst (IsAfter F plan start k) (sym g.gave.2) at };
+      gave = all_answered_as F.words (F.words.getting (F.words.key_of g.op)) (Gave (giving F given) r) (GaveIn F L W given plan start k) (gave_one plan start k r at) bodies g.gave;
+      not_restorable = g.not_restorable;
     }
 
 module _ (F : Family) (laws : IsFamily F) (L : Bus → Line) (lines : (bus : Bus) → IsLine (L bus)) (W : Wires F.words) where
@@ -199,7 +217,7 @@ module _ (F : Family) (laws : IsFamily F) (L : Bus → Line) (lines : (bus : Bus
       (h.0, h.1, gave_get F laws given L W plan start k (record { code = code; body = h.1 }) r (after_same F laws given L W plan start k r at) h.2)
   caused events w plan start stopped (Halted k NotRestorable) r told at h =
       let given = given_in F L W events w in
-      (h.0, gave_get F laws given L W plan start k (record { code = 0; body = h.0 }) r (after_same F laws given L W plan start k r at) h.1, h.2)
+      (h.0, gave_all F laws given L W plan start k h.0 r (after_same F laws given L W plan start k r at) h.1)
   caused events w plan start stopped Fresh r told at h = tt
   caused events w plan start stopped (Getting k) r told at h = tt
   caused events w plan start stopped (Setting k) r told at h = tt
@@ -215,7 +233,7 @@ module _ (F : Family) (laws : IsFamily F) (L : Bus → Line) (lines : (bus : Bus
       let may = may_prefix F L W events later w0 all in
       let given = given_in F L W events w0 in
       let G = giving F given in
-      let there : IsStart G L W on board = record { on_bus = start.on_bus; valid = start.valid } in
+      let there : IsStart G L W on board = record { on_bus = start.on_bus; valid = start.valid; ready = start.ready } in
       let may_there : AllMay G L W (all_given F laws given L W events) (opening G L plan retries on board) = all_may_given F laws given L W events w0 (λ g one. one) may in
       let ends = append-nil (all_given F laws given L W events) in
       let stands = always_stands G (giving_is_family F laws given) L lines W plan retries on board there (all_given F laws given L W events) []

@@ -21,7 +21,7 @@ use Rattle.model_undo.specs.Joined.{IsClosed, Orderly}
 use Rattle.model_undo.specs.Line.{Line}
 use Rattle.model_undo.specs.World as world
 use Rattle.model_undo.specs.World.{States, World, Happening, Start, Quiet, Stop as StopCall, Again, Undo, Resume, ToManager, OnBus, OnBench, happens, run, AllMay, opening}
-use Rattle.model_undo.specs.Headline.{MakesStop, AnyMakesStop, ShowsSame, IsStart, AlwaysStands, UndoneForGood, StopsOnlyIfTold}
+use Rattle.model_undo.specs.Headline.{MakesStop, AnyMakesStop, ShowsSame, PartsShowSame, IsStart, AlwaysStands, UndoneForGood, StopsOnlyIfTold}
 use Rattle.model_undo.proofs.LineLaws.{IsLine}
 use Rattle.model_undo.proofs.Joined.{joined_stands, joined_halts}
 use Rattle.model_undo.proofs.World.{WorldHolds, run_holds}
@@ -197,6 +197,7 @@ module _ (F : Family) (laws : IsFamily F) (L : Bus → Line) (lines : (bus : Bus
           are_open = λ bus. closed_first ((L bus).requests (on bus)) (none bus);
           sound = (refl, refl);
           valid = start.valid;
+          free = start.ready;
         };
         counted = λ bus. counts bus ((L bus).requests (on bus)) (none bus);
         holds = λ bus. ((lines bus).starts (on bus) (start.on_bus bus)).0;
@@ -233,8 +234,19 @@ module _ (F : Family) (laws : IsFamily F) (L : Bus → Line) (lines : (bus : Bus
             let after = laws.gets_show c c' other key again is_get_too row_again (alike ∙ was_shown) in
             let found : F.get (F.records b) key ≡ Some after.value = ap (λ (r : F.Records). F.get r key) (sym same) ∙ after.found in
             let one_value : after.value ≡ before.value = same_Some _ _ (sym found ∙ before.found) in
-            laws.steady key before.value again.body shown.body (valid key before.value before.found) (subst (λ (v : F.Value). F.Shows key v again.body) one_value after.shows) before.shows,
+            laws.kinds.steady key before.value again.body shown.body (valid key before.value before.found) (subst (λ (v : F.Value). F.Shows key v again.body) one_value after.shows) before.shows,
       )
+
+  -- two Gets of several requests
+  parts_show_same : (b c : F.Board) → AllValid F (F.records b) → F.records c ≡ F.records b → PartsShowSame F b c
+  parts_show_same b c valid same key shown again was_shown is_shown =
+      let get = F.words.getting key in
+      let before = laws.parts_show (F.records b) key shown was_shown in
+      let after = laws.parts_show (F.records c) key again is_shown in
+      let found : F.get (F.records b) key ≡ Some after.value = ap (λ (r : F.Records). F.get r key) (sym same) ∙ after.found in
+      let one_value : after.value ≡ before.value = same_Some _ _ (sym found ∙ before.found) in
+      laws.kinds.steady key before.value (F.words.joined get again) (F.words.joined get shown) (valid key before.value before.found)
+      (subst (λ (v : F.Value). F.Shows key v (F.words.joined get again)) one_value after.shows) before.shows
 
   pub undone_for_good : UndoneForGood F L W
   undone_for_good plan retries on board start events later may undone =
@@ -246,7 +258,8 @@ module _ (F : Family) (laws : IsFamily F) (L : Bus → Line) (lines : (bus : Bus
       let stands = stands_at plan (F.records board) (run F L W (events ++ later) w0) h in
       let same : F.records (run F L W (events ++ later) w0).board ≡ F.records board =
       subst (λ (s : Stage F.words). Stands F plan (F.records board) (phase_at F.words s) (F.records (run F L W (events ++ later) w0).board)) still stands in
-      (same, shows_same board (run F L W (events ++ later) w0).board start.valid same)
+      let w = run F L W (events ++ later) w0 in
+      (same, shows_same board w.board start.valid same, parts_show_same board w.board start.valid same)
 
   pub stops_only_if_told : StopsOnlyIfTold F L W
   stops_only_if_told plan retries k on board start events may halted =

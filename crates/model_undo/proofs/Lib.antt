@@ -1,4 +1,5 @@
 pub mod Undoable
+pub mod Series
 pub mod Single
 pub mod StageSound
 pub mod Calls
@@ -12,6 +13,7 @@ pub mod Registers
 pub mod Example
 pub mod Resume
 pub mod TwoBuses
+pub mod CleanSteps
 pub mod Clean
 pub mod RecordsRun
 pub mod Giving

@@ -7,7 +7,8 @@ use Rattle.two_wire.specs.Codes.{success, not_present, invalid_data_field}
 use Rattle.model_bus.specs.Answered.{Answered}
 use Rattle.model_undo.specs.Words.{is_busy}
 use Rattle.model_undo.specs.Family.{AllValid, SetsTo}
-use Rattle.model_undo.specs.IsFamily.{Showed, IsFamily}
+use Rattle.model_undo.specs.IsFamily.{Showed, IsFamily, IsSingleFamily}
+use Rattle.model_undo.proofs.Single.{single_family}
 use Rattle.model_undo.specs.Registers.{Halves, Write, Asked, AskGet, AskSet, Board, IsValid, is_valid, written, shown, configuration, back, inverse, inverse_of_high, IsRestorable, replied, get_answer, set_answer, answer, Row, registers}
 
 -- ---- the map
@@ -184,19 +185,22 @@ free : (b : Board) (asked : Asked) → is_busy (answer b asked).0.code ≡ false
 free b (AskGet register) = get_free b register (slice_get b.registers register)
 free b (AskSet w) = set_free w (slice_get b.registers w.register) b.registers
 
-pub registers_are_family : IsFamily registers
-registers_are_family = record {
-  single = record { none_next = λ series body. refl; shows_it = λ series body. refl };
-  put_back = put_back;
-  get_put = get_put;
-  put_valid = put_valid;
-  sets_valid = λ w old new valid sets. sets.1;
-  sets_one = λ w old new other sets again. sets.0 ∙ sym again.0;
-  same_key = λ w to v body valid shows e. (inverse_back w to v body shows e).register;
-  undoes = λ w to v new body valid sets shows e. ((inverse_back w to v body shows e).value ∙ ap (written to) (sym sets.0), valid);
-  restores = λ w to v body valid shows e. restores w to body e;
-  refuses = λ w v body valid shows e. refuses w body e;
-  steady = λ key v body other valid shows again. ap configuration shows.1 ∙ steady_at v shows.0 again.0 (key == 2) ∙ sym (ap configuration again.1);
+pub registers_are_single : IsSingleFamily registers
+registers_are_single = record {
+  kinds = record {
+    put_back = put_back;
+    get_put = get_put;
+    put_valid = put_valid;
+    sets_valid = λ w old new valid sets. sets.1;
+    sets_one = λ w old new other sets again. sets.0 ∙ sym again.0;
+    same_key = λ w to v body valid shows e. (inverse_back w to v body shows e).register;
+    undoes = λ w to v new body valid sets shows e. ((inverse_back w to v body shows e).value ∙ ap (written to) (sym sets.0), valid);
+    restores = λ w to v body valid shows e. restores w to body e;
+    refuses = λ w v body valid shows e. refuses w body e;
+    steady = λ key v body other valid shows again. ap configuration shows.1 ∙ steady_at v shows.0 again.0 (key == 2) ∙ sym (ap configuration again.1);
+  };
+  single = record { none_next = λ series bodies. refl; shows_it = λ series body. refl };
+  ready = λ b series bodies. tt;
   gets_are = λ key. refl;
   gets_keep = λ b after asked key a is row. registers_after after b.registers (suc b.requests) (subst (λ (x : Asked). Row b x a after) is row).1;
   gets_show = λ b after asked key a is row. get_shows b key a (slice_get b.registers key) refl (subst (λ (x : Asked). Row b x a after) is row).0;
@@ -206,3 +210,6 @@ registers_are_family = record {
   refusals_say = λ b after w a row. says b after w a (slice_get b.registers w.register) refl (tells b after w a row);
   never_busy = λ b after asked a row. ap (λ (x : Answered). is_busy x.code) row.0 ∙ free b asked;
 }
+
+pub registers_are_family : IsFamily registers
+registers_are_family = single_family registers registers_are_single

@@ -1,9 +1,12 @@
 -- Where each series is one request, a task is done with the reply to it.
-use Rattle.std.proofs.Common.{◌≡◌, ℕ, Bool, List, [], ◌∷◌, Option, refl, ◌∙◌, ap}
+use Rattle.std.proofs.Common.{◌≡◌, ℕ, Bool, List, [], ◌∷◌, ◌++◌, Option, Some, refl, sym, ◌∙◌, ap, subst, inl, inr}
+use Rattle.std.proofs.lemmas.Option.{none-some}
 use Rattle.std.specs.Prelude.{◌==◌, if◌then◌else◌}
 use Rattle.two_wire.specs.Codes.{success}
 use Rattle.model_bus.specs.Answered.{Answered}
-use Rattle.model_undo.specs.Words.{Words, AreSingle}
+use Rattle.model_undo.specs.Words.{Words, IsNext, IsOf, AreSingle, AllAnswered, get_asked, set_asked}
+use Rattle.model_undo.specs.Family.{Family, Gave}
+use Rattle.model_undo.specs.IsFamily.{Showed, AnswersSet, IsFamily, IsSingleFamily}
 use Rattle.model_undo.specs.Machine.{Task, Gets, Sets, Undoes, Stage, series_of, first_part, refused, finished, told_stage, stage_after, undo_with, undo_after}
 
 -- the stage after the reply to a task, and what then undoes
@@ -19,10 +22,62 @@ module _ (M : Words) (single : AreSingle M) where
   pub one_stage : (stopped : Bool) (plan : List M.Op) (a : Answered) (task : Task M) → stage_after M stopped plan a task (first_part M task) ≡ stage_after_one M stopped plan a task
   one_stage stopped plan a task =
       let series = series_of M task in
-      ap (λ (o : Option M.Asked). if a.code == success then told_stage M stopped plan task (a.body ∷ []) o else refused M a.code task) (single.none_next series a.body)
+      ap (λ (o : Option M.Asked). if a.code == success then told_stage M stopped plan task (a.body ∷ []) o else refused M a.code task) (single.none_next series (a.body ∷ []))
       ∙ ap (λ (shown : List ℕ). if a.code == success then finished M stopped plan shown task else refused M a.code task) (single.shows_it series a.body)
 
   pub one_undo : (a : Answered) (task : Task M) (undo : List M.Series) → undo_after M a task (first_part M task) undo ≡ undo_after_one M a task undo
   one_undo a (Gets k op) undo = refl
-  one_undo a (Sets k op back) undo = ap (λ (o : Option M.Asked). if a.code == success then undo_with M back o undo else undo) (single.none_next (M.setting op) a.body)
+  one_undo a (Sets k op back) undo = ap (λ (o : Option M.Asked). if a.code == success then undo_with M back o undo else undo) (single.none_next (M.setting op) (a.body ∷ []))
   one_undo a (Undoes first rest) undo = refl
+
+  -- each request of a series is its first
+  pub one_next : (series : M.Series) (bodies : List (List ℕ)) (asked : M.Asked) → IsNext M series bodies asked → asked ≡ M.first series
+  one_next series [] asked is = is
+  one_next series (body ∷ bodies) asked is = absurd (none-some asked (sym (single.none_next series (body ∷ bodies)) ∙ is))
+
+  pub one_of : (series : M.Series) (asked : M.Asked) → IsOf M series asked → asked ≡ M.first series
+  one_of series asked (inl is) = is
+  one_of series asked (inr is) = absurd (none-some asked (sym (single.none_next series is.0) ∙ is.1))
+
+  -- the only answer to a series, and its data
+  pub record OneAnswer (Given : M.Asked → Answered → Type 0) (series : M.Series) (bodies : List (List ℕ)) : Type 0 where
+    pub body : List ℕ
+    pub given : Given (M.first series) (record { code = success; body = body })
+    pub joined_is : M.joined series bodies ≡ body
+
+  pub one_answer : (Given : M.Asked → Answered → Type 0) (series : M.Series) (bodies : List (List ℕ)) → AllAnswered M Given series bodies → OneAnswer Given series bodies
+  one_answer Given series [] h = absurd (h.some refl)
+  one_answer Given series (body ∷ []) h =
+      let one = h.in_order in
+      record { body = body; given = subst (λ (asked : M.Asked). Given asked (record { code = success; body = body })) one.1 one.2; joined_is = single.shows_it series body }
+  one_answer Given series (body ∷ other ∷ bodies) h =
+      let two = h.in_order.3 in
+      absurd (none-some two.0 (sym (single.none_next series (body ∷ [])) ∙ two.1))
+
+-- a family whose series are one request each is a family
+module _ (F : Family) (laws : IsSingleFamily F) where
+  set_row : (b after : F.Board) (op : F.words.Op) (bodies : List (List ℕ)) (a : Answered) → AnswersSet F op bodies b a after → F.Row b (set_asked F.words op) a after
+  set_row b after op bodies a set = subst (λ (asked : F.words.Asked). F.Row b asked a after) (one_next F.words laws.single (F.words.setting op) bodies set.asked set.is_next) set.row
+
+  one_shown : (key : F.words.Key) (body : List ℕ) (r : F.Records) → Gave F r (get_asked F.words key) (record { code = success; body = body }) → Showed F key body r
+  one_shown key body r gave =
+      let shown = laws.gets_show gave.0 gave.1 (get_asked F.words key) key (record { code = success; body = body }) (laws.gets_are key) gave.3 refl in
+      subst (Showed F key body) gave.2 shown
+
+  pub single_family : IsFamily F
+  single_family = record {
+    kinds = laws.kinds;
+    gets_show = laws.gets_show;
+    gets_agree = laws.gets_agree;
+    parts_keep = λ b after key asked a is row.
+        laws.gets_keep b after asked key a (subst (λ (x : F.words.Asked). F.IsGet x key) (sym (one_of F.words laws.single (F.words.getting key) asked is)) (laws.gets_are key)) row;
+    parts_show = λ r key bodies all.
+        let one = one_answer F.words laws.single (Gave F r) (F.words.getting key) bodies all in
+        subst (λ (body : List ℕ). Showed F key body r) (sym one.joined_is) (one_shown key one.body r one.given);
+    sets_go_on = λ b after op bodies a asked set e is. absurd (none-some asked (sym (laws.single.none_next (F.words.setting op) (bodies ++ a.body ∷ [])) ∙ is));
+    sets_do = λ b after op bodies a set e is. laws.sets_do b after op a (set_row b after op bodies a set) e;
+    refusals_keep = λ b after op bodies a set ne. laws.refusals_keep b after op a (set_row b after op bodies a set) ne;
+    refusals_say = λ b after op bodies a set ne. laws.refusals_say b after op a (set_row b after op bodies a set) ne;
+    stays_ready = λ b after asked a made free row series. laws.ready after series [];
+    never_busy = laws.never_busy;
+  }

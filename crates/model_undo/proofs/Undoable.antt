@@ -40,7 +40,7 @@ length_of F plan start (suc k) [] r h = absurd h
 length_of F plan start (suc k) (u ∷ us) r h = ap suc (length_of F plan start k us h.0 h.1)
 
 -- the operation undoes the step, whatever the step makes of the record
-pub record Ready (F : Family) (op back : F.words.Op) (r : F.Records) : Type 0 where
+pub record LeadsHome (F : Family) (op back : F.words.Op) (r : F.Records) : Type 0 where
   pub value : F.Value
   pub found : F.get r (F.words.key_of op) ≡ Some value
   pub leads_back : (w : F.Value) → F.Sets op value w → F.Sets back w value
@@ -52,20 +52,20 @@ module _ (F : Family) (laws : IsFamily F) where
   sets_to_one op old r s a b =
       let same : a.before ≡ b.before = same_Some _ _ (sym a.found ∙ b.found) in
       let sets : F.Sets op b.before a.after = subst (λ (v : F.Value). F.Sets op v a.after) same a.sets in
-      a.changed ∙ ap (F.put old (F.words.key_of op)) (laws.sets_one op b.before a.after b.after sets b.sets) ∙ sym b.changed
+      a.changed ∙ ap (F.put old (F.words.key_of op)) (laws.kinds.sets_one op b.before a.after b.after sets b.sets) ∙ sym b.changed
 
   pub sets_to_valid : (op : F.words.Op) (old r : F.Records) → AllValid F old → SetsTo F op old r → AllValid F r
   sets_to_valid op old r valid s =
-      subst (AllValid F) (sym s.changed) (laws.put_valid old (F.words.key_of op) s.after valid (laws.sets_valid op s.before s.after (valid (F.words.key_of op) s.before s.found) s.sets))
+      subst (AllValid F) (sym s.changed) (laws.kinds.put_valid old (F.words.key_of op) s.after valid (laws.kinds.sets_valid op s.before s.after (valid (F.words.key_of op) s.before s.found) s.sets))
 
   -- what was made ready leads back
-  pub sets_back : (op back : F.words.Op) (old r : F.Records) → Ready F op back old → SetsTo F op old r → SetsTo F back r old
+  pub sets_back : (op back : F.words.Op) (old r : F.Records) → LeadsHome F op back old → SetsTo F op old r → SetsTo F back r old
   sets_back op back old r ready s =
       let key = F.words.key_of op in
       let same : s.before ≡ ready.value = same_Some _ _ (sym s.found ∙ ready.found) in
       let sets : F.Sets op ready.value s.after = subst (λ (v : F.Value). F.Sets op v s.after) same s.sets in
-      let at : F.get r key ≡ Some s.after = ap (λ (x : F.Records). F.get x key) s.changed ∙ laws.get_put old key ready.value s.after ready.found in
-      let home : old ≡ F.put r key ready.value = sym (ap (λ (x : F.Records). F.put x key ready.value) s.changed ∙ laws.put_back old key ready.value s.after ready.found) in
+      let at : F.get r key ≡ Some s.after = ap (λ (x : F.Records). F.get x key) s.changed ∙ laws.kinds.get_put old key ready.value s.after ready.found in
+      let home : old ≡ F.put r key ready.value = sym (ap (λ (x : F.Records). F.put x key ready.value) s.changed ∙ laws.kinds.put_back old key ready.value s.after ready.found) in
       record {
         before = s.after;
         after = ready.value;
@@ -75,12 +75,12 @@ module _ (F : Family) (laws : IsFamily F) where
       }
 
   -- the inverse that is made from what the Get showed is ready
-  pub ready : (op back : F.words.Op) (body : List ℕ) (r : F.Records) → AllValid F r → Showed F (F.words.key_of op) body r → F.words.inverse op body ≡ Some back → Ready F op back r
+  pub ready : (op back : F.words.Op) (body : List ℕ) (r : F.Records) → AllValid F r → Showed F (F.words.key_of op) body r → F.words.inverse op body ≡ Some back → LeadsHome F op back r
   ready op back body r valid shown e =
       let is_valid = valid (F.words.key_of op) shown.value shown.found in
       record {
         value = shown.value;
         found = shown.found;
-        leads_back = λ w sets. laws.undoes op back shown.value w body is_valid sets shown.shows e;
-        same_key = laws.same_key op back shown.value body is_valid shown.shows e;
+        leads_back = λ w sets. laws.kinds.undoes op back shown.value w body is_valid sets shown.shows e;
+        same_key = laws.kinds.same_key op back shown.value body is_valid shown.shows e;
       }

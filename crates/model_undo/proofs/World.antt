@@ -158,7 +158,7 @@ module _ (F : Family) (laws : IsFamily F) (L : Bus → Line) (lines : (bus : Bus
   starts_hold AtStart m on board h =
       let s = h.joined.sound in
       opens_stage m.plan (first_stage F.words (slice_get m.plan 0)) m.stopped m.undo m.counts on board
-      (record { closed = record { orderly = h.joined.orderly; closed = h.joined.are_open; sound = first_good F laws plan start m.plan (slice_get m.plan 0) m.stopped m.undo (F.records board) refl s.0 s.1; valid = h.joined.valid }; counted = h.counted; holds = h.holds })
+      (record { closed = record { orderly = h.joined.orderly; closed = h.joined.are_open; sound = first_good F laws plan start m.plan (slice_get m.plan 0) m.stopped m.undo board refl s.0 s.1; valid = h.joined.valid; free = h.joined.free }; counted = h.counted; holds = h.holds })
   starts_hold (Opened heeded task part) m on board h = tt
   starts_hold AtEnd m on board h = tt
   starts_hold (AtHalt k why) m on board h = tt
@@ -168,10 +168,10 @@ module _ (F : Family) (laws : IsFamily F) (L : Bus → Line) (lines : (bus : Bus
   undoes_hold : (stage : Stage F.words) (m : Machine F.words) (on : States L) (board : F.Board) → Holding m.plan stage m.stopped m.undo m.counts on board → Opens (undoes F.words stage m) on board
   undoes_hold AtEnd m on board h =
       opens_stage m.plan (undo_stage F.words m.undo) m.stopped m.undo m.counts on board
-      (record { closed = record { orderly = h.joined.orderly; closed = h.joined.are_open; sound = undo_good F laws plan start m.plan m.undo (length plan) m.stopped m.undo (F.records board) h.joined.sound; valid = h.joined.valid }; counted = h.counted; holds = h.holds })
+      (record { closed = record { orderly = h.joined.orderly; closed = h.joined.are_open; sound = undo_good F laws plan start m.plan m.undo (length plan) m.stopped m.undo board h.joined.sound h.joined.free; valid = h.joined.valid; free = h.joined.free }; counted = h.counted; holds = h.holds })
   undoes_hold (AtHalt k why) m on board h =
       opens_stage m.plan (undo_stage F.words m.undo) m.stopped m.undo m.counts on board
-      (record { closed = record { orderly = h.joined.orderly; closed = h.joined.are_open; sound = undo_good F laws plan start m.plan m.undo k m.stopped m.undo (F.records board) h.joined.sound.0; valid = h.joined.valid }; counted = h.counted; holds = h.holds })
+      (record { closed = record { orderly = h.joined.orderly; closed = h.joined.are_open; sound = undo_good F laws plan start m.plan m.undo k m.stopped m.undo board h.joined.sound.0 h.joined.free; valid = h.joined.valid; free = h.joined.free }; counted = h.counted; holds = h.holds })
   undoes_hold AtStart m on board h = tt
   undoes_hold (Opened heeded task part) m on board h = tt
   undoes_hold AtUndone m on board h = tt
@@ -181,7 +181,7 @@ module _ (F : Family) (laws : IsFamily F) (L : Bus → Line) (lines : (bus : Bus
 
   stop_holds : (stage : Stage F.words) (m : Machine F.words) (on : States L) (board : F.Board) → Holding m.plan stage m.stopped m.undo m.counts on board → Holding m.plan stage true m.undo m.counts on board
   stop_holds stage m on board h = record {
-    joined = record { orderly = h.joined.orderly; are_open = h.joined.are_open; sound = stop_good F laws plan start m.plan stage (answer_at F W first stage (requests on)) m.stopped m.undo (F.records board) h.joined.sound; valid = h.joined.valid };
+    joined = record { orderly = h.joined.orderly; are_open = h.joined.are_open; sound = stop_good F laws plan start m.plan stage (answer_at F W first stage (requests on)) m.stopped m.undo board h.joined.sound; valid = h.joined.valid; free = h.joined.free };
     counted = h.counted;
     holds = h.holds;
   }
@@ -201,7 +201,7 @@ module _ (F : Family) (laws : IsFamily F) (L : Bus → Line) (lines : (bus : Bus
 
   heeds_hold : (before now : Bool) (task : Task F.words) (part : Part F.words) (m : Machine F.words) (on : States L) (board : F.Board) → Holding m.plan (Opened before task part) m.stopped m.undo m.counts on board → Holding m.plan (Opened now task part) m.stopped m.undo m.counts on board
   heeds_hold before now task part m on board h =
-      record { joined = record { orderly = h.joined.orderly; are_open = h.joined.are_open; sound = h.joined.sound; valid = h.joined.valid }; counted = h.counted; holds = h.holds }
+      record { joined = record { orderly = h.joined.orderly; are_open = h.joined.are_open; sound = h.joined.sound; valid = h.joined.valid; free = h.joined.free }; counted = h.counted; holds = h.holds }
 
   sends_hold : (stage : Stage F.words) (m : Machine F.words) (s : Sending F.words) (on : States L) (board : F.Board) → Holding m.plan stage m.stopped m.undo m.counts on board
       → Holding m.plan stage m.stopped m.undo m.counts (world.sends_again F L W (Some s) on) board
@@ -343,6 +343,7 @@ module _ (F : Family) (laws : IsFamily F) (L : Bus → Line) (lines : (bus : Bus
         closed = closed;
         sound = (subst (λ (n : ℕ). CanUndo F plan start n w.machine.undo (F.records w.board)) (sym k_is) can, refl);
         valid = h.joined.valid;
+        free = h.joined.free;
       } in
       record {
         joined = enters_joined F laws W first plan start m.plan m.stage m.stopped m.undo (requests w.on) (requests now) w.board rest same;

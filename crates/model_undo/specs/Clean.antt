@@ -3,7 +3,7 @@ use Rattle.std.specs.Prelude.{◌≡◌, ◌≢◌, ℕ, zero, suc, ◌+◌, Lis
 use Rattle.two_wire.specs.Codes.{success}
 use Rattle.model_bus.specs.Answered.{Answered}
 use Rattle.model_undo.specs.Words.{get_asked, set_asked}
-use Rattle.model_undo.specs.Family.{Family, AllValid}
+use Rattle.model_undo.specs.Family.{Family, AllValid, IsReady}
 use Rattle.model_undo.specs.declared.phase.Why.{Why}
 use Rattle.model_undo.specs.declared.phase.Why.TheVariants.{Stop, Refused, NotRestorable, GetRefused}
 use Rattle.model_undo.specs.declared.phase.Phase.{Phase}
@@ -101,5 +101,5 @@ module _ (F : Family) (answer : F.Board → F.words.Asked → Answered × F.Boar
 
   -- so it is with every plan, at every board of valid records
   abbrev pub AlwaysRunsClean : Type 0
-  AlwaysRunsClean = (plan : List F.words.Op) (retries : ℕ) (board : F.Board) → AllValid F (F.records board)
+  AlwaysRunsClean = (plan : List F.words.Op) (retries : ℕ) (board : F.Board) → AllValid F (F.records board) → IsReady F board
       → IfSome (start_of F.words (opened F.words plan retries)) (λ t. RunsClean plan board (record { turn = t; board = board }))

@@ -3,7 +3,7 @@ use Rattle.std.specs.Prelude.{◌≡◌, ◌≢◌, ℕ, List, [], ◌∷◌, �
 use Rattle.two_wire.specs.Codes.{success}
 use Rattle.two_wire.specs.declared.Bus.{Bus}
 use Rattle.model_bus.specs.Answered.{Answered}
-use Rattle.model_undo.specs.Words.{get_asked, set_asked}
+use Rattle.model_undo.specs.Words.{IsOf, AllAnswered}
 use Rattle.model_undo.specs.declared.phase.Why.TheVariants.{Stop, Refused, NotRestorable, GetRefused}
 use Rattle.model_undo.specs.declared.phase.Phase.{Phase}
 use Rattle.model_undo.specs.declared.phase.Phase.TheVariants.{Halted}
@@ -46,24 +46,35 @@ module _ (F : Family) (L : Bus → Line) (W : Wires F.words) where
     pub row : F.Row before asked answered after
     pub at : IsAfter F plan start step (F.records before)
 
-  -- the answer that the board gave to the Get of this step of the plan, and to its Set, each at the records after the steps before it
+  -- the answer that the board gave to a request of the Get of this step of the plan, and to one of its Set, each at the records after the steps
+  -- before it
   pub record GaveGetIn (given : List (Giving F)) (plan : List F.words.Op) (start : F.Records) (place : ℕ) (answered : Answered) : Type 0 where
     pub op : F.words.Op
     pub step : slice_get plan place ≡ Some op
-    pub gave : GaveIn given plan start place (get_asked F.words (F.words.key_of op)) answered
+    pub asked : F.words.Asked
+    pub is_of : IsOf F.words (F.words.getting (F.words.key_of op)) asked
+    pub gave : GaveIn given plan start place asked answered
 
   pub record GaveSetIn (given : List (Giving F)) (plan : List F.words.Op) (start : F.Records) (place : ℕ) (answered : Answered) : Type 0 where
     pub op : F.words.Op
     pub step : slice_get plan place ≡ Some op
-    pub gave : GaveIn given plan start place (set_asked F.words op) answered
+    pub asked : F.words.Asked
+    pub is_of : IsOf F.words (F.words.setting op) asked
+    pub gave : GaveIn given plan start place asked answered
+
+  -- the data of the answers that the board gave to all requests of that Get, from which the step can't be undone
+  pub record GaveUnrestorableIn (given : List (Giving F)) (plan : List F.words.Op) (start : F.Records) (place : ℕ) (bodies : List (List ℕ)) : Type 0 where
+    pub op : F.words.Op
+    pub step : slice_get plan place ≡ Some op
+    pub gave : AllAnswered F.words (GaveIn given plan start place) (F.words.getting (F.words.key_of op)) bodies
+    pub not_restorable : ¬ F.Restorable op (F.words.joined (F.words.getting (F.words.key_of op)) bodies)
 
   -- what made a plan halt in a schedule from a world: an answer that the board gave in it, or a stop
   abbrev pub CausedIn : List (Happening F L) → World F L → List F.words.Op → F.Records → Phase → Type 0
   CausedIn events world plan start (Halted step Stop) = AnyMakesStop F L events
   CausedIn events world plan start (Halted step (Refused code)) = (code ≢ success) × (body : List ℕ) × GaveSetIn (given_in events world) plan start step (record { code = code; body = body })
   CausedIn events world plan start (Halted step (GetRefused code)) = (code ≢ success) × (body : List ℕ) × GaveGetIn (given_in events world) plan start step (record { code = code; body = body })
-  CausedIn events world plan start (Halted step NotRestorable) =
-      (body : List ℕ) × (got : GaveGetIn (given_in events world) plan start step (record { code = success; body = body })) × (¬ F.Restorable got.op body)
+  CausedIn events world plan start (Halted step NotRestorable) = (bodies : List (List ℕ)) × GaveUnrestorableIn (given_in events world) plan start step bodies
   CausedIn events world plan start _ = Unit {0}
 
   -- a halt has its cause among the answers of its own schedule

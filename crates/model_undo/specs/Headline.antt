@@ -3,7 +3,8 @@ use Rattle.std.specs.Prelude.{◌≡◌, ℕ, List, [], ◌∷◌, ◌++◌, ◌
 use Rattle.two_wire.specs.Codes.{success}
 use Rattle.two_wire.specs.declared.Bus.{Bus}
 use Rattle.model_bus.specs.Answered.{Answered}
-use Rattle.model_undo.specs.Family.{Family, AllValid}
+use Rattle.model_undo.specs.Words.{AllAnswered}
+use Rattle.model_undo.specs.Family.{Family, AllValid, IsReady, Gave}
 use Rattle.model_undo.specs.declared.phase.Why.TheVariants.{Stop}
 use Rattle.model_undo.specs.declared.phase.Phase.TheVariants.{Halted, Undone}
 use Rattle.model_undo.specs.Plan.{Stands, Halts}
@@ -29,11 +30,19 @@ ShowsSame F board after = (key : F.words.Key) (one other : F.words.Asked) → F.
     → F.Row board one shown b' → F.Row after other again c'
     → (again.code ≡ shown.code) × (shown.code ≡ success → F.conf key again.body ≡ F.conf key shown.body)
 
--- from a board whose records are valid, and a start on both buses, so long as each thing may happen where it does
+-- any two Gets of the manager for a record, the requests of one answered at the records of the first board, each with 00h, and those of the other at
+-- the records of the second, show the same configuration
+abbrev pub PartsShowSame : (F : Family) → F.Board → F.Board → Type 0
+PartsShowSame F board after = (key : F.words.Key) (shown again : List (List ℕ)) → let get = F.words.getting key in
+    AllAnswered F.words (Gave F (F.records board)) get shown → AllAnswered F.words (Gave F (F.records after)) get again
+    → F.conf key (F.words.joined get again) ≡ F.conf key (F.words.joined get shown)
+
+-- from a board that is ready and whose records are valid, and a start on both buses, so long as each thing may happen where it does
 module _ (F : Family) (L : Bus → Line) (W : Wires F.words) where
   pub record IsStart (on : States L) (board : F.Board) : Type 0 where
     pub on_bus : (bus : Bus) → (L bus).IsStart (on bus)
     pub valid : AllValid F (F.records board)
+    pub ready : IsReady F board
 
   -- at every moment the phase stands on the records, and a halt has its cause
   abbrev pub AlwaysStands : Type 0
@@ -43,13 +52,13 @@ module _ (F : Family) (L : Bus → Line) (W : Wires F.words) where
       Stands F plan (F.records board) (phase_of F.words w.machine) (F.records w.board) × Halts F w.machine.stopped plan (phase_of F.words w.machine) (F.records w.board)
 
   -- once a plan is undone, and at every moment from then on, all records are what they were at the start, and each Get, whoever
-  -- asks it, is answered with the same code and shows the same configuration as at the start
+  -- asks it, is answered with the same code and shows the same configuration as at the start, and so does each of several requests
   abbrev pub UndoneForGood : Type 0
   UndoneForGood = (plan : List F.words.Op) (retries : ℕ) (on : States L) (board : F.Board) → IsStart on board
       → (events later : List (Happening F L)) → AllMay F L W (events ++ later) (opening F L plan retries on board)
       → phase_of F.words (run F L W events (opening F L plan retries on board)).machine ≡ Undone
       → let w = run F L W (events ++ later) (opening F L plan retries on board) in
-      (F.records w.board ≡ F.records board) × ShowsSame F board w.board
+      (F.records w.board ≡ F.records board) × ShowsSame F board w.board × PartsShowSame F board w.board
 
   -- a plan halts with the reason `Stop` only where it was made to
   abbrev pub StopsOnlyIfTold : Type 0

@@ -2,8 +2,8 @@
 use Rattle.std.specs.Prelude.{◌≡◌, ◌≢◌, ℕ, zero, suc, Bool, true, List, length, Some, ◌⊎◌, slice_get}
 use Rattle.two_wire.specs.Codes.{success}
 use Rattle.model_bus.specs.Answered.{Answered}
-use Rattle.model_undo.specs.Words.{get_asked, set_asked}
-use Rattle.model_undo.specs.Family.{Family, SetsTo}
+use Rattle.model_undo.specs.Words.{IsOf, AllAnswered}
+use Rattle.model_undo.specs.Family.{Family, Gave, SetsTo}
 use Rattle.model_undo.specs.declared.phase.Why.{Why}
 use Rattle.model_undo.specs.declared.phase.Why.TheVariants.{Stop, Refused, NotRestorable, GetRefused}
 use Rattle.model_undo.specs.declared.phase.Phase.{Phase}
@@ -27,28 +27,36 @@ Stands F plan start (Undoing step) records = IsAfter F plan start (suc step) rec
 Stands F plan start Undone records = IsAfter F plan start 0 records
 Stands F plan start (UndoRefused step code) records = ⊥
 
--- the board gave this reply to the request at these records
-abbrev pub Gave : (F : Family) → F.words.Asked → Answered → F.Records → Type 0
-Gave F asked answered records = (board : F.Board) × (after : F.Board) × (F.records board ≡ records) × F.Row board asked answered after
-
--- the board gave this reply to the Get of this step of the plan at these records
+-- the board gave this reply to a request of the Get of this step of the plan at these records
 pub record GaveGet (F : Family) (plan : List F.words.Op) (place : ℕ) (answered : Answered) (records : F.Records) : Type 0 where
   pub op : F.words.Op
   pub step : slice_get plan place ≡ Some op
-  pub gave : Gave F (get_asked F.words (F.words.key_of op)) answered records
+  pub asked : F.words.Asked
+  pub is_of : IsOf F.words (F.words.getting (F.words.key_of op)) asked
+  pub gave : Gave F records asked answered
 
--- the board gave this reply to the Set of this step of the plan at these records
+-- the board gave replies with these data to all requests of the Get of this step of the plan, at these records, and the step can't be undone
+-- from what they show together
+pub record GaveUnrestorable (F : Family) (plan : List F.words.Op) (place : ℕ) (bodies : List (List ℕ)) (records : F.Records) : Type 0 where
+  pub op : F.words.Op
+  pub step : slice_get plan place ≡ Some op
+  pub gave : AllAnswered F.words (Gave F records) (F.words.getting (F.words.key_of op)) bodies
+  pub not_restorable : ¬ F.Restorable op (F.words.joined (F.words.getting (F.words.key_of op)) bodies)
+
+-- the board gave this reply to a request of the Set of this step of the plan at these records
 pub record GaveSet (F : Family) (plan : List F.words.Op) (place : ℕ) (answered : Answered) (records : F.Records) : Type 0 where
   pub op : F.words.Op
   pub step : slice_get plan place ≡ Some op
-  pub gave : Gave F (set_asked F.words op) answered records
+  pub asked : F.words.Asked
+  pub is_of : IsOf F.words (F.words.setting op) asked
+  pub gave : Gave F records asked answered
 
 -- why a plan halted after `step` steps, at the records that these steps left; `stopped` says whether the manager was to stop
 abbrev pub Because : (F : Family) → Bool → List F.words.Op → ℕ → Why → F.Records → Type 0
 Because F stopped plan step Stop records = stopped ≡ true
 Because F stopped plan step (Refused code) records = (code ≢ success) × (body : List ℕ) × GaveSet F plan step (record { code = code; body = body }) records
 Because F stopped plan step (GetRefused code) records = (code ≢ success) × (body : List ℕ) × GaveGet F plan step (record { code = code; body = body }) records
-Because F stopped plan step NotRestorable records = (body : List ℕ) × (got : GaveGet F plan step (record { code = success; body = body }) records) × (¬ F.Restorable got.op body)
+Because F stopped plan step NotRestorable records = (bodies : List (List ℕ)) × GaveUnrestorable F plan step bodies records
 
 -- a halted plan has a cause
 abbrev pub Halts : (F : Family) → Bool → List F.words.Op → Phase → F.Records → Type 0

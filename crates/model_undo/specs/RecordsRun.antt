@@ -2,7 +2,7 @@
 -- record.
 use Rattle.std.specs.Prelude.{◌≡◌, ℕ, List, [], ◌∷◌, Option, Some, None}
 use Rattle.model_bus.specs.Answered.{Answered}
-use Rattle.model_undo.specs.Family.{Family, AllValid}
+use Rattle.model_undo.specs.Family.{Family, AllValid, IsReady, Keeps}
 use Rattle.model_undo.specs.Plan.{Stands, Halts}
 use Rattle.model_undo.specs.Machine.{Stage, Opened, AtEnd, AtHalt, Machine, Turn, phase_of, start_of, quiet_of, stop_of, again_of, undo_of, reply_of, opened}
 use Rattle.model_undo.specs.Resume.{list_of, resumed}
@@ -69,10 +69,10 @@ module _ (F : Family) where
   Answers (Opened heeded task part) board answered after = F.Row board part.asked answered after
   Answers _ board answered after = Unit {0}
 
-  -- and nothing else changes a record
+  -- nothing else changes a record, or what the board is ready for
   abbrev pub May : Desk F → DeskEvent F → Type 0
   May desk (Carries answered after) = Answers desk.machine.stage desk.board answered after
-  May desk (Elsewhere after) = F.records after ≡ F.records desk.board
+  May desk (Elsewhere after) = Keeps F desk.board after
   May desk _ = Unit {0}
 
   abbrev pub run : List (DeskEvent F) → Desk F → Desk F
@@ -88,6 +88,6 @@ module _ (F : Family) where
 
   -- at every moment the phase stands on the records, and a halt has its cause
   abbrev pub RecordsStand : Type 0
-  RecordsStand = (plan : List F.words.Op) (retries : ℕ) (board : F.Board) → AllValid F (F.records board) → (events : List (DeskEvent F)) → AllMay events (at_desk plan retries board)
+  RecordsStand = (plan : List F.words.Op) (retries : ℕ) (board : F.Board) → AllValid F (F.records board) → IsReady F board → (events : List (DeskEvent F)) → AllMay events (at_desk plan retries board)
       → let w = run events (at_desk plan retries board) in
       Stands F plan (F.records board) (phase_of F.words w.machine) (F.records w.board) × Halts F w.machine.stopped plan (phase_of F.words w.machine) (F.records w.board)

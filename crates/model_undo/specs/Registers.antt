@@ -128,6 +128,7 @@ registers = record {
   Restorable = IsRestorable;
   Board = Board;
   records = λ b. b.registers;
+  Ready = λ b series bodies. Unit {0};
   IsGet = λ asked register. asked ≡ AskGet register;
   Row = Row;
 }

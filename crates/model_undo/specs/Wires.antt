@@ -1,27 +1,16 @@
 -- How requests and replies are bytes on the two buses. The bytes hold all but addresses and check bytes, the number too.
-use Rattle.std.specs.Prelude.{◌≡◌, ℕ, ◌%◌, List, Some, ◌⊎◌}
+use Rattle.std.specs.Prelude.{◌≡◌, ℕ, ◌%◌, List}
 use Rattle.two_wire.specs.declared.Bus.{Bus}
 use Rattle.two_wire.specs.declared.Bus.TheVariants.{Ipmb, Smbus}
 use Rattle.model_bus.specs.Circle.{sequence_numbers, instances}
 use Rattle.model_bus.specs.Answered.{Answered}
+pub use Rattle.model_undo.specs.Words.{IsSeries, IsOf, IsMade}
 use Rattle.model_undo.specs.Words.{Words}
 
 -- the number of a count: a sequence number on IPMB, an instance on SMBus
 abbrev pub number_of : Bus → ℕ → ℕ
 number_of Ipmb count = count % sequence_numbers
 number_of Smbus count = count % instances
-
--- a manager makes the series: it gets a record, or carries an operation out
-abbrev pub IsSeries : (M : Words) → M.Series → Type 0
-IsSeries M series = ((key : M.Key) × (series ≡ M.getting key)) ⊎ ((op : M.Op) × (series ≡ M.setting op))
-
--- the request is one of the series
-abbrev pub IsOf : (M : Words) → M.Series → M.Asked → Type 0
-IsOf M series asked = (asked ≡ M.first series) ⊎ ((bodies : List (List ℕ)) × (M.next series bodies ≡ Some asked))
-
--- a manager makes the request
-abbrev pub IsMade : (M : Words) → M.Asked → Type 0
-IsMade M asked = (series : M.Series) × IsSeries M series × IsOf M series asked
 
 -- how requests and replies are written, and what is read of them
 pub record Wires (M : Words) : Type 0 where

@@ -3,7 +3,7 @@ use Rattle.std.specs.Prelude.{◌≡◌, ℕ, Bool, true, false, List, [], ◌�
 use Rattle.two_wire.specs.declared.Bus.{Bus}
 use Rattle.two_wire.specs.declared.Bus.TheVariants.{Ipmb, Smbus}
 use Rattle.model_bus.specs.Answered.{Answered}
-use Rattle.model_undo.specs.Family.{Family}
+use Rattle.model_undo.specs.Family.{Family, Keeps}
 use Rattle.model_undo.specs.Machine.{Stage, Opened, AtEnd, AtHalt, Machine, Sending, Turn, bus_at, start_of, quiet_of, stop_of, again_of, undo_of, reply_of, opened, same_bus}
 use Rattle.model_undo.specs.Resume.{list_of, resumed}
 use Rattle.model_undo.specs.Wires.{number_of, Wires}
@@ -110,9 +110,9 @@ module _ (F : Family) (L : Bus → Line) (W : Wires F.words) where
   happens world (OnBus bus event after) = record world { on = moved bus event world; board = after }
   happens world (OnBench after) = record world { board = after }
 
-  -- a request of the manager that is carried out is answered by the command relation; nothing else changes a record
+  -- a request of the manager that is carried out is answered by the command relation; nothing else changes a record, or what the board is ready for
   abbrev pub BoardMay : Bus → Option Exchange → F.Board → F.Board → Type 0
-  BoardMay bus None board after = F.records after ≡ F.records board
+  BoardMay bus None board after = Keeps F board after
   BoardMay bus (Some exchange) board after = (answered : Answered) × (exchange.reply ≡ W.reply_to bus exchange.bytes answered) × F.Row board (W.asked_from bus exchange.bytes) answered after
 
   -- what happens on a bus is none of the manager's doing, and honest there
@@ -123,7 +123,7 @@ module _ (F : Family) (L : Bus → Line) (W : Wires F.words) where
   abbrev pub May : World F L → Happening F L → Type 0
   May world (ToManager bus event) = IsHonestOn bus event world × ((L bus).is_to_manager event ≡ true)
   May world (OnBus bus event after) = IsHonestOn bus event world × ((L bus).is_to_manager event ≡ false) × BoardMay bus ((L bus).carries (world.on bus) event) world.board after
-  May world (OnBench after) = F.records after ≡ F.records world.board
+  May world (OnBench after) = Keeps F world.board after
   May world _ = Unit {0}
 
   -- the world after a schedule

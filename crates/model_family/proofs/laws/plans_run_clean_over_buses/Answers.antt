@@ -5,14 +5,14 @@ use Rattle.model_undo.proofs.TwoBuses.{message_lines, packet_lines, message_line
 use Rattle.model_undo.proofs.CleanBuses.{always_runs_over_buses}
 use Rattle.model_family.specs.Family.{family, answer}
 use Rattle.model_lab.specs.ManagerWires.{wires}
-use Rattle.model_family.proofs.IsFamily.{is_family}
+use Rattle.model_family.proofs.IsFamily.{is_single, is_family}
 
 pub returns-clause-messages : goal.returns-clause-messages
 returns-clause-messages c setup at =
-    always_runs_over_buses (family setup at) (is_family setup at) (in_messages at) (message_lines at) (messages_come at) (message_lines_lose_nothing at) (wires at) (answer setup)
+    always_runs_over_buses (family setup at) (is_family setup at) (in_messages at) (message_lines at) (messages_come at) (message_lines_lose_nothing at) (wires at) (is_single setup at).single (answer setup)
     (λ board asked. has_answer setup board asked)
 
 pub returns-clause-packets : goal.returns-clause-packets
 returns-clause-packets c setup at split cutting =
-    always_runs_over_buses (family setup at) (is_family setup at) (with_packets at split) (packet_lines at split cutting) (packets_come at split) (packet_lines_lose_nothing at split cutting) (wires at) (answer setup)
+    always_runs_over_buses (family setup at) (is_family setup at) (with_packets at split) (packet_lines at split cutting) (packets_come at split) (packet_lines_lose_nothing at split cutting) (wires at) (is_single setup at).single (answer setup)
     (λ board asked. has_answer setup board asked)
