@@ -1,17 +1,17 @@
 -- What holds of a manager's stage is kept: where its request is carried out, where it takes the reply, and by each call.
-use Rattle.std.proofs.Common.{◌≡◌, ℕ, zero, suc, ◌≤◌, Bool, true, false, eqb, List, [], ◌∷◌, ◌++◌, length, Option, Some, None, refl, sym, ◌∙◌, ap, subst, arith, ◌⊎◌, inl, inr}
+use Rattle.std.proofs.Common.{◌≡◌, ℕ, zero, suc, ◌≤◌, Bool, true, false, eqb, List, [], ◌∷◌, ◌++◌, length, Option, Some, None, refl, sym, ap, subst, arith, ◌⊎◌, inl, inr}
 use Rattle.std.specs.Prelude.{slice_get, if◌then◌else◌}
 use Rattle.std.proofs.lemmas.Bool.{cases_eq, cond_both, eqb-true, eqb-false, eq-eqb, ne_eqb}
 use Rattle.std.proofs.lemmas.Option.{slice_get_within}
 use Rattle.two_wire.specs.Codes.{success}
 use Rattle.model_bus.specs.Answered.{Answered}
-use Rattle.model_undo.specs.Words.{Words, IsNext, AllAnswered}
+use Rattle.model_undo.specs.Words.{IsNext, AllAnswered}
 use Rattle.model_undo.specs.Family.{Family, AllValid, IsReady, Gave, SetsTo}
-use Rattle.model_undo.specs.IsFamily.{Showed, AnswersSet, IsFamily}
+use Rattle.model_undo.specs.IsFamily.{AnswersSet, IsFamily}
 use Rattle.model_undo.specs.declared.phase.Why.{Why}
 use Rattle.model_undo.specs.declared.phase.Why.TheVariants.{Stop, Refused, NotRestorable, GetRefused}
 use Rattle.model_undo.specs.Plan.{Because}
-use Rattle.model_undo.specs.Machine.{Task, Gets, Sets, Undoes, Stage, AtStart, Opened, AtEnd, AtHalt, AtUndone, AtRefused, Part, series_of, first_stage, undo_stage, next_stage, set_stage, goes_on, told_stage, refused, bodies_with, next_asked, stage_after, undo_with, undo_after}
+use Rattle.model_undo.specs.Machine.{Task, Gets, Sets, Undoes, Stage, AtStart, Opened, AtEnd, AtHalt, AtUndone, AtRefused, Part, first_stage, undo_stage, next_stage, set_stage, goes_on, told_stage, bodies_with, next_asked, stage_after, undo_with, undo_after}
 use Rattle.model_undo.proofs.Undoable.{past_none, CanUndo, LeadsHome, length_of, sets_to_one, sets_to_valid, sets_back, ready}
 use Rattle.model_undo.proofs.Series.{not_empty, is_of, is_next, one_more}
 use Rattle.model_undo.proofs.StageSound.{OfPlan, Got, SetSound, UndoSound, TaskSound, IsPart, StageSound, task_made}

@@ -1,5 +1,5 @@
 -- One request where the board answers at once: what the manager and the board become, and that what holds of them is kept.
-use Rattle.std.proofs.Common.{◌≡◌, ℕ, ◌+◌, Bool, true, List, Option, Some, None, ap, arith}
+use Rattle.std.proofs.Common.{◌≡◌, ◌+◌, Bool, true, List, Some, None, ap, arith}
 use Rattle.std.specs.Prelude.{if◌then◌else◌}
 use Rattle.two_wire.specs.declared.Bus.{Bus}
 use Rattle.two_wire.specs.declared.Bus.TheVariants.{Ipmb, Smbus}

@@ -1,6 +1,6 @@
 -- A manager and a board, without buses: the open request is carried out at most once, its reply is taken, and nothing else changes a
 -- record.
-use Rattle.std.specs.Prelude.{◌≡◌, ℕ, List, [], ◌∷◌, Option, Some, None}
+use Rattle.std.specs.Prelude.{ℕ, List, [], ◌∷◌, Option, Some, None}
 use Rattle.model_bus.specs.Answered.{Answered}
 use Rattle.model_undo.specs.Family.{Family, AllValid, IsReady, Keeps}
 use Rattle.model_undo.specs.Plan.{Stands, Halts}
