@@ -14,6 +14,7 @@ pub mod Example
 pub mod Resume
 pub mod TwoBuses
 pub mod CleanSteps
+pub mod CleanSeries
 pub mod Clean
 pub mod RecordsRun
 pub mod Giving

@@ -14,6 +14,7 @@ pub mod Registers
 pub mod TwoBuses
 pub mod Example
 pub mod Clean
+pub mod CleanSeries
 pub mod RecordsRun
 pub mod Giving
 pub mod Delivery

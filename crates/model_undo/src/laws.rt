@@ -13,6 +13,7 @@ ghost use Rattle.model_undo.specs.Resume.{GoesOnAlike};
 ghost use Rattle.model_undo.specs.Unsettled.{UnsettledByQuiet};
 ghost use Rattle.model_undo.specs.RecordsRun.{RecordsStand};
 ghost use Rattle.model_undo.specs.Clean.{AnswersByRow, AlwaysRunsClean};
+ghost use Rattle.model_undo.specs.CleanSeries.{AlwaysRunsThrough};
 ghost use Rattle.model_undo.specs.CleanBuses.{AllCanBeSent, AlwaysRunsOverBuses};
 ghost use Rattle.model_bus.specs.Answered.{Answered};
 ghost use Rattle.model_undo.specs.Registers.{Board, Asked, register_words, registers, wires};
@@ -78,6 +79,13 @@ pub fn unsettled_only_by_quiet()
 pub fn plans_run_clean()
     ensures { (answer : Board → Asked → Answered × Board) → AnswersByRow registers answer
         → AlwaysRunsClean registers answer }
+{}
+
+/// Where Gets and Sets are series of requests, each with an end, a plan takes so many requests as the Gets and Sets of its steps have, and ends as
+/// above. Its undo takes as many as the series have that undo the steps that were done. This knows no bus.
+pub fn plans_run_through()
+    ensures { (answer : Board → Asked → Answered × Board) → AnswersByRow registers answer
+        → AlwaysRunsThrough registers answer }
 {}
 
 /// Over two buses that lose nothing a plan runs just so: each request is delivered once, each reply is delivered once, nobody else asks, and such a

@@ -1,0 +1,117 @@
+-- A link without loss where Gets and Sets are series of requests: the board answers each request at once, and the manager takes the reply.
+use Rattle.std.specs.Prelude.{◌≡◌, ◌≢◌, ℕ, ◌+◌, ◌≤◌, List, [], ◌∷◌, ◌++◌, length, None, IfSome}
+use Rattle.two_wire.specs.Codes.{success}
+use Rattle.model_bus.specs.Answered.{Answered}
+use Rattle.model_undo.specs.Words.{Words, IsNext, IsSeries}
+use Rattle.model_undo.specs.Family.{Family, AllValid, IsReady}
+use Rattle.model_undo.specs.declared.phase.Why.{Why}
+use Rattle.model_undo.specs.declared.phase.Why.TheVariants.{Stop, Refused, NotRestorable, GetRefused}
+use Rattle.model_undo.specs.declared.phase.Phase.{Phase}
+use Rattle.model_undo.specs.declared.phase.Phase.TheVariants.{Done, Halted, Undone}
+use Rattle.model_undo.specs.Plan.{IsAfter}
+use Rattle.model_undo.specs.Machine.{start_of, undo_of, opened}
+use Rattle.model_undo.specs.Clean.{Moment, clean, IsAtRest}
+
+-- each series that a manager makes has an end: after so many replies, whatever their data are, no request is next
+abbrev pub AreFinite : Words → Type 0
+AreFinite M = (series : M.Series) → IsSeries M series → (most : ℕ) × ((bodies : List (List ℕ)) → most ≤ length bodies → M.next series bodies ≡ None)
+
+module _ (F : Family) (answer : F.Board → F.words.Asked → Answered × F.Board) where
+  -- after replies with the data `before`, the board answers requests of the series in order, each with 00h and these data, and becomes the other
+  abbrev pub Answers : F.words.Series → (before bodies : List (List ℕ)) → F.Board → F.Board → Type 0
+  Answers series before [] board after = after ≡ board
+  Answers series before (body ∷ bodies) board after =
+      (asked : F.words.Asked) × IsNext F.words series before asked × ((answer board asked).0 ≡ record { code = success; body = body })
+      × Answers series (before ++ body ∷ []) bodies (answer board asked).1 after
+
+  -- it answers all requests of the series so
+  pub record AnswersAll (series : F.words.Series) (bodies : List (List ℕ)) (board after : F.Board) : Type 0 where
+    pub replied : Answers series [] bodies board after
+    pub some : bodies ≢ []
+    pub no_more : F.words.next series bodies ≡ None
+
+  -- it refuses the last of so many requests of the series with this code, and answered those before it so
+  pub record RefusesOne (series : F.words.Series) (code requests : ℕ) (board : F.Board) : Type 0 where
+    pub bodies : List (List ℕ)
+    pub mid : F.Board
+    pub replied : Answers series [] bodies board mid
+    pub asked : F.words.Asked
+    pub is_next : IsNext F.words series bodies asked
+    pub refused : (answer mid asked).0.code ≡ code
+    pub fault : code ≢ success
+    pub counted : requests ≡ length bodies + 1
+
+  -- what the data of all replies to the Get of an operation's record show
+  abbrev pub shown : F.words.Op → List (List ℕ) → List ℕ
+  shown op bodies = F.words.joined (F.words.getting (F.words.key_of op)) bodies
+
+  -- the board carries a step out by so many requests, and the step can be undone
+  pub record Goes (board : F.Board) (op : F.words.Op) (requests : ℕ) (after : F.Board) : Type 0 where
+    pub got : List (List ℕ)
+    pub mid : F.Board
+    pub read : AnswersAll (F.words.getting (F.words.key_of op)) got board mid
+    pub can_undo : F.Restorable op (shown op got)
+    pub put : List (List ℕ)
+    pub done : AnswersAll (F.words.setting op) put mid after
+    pub counted : requests ≡ length got + length put
+
+  -- the board carries all steps out, in order, by so many requests, and becomes the second board; each step can be undone
+  abbrev pub GoAll : List F.words.Op → ℕ → F.Board → F.Board → Type 0
+  GoAll [] requests board after = (after ≡ board) × (requests ≡ 0)
+  GoAll (op ∷ ops) requests board after = (mid : F.Board) × (first : ℕ) × (more : ℕ) × Goes board op first mid × GoAll ops more mid after × (requests ≡ first + more)
+
+  -- the board reads a step's record by a Get, and refuses its Set
+  pub record RefusesSet (board : F.Board) (op : F.words.Op) (code requests : ℕ) : Type 0 where
+    pub got : List (List ℕ)
+    pub mid : F.Board
+    pub read : AnswersAll (F.words.getting (F.words.key_of op)) got board mid
+    pub can_undo : F.Restorable op (shown op got)
+    pub sets : ℕ
+    pub refuses : RefusesOne (F.words.setting op) code sets mid
+    pub counted : requests ≡ length got + sets
+
+  -- why the board doesn't carry a step out, and how many requests of the step were sent
+  abbrev pub Sticks : F.Board → F.words.Op → Why → ℕ → Type 0
+  Sticks board op Stop requests = ⊥
+  Sticks board op (GetRefused code) requests = RefusesOne (F.words.getting (F.words.key_of op)) code requests board
+  Sticks board op NotRestorable requests = (bodies : List (List ℕ)) × (after : F.Board) × AnswersAll (F.words.getting (F.words.key_of op)) bodies board after × (¬ F.Restorable op (shown op bodies)) × (requests ≡ length bodies)
+  Sticks board op (Refused code) requests = RefusesSet board op code requests
+
+  -- the phase after `step` steps, where these steps are left: done, or halted at the first of them
+  abbrev pub EndsIn : ℕ → List F.words.Op → F.Board → Phase → ℕ → Type 0
+  EndsIn step [] board phase requests = (phase ≡ Done) × (requests ≡ 0)
+  EndsIn step (op ∷ ops) board phase requests = (why : Why) × Sticks board op why requests × (phase ≡ Halted step why)
+
+  -- the board answers all requests of each series, in order, so many together, and becomes the other
+  abbrev pub AnswersEach : List F.words.Series → ℕ → F.Board → F.Board → Type 0
+  AnswersEach [] requests board after = (after ≡ board) × (requests ≡ 0)
+  AnswersEach (series ∷ more) requests board after =
+      (bodies : List (List ℕ)) × (mid : F.Board) × (later : ℕ) × AnswersAll series bodies board mid × AnswersEach more later mid after × (requests ≡ length bodies + later)
+
+  -- A plan that is begun takes as many requests as the Gets and Sets have of the steps that the board carries out. It ends after the last step, or
+  -- halts at the first that the board doesn't carry out. Its undo takes as many requests as the series have that undo the steps that were carried
+  -- out, and ends with the records of the start.
+  pub record RunsThrough (plan : List F.words.Op) (board : F.Board) (begun : Moment F) : Type 0 where
+    pub steps : List F.words.Op
+    pub rest : List F.words.Op
+    pub whole : plan ≡ steps ++ rest
+    pub at : F.Board
+    pub requests : ℕ
+    pub go : GoAll steps requests board at
+    pub phase : Phase
+    pub more : ℕ
+    pub ends : EndsIn (length steps) rest at phase more
+    pub run : let x = clean F answer (requests + more) begun in
+        IsAtRest F answer x phase (requests + more) × IsAfter F plan (F.records board) (length steps) (F.records x.board)
+    pub back : ℕ
+    pub undo : let x = clean F answer (requests + more) begun in
+        IfSome (undo_of F.words x.turn.machine) (λ t.
+        let y = clean F answer back (record { turn = t; board = x.board }) in
+        IsAtRest F answer y Undone (requests + more + back) × (F.records y.board ≡ F.records board) × AnswersEach x.turn.machine.undo back x.board y.board)
+    pub undo_is_taken : let x = clean F answer (requests + more) begun in undo_of F.words x.turn.machine ≢ None
+    pub undo_each : let x = clean F answer (requests + more) begun in length x.turn.machine.undo ≡ length steps
+
+  -- so it is with every plan, at every board of valid records that is ready
+  abbrev pub AlwaysRunsThrough : Type 0
+  AlwaysRunsThrough = (plan : List F.words.Op) (retries : ℕ) (board : F.Board) → AllValid F (F.records board) → IsReady F board
+      → IfSome (start_of F.words (opened F.words plan retries)) (λ t. RunsThrough plan board (record { turn = t; board = board }))
