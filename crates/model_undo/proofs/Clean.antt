@@ -83,7 +83,7 @@ module _ (F : Family) (single : AreSingle F.words) (answer : F.Board → F.words
       let all = g.counted in let c1 = r.count in let c2 = d.count in
       (record { read = r.read; can_undo = subst (F.Restorable op) r.shows g.can_undo; done = d.read; left = d.left }, omega arith)
 
-  go_all : (ops : List F.words.Op) (n : ℕ) (b after : F.Board) → series.GoAll F answer ops n b after → GoAll F answer ops b after × (n ≡ length ops + length ops)
+  pub go_all : (ops : List F.words.Op) (n : ℕ) (b after : F.Board) → series.GoAll F answer ops n b after → GoAll F answer ops b after × (n ≡ length ops + length ops)
   go_all [] n b after g = (g.0, g.1)
   go_all (op ∷ ops) n b after g =
       let first = goes b op g.1 g.0 g.3 in

@@ -26,7 +26,8 @@ use Rattle.model_undo.specs.Delivery.{Delivery}
 use Rattle.model_undo.specs.World as world
 use Rattle.model_undo.specs.World.{States, update, World, Happening, Start, Undo, ToManager, BoardMay, bytes_sent, begins, moved, happens, run, AllMay, opening}
 use Rattle.model_undo.specs.Clean.{Moment, answered_in_all, AnswersByRow, one, clean, IsAtRest}
-use Rattle.model_undo.specs.CleanBuses.{reach_port, asks, replies, exchange, exchanges, AllCanBeSent, HasEnded, AlwaysRunsOverBuses}
+use Rattle.model_undo.specs.CleanBuses.{reach_port, asks, replies, exchange, exchanges, AllCanBeSent, HasEnded, RunsThroughBuses, AlwaysRunsThroughBuses, RunsOverBuses, AlwaysRunsOverBuses}
+use Rattle.model_undo.specs.CleanSeries.{AreFinite, AnswersEach}
 use Rattle.model_undo.proofs.Undoable.{CanUndo}
 use Rattle.model_undo.proofs.StageSound.{task_made}
 use Rattle.model_undo.proofs.Calls.{first_good, undo_good}
@@ -37,7 +38,8 @@ use Rattle.model_undo.proofs.Delivery.{HasCarried, HasBrought, LosesNothing}
 use Rattle.model_undo.proofs.World.{count_here, count_there, here, there, WorldHolds, happens_holds, run_holds}
 use Rattle.model_undo.proofs.Headline.{run_on, opening_holds}
 use Rattle.model_undo.proofs.CleanSteps.{at_stage, Good, replied, one_part, part_good}
-use Rattle.model_undo.proofs.Clean.{always_runs_clean}
+use Rattle.model_undo.proofs.CleanSeries.{always_runs_through}
+use Rattle.model_undo.proofs.Clean.{are_finite, go_all, ends_so, each_one}
 
 same_bus-itself : (bus : Bus) → same_bus bus bus ≡ true
 same_bus-itself Ipmb = refl
@@ -441,19 +443,20 @@ module _ (F : Family) (laws : IsFamily F) (L : Bus → Line) (lines : (bus : Bus
 
   -- ---- the undo
 
-  abbrev IsTakenBack : Turn F.words → F.Board → ℕ → ℕ → Type 0
-  IsTakenBack t b k n = let y = clean F answer k (record { turn = t; board = b }) in IsAtRest F answer y Undone n × (F.records y.board ≡ start)
+  abbrev IsTakenBack : List F.words.Series → Turn F.words → F.Board → ℕ → ℕ → Type 0
+  IsTakenBack us t b k n = let y = clean F answer k (record { turn = t; board = b }) in IsAtRest F answer y Undone n × (F.records y.board ≡ start) × AnswersEach F answer us k b y.board
 
   abbrev TakesBack : World F L → ℕ → ℕ → Type 0
   TakesBack w k n =
       let es = Undo ∷ exchanges F L D W answer k (happens F L W w Undo) in
-      AllMay F L W es w × HasEnded F L D W answer (run F L W es w) Undone n × (F.records (run F L W es w).board ≡ start)
+      let u = run F L W es w in
+      AllMay F L W es w × HasEnded F L D W answer u Undone n × (F.records u.board ≡ start) × AnswersEach F answer w.machine.undo k w.board u.board
 
   undoing_so : (stage : Stage F.words) (m : Machine F.words) (on : States L) (b : F.Board) (k n j : ℕ) → Going stage m on b → ((bus : Bus) → IsClosed (request_on on bus)) → HavePlace on
       → CanUndo F plan start j m.undo (F.records b)
       → let from = (enters F.words stage m).machine in
       let t = enters F.words (undo_stage F.words m.undo) from in
-      undo_of F.words from ≡ Some t → IsTakenBack t b k n → TakesBack (world_of from on b) k n
+      undo_of F.words from ≡ Some t → IsTakenBack m.undo t b k n → TakesBack (world_of from on b) k n
   undoing_so stage m on b k n j g closed place back taken r =
       let from = (enters F.words stage m).machine in
       let next = undo_stage F.words m.undo in
@@ -465,13 +468,13 @@ module _ (F : Family) (laws : IsFamily F) (L : Bus → Line) (lines : (bus : Bus
       let ready = enters_ready next from on b (undo_heeded F m.undo) good (record { held = g.holds.holds; closed = closed; place = place; exact = g.exact }) in
       let going : Going next from now b = record { good = good; holds = subst Holds becomes (happens_holds F laws L lines W first plan start w Undo g.holds tt); ready = ready.0; exact = ready.1 } in
       let all = exchange_all k next from now b going in
-      let ends = ends_there (clean F answer k (at_stage F laws answer by_row plan start next from b)) (run F L W (exchanges F L D W answer k (world_of t.machine now b)) (world_of t.machine now b)) Undone n (λ (c : F.Board). F.records c ≡ start) all.1 r in
-      subst (λ (y : World F L). (Unit {0} × AllMay F L W (exchanges F L D W answer k y) y) × HasEnded F L D W answer (run F L W (exchanges F L D W answer k y) y) Undone n × (F.records (run F L W (exchanges F L D W answer k y) y).board ≡ start)) (sym becomes)
-      ((tt, all.0), ends.0, ends.1)
+      let ends = ends_there (clean F answer k (at_stage F laws answer by_row plan start next from b)) (run F L W (exchanges F L D W answer k (world_of t.machine now b)) (world_of t.machine now b)) Undone n (λ (c : F.Board). (F.records c ≡ start) × AnswersEach F answer m.undo k b c) all.1 (r.0, (r.1, r.2)) in
+      subst (λ (y : World F L). (Unit {0} × AllMay F L W (exchanges F L D W answer k y) y) × HasEnded F L D W answer (run F L W (exchanges F L D W answer k y) y) Undone n × (F.records (run F L W (exchanges F L D W answer k y) y).board ≡ start) × AnswersEach F answer m.undo k b (run F L W (exchanges F L D W answer k y) y).board) (sym becomes)
+      ((tt, all.0), ends.0, ends.1.0, ends.1.1)
 
   undoing : (stage : Stage F.words) (m : Machine F.words) (on : States L) (b : F.Board) (k n : ℕ) → Going stage m on b
       → let from = (enters F.words stage m).machine in
-      IfSome (undo_of F.words from) (λ t. IsTakenBack t b k n) → (undo_of F.words from ≡ None → ⊥) → TakesBack (world_of from on b) k n
+      IfSome (undo_of F.words from) (λ t. IsTakenBack m.undo t b k n) → (undo_of F.words from ≡ None → ⊥) → TakesBack (world_of from on b) k n
   undoing AtEnd m on b k n g r taken = undoing_so AtEnd m on b k n (length plan) g g.holds.joined.are_open g.ready g.good.sound refl r
   undoing (AtHalt j why) m on b k n g r taken = undoing_so (AtHalt j why) m on b k n j g g.holds.joined.are_open g.ready g.good.sound.0 refl r
   undoing AtStart m on b k n g r taken = absurd (taken refl)
@@ -479,11 +482,17 @@ module _ (F : Family) (laws : IsFamily F) (L : Bus → Line) (lines : (bus : Bus
   undoing AtUndone m on b k n g r taken = absurd (taken refl)
   undoing (AtRefused j code) m on b k n g r taken = absurd (taken refl)
 
-  undoing_there : (x : Moment F) (w : World F L) (k n : ℕ) → Follows x w → IfSome (undo_of F.words x.turn.machine) (λ t. IsTakenBack t x.board k n) → (undo_of F.words x.turn.machine ≡ None → ⊥) → TakesBack w k n
+  undoing_there : (x : Moment F) (w : World F L) (k n : ℕ) → Follows x w → IfSome (undo_of F.words x.turn.machine) (λ t. IsTakenBack x.turn.machine.undo t x.board k n) → (undo_of F.words x.turn.machine ≡ None → ⊥) → TakesBack w k n
   undoing_there x w k n f r taken =
-      let here_too = subst (λ (y : Moment F). IfSome (undo_of F.words y.turn.machine) (λ t. IsTakenBack t y.board k n)) f.same r in
+      let here_too = subst (λ (y : Moment F). IfSome (undo_of F.words y.turn.machine) (λ t. IsTakenBack y.turn.machine.undo t y.board k n)) f.same r in
       let taken_too = subst (λ (y : Moment F). undo_of F.words y.turn.machine ≡ None → ⊥) f.same taken in
       subst (λ (y : World F L). TakesBack y k n) (sym f.is) (undoing f.stage f.machine f.now f.board k n f.going here_too taken_too)
+
+  -- the list is the same
+  undo_there : (x : Moment F) (w : World F L) (k : ℕ) → Follows x w → length x.turn.machine.undo ≡ k → length w.machine.undo ≡ k
+  undo_there x w k f is =
+      let here_too : length (enters F.words f.stage f.machine).machine.undo ≡ k = subst (λ (y : Moment F). length y.turn.machine.undo ≡ k) f.same is in
+      subst (λ (y : World F L). length y.machine.undo ≡ k) (sym f.is) here_too
 
   -- ---- the start
 
@@ -495,9 +504,9 @@ module _ (F : Family) (laws : IsFamily F) (L : Bus → Line) (lines : (bus : Bus
   none_taken Ipmb s none = ap (λ (l : List (List ℕ)). length l) none.taken
   none_taken Smbus s none = ap (λ (l : List (List ℕ)). length l) none.taken
 
-pub always_runs_over_buses : (F : Family) → IsFamily F → (L : Bus → Line) (lines : (bus : Bus) → IsLine (L bus)) (D : (bus : Bus) → Delivery (L bus)) → ((bus : Bus) → LosesNothing (L bus) (D bus) (lines bus))
-    → (W : Wires F.words) → AreSingle F.words → (answer : F.Board → F.words.Asked → Answered × F.Board) → AnswersByRow F answer → AlwaysRunsOverBuses F L D W answer
-always_runs_over_buses F laws L lines D clean_lines W single answer by_row can plan retries on board started place =
+pub always_runs_through_buses : (F : Family) → IsFamily F → (L : Bus → Line) (lines : (bus : Bus) → IsLine (L bus)) (D : (bus : Bus) → Delivery (L bus)) → ((bus : Bus) → LosesNothing (L bus) (D bus) (lines bus))
+    → (W : Wires F.words) → AreFinite F.words → (answer : F.Board → F.words.Asked → Answered × F.Board) → AnswersByRow F answer → AlwaysRunsThroughBuses F L D W answer
+always_runs_through_buses F laws L lines D clean_lines W finite answer by_row can plan retries on board started place =
     let start = F.records board in
     let m = opened F.words plan retries in
     let w0 = opening F L plan retries on board in
@@ -514,24 +523,65 @@ always_runs_over_buses F laws L lines D clean_lines W single answer by_row can p
     } in
     let ready = enters_ready F laws L lines D clean_lines W answer by_row can plan start stage m on board (first_heeded F laws L lines D clean_lines W answer by_row can plan start (slice_get plan 0)) good rests in
     let going : Going F laws L lines D clean_lines W answer by_row can plan start stage m now board = record { good = good; holds = happens_holds F laws L lines W first plan start w0 Start holds0 tt; ready = ready.0; exact = ready.1 } in
-    let r = always_runs_clean F laws single answer by_row plan retries board started.valid started.ready in
+    let r = always_runs_through F laws finite answer by_row plan retries board started.valid started.ready in
     let k = length r.steps in
-    let n = k + k + r.more in
+    let n = r.requests + r.more in
     let all = exchange_all F laws L lines D clean_lines W answer by_row can plan start n stage m now board going in
     let x = clean F answer n (at_stage F laws answer by_row plan start stage m board) in
     let w = run F L W (Start ∷ exchanges F L D W answer n (happens F L W w0 Start)) w0 in
-    let back = undoing_there F laws L lines D clean_lines W answer by_row can plan start x w k (n + k) all.1 r.undo r.undo_is_taken in
+    let back = undoing_there F laws L lines D clean_lines W answer by_row can plan start x w r.back (n + r.back) all.1 r.undo r.undo_is_taken in
     record {
       steps = r.steps;
       rest = r.rest;
       whole = r.whole;
       at = r.at;
+      requests = r.requests;
       go = r.go;
       phase = r.phase;
       more = r.more;
       ends = r.ends;
       may_run = (tt, all.0);
       ran = ends_there F laws L lines D clean_lines W answer by_row can plan start x w r.phase n (λ (b : F.Board). IsAfter F plan start k (F.records b)) all.1 r.run;
+      back = r.back;
       may_undo = back.0;
-      undone = (back.1, back.2);
+      undone = (back.1, back.2, back.3);
+      undo_each = undo_there F laws L lines D clean_lines W answer by_row can plan start x w k all.1 r.undo_each;
     }
+
+-- where each series is one request
+module _ (F : Family) (L : Bus → Line) (D : (bus : Bus) → Delivery (L bus)) (W : Wires F.words) (single : AreSingle F.words) (answer : F.Board → F.words.Asked → Answered × F.Board) where
+  abbrev Ran : World F L → ℕ → World F L
+  Ran w n = run F L W (Start ∷ exchanges F L D W answer n (happens F L W w Start)) w
+
+  abbrev Undid : World F L → ℕ → World F L
+  Undid w n = run F L W (Undo ∷ exchanges F L D W answer n (happens F L W w Undo)) w
+
+  runs_over : (plan : List F.words.Op) (w0 : World F L) → RunsThroughBuses F L D W answer plan w0 → RunsOverBuses F L D W answer plan w0
+  runs_over plan w0 r =
+      let k = length r.steps in
+      let all = go_all F single answer r.steps r.requests w0.board r.at r.go in
+      let n_is : r.requests + r.more ≡ k + k + r.more = ap (λ (n : ℕ). n + r.more) all.1 in
+      let w = Ran w0 (r.requests + r.more) in
+      let back_is : r.back ≡ k = each_one F single answer w.machine.undo r.back w.board (Undid w r.back).board r.undone.2 ∙ r.undo_each in
+      record {
+        steps = r.steps;
+        rest = r.rest;
+        whole = r.whole;
+        at = r.at;
+        go = all.0;
+        phase = r.phase;
+        more = r.more;
+        ends = ends_so F single answer k r.rest r.at r.phase r.more r.ends;
+        may_run = subst (λ (n : ℕ). AllMay F L W (Start ∷ exchanges F L D W answer n (happens F L W w0 Start)) w0) n_is r.may_run;
+        ran = subst (λ (n : ℕ). HasEnded F L D W answer (Ran w0 n) r.phase n × IsAfter F plan (F.records w0.board) k (F.records (Ran w0 n).board)) n_is r.ran;
+        may_undo = subst (λ (n : ℕ). AllMay F L W (Undo ∷ exchanges F L D W answer k (happens F L W (Ran w0 n) Undo)) (Ran w0 n)) n_is
+            (subst (λ (j : ℕ). AllMay F L W (Undo ∷ exchanges F L D W answer j (happens F L W w Undo)) w) back_is r.may_undo);
+        undone = subst (λ (n : ℕ). HasEnded F L D W answer (Undid (Ran w0 n) k) Undone (n + k) × (F.records (Undid (Ran w0 n) k).board ≡ F.records w0.board)) n_is
+            (subst (λ (j : ℕ). HasEnded F L D W answer (Undid w j) Undone (r.requests + r.more + j) × (F.records (Undid w j).board ≡ F.records w0.board)) back_is (r.undone.0, r.undone.1));
+      }
+
+pub always_runs_over_buses : (F : Family) → IsFamily F → (L : Bus → Line) (lines : (bus : Bus) → IsLine (L bus)) (D : (bus : Bus) → Delivery (L bus)) → ((bus : Bus) → LosesNothing (L bus) (D bus) (lines bus))
+    → (W : Wires F.words) → AreSingle F.words → (answer : F.Board → F.words.Asked → Answered × F.Board) → AnswersByRow F answer → AlwaysRunsOverBuses F L D W answer
+always_runs_over_buses F laws L lines D clean_lines W single answer by_row can plan retries on board started place =
+    runs_over F L D W single answer plan (opening F L plan retries on board)
+    (always_runs_through_buses F laws L lines D clean_lines W (are_finite F.words single) answer by_row can plan retries on board started place)

@@ -15,6 +15,7 @@ use Rattle.model_undo.specs.Delivery.{Delivery}
 use Rattle.model_undo.specs.World.{States, World, Happening, Start, Undo, ToManager, OnBus, bytes_sent, happens, run, AllMay, opening}
 use Rattle.model_undo.specs.Headline.{IsStart}
 use Rattle.model_undo.specs.Clean.{GoAll, EndsIn}
+use Rattle.model_undo.specs.CleanSeries as series
 
 module _ (F : Family) (L : Bus → Line) (D : (bus : Bus) → Delivery (L bus)) (W : Wires F.words) (answer : F.Board → F.words.Asked → Answered × F.Board) where
   -- these events reach the port one after another, and with the last of them the board becomes the other
@@ -56,7 +57,36 @@ module _ (F : Family) (L : Bus → Line) (D : (bus : Bus) → Delivery (L bus)) 
     pub closed : (bus : Bus) → IsClosed ((L bus).requests (world.on bus))
     pub count : length ((L Ipmb).requests (world.on Ipmb)).begun + length ((L Smbus).requests (world.on Smbus)).begun ≡ requests
 
-  -- A plan that is begun takes two requests for each step that the board carries out. It ends after the last step, or halts at the first that the
+  -- A plan that is begun takes as many requests as the Gets and Sets have of the steps that the board carries out. It ends after the last step, or
+  -- halts at the first that the board doesn't carry out. Its undo takes as many requests as the series have that undo the steps that were carried
+  -- out, and ends with the records of the start. Both schedules are honest.
+  pub record RunsThroughBuses (plan : List F.words.Op) (opened : World F L) : Type 0 where
+    pub steps : List F.words.Op
+    pub rest : List F.words.Op
+    pub whole : plan ≡ steps ++ rest
+    pub at : F.Board
+    pub requests : ℕ
+    pub go : series.GoAll F answer steps requests opened.board at
+    pub phase : Phase
+    pub more : ℕ
+    pub ends : series.EndsIn F answer (length steps) rest at phase more
+    pub may_run : AllMay F L W (Start ∷ exchanges (requests + more) (happens F L W opened Start)) opened
+    pub ran : let w = run F L W (Start ∷ exchanges (requests + more) (happens F L W opened Start)) opened in
+        HasEnded w phase (requests + more) × IsAfter F plan (F.records opened.board) (length steps) (F.records w.board)
+    pub back : ℕ
+    pub may_undo : let w = run F L W (Start ∷ exchanges (requests + more) (happens F L W opened Start)) opened in
+        AllMay F L W (Undo ∷ exchanges back (happens F L W w Undo)) w
+    pub undone : let w = run F L W (Start ∷ exchanges (requests + more) (happens F L W opened Start)) opened in
+        let u = run F L W (Undo ∷ exchanges back (happens F L W w Undo)) w in
+        HasEnded u Undone (requests + more + back) × (F.records u.board ≡ F.records opened.board) × series.AnswersEach F answer w.machine.undo back w.board u.board
+    pub undo_each : let w = run F L W (Start ∷ exchanges (requests + more) (happens F L W opened Start)) opened in length w.machine.undo ≡ length steps
+
+  -- so it is with every plan, from a start on both buses where each port has a place for the manager
+  abbrev pub AlwaysRunsThroughBuses : Type 0
+  AlwaysRunsThroughBuses = AllCanBeSent → (plan : List F.words.Op) (retries : ℕ) (on : States L) (board : F.Board) → IsStart F L W on board → ((bus : Bus) → (D bus).HasPlace (on bus))
+      → RunsThroughBuses plan (opening F L plan retries on board)
+
+  -- The same where each Get and each Set is one request. A plan that is begun takes two requests for each step that the board carries out. It ends after the last step, or halts at the first that the
   -- board doesn't carry out. Its undo takes one request for each step that was carried out, and ends with the records of the start. Both schedules
   -- are honest.
   pub record RunsOverBuses (plan : List F.words.Op) (opened : World F L) : Type 0 where

@@ -14,7 +14,7 @@ ghost use Rattle.model_undo.specs.Unsettled.{UnsettledByQuiet};
 ghost use Rattle.model_undo.specs.RecordsRun.{RecordsStand};
 ghost use Rattle.model_undo.specs.Clean.{AnswersByRow, AlwaysRunsClean};
 ghost use Rattle.model_undo.specs.CleanSeries.{AlwaysRunsThrough};
-ghost use Rattle.model_undo.specs.CleanBuses.{AllCanBeSent, AlwaysRunsOverBuses};
+ghost use Rattle.model_undo.specs.CleanBuses.{AllCanBeSent, AlwaysRunsOverBuses, AlwaysRunsThroughBuses};
 ghost use Rattle.model_bus.specs.Answered.{Answered};
 ghost use Rattle.model_undo.specs.Registers.{Board, Asked, register_words, registers, wires};
 
@@ -102,5 +102,16 @@ pub fn plans_run_clean_over_buses()
     ensures cut { (at : Bus → Addresses) (answer : Board → Asked → Answered × Board)
         → AnswersByRow registers answer
         → AllCanBeSent registers (with_packets at packets_of) (packets_come at packets_of) wires
+        answer }
+{}
+
+/// Over two such buses a plan whose Gets and Sets are series of requests, each with an end, runs as without buses.
+pub fn plans_run_through_over_buses()
+    ensures messages { (at : Bus → Addresses) (answer : Board → Asked → Answered × Board)
+        → AnswersByRow registers answer
+        → AlwaysRunsThroughBuses registers (in_messages at) (messages_come at) wires answer }
+    ensures packets { (at : Bus → Addresses) (split : List ℕ → List Packet) → IsCutting split
+        → (answer : Board → Asked → Answered × Board) → AnswersByRow registers answer
+        → AlwaysRunsThroughBuses registers (with_packets at split) (packets_come at split) wires
         answer }
 {}
