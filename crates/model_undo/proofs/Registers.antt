@@ -9,8 +9,7 @@ use Rattle.model_undo.specs.Words.{is_busy}
 use Rattle.model_undo.specs.Family.{AllValid, SetsTo}
 use Rattle.model_undo.specs.IsFamily.{Showed, IsFamily, IsSingleFamily}
 use Rattle.model_undo.proofs.Single.{single_family}
-use Rattle.model_undo.specs.CleanSeries.{AreFinite}
-use Rattle.model_undo.specs.Registers.{register_words, Halves, Write, Asked, AskGet, AskSet, Board, IsValid, is_valid, written, shown, configuration, back, inverse, inverse_of_high, IsRestorable, replied, get_answer, set_answer, answer, Row, registers}
+use Rattle.model_undo.specs.Registers.{Halves, Write, Asked, AskGet, AskSet, Board, IsValid, is_valid, written, shown, configuration, back, inverse, inverse_of_high, IsRestorable, replied, get_answer, set_answer, answer, Row, registers}
 
 -- ---- the map
 
@@ -214,6 +213,3 @@ registers_are_single = record {
 
 pub registers_are_family : IsFamily registers
 registers_are_family = single_family registers registers_are_single
-
-pub registers_are_finite : AreFinite register_words
-registers_are_finite series made = (1, λ bodies some. refl)

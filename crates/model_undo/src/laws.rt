@@ -13,8 +13,7 @@ ghost use Rattle.model_undo.specs.Resume.{GoesOnAlike};
 ghost use Rattle.model_undo.specs.Unsettled.{UnsettledByQuiet};
 ghost use Rattle.model_undo.specs.RecordsRun.{RecordsStand};
 ghost use Rattle.model_undo.specs.Clean.{AnswersByRow, AlwaysRunsClean};
-ghost use Rattle.model_undo.specs.CleanSeries.{AlwaysRunsThrough};
-ghost use Rattle.model_undo.specs.CleanBuses.{AllCanBeSent, AlwaysRunsOverBuses, AlwaysRunsThroughBuses};
+ghost use Rattle.model_undo.specs.CleanBuses.{AllCanBeSent, AlwaysRunsOverBuses};
 ghost use Rattle.model_bus.specs.Answered.{Answered};
 ghost use Rattle.model_undo.specs.Registers.{Board, Asked, register_words, registers, wires};
 
@@ -81,13 +80,6 @@ pub fn plans_run_clean()
         → AlwaysRunsClean registers answer }
 {}
 
-/// Where Gets and Sets are series of requests, each with an end, a plan takes so many requests as the Gets and Sets of its steps have, and ends as
-/// above. Its undo takes as many as the series have that undo the steps that were done. This knows no bus.
-pub fn plans_run_through()
-    ensures { (answer : Board → Asked → Answered × Board) → AnswersByRow registers answer
-        → AlwaysRunsThrough registers answer }
-{}
-
 /// Over two buses that lose nothing a plan runs just so: each request is delivered once, each reply is delivered once, nobody else asks, and such a
 /// schedule is honest. The port of each bus is to have a place for the manager at the start, and what is sent in packets is to be cut: what the
 /// registers say is.
@@ -102,16 +94,5 @@ pub fn plans_run_clean_over_buses()
     ensures cut { (at : Bus → Addresses) (answer : Board → Asked → Answered × Board)
         → AnswersByRow registers answer
         → AllCanBeSent registers (with_packets at packets_of) (packets_come at packets_of) wires
-        answer }
-{}
-
-/// Over two such buses a plan whose Gets and Sets are series of requests, each with an end, runs as without buses.
-pub fn plans_run_through_over_buses()
-    ensures messages { (at : Bus → Addresses) (answer : Board → Asked → Answered × Board)
-        → AnswersByRow registers answer
-        → AlwaysRunsThroughBuses registers (in_messages at) (messages_come at) wires answer }
-    ensures packets { (at : Bus → Addresses) (split : List ℕ → List Packet) → IsCutting split
-        → (answer : Board → Asked → Answered × Board) → AnswersByRow registers answer
-        → AlwaysRunsThroughBuses registers (with_packets at split) (packets_come at split) wires
         answer }
 {}

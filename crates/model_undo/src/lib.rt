@@ -5,5 +5,6 @@
 pub mod examples;
 pub mod laws;
 mod phase;
+pub mod series_laws;
 
 pub use phase::{Phase, Why};
