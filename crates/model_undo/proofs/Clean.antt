@@ -13,7 +13,7 @@ use Rattle.model_undo.specs.declared.phase.Phase.{Phase}
 use Rattle.model_undo.specs.declared.phase.Phase.TheVariants.{Undone}
 use Rattle.model_undo.specs.Plan.{IsAfter}
 use Rattle.model_undo.specs.Machine.{Turn, enters, first_stage, undo_of, opened}
-use Rattle.model_undo.specs.Clean.{Moment, AnswersByRow, clean, got, did, Goes, GoAll, Sticks, EndsIn, IsAtRest, RunsClean, AlwaysRunsClean}
+use Rattle.model_undo.specs.Clean.{Moment, AnswersByRow, clean, got, Goes, GoAll, Sticks, EndsIn, IsAtRest, RunsClean, AlwaysRunsClean}
 use Rattle.model_undo.specs.CleanSeries as series
 use Rattle.model_undo.specs.CleanSeries.{AreFinite, Answers, AnswersAll, RefusesOne, AnswersEach, RunsThrough}
 use Rattle.model_undo.proofs.CleanSeries.{always_runs_through}

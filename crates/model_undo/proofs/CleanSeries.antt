@@ -1,5 +1,5 @@
 -- On a link without loss a plan is done, or halts at the first step that doesn't go, and is undone, where each series has an end.
-use Rattle.std.proofs.Common.{◌≡◌, ◌≢◌, ℕ, zero, suc, ◌+◌, ◌≤◌, Bool, true, false, eqb, List, [], ◌∷◌, ◌++◌, length, Option, Some, None, refl, sym, ◌∙◌, ap, subst, arith, append-nil, ◌⊎◌, inl, inr}
+use Rattle.std.proofs.Common.{◌≡◌, ◌≢◌, ℕ, zero, suc, ◌+◌, ◌≤◌, Bool, true, false, List, [], ◌∷◌, ◌++◌, length, Option, Some, None, refl, sym, ◌∙◌, ap, subst, arith, append-nil, ◌⊎◌, inl, inr}
 use Rattle.std.specs.Prelude.{slice_get, IfSome, if◌then◌else◌}
 use Rattle.std.proofs.lemmas.Bool.{cases_eq, eq-eqb, ne_eqb}
 use Rattle.std.proofs.lemmas.List.{append_assoc}
@@ -7,7 +7,7 @@ use Rattle.std.proofs.lemmas.Option.{none-some, slice_get_within}
 use Rattle.two_wire.specs.Codes.{success}
 use Rattle.model_bus.proofs.Lists.{length_more}
 use Rattle.model_bus.specs.Answered.{Answered}
-use Rattle.model_undo.specs.Words.{IsNext, IsSeries, AreAnswered}
+use Rattle.model_undo.specs.Words.{IsNext, AreAnswered}
 use Rattle.model_undo.specs.Family.{Family, AllValid, IsReady, Gave}
 use Rattle.model_undo.specs.IsFamily.{Showed, IsFamily}
 use Rattle.model_undo.specs.declared.phase.Why.{Why}
@@ -17,7 +17,7 @@ use Rattle.model_undo.specs.declared.phase.Phase.TheVariants.{Done, Halted, Undo
 use Rattle.model_undo.specs.Plan.{IsAfter}
 use Rattle.model_undo.specs.Machine.{Task, Part, Gets, Sets, Undoes, Stage, AtStart, Opened, AtEnd, AtHalt, AtUndone, AtRefused, Machine, Turn, series_of, first_part, begun, bus_at, enters, first_stage, undo_stage, next_stage, set_stage, refused, goes_on, told_stage, finished, bodies_with, next_asked, stage_after, phase_at, undoes, undo_of, opened}
 use Rattle.model_undo.specs.Clean.{Moment, answered_in_all, AnswersByRow, one, clean, IsAtRest}
-use Rattle.model_undo.specs.CleanSeries.{AreFinite, Answers, AnswersAll, RefusesOne, shown, Goes, GoAll, RefusesSet, Sticks, EndsIn, AnswersEach, RunsThrough, AlwaysRunsThrough}
+use Rattle.model_undo.specs.CleanSeries.{AreFinite, Answers, AnswersAll, RefusesOne, shown, Goes, GoAll, Sticks, EndsIn, AnswersEach, AlwaysRunsThrough}
 use Rattle.model_undo.proofs.Undoable.{past_none, CanUndo, after_of, length_of}
 use Rattle.model_undo.proofs.Series.{not_empty, is_of}
 use Rattle.model_undo.proofs.StageSound.{series_made}

@@ -1,13 +1,13 @@
 -- The record of two bytes keeps the laws of a family, and the machine's runs over it compute.
-use Rattle.std.proofs.Common.{◌≡◌, ◌≢◌, ℕ, zero, suc, ◌≤◌, ◌<◌, Bool, true, false, List, [], ◌∷◌, ◌++◌, length, Option, Some, None, refl, sym, ◌∙◌, ap, subst, arith, ◌⊎◌, inl, inr}
+use Rattle.std.proofs.Common.{◌≡◌, ◌≢◌, ℕ, ◌≤◌, ◌<◌, Bool, true, false, List, [], ◌∷◌, ◌++◌, length, Option, Some, None, refl, sym, ◌∙◌, ap, subst, arith, ◌⊎◌, inl, inr}
 use Rattle.std.specs.Prelude.{nat_le, nat_lt, if◌then◌else◌}
 use Rattle.std.proofs.lemmas.Bool.{leb-true, le-leb, lt-ltb, cond_both, false≢true}
 use Rattle.std.proofs.lemmas.Option.{same_Some, none-some}
 use Rattle.two_wire.specs.Codes.{success, invalid_data_field}
 use Rattle.model_bus.specs.Answered.{Answered}
 use Rattle.model_undo.specs.Words.{is_busy, IsOf, AllAnswered}
-use Rattle.model_undo.specs.Family.{AllValid, IsReady, Gave, SetsTo}
-use Rattle.model_undo.specs.IsFamily.{Showed, AnswersSet, AreKinds, IsFamily}
+use Rattle.model_undo.specs.Family.{Gave, SetsTo}
+use Rattle.model_undo.specs.IsFamily.{AnswersSet, AreKinds, IsFamily}
 use Rattle.model_undo.specs.CleanSeries.{AreFinite}
 use Rattle.model_undo.specs.SeriesExample.{Pair, Asked, GetLow, GetHigh, GetAll, SetLow, SetHigh, Both, GetBoth, SetBoth, next, joined, inverse, pairs, Board, IsValid, replied, low_answer, high_answer, answer, Row, Ready, IsRestorable, pair_family, GoesOver}
 

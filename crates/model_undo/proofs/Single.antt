@@ -1,13 +1,11 @@
 -- Where each series is one request, what is known of that request is known of the series.
-use Rattle.std.proofs.Common.{◌≡◌, ℕ, Bool, List, [], ◌∷◌, ◌++◌, Option, refl, sym, ◌∙◌, ap, subst, inl, inr}
+use Rattle.std.proofs.Common.{◌≡◌, ℕ, List, [], ◌∷◌, ◌++◌, refl, sym, ◌∙◌, subst, inl, inr}
 use Rattle.std.proofs.lemmas.Option.{none-some}
-use Rattle.std.specs.Prelude.{◌==◌, if◌then◌else◌}
 use Rattle.two_wire.specs.Codes.{success}
 use Rattle.model_bus.specs.Answered.{Answered}
 use Rattle.model_undo.specs.Words.{Words, IsNext, IsOf, AreSingle, AllAnswered, get_asked, set_asked}
 use Rattle.model_undo.specs.Family.{Family, Gave}
 use Rattle.model_undo.specs.IsFamily.{Showed, AnswersSet, IsFamily, IsSingleFamily}
-use Rattle.model_undo.specs.Machine.{Task, Gets, Sets, Undoes, Stage, series_of, first_part, refused, finished, told_stage, stage_after, undo_with, undo_after}
 
 module _ (M : Words) (single : AreSingle M) where
   -- each request of a series is its first
