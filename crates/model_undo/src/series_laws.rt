@@ -11,10 +11,12 @@ ghost use Rattle.model_undo.specs.TwoBuses.{in_messages, with_packets, messages_
 ghost use Rattle.model_undo.specs.Headline.{AlwaysStands, UndoneForGood, StopsOnlyIfTold};
 ghost use Rattle.model_undo.specs.Giving.{HaltsByAnswers};
 ghost use Rattle.model_undo.specs.RecordsRun.{RecordsStand};
+ghost use Rattle.model_undo.specs.Resume.{GoesOnAlike};
+ghost use Rattle.model_undo.specs.Unsettled.{UnsettledByQuiet};
 ghost use Rattle.model_undo.specs.Clean.{AnswersByRow};
 ghost use Rattle.model_undo.specs.CleanSeries.{AlwaysRunsThrough};
 ghost use Rattle.model_undo.specs.CleanBuses.{AlwaysRunsThroughBuses};
-ghost use Rattle.model_undo.specs.SeriesExample.{Asked, Board, pair_family, pair_wires};
+ghost use Rattle.model_undo.specs.SeriesExample.{Asked, Board, pairs, pair_family, pair_wires};
 
 /// A record of two bytes is a family, a byte at a time: its Gets and its Sets are two requests each.
 pub fn pairs_are_a_family()
@@ -56,6 +58,16 @@ pub fn pairs_stop_only_if_told()
         → StopsOnlyIfTold pair_family (in_messages at) pair_wires }
     ensures packets { (at : Bus → Addresses) (split : List ℕ → List Packet) → IsCutting split
         → StopsOnlyIfTold pair_family (with_packets at split) pair_wires }
+{}
+
+/// A manager that goes on from a list of series does from `undo` on what the list's own manager would have done.
+pub fn resumed_pairs_go_on_alike()
+    ensures { GoesOnAlike pairs }
+{}
+
+/// A request comes to be unsettled only by a call of `quiet`, whichever of its series it is.
+pub fn pairs_unsettled_only_by_quiet()
+    ensures { UnsettledByQuiet pairs }
 {}
 
 /// Where the board answers each request at once and the manager takes each reply, a plan takes as many requests as the Gets and Sets of its steps
