@@ -107,8 +107,9 @@ fn plan_of(alloc: Global, tree: &Table) -> Result<Plan, PlanFault>
     if let Some(fault) = first_fault(&PLAN, tree) {
         return Err(of_plan(fault));
     }
+    let steps = steps_of(alloc, members_in(tree, Field::Step))?;
     Ok(Plan {
-        steps: steps_of(alloc, members_in(tree, Field::Step))?,
+        steps,
         retries: retries(tree),
     })
 }

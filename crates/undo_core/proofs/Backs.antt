@@ -3,21 +3,14 @@ use Rattle.std.proofs.Common.{◌≡◌, ℕ, suc, ◌-◌, ◌<◌, true, subst
 use Rattle.std.specs.Prelude.{slice_get, get_or}
 use Rattle.std.proofs.Math.Seq.{take-suc}
 use Rattle.std.proofs.lemmas.List.{reverse-append}
-use Rattle.std.proofs.lemmas.Option.{slice_get_within, slice_get-get_or, slice_get_read}
+use Rattle.std.proofs.lemmas.Option.{slice_get_within, slice_get-get_or, same_Some}
 use Rattle.record_base.specs.declared.message.Asked.{Asked}
 use Rattle.undo_plans.specs.declared.names.Names.{Names}
-use Rattle.std.proofs.lemmas.Option.{same_Some}
 use Rattle.record_base.specs.declared.op.Op.{Op}
 use Rattle.model_undo.specs.Machine as machine
 use Rattle.undo_core.specs.declared.stage.Stage.TheVariants.{Opened}
 use Rattle.undo_core.specs.declared.stage.Task.TheVariants.{Undoes}
 use Rattle.undo_core.specs.Shown.{words_of, own, backs, IsStage}
-
--- a list's element, read by its place and got
-pub same_read : {A : Type 0} (shown xs : List A) (k : ℕ) (read got : A) → shown ≡ xs → read ≡ get_or shown k read → slice_get xs k ≡ Some got → read ≡ got
-same_read {A} shown xs k read got same there is =
-    let within = slice_get_within xs k got is in
-    same_Some read got (sym (slice_get_read xs (length xs) k read refl within (there ∙ ap (λ (l : List A). get_or l k read) same)) ∙ is)
 
 -- one request more comes first
 pub backs_push : (names : Names) (requests : List Asked) (request : Asked) → backs names (requests ++ request ∷ []) ≡ own names request ∷ backs names requests

@@ -1,4 +1,4 @@
-use Rattle.std.proofs.Common.{◌≡◌, ◌∷◌, [], ◌++◌, inr, ◌∙◌}
+use Rattle.std.proofs.Common.{◌≡◌, ℕ, ◌+◌, ◌∷◌, [], ◌++◌, inr, ◌∙◌, ap, length-append}
 use Rattle.std.proofs.lemmas.Result.{err_from_is_err_and}
 use Rattle.plan_file.proofs.Steps.{next_step, left_after, next_counts}
 use Rattle.plan_file.proofs.plan.steps_of.Goals as goal
@@ -16,8 +16,9 @@ loop-place-preserved c =
     let i = c.loop-place.place in
     let v = c.index-values-place.result in
     let op = c.in_ok-op.op in
-    let pushed : c.push.new.self.items ≡ c.loop-place.ops.items ++ op ∷ [] = c.in-Ok.ensures.items in
+    let pushed : c.push.new.self ≡ c.loop-place.steps ++ op ∷ [] = c.in-Ok.ensures.added in
     rw pushed (record {
-      zip = next_step values i v c.loop-place-test.true c.index-values-place.is c.loop-place.ops.items op c.loop-place.invariant.zip c.in_ok-op.ensures.held;
+      zip = next_step values i v c.loop-place-test.true c.index-values-place.is c.loop-place.steps op c.loop-place.invariant.zip c.in_ok-op.ensures.held;
       left = c.loop-place.invariant.left ∙ left_after values i v c.loop-place-test.true c.index-values-place.is c.in_ok-op.ensures.sound;
+      count = length-append c.loop-place.steps (op ∷ []) ∙ ap (λ (n : ℕ). n + 1) c.loop-place.invariant.count;
     })
