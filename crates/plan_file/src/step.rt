@@ -93,10 +93,7 @@ fn kind_fault(step: &Table) -> StepFault
 }
 
 /// The change that the step asks for, or its first fault. What the change gives to an attribute is written to `room`.
-pub fn read_step<'v>(
-    step: &Table,
-    room: &'v mut Bytes<{ MOST_SENT }>,
-) -> Result<Op<'v>, StepFault>
+pub fn read_step<'v>(step: &Table, room: &'v mut Bytes<{ MOST_SENT }>) -> Result<Op<'v>, StepFault>
     ensures sound { IfOk result (λ _. step_faults (table_view step.now) ≡ []) }
     ensures held { IfOk result (HoldsStep (table_view step.now)) }
     ensures err { IfErr result (λ why. first (step_faults (table_view step.now)) ≡ Some why) }

@@ -42,10 +42,7 @@ fn set_to<'v>(
 }
 
 /// The change of the step's attribute to the indexes that the step lists.
-fn set_indexes<'v>(
-    step: &Checked<'_>,
-    room: &'v mut Bytes<{ MOST_SENT }>,
-) -> SetBiosAttribute<'v>
+fn set_indexes<'v>(step: &Checked<'_>, room: &'v mut Bytes<{ MOST_SENT }>) -> SetBiosAttribute<'v>
     requires rows { step.now.rows.now ≡ FIELDS }
     requires given { is_some (in_field Field.Indexes (table_view step.now.table.now)) ≡ true }
     ensures { HoldsBiosAttribute (table_view step.now.table.now) result }
@@ -56,10 +53,7 @@ fn set_indexes<'v>(
 }
 
 /// The change of the step's attribute to the text that the step gives.
-fn set_text<'v>(
-    step: &Checked<'_>,
-    room: &'v mut Bytes<{ MOST_SENT }>,
-) -> SetBiosAttribute<'v>
+fn set_text<'v>(step: &Checked<'_>, room: &'v mut Bytes<{ MOST_SENT }>) -> SetBiosAttribute<'v>
     requires rows { step.now.rows.now ≡ FIELDS }
     requires first { in_field Field.Indexes (table_view step.now.table.now) ≡ None }
     requires given { is_some (in_field Field.Text (table_view step.now.table.now)) ≡ true }
@@ -71,10 +65,7 @@ fn set_text<'v>(
 }
 
 /// The change of the step's attribute to the number that the step gives.
-fn set_number<'v>(
-    step: &Checked<'_>,
-    room: &'v mut Bytes<{ MOST_SENT }>,
-) -> SetBiosAttribute<'v>
+fn set_number<'v>(step: &Checked<'_>, room: &'v mut Bytes<{ MOST_SENT }>) -> SetBiosAttribute<'v>
     requires rows { step.now.rows.now ≡ FIELDS }
     requires first { in_field Field.Indexes (table_view step.now.table.now) ≡ None }
     requires second { in_field Field.Text (table_view step.now.table.now) ≡ None }
@@ -85,10 +76,7 @@ fn set_number<'v>(
 }
 
 /// What the step makes of the value of an attribute. The value is written to `room`.
-pub fn read<'v>(
-    step: &Checked<'_>,
-    room: &'v mut Bytes<{ MOST_SENT }>,
-) -> SetBiosAttribute<'v>
+pub fn read<'v>(step: &Checked<'_>, room: &'v mut Bytes<{ MOST_SENT }>) -> SetBiosAttribute<'v>
     requires { step.now.rows.now ≡ FIELDS }
     ensures { HoldsBiosAttribute (table_view step.now.table.now) result }
 {
