@@ -4,8 +4,12 @@
 pub mod kept;
 mod names;
 mod plan;
+mod requests;
 mod undo_list;
+mod undo_request;
 
 pub use names::Names;
 pub use plan::{MOST_STEPS, Plan, Steps};
-pub use undo_list::{NextNumbers, Requests, UndoList};
+pub use requests::Requests;
+pub use undo_list::{NextNumbers, UndoList};
+pub use undo_request::{MOST_UNDO_DATA, UndoRequest};
