@@ -14,11 +14,13 @@ use Rattle.text_lines.specs.Cuts.{Lacks, CutsAt}
 use Rattle.text_lines.proofs.Cuts.{lacks_by_index, same_cut, not_lacking}
 use Rattle.record_base.specs.declared.message.Asked.{Asked}
 use Rattle.record_base.specs.declared.message.Asked.TheVariants.{Ipmi, Pldm}
+use Rattle.two_wire.specs.declared.Bus.{Bus}
+use Rattle.two_wire.specs.declared.Bus.TheVariants.{Ipmb, Smbus}
 use Rattle.undo_plans.specs.declared.names.Names.{Names}
 use Rattle.undo_plans.specs.declared.undo_list.NextNumbers.{NextNumbers}
 use Rattle.text_undo.specs.declared.version.Version.{Version}
 use Rattle.text_undo.specs.declared.version.Version.TheVariants.{One, Two}
-use Rattle.text_undo.specs.UndoText.{version_line, numbers_line, IsNumbersLine, IsPair, IsNamesLine, bus_of, bytes_of, line_of, IsPlain, Fits, IsRequestLine, BeginsWith, IsGood}
+use Rattle.text_undo.specs.UndoText.{version_line, numbers_line, IsNumbersLine, IsPair, IsNamesLine, name_of, bus_of, bytes_of, line_of, IsPlain, Fits, IsRequestLine, BeginsWith, IsGood}
 
 -- ---- what lacks a mark
 
@@ -195,6 +197,11 @@ written_is asked plain fits small = record {
   read = decode_of-encode_upper (bytes_of asked) small;
   is = record { plain = plain; fits = fits; sent = refl; spelt = refl };
 }
+
+-- a line that names no bus is of no request
+pub no_bus : (line : List ℕ) → ((bus : Bus) (rest : List ℕ) → line ≢ name_of bus ++ rest) → (asked : Asked) → ¬ IsRequestLine line asked
+no_bus line none (Ipmi from net_fn lun command body) is = none Ipmb is.digits is.spelt
+no_bus line none (Pldm from kind command body) is = none Smbus is.digits is.spelt
 
 pub ipmb_written : (asked : Asked) (from net_fn lun command : ℕ) (body : List ℕ) (n : ℕ) (b : List ℕ) → asked ≡ Ipmi from net_fn lun command body → n ≡ net_fn → b ≡ body → n < 64 → n % 2 ≡ 0 → length b ≤ 25
     → IsBytes (n * 4 ∷ command ∷ b) → IsPlain asked → IsRequestLine (line_of asked) asked

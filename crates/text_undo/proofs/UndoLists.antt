@@ -1,5 +1,5 @@
 -- Undo texts and their lists: each text stands for one list at most, or has one first bad line.
-use Rattle.std.proofs.Common.{◌≡◌, ◌≢◌, ◌<◌, ◌≤◌, ◌+◌, ◌⊎◌, inl, inr, ℕ, suc, zero, List, [], ◌∷◌, ◌++◌, length, map, reverse, arith, refl, sym, ◌∙◌, ap, subst, append_assoc, drop, drop-cons, add-one, slice_index_or, Option, Some, None, Bool, true, false, ◌==◌, Result, Ok, Err, IfOk}
+use Rattle.std.proofs.Common.{◌≡◌, ◌≢◌, ◌<◌, ◌≤◌, ◌+◌, ◌⊎◌, inl, inr, ℕ, suc, zero, List, [], ◌∷◌, ◌++◌, length, map, reverse, arith, refl, sym, ◌∙◌, ap, subst, append_assoc, drop, drop-cons, add-one, slice_index_or, Option, Some, None, Bool, true, false, ◌==◌}
 use Rattle.std.specs.List.{AllByRecursion, AllZip, All, flat_map, slice_get}
 use Rattle.std.proofs.lemmas.Option.{slice_get_within}
 use Rattle.std.proofs.lemmas.Grind.{flat_map-append}
@@ -15,7 +15,7 @@ use Rattle.text_undo.specs.declared.text.UndoFault.{UndoFault}
 use Rattle.text_undo.specs.declared.text.UndoFault.TheVariants as fault
 use Rattle.text_undo.specs.declared.version.Version.{Version}
 use Rattle.text_undo.specs.declared.version.Version.TheVariants.{One, Two}
-use Rattle.text_undo.specs.UndoText.{version_line, version_of, numbers_line, IsNumbersLine, IsNamesLine, AreNamesLines, IsRequestLine, IsPlain, BeginsWith, head_length, IsGood, AllGood, IsFirstBadFrom, IsFirstBad, AreLinesOf, Stands, line_of}
+use Rattle.text_undo.specs.UndoText.{version_line, version_of, numbers_line, IsNumbersLine, IsNamesLine, AreNamesLines, IsRequestLine, IsPlain, BeginsWith, head_length, IsGood, AllGood, IsFirstBadFrom, IsFirstBad, AreLinesOf, Stands, AreAlike, line_of}
 use Rattle.text_undo.proofs.NamesLines.{one_names}
 use Rattle.text_undo.proofs.UndoLines.{version_lacks, one_version, good_lacks, one_numbers, one_request}
 
@@ -65,7 +65,7 @@ abbrev behind_version : (text : List ℕ) (list : UndoList) → Stands text list
 behind_version text list s = numbers_line list.next ∷ (s.names ++ s.lines)
 
 stands_good : (text : List ℕ) (list : UndoList) (s : Stands text list) → AllGood (version_of list.names) 2 (behind_version text list s)
-stands_good text list s = (inl (refl, (list.next, s.next)), names_good s.names s.lines list.names (reverse list.requests) s.named s.told s.few)
+stands_good text list s = (inl (refl, (list.next, s.next)), names_good s.names s.lines list.names (reverse list.requests.members) s.named s.told s.few)
 
 stands_lack : (text : List ℕ) (list : UndoList) (s : Stands text list) → AllByRecursion (Lacks 10) (version_line (version_of list.names) ∷ behind_version text list s)
 stands_lack text list s = (version_lacks (version_of list.names), goods_lack (version_of list.names) 2 (behind_version text list s) (stands_good text list s))
@@ -91,9 +91,6 @@ same_told (l ∷ lines) (x ∷ xs) (y ∷ ys) z w =
     let rest = same_told lines xs ys z.1 w.1 in
     cc (head, rest)
 
-same_list : (a b : UndoList) → a.requests ≡ b.requests → a.next ≡ b.next → a.names ≡ b.names → a ≡ b
-same_list a b p q r = λ i. record { requests = p i; next = q i; names = r i }
-
 -- the names' lines of one version are those of the same names, in front of the same lines
 same_behind : (names others lines more : List (List ℕ)) (o p : Option Names) → AreNamesLines names o → AreNamesLines others p → version_of o ≡ version_of p → names ++ lines ≡ others ++ more → (o ≡ p) × (lines ≡ more)
 same_behind [] [] lines more None None a b same e = (refl, e)
@@ -111,8 +108,8 @@ same_behind names [] lines more o (Some m) a b same e = absurd b
 same_behind names (other ∷ []) lines more o None a b same e = absurd b
 same_behind names (other ∷ second ∷ others) lines more o p a b same e = absurd b
 
--- a text stands for one list
-pub one_list : (text : List ℕ) (a b : UndoList) → Stands text a → Stands text b → a ≡ b
+-- the lists that a text stands for say the same
+pub one_list : (text : List ℕ) (a b : UndoList) → Stands text a → Stands text b → AreAlike a b
 one_list text a b p q =
     let lines = one_lines (version_line (version_of a.names) ∷ behind_version text a p) (version_line (version_of b.names) ∷ behind_version text b q)
     (stands_lack text a p) (stands_lack text b q) (sym p.spelt ∙ q.spelt) in
@@ -121,8 +118,8 @@ one_list text a b p q =
     let rest : p.names ++ p.lines ≡ q.names ++ q.lines = cc lines in
     let behind = same_behind p.names q.names p.lines q.lines a.names b.names p.named q.named (one_version (version_of a.names) (version_of b.names) version) rest in
     let next = one_numbers (numbers_line a.next) a.next b.next p.next (subst (λ (l : List ℕ). IsNumbersLine l b.next) first q.next) in
-    let told = same_told p.lines (reverse a.requests) (reverse b.requests) p.told (subst (λ (ls : List (List ℕ)). AllZip IsRequestLine ls (reverse b.requests)) (sym behind.1) q.told) in
-    same_list a b (sym (reverse-reverse a.requests) ∙ ap reverse told ∙ reverse-reverse b.requests) next behind.0
+    let told = same_told p.lines (reverse a.requests.members) (reverse b.requests.members) p.told (subst (λ (ls : List (List ℕ)). AllZip IsRequestLine ls (reverse b.requests.members)) (sym behind.1) q.told) in
+    record { requests = sym (reverse-reverse a.requests.members) ∙ ap reverse told ∙ reverse-reverse b.requests.members; next = next; names = behind.0 }
 
 -- lines that are all good, and enough, have no first bad one
 none_bad : (version : Version) (k : ℕ) (lines before : List (List ℕ)) (rest : List ℕ) (n : ℕ) → AllGood version k lines → AllGood version k before → flat_map ended lines ≡ flat_map ended before ++ rest
@@ -322,10 +319,10 @@ headed version text rest more back next o same e second named = record {
 
 -- the list that was read
 pub read_is : (text back : List ℕ) (next : NextNumbers) (o : Option Names) (told : List Asked) (list : UndoList) → Headed text back next o → AreLinesOf back told → length told ≤ 256
-    → list.next ≡ next → list.names ≡ o → list.requests ≡ reverse told → Stands text list
+    → list.next ≡ next → list.names ≡ o → list.requests.members ≡ reverse told → Stands text list
 read_is text back next o told list h are few same named turned =
     let numbers : IsNumbersLine h.second.0 list.next = subst (λ (x : NextNumbers). IsNumbersLine h.second.0 x) (sym same) h.second.2 in
-    let turned_back : reverse list.requests ≡ told = ap reverse turned ∙ reverse-reverse told in
+    let turned_back : reverse list.requests.members ≡ told = ap reverse turned ∙ reverse-reverse told in
     let long : length told ≡ length are.lines = AllZip-long IsRequestLine are.lines told are.each in
     let second_line : h.rest ≡ ended (numbers_line list.next) ++ h.more = h.second.1 ∙ ap (λ (l : List ℕ). l ++ 10 ∷ h.more) numbers.spelt ∙ sym (regroup (numbers_line list.next) h.more) in
     let others : h.more ≡ flat_map ended (h.names ++ are.lines) = h.behind ∙ ap (λ (l : List ℕ). flat_map ended h.names ++ l) are.spelt ∙ sym (flat_map-append ended h.names are.lines) in
@@ -393,8 +390,3 @@ bad_line why version text back next o same h (inl memory) = inl memory
 bad_line why version text back next o same h (inr b) =
     let bad : IsFirstBadFrom (version_of o) (head_length (version_of o) + 1) back b.0 = subst (λ (v : Version). IsFirstBadFrom v (head_length v + 1) back b.0) (sym same) b.2 in
     inr (b.0, b.1, bad_request o h.names text h.rest h.more back next b.0 h.version h.second h.are h.behind bad)
-
-pub list_read : (r : Result UndoList UndoFault) (text back : List ℕ) (next : NextNumbers) (o : Option Names) (told : List Asked) → Headed text back next o → AreLinesOf back told → length told ≤ 256
-    → IfOk r (λ list. (list.next ≡ next) × (list.names ≡ o) × (list.requests ≡ reverse told)) → IfOk r (λ list. Stands text list)
-list_read (Ok list) text back next o told head are few h = read_is text back next o told list head are few h.0 h.1 h.2
-list_read (Err why) text back next o told head are few h = tt

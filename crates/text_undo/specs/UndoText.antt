@@ -127,8 +127,14 @@ pub record Stands (text : List ℕ) (list : UndoList) : Type 0 where
   pub spelt : text ≡ flat_map ended (version_line (version_of list.names) ∷ numbers_line list.next ∷ (names ++ lines))
   pub next : IsNumbersLine (numbers_line list.next) list.next
   pub named : AreNamesLines names list.names
-  pub told : AllZip IsRequestLine lines (reverse list.requests)
+  pub told : AllZip IsRequestLine lines (reverse list.requests.members)
   pub few : length lines ≤ most_steps
+
+-- two lists say the same
+pub record AreAlike (a b : UndoList) : Type 0 where
+  pub requests : a.requests.members ≡ b.requests.members
+  pub next : a.next ≡ b.next
+  pub names : a.names ≡ b.names
 
 -- a pair as it is written, in upper case
 abbrev pub pair_of : (own peer : ℕ) → List ℕ
@@ -151,7 +157,7 @@ line_of asked = bus_of asked ++ encode_upper (bytes_of asked)
 -- the text that is written for a list
 abbrev pub text_of : UndoList → List ℕ
 text_of list =
-    flat_map ended (version_line (version_of list.names) ∷ numbers_line list.next ∷ (names_lines list.names ++ map line_of (reverse list.requests)))
+    flat_map ended (version_line (version_of list.names) ∷ numbers_line list.next ∷ (names_lines list.names ++ map line_of (reverse list.requests.members)))
 
 -- ---- what is no undo text
 

@@ -1,19 +1,20 @@
 //! The lines of an undo text.
-ghost use Rattle.std.specs.Prelude.{◌≡◌, ◌≢◌, ◌++◌, ◌∷◌, ◌<◌, ◌≤◌, ℕ, List, IfOk, IfSome, IfNone, OnOk, Ok, MatchOption, length, codes, string_bytes};
+ghost use Rattle.std.specs.Prelude.{◌≡◌, ◌≢◌, ◌++◌, ◌∷◌, [], ◌<◌, ◌≤◌, ℕ, List, true, false, None, IfOk, IfSome, IfNone, OnOk, Ok, MatchOption, length, codes, string_bytes};
 ghost use Rattle.std.specs.Fmt.{decimal};
-ghost use Rattle.two_wire.specs.Sizes.{most_pldm_request_data};
 ghost use Rattle.hex.specs.Hex.{IsBytes, decode_of, encode_upper};
 ghost use Rattle.text_lines.specs.Cuts.{ended};
 ghost use Rattle.record_base.specs.declared.message.Asked.{Asked as AnyAsked};
 ghost use Rattle.undo_plans.specs.declared.undo_list.NextNumbers.{NextNumbers as AnyNumbers};
+ghost use Rattle.two_wire.specs.declared.Bus.{Bus as AnyBus};
+ghost use Rattle.undo_plans.specs.Requests.{meant, most_undo_data};
+ghost use Rattle.undo_plans.specs.Steps.{most_steps};
 ghost use Rattle.text_undo.specs.UndoText.{IsPlain, IsNumbersLine, IsOf, IsRequestLine, BeginsWith, name_of, line_of};
 
-use record_base::Asked;
 use std::alloc::{AllocError, Global};
 use text_lines::{behind, bytes, first_line, first_word, plain_number};
-use two_wire::size::{MOST_IPMI_REQUEST_DATA, MOST_PLDM_REQUEST_DATA};
-use two_wire::{Below, Bus, Bytes, Lun, NetFn};
-use undo_plans::NextNumbers;
+use two_wire::size::MOST_IPMI_REQUEST_DATA;
+use two_wire::{Below, Bus, Bytes, Data, Lun, NetFn};
+use undo_plans::{MOST_UNDO_DATA, NextNumbers, Requests, UndoRequest};
 
 /// The line of the numbers of the next requests, up to the first number.
 const NEXT_IPMB: &str = "next ipmb ";
@@ -22,7 +23,7 @@ const NEXT_IPMB: &str = "next ipmb ";
 const NEXT_SMBUS: &str = "smbus ";
 
 /// The most bytes of a line.
-const MOST_BYTES: usize = 254;
+const MOST_BYTES: usize = 2 + MOST_UNDO_DATA;
 
 /// The number below `END` that the word is in decimal digits without leading zeros.
 fn below<const END: u8>(word: &str) -> Option<Below<END>>
@@ -78,8 +79,8 @@ pub fn first_numbers(text: &str) -> Option<(NextNumbers, &str)>
 }
 
 /// The IPMI request of these bytes: a network function with logical unit 0, a command and data.
-fn ipmi(bytes: &[u8]) -> Option<Asked>
-    ensures some { IfSome result (λ asked. IsOf (codes "ipmb ") bytes.now asked) }
+fn ipmi(bytes: &[u8]) -> Option<UndoRequest<'_>>
+    ensures some { IfSome result (λ request. IsOf (codes "ipmb ") bytes.now (meant request)) }
     ensures none { IfNone result ((asked : AnyAsked) → ¬ IsOf (codes "ipmb ") bytes.now asked) }
 {
     let [first, command, body @ ..] = bytes else {
@@ -88,77 +89,100 @@ fn ipmi(bytes: &[u8]) -> Option<Asked>
     if *first % 8 != 0 || body.len() > MOST_IPMI_REQUEST_DATA {
         return None;
     }
-    Some(Asked::Ipmi {
-        from: 0,
+    Some(UndoRequest::Ipmi {
         net_fn: NetFn::new(*first / 4),
         lun: Lun::new(0),
         command: *command,
-        body: Bytes::from_slice(body),
+        body: Data::new(body),
     })
 }
 
 /// The PLDM request of these bytes: a type, a command and data.
-fn pldm(bytes: &[u8]) -> Option<Asked>
-    ensures some { IfSome result (λ asked. IsOf (codes "smbus ") bytes.now asked) }
+fn pldm(bytes: &[u8]) -> Option<UndoRequest<'_>>
+    ensures some { IfSome result (λ request. IsOf (codes "smbus ") bytes.now (meant request)) }
     ensures none { IfNone result ((asked : AnyAsked) → ¬ IsOf (codes "smbus ") bytes.now asked) }
 {
     let [kind, command, body @ ..] = bytes else {
         return None;
     };
-    if *kind >= 64 || body.len() > MOST_PLDM_REQUEST_DATA {
+    if *kind >= 64 || body.len() > MOST_UNDO_DATA {
         return None;
     }
-    Some(Asked::Pldm {
-        from: 0,
+    Some(UndoRequest::Pldm {
         kind: Below::new(*kind),
         command: *command,
-        body: Bytes::from_slice(body),
+        body: Data::new(body),
     })
 }
 
-/// The request of the bus whose bytes are these digits.
-fn spelt(alloc: Global, bus: Bus, digits: &str) -> Result<Option<Asked>, AllocError>
-    ensures { IfOk result (λ found. MatchOption found ((bytes : List ℕ) (asked : AnyAsked)
-        → decode_of digits.now ≡ Ok bytes → ¬ IsOf (name_of bus) bytes asked)
-        (λ asked. (bytes : List ℕ) × (decode_of digits.now ≡ Ok bytes)
-        × IsOf (name_of bus) bytes asked)) }
+/// The request of the bus of these bytes.
+fn request(bus: Bus, bytes: &[u8]) -> Option<UndoRequest<'_>>
+    ensures some { IfSome result (λ request. IsOf (name_of bus) bytes.now (meant request)) }
+    ensures none { IfNone result ((asked : AnyAsked) → ¬ IsOf (name_of bus) bytes.now asked) }
 {
-    let Some(bytes) = bytes(alloc, digits)? else {
-        return Ok(None);
-    };
     match bus {
-        Bus::Ipmb => Ok(ipmi(bytes.as_slice())),
-        Bus::Smbus => Ok(pldm(bytes.as_slice())),
+        Bus::Ipmb => ipmi(bytes),
+        Bus::Smbus => pldm(bytes),
     }
 }
 
-/// The request that the line is of.
-fn request(alloc: Global, line: &str) -> Result<Option<Asked>, AllocError>
-    ensures { IfOk result (λ found. MatchOption found
-        ((asked : AnyAsked) → ¬ IsRequestLine line.now asked)
-        (λ asked. IsRequestLine line.now asked)) }
+/// The bus that the line names, and the digits behind its name.
+fn digits(line: &str) -> Option<(Bus, &str)>
+    ensures some { IfSome result (λ found. line.now ≡ name_of found.0 ++ found.1.now) }
+    ensures none { IfNone result ((bus : AnyBus) (rest : List ℕ) → line.now ≢ name_of bus ++ rest) }
 {
     if let Some(digits) = behind("ipmb ", line) {
-        return spelt(alloc, Bus::Ipmb, digits);
+        return Some((Bus::Ipmb, digits));
     }
-    if let Some(digits) = behind("smbus ", line) {
-        return spelt(alloc, Bus::Smbus, digits);
+    match behind("smbus ", line) {
+        Some(digits) => Some((Bus::Smbus, digits)),
+        None => None,
     }
-    Ok(None)
 }
 
-/// The request on the first line of the text, and the text behind that line.
-pub fn first_request(alloc: Global, text: &str) -> Result<Option<(Asked, &str)>, AllocError>
-    ensures { IfOk result (λ found. MatchOption found ((more : List ℕ) (asked : AnyAsked)
+/// Adds the request that the line is of, and tells whether it is of one.
+fn add_line(alloc: Global, line: &str, told: &mut Requests) -> Result<bool, AllocError>
+    requires few { length told.old.members < most_steps }
+    requires none { told.old.waiting ≡ None }
+    ensures added { result ≡ Ok true → (asked : AnyAsked) × IsRequestLine line.now asked
+        × (told.new.members ≡ told.old.members ++ asked ∷ []) }
+    ensures refused { result ≡ Ok false → (asked : AnyAsked) → ¬ IsRequestLine line.now asked }
+    ensures none { told.new.waiting ≡ None }
+{
+    let Some((bus, digits)) = digits(line) else {
+        return Ok(false);
+    };
+    let Some(bytes) = bytes(alloc, digits)? else {
+        return Ok(false);
+    };
+    let Some(request) = request(bus, bytes.as_slice()) else {
+        return Ok(false);
+    };
+    told.add(&request)?;
+    Ok(true)
+}
+
+/// Adds the request on the first line of the text, and gives the text behind that line, or nothing where that line is of no request.
+pub fn add_first<'a>(
+    alloc: Global,
+    text: &'a str,
+    told: &mut Requests,
+) -> Result<Option<&'a str>, AllocError>
+    requires few { length told.old.members < most_steps }
+    requires none { told.old.waiting ≡ None }
+    ensures told { IfOk result (λ found. MatchOption found ((more : List ℕ) (asked : AnyAsked)
         → ¬ BeginsWith (λ line. IsRequestLine line asked) text.now more)
-        (λ parts. BeginsWith (λ line. IsRequestLine line parts.0) text.now parts.1.now)) }
+        (λ rest. (asked : AnyAsked) × (told.new.members ≡ told.old.members ++ asked ∷ [])
+        × BeginsWith (λ line. IsRequestLine line asked) text.now rest.now)) }
+    ensures none { told.new.waiting ≡ None }
 {
     let Some(cut) = first_line(text) else {
         return Ok(None);
     };
-    match request(alloc, cut.0)? {
-        Some(asked) => Ok(Some((asked, cut.1))),
-        None => Ok(None),
+    if add_line(alloc, cut.0, told)? {
+        Ok(Some(cut.1))
+    } else {
+        Ok(None)
     }
 }
 
@@ -171,7 +195,7 @@ fn push_line(
     command: u8,
     body: &[u8],
 ) -> Result<(), AllocError>
-    requires { length body.now ≤ most_pldm_request_data }
+    requires { length body.now ≤ most_undo_data }
     ensures text { OnOk result (string_bytes text.new
         ≡ string_bytes text.old ++ ended (bus.now ++ encode_upper (first ∷ command ∷ body.now))) }
     ensures bytes { IsBytes (first ∷ command ∷ body.now) }
@@ -185,13 +209,18 @@ fn push_line(
 }
 
 /// Adds the line of a request.
-pub fn push_request(alloc: Global, text: &mut String, asked: &Asked) -> Result<(), AllocError>
+pub fn push_request(
+    alloc: Global,
+    text: &mut String,
+    request: &UndoRequest<'_>,
+) -> Result<(), AllocError>
     ensures text { OnOk result (string_bytes text.new
-        ≡ string_bytes text.old ++ ended (line_of asked.now)) }
-    ensures told { IsPlain asked.now → IsRequestLine (line_of asked.now) asked.now }
+        ≡ string_bytes text.old ++ ended (line_of (meant request.now))) }
+    ensures told { IsPlain (meant request.now)
+        → IsRequestLine (line_of (meant request.now)) (meant request.now) }
 {
-    match asked {
-        Asked::Ipmi {
+    match request {
+        UndoRequest::Ipmi {
             net_fn,
             command,
             body,
@@ -204,11 +233,10 @@ pub fn push_request(alloc: Global, text: &mut String, asked: &Asked) -> Result<(
             *command,
             body.as_slice(),
         ),
-        Asked::Pldm {
+        UndoRequest::Pldm {
             kind,
             command,
             body,
-            ..
         } => push_line(
             alloc,
             text,

@@ -1,18 +1,16 @@
 //! Undo texts: the list of requests that undo a plan, as a file keeps it.
-ghost use Rattle.std.specs.Prelude.{◌≡◌, ◌⊎◌, ◌≤◌, ◌+◌, ◌++◌, ℕ, Ok, Err, IfOk, IfErr, OnOk, length, map, reverse, string_bytes};
+ghost use Rattle.std.specs.Prelude.{◌≡◌, ◌⊎◌, ◌≤◌, ◌+◌, ◌++◌, ℕ, Ok, Err, None, IfOk, IfErr, OnOk, length, map, reverse, string_bytes};
 ghost use Rattle.std.specs.List.{All, AllZip, flat_map};
 ghost use Rattle.text_lines.specs.Cuts.{ended};
-ghost use Rattle.std.specs.Vec.{vec_len};
 ghost use Rattle.undo_plans.specs.Steps.{most_steps};
 ghost use Rattle.text_undo.specs.UndoText.{IsPlain, IsRequestLine, AreLinesOf, Stands, IsFirstBad, IsFirstBadFrom, line_of, head_length, text_of};
 
-use crate::line::{first_numbers, first_request, push_request};
+use crate::line::{add_first, first_numbers, push_request};
 use crate::names::{push_names_line, version_names};
 use crate::version::{Version, first_version, head_lines, version_text};
-use record_base::Asked;
 use std::alloc::{AllocError, Global};
 use std::fmt;
-use undo_plans::{MOST_STEPS, Names, NextNumbers, Requests, UndoList};
+use undo_plans::{MOST_STEPS, Requests, UndoList};
 
 /// Why a text is no undo text.
 #[derive(Clone, Copy, Debug, PartialEq, Eq)]
@@ -30,7 +28,7 @@ const MOST_REQUESTS: usize = MOST_STEPS;
 /// of version 2 where the list has names, and else of version 1.
 pub fn write_undo(alloc: Global, list: &UndoList) -> Result<String, AllocError>
     ensures text { IfOk result (λ text. string_bytes text ≡ text_of list.now) }
-    ensures stands { All IsPlain list.now.requests
+    ensures stands { All IsPlain list.now.requests.members
         → IfOk result (λ text. Stands (string_bytes text) list.now) }
 {
     let mut text = String::from_str(alloc, version_text(&list.names))?;
@@ -49,83 +47,48 @@ pub fn push_requests(
     requests: &Requests,
 ) -> Result<(), AllocError>
     ensures text { OnOk result (string_bytes text.new
-        ≡ string_bytes text.old ++ flat_map ended (map line_of (reverse requests.now))) }
-    ensures told { OnOk result (All IsPlain requests.now
-        → AllZip IsRequestLine (map line_of (reverse requests.now)) (reverse requests.now)) }
-    ensures few { length requests.now ≤ most_steps }
+        ≡ string_bytes text.old ++ flat_map ended (map line_of (reverse requests.now.members))) }
+    ensures told { OnOk result (All IsPlain requests.now.members
+        → AllZip IsRequestLine (map line_of (reverse requests.now.members)) (reverse requests.now.members)) }
+    ensures few { length requests.now.members ≤ most_steps }
 {
     let mut place = requests.len();
     while place > 0 {
         place -= 1;
-        let asked = requests.get(place).unwrap();
-        push_request(alloc, text, asked)?;
+        let request = requests.get(place).unwrap();
+        push_request(alloc, text, &request)?;
     }
     Ok(())
 }
 
 /// The requests of these lines, in their order, or the number of the first bad line, in a text of this version.
-fn read_requests(alloc: Global, version: Version, text: &str) -> Result<Vec<Asked>, UndoFault>
-    ensures told { IfOk result (λ told. (vec_len told ≤ most_steps)
-        × AreLinesOf text.now told.items) }
+fn read_requests(alloc: Global, version: Version, text: &str) -> Result<Requests, UndoFault>
+    ensures told { IfOk result (λ told. AreLinesOf text.now told.members) }
+    ensures few { IfOk result (λ told. length told.members ≤ most_steps) }
+    ensures waiting { IfOk result (λ told. told.waiting ≡ None) }
     ensures fault { IfErr result
         (λ why. (why ≡ UndoFault.Memory) ⊎ ((n : ℕ) × (why ≡ UndoFault.Line n)
         × IsFirstBadFrom version (head_length version + 1) text.now n)) }
 {
     let first = head_lines(version) + 1;
-    let mut told = Vec::new(alloc);
+    let Ok(mut told) = Requests::open(alloc, 0, 0) else {
+        return Err(UndoFault::Memory);
+    };
     let mut rest = text;
     while !rest.is_empty() {
         let line = UndoFault::Line(first + told.len());
         if told.len() == MOST_REQUESTS {
             return Err(line);
         }
-        let Ok(found) = first_request(alloc, rest) else {
+        let Ok(found) = add_first(alloc, rest, &mut told) else {
             return Err(UndoFault::Memory);
         };
-        let Some(parts) = found else {
+        let Some(behind) = found else {
             return Err(line);
         };
-        let (asked, behind) = parts;
-        if told.push(asked).is_err() {
-            return Err(UndoFault::Memory);
-        }
         rest = behind;
     }
     Ok(told)
-}
-
-/// The requests in the order of the steps, which is not the order of their lines.
-fn in_order(alloc: Global, mut told: Vec<Asked>) -> Result<Requests, AllocError>
-    requires { vec_len told ≤ most_steps }
-    ensures { IfOk result (λ requests. requests ≡ reverse told.items) }
-{
-    let mut requests = Requests::new(alloc)?;
-    while let Some(asked) = told.pop() {
-        requests.push(asked);
-    }
-    Ok(requests)
-}
-
-/// The list of these next numbers, of these names and of the requests that were told.
-fn listed(
-    alloc: Global,
-    next: NextNumbers,
-    names: Option<Names>,
-    told: Vec<Asked>,
-) -> Result<UndoList, UndoFault>
-    requires { vec_len told ≤ most_steps }
-    ensures list { IfOk result (λ list. (list.next ≡ next)
-        × (list.names ≡ names) × (list.requests ≡ reverse told.items)) }
-    ensures fault { IfErr result (λ why. why ≡ UndoFault.Memory) }
-{
-    match in_order(alloc, told) {
-        Ok(requests) => Ok(UndoList {
-            requests,
-            next,
-            names,
-        }),
-        Err(_) => Err(UndoFault::Memory),
-    }
 }
 
 /// The list that the text stands for, or its first bad line. A last line without a line feed is bad, and so is a line in front of the
@@ -145,7 +108,14 @@ pub fn read_undo(alloc: Global, text: &str) -> Result<UndoList, UndoFault>
         return Err(UndoFault::Line(3));
     };
     match read_requests(alloc, begun.0, named.1) {
-        Ok(told) => listed(alloc, numbered.0, named.0, told),
+        Ok(mut requests) => {
+            requests.reverse();
+            Ok(UndoList {
+                requests,
+                next: numbered.0,
+                names: named.0,
+            })
+        }
         Err(why) => Err(why),
     }
 }

@@ -4,8 +4,8 @@ use Rattle.text_undo.proofs.text.push_requests.Given as goal
 
 abbrev pub invariant-loop-place : goal.invariant-loop-place
 invariant-loop-place l = record {
-  low : l.place ≤ length l.requests;
-  pushed : Pushed l.requests l.place (string_bytes l.fn.text) (string_bytes l.text);
+  low : l.place ≤ length l.requests.members;
+  pushed : Pushed l.requests.members l.place (string_bytes l.fn.text) (string_bytes l.text);
 }
 
 abbrev pub decreases-loop-place : goal.decreases-loop-place

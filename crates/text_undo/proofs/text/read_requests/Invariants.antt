@@ -1,11 +1,11 @@
-use Rattle.std.proofs.Common.{◌≤◌, length, vec_len}
+use Rattle.std.proofs.Common.{◌≡◌, ◌≤◌, length, None}
 use denote.Text.{Utf8}
 use denote.Shadow.{shadow}
 use Rattle.text_undo.proofs.UndoLists.{Begun}
 use Rattle.text_undo.proofs.text.read_requests.Given as goal
 
 abbrev pub invariant-loop-rest : goal.invariant-loop-rest
-invariant-loop-rest l = shadow (Utf8 l.rest) × Begun l.text l.told.items l.rest × (vec_len l.told ≤ 256)
+invariant-loop-rest l = shadow (Utf8 l.rest) × Begun l.text l.told.members l.rest × (length l.told.members ≤ 256) × (l.told.waiting ≡ None)
 
 abbrev pub decreases-loop-rest : goal.decreases-loop-rest
 decreases-loop-rest l = length l.rest

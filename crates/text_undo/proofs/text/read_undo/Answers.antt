@@ -1,5 +1,5 @@
 use Rattle.std.proofs.Common.{arith, inr, refl}
-use Rattle.text_undo.proofs.UndoLists.{bad_numbers, bad_names, headed, bad_line, list_read}
+use Rattle.text_undo.proofs.UndoLists.{bad_numbers, bad_names, headed, bad_line, read_is}
 use Rattle.text_undo.proofs.text.read_undo.Goals as goal
 
 pub returns-in_default-first_numbers-clause-fault : goal.returns-in_default-first_numbers-clause-fault
@@ -25,6 +25,6 @@ returns-in-Err-clause-fault c =
 pub returns-in-Ok-clause-list : goal.returns-in-Ok-clause-list
 returns-in-Ok-clause-list c =
     let named = c.in-Some-version_names.ensures in
-    list_read c.listed.result c.args.text.now c.in-Some-version_names.named.1.now _ c.in-Some-version_names.named.0 c.in-Ok.told.items
+    read_is c.args.text.now c.in-Some-version_names.named.1.now _ c.in-Some-version_names.named.0 c.in-Ok.requests.members _
     (headed c.in-Some.begun.0 c.args.text.now c.in-Some.begun.1.now c.in-Some-first_numbers.numbered.1.now _ _ _ named.version c.in-Some.ensures.some c.in-Some-first_numbers.ensures.some named.some)
-    c.in-Ok.ensures.told.1 (omega (arith, c.in-Ok.ensures.told.0, c.in-Ok.told.ok)) c.listed.ensures.list
+    c.in-Ok.ensures.told (omega (arith, c.in-Ok.ensures.few)) refl refl c.reverse.ensures.members
