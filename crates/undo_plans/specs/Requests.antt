@@ -27,6 +27,15 @@ abbrev pub from_nobody : Asked → Asked
 from_nobody (asked.Ipmi from net_fn lun command body) = asked.Ipmi 0 net_fn lun command body
 from_nobody (asked.Pldm from kind command body) = asked.Pldm 0 kind command body
 
+-- the most bytes of data of a request that undoes a step over SMBus
+abbrev pub most_undo_data : ℕ
+most_undo_data = most_pldm_request_data
+
+-- how many bytes of data a request has at most, by its bus
+abbrev pub most_of : Asked → ℕ
+most_of (asked.Ipmi from net_fn lun command body) = most_ipmi_request_data
+most_of (asked.Pldm from kind command body) = most_undo_data
+
 -- ---- the list
 
 -- requests that undo the steps of a plan
@@ -39,10 +48,6 @@ pub record RequestList : Type 0 where
   pub places : ℕ
   -- for how many more bytes of data there is room
   pub room : ℕ
-
--- the most bytes of data of a request that undoes a step over SMBus
-abbrev pub most_undo_data : ℕ
-most_undo_data = most_pldm_request_data
 
 -- how many bytes of data a request has at most, by its head
 abbrev pub most_data : Head → ℕ

@@ -1,6 +1,6 @@
 //! A request that undoes a step, where it lies.
 ghost use Rattle.std.specs.Prelude.{◌≡◌, ◌≤◌, length, slice_range};
-ghost use Rattle.undo_plans.specs.Requests.{meant, data_of, from_nobody, most_data, request_of, request_at, Lies};
+ghost use Rattle.undo_plans.specs.Requests.{meant, data_of, from_nobody, most_of, most_data, request_of, request_at, Lies};
 
 use record_base::Asked;
 use two_wire::size::{MOST_IPMI_REQUEST_DATA, MOST_PLDM_REQUEST_DATA};
@@ -52,7 +52,8 @@ pub(crate) struct Mark {
 impl<'a> UndoRequest<'a> {
     /// The request, which lies in a value of its own, without its sender.
     pub fn of(asked: &'a Asked) -> Self
-        ensures { meant result ≡ from_nobody asked.now }
+        ensures request { meant result ≡ from_nobody asked.now }
+        ensures fits { length (data_of asked.now) ≤ most_of asked.now }
     {
         match asked {
             Asked::Ipmi {
