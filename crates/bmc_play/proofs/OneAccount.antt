@@ -93,8 +93,8 @@ same_lines : (frames premises : Bool) (account other : Account) (told : Told) �
 same_lines frames premises account other told is also broken stopped =
     let now : account.phase ≡ other.phase = is.phase ∙ sym also.phase in
     let sent : account.frames.now ≡ other.frames.now = same_frames account.frames.now other.frames.now told.frames is.frames also.frames in
-    let undo : undo_lines account.undo.now ≡ undo_lines other.undo.now =
-    undo_said account.undo.now ∙ ap lines_for (is.undo ∙ sym also.undo) ∙ sym (undo_said other.undo.now) in
+    let undo : undo_lines account.undo.now.members ≡ undo_lines other.undo.now.members =
+    undo_said account.undo.now.members ∙ ap lines_for (is.undo ∙ sym also.undo) ∙ sym (undo_said other.undo.now.members) in
     let changed : account.changed ≡ other.changed = same_changed account.changed other.changed told is.changed also.changed in
     λ i. flat_map ended (
     said (codes "phase") (phase_name (now i))

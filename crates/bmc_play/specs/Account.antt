@@ -24,7 +24,7 @@ pub record AreChanged (number : ℕ) (told : Told) : Type 0 where
 pub record Accounts (account : Account) (told : Told) : Type 0 where
   pub phase : account.phase ≡ told.phase
   pub frames : AllZip IsSentFrame account.frames.now told.frames
-  pub undo : backs lab_names account.undo.now ≡ told.undo
+  pub undo : backs lab_names account.undo.now.members ≡ told.undo
   pub changed : AreChanged account.changed told
 
 -- it is the account of a play that ended so: of all events, or of those before the one that has the fault, which it names by its place

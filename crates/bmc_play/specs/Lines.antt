@@ -78,7 +78,7 @@ abbrev pub lines_of : (frames premises : Bool) → Account → List (List ℕ)
 lines_of frames premises told =
     said (codes "phase") (phase_name told.phase)
     ∷ said (codes "frames") (decimal (length told.frames.now))
-    ∷ (undo_lines told.undo.now ++ records_line told.changed ∷ (shown frames told.frames.now ++ (premised premises told.broken told.stopped ++ ending told.stopped)))
+    ∷ (undo_lines told.undo.now.members ++ records_line told.changed ∷ (shown frames told.frames.now ++ (premised premises told.broken told.stopped ++ ending told.stopped)))
 
 -- the text: the lines, each of which a line feed ends
 abbrev pub text_of : (frames premises : Bool) → Account → List ℕ

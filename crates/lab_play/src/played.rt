@@ -49,7 +49,7 @@ impl Played {
     /// The requests that undo what was done.
     pub fn undo(&self) -> &UndoList
         ensures { (told : Told) → Tells self.now told
-            → backs lab_names result.now.requests ≡ told.undo }
+            → backs lab_names result.now.requests.members ≡ told.undo }
     {
         self.lab.undo_list()
     }

@@ -41,7 +41,7 @@ impl Lab {
     /// The requests that undo what was done.
     pub fn undo_list(&self) -> &UndoList
         ensures { ForShown self.now (λ _ x.
-            backs the_names result.now.requests ≡ x.manager.machine.undo) }
+            backs the_names result.now.requests.members ≡ x.manager.machine.undo) }
     {
         self.manager.undo_list()
     }

@@ -12,7 +12,7 @@ use Rattle.net_run.specs.Outcome.{Keeps}
 
 -- the list is put, or memory for its text was refused
 pub put_or_not : {Files Refused : Type 0} (takes : Writings Files) (renames : Renamings Files) (word : List ℕ) (beside : Beside) (seen : ℕ) (list : UndoList) (old new : Files)
-    (result : Result (Result (Unit {0}) Unwritten) Refused) → seen < length list.requests
+    (result : Result (Result (Unit {0}) Unwritten) Refused) → seen < length list.requests.members
     → IfOk result (λ answer. (w : List ℕ) → IsBeside w beside → Puts takes renames w (text_of list) old answer new) → OnErr result (new ≡ old) → IsBeside word beside
     → MayPut takes renames word seen list old new
 put_or_not takes renames word beside seen list old new (Ok answer) more put same is = inr (more, (answer, put word is))

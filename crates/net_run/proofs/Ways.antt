@@ -76,7 +76,7 @@ module _ {P : Type 0} (out : P → Option (List ℕ)) where
 -- what is told of an undo, by the looks of what has the line
 pub told_undo : {P Watch : Type 0} (out : P → Option (List ℕ)) (sees : Watch → Manager → Watch → Type 0) (line : Watch → Progress P) (course : Watch → Course)
     → ((old : Watch) (m : Manager) (new : Watch) → sees old m new → LooksOn out (course old).kinds.now (course old).steps (line old) m (line new) × (course new ≡ course old))
-    → (list : UndoList) (last : Manager) (had counts : Links) (old new : Watch) → (course old).kinds.now ≡ [] → (course old).steps ≡ length list.requests → had ≡ fresh_links
+    → (list : UndoList) (last : Manager) (had counts : Links) (old new : Watch) → (course old).kinds.now ≡ [] → (course old).steps ≡ length list.requests.members → had ≡ fresh_links
     → WatchedFrom sees Undo (resumed_from list) last had counts old new → LooksOnUndo out list (line old) (line new)
 told_undo out sees line course each list last had counts old new no_kinds steps is (inl (none, same)) = absurd (undo_is_taken list none)
 told_undo out sees line course each list last had counts old new no_kinds steps is (inr (first, start, mid, takes, shown, look, watched)) = record {
@@ -88,7 +88,7 @@ told_undo out sees line course each list last had counts old new no_kinds steps 
   counts = counts;
   moments = watched.moments;
   way = subst (λ (links : Links). PassesTo watched.moments start last links counts) is (watched.way start shown);
-  looks = subst (λ (kinds : List Kind). Sees (LooksOn out kinds (length list.requests)) (first ∷ watched.moments) (line old) (line new)) no_kinds
+  looks = subst (λ (kinds : List Kind). Sees (LooksOn out kinds (length list.requests.members)) (first ∷ watched.moments) (line old) (line new)) no_kinds
       (subst (λ (n : ℕ). Sees (LooksOn out (course old).kinds.now n) (first ∷ watched.moments) (line old) (line new)) steps
       (seen_as sees course line (λ at. LooksOn out at.kinds.now at.steps) each (first ∷ watched.moments) old new (mid, look, watched.seen)));
 }

@@ -68,17 +68,17 @@ module _ {Files : Type 0} (takes : Writings Files) (renames : Renamings Files) w
   abbrev pub MayPut : (word : List ℕ) → (seen : ℕ) → UndoList → (old new : Files) → Type 0
   MayPut word seen list old new =
       (new ≡ old)
-      ⊎ ((seen < length list.requests) × ((answer : Result (Unit {0}) Unwritten) × Puts takes renames word (text_of list) old answer new))
+      ⊎ ((seen < length list.requests.members) × ((answer : Result (Unit {0}) Unwritten) × Puts takes renames word (text_of list) old answer new))
 
   -- a look at a manager, whose list is put so beside the file of the words, and how many requests that has
   pub record LooksAt (beside : Beside) (m : Manager) (seen has : ℕ) (old new : Files) : Type 0 where
     pub list : UndoList
     pub is_list : HasList m list
     pub puts : (word : List ℕ) → IsBeside word beside → MayPut word seen list old new
-    pub counted : has ≡ length list.requests
+    pub counted : has ≡ length list.requests.members
 
   -- at each of these moments, in their order, the list of that moment is put where it is longer than the one before; the first, than so many
   abbrev pub KeepsSoFar : (word : List ℕ) → (seen : ℕ) → (moments : List Manager) → (old new : Files) → Type 0
   KeepsSoFar word seen [] old new = new ≡ old
   KeepsSoFar word seen (m ∷ later) old new =
-      (list : UndoList) × (mid : Files) × HasList m list × MayPut word seen list old mid × KeepsSoFar word (length list.requests) later mid new
+      (list : UndoList) × (mid : Files) × HasList m list × MayPut word seen list old mid × KeepsSoFar word (length list.requests.members) later mid new

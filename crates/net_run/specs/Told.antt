@@ -72,7 +72,7 @@ module _ {P : Type 0} (out : P → Option (List ℕ)) where
     pub counts : Links
     pub moments : List Manager
     pub way : PassesTo moments start last fresh_links counts
-    pub looks : Sees (LooksOn [] (length list.requests)) (first ∷ moments) old new
+    pub looks : Sees (LooksOn [] (length list.requests.members)) (first ∷ moments) old new
 
   -- and then the line is ended
   abbrev pub TellsUndo : UndoList → (old new : Progress P) → Type 0

@@ -57,7 +57,7 @@ fn undo_seen<P: io::Write>(
     ensures undoes { (list : AnyList) → Shows lab_names manager.old (resumed_from list)
         → Undoes list turns manager.new result }
     ensures told { (list : AnyList) → teller.old.course.kinds.now ≡ []
-        → teller.old.course.steps ≡ length list.requests
+        → teller.old.course.steps ≡ length list.requests.members
         → Shows lab_names manager.old (resumed_from list)
         → TellsUndo P.contents list teller.old.progress.now teller.new.progress.now }
     ensures same_line { teller.new.progress.ghost_name ≡ teller.old.progress.ghost_name }
@@ -84,7 +84,7 @@ fn undo_told<P: io::Write>(
     requires smbus { ends.smbus.counts ≡ none_counted }
     ensures undoes { (list : AnyList) → Shows lab_names manager.old (resumed_from list)
         → Undoes list turns manager.new result }
-    ensures told { (list : AnyList) → length list.requests ≡ steps
+    ensures told { (list : AnyList) → length list.requests.members ≡ steps
         → Shows lab_names manager.old (resumed_from list)
         → MayTellUndo P.contents list progress.old progress.new }
 {
@@ -108,7 +108,7 @@ fn undo_on<P: io::Write, R: Net>(
 ) -> Result<Undone, Untold>
     ensures undoes { (list : AnyList) → Shows lab_names manager (resumed_from list)
         → IfOk result (λ undone. Undoes list words.now.turns undone.manager undone.phase) }
-    ensures told { (list : AnyList) → length list.requests ≡ steps
+    ensures told { (list : AnyList) → length list.requests.members ≡ steps
         → Shows lab_names manager (resumed_from list)
         → MayTellUndo P.contents list progress.old progress.new }
 {
@@ -131,7 +131,7 @@ fn undone_report<P: io::Write, R: Net>(
 ) -> Result<Report, Untold>
     ensures says { (list : AnyList) → Shows lab_names manager (resumed_from list)
         → Tells (SaysUndone list words.now.turns) result }
-    ensures told { (list : AnyList) → length list.requests ≡ steps
+    ensures told { (list : AnyList) → length list.requests.members ≡ steps
         → Shows lab_names manager (resumed_from list)
         → MayTellUndo P.contents list progress.old progress.new }
 {

@@ -6,6 +6,8 @@ use Rattle.std.proofs.lemmas.List.{reverse-append}
 use Rattle.std.proofs.lemmas.Option.{slice_get_within, slice_get-get_or, same_Some}
 use Rattle.record_base.specs.declared.message.Asked.{Asked}
 use Rattle.undo_plans.specs.declared.names.Names.{Names}
+use Rattle.undo_plans.specs.Requests.{RequestList}
+use Rattle.std.proofs.lemmas.Option.{same_Some}
 use Rattle.record_base.specs.declared.op.Op.{Op}
 use Rattle.model_undo.specs.Machine as machine
 use Rattle.undo_core.specs.declared.stage.Stage.TheVariants.{Opened}
@@ -25,14 +27,15 @@ backs_take names requests k request there =
     ap (backs names) (take-suc requests k request within ∙ ap (λ (r : Asked). take k requests ++ r ∷ []) is) ∙ backs_push names (take k requests) request
 
 -- the stage in which a list is gone through, where it isn't empty
-pub undoes_next : (names : Names) (plan : List Op) (requests : List Asked) (left : ℕ) (request copied : Asked) → 0 < left → slice_get requests (left - 1) ≡ Some request → copied ≡ request
-    → IsStage names plan requests (Opened true (Undoes (left - 1)) copied) (machine.undo_stage (words_of names) (backs names (take left requests)))
-undoes_next names plan requests left request copied some there same =
+pub undoes_next : (names : Names) (plan : List Op) (list : RequestList) (left : ℕ) (request copied : Asked) → 0 < left → slice_get list.members (left - 1) ≡ Some request → copied ≡ request
+    → IsStage names plan list (Opened true (Undoes (left - 1)) copied) (machine.undo_stage (words_of names) (backs names (take left list.members)))
+undoes_next names plan list left request copied some there same =
+    let requests = list.members in
     let k = left - 1 in
     let is : suc k ≡ left = omega (arith, some) in
     let taken = backs_take names requests k request there in
-    let list : backs names (take left requests) ≡ own names copied ∷ backs names (take k requests) =
+    let turned : backs names (take left requests) ≡ own names copied ∷ backs names (take k requests) =
     ap (λ (n : ℕ). backs names (take n requests)) (sym is) ∙ taken ∙ ap (λ (r : Asked). own names r ∷ backs names (take k requests)) (sym same) in
-    let here : IsStage names plan requests (Opened true (Undoes k) copied) (machine.undo_stage (words_of names) (own names copied ∷ backs names (take k requests))) =
+    let here : IsStage names plan list (Opened true (Undoes k) copied) (machine.undo_stage (words_of names) (own names copied ∷ backs names (take k requests))) =
     (refl, (slice_get_within requests k request there, taken ∙ ap (λ (r : Asked). own names r ∷ backs names (take k requests)) (sym same)), refl, refl) in
-    subst (λ (xs : List Asked). IsStage names plan requests (Opened true (Undoes k) copied) (machine.undo_stage (words_of names) xs)) (sym list) here
+    subst (λ (xs : List Asked). IsStage names plan list (Opened true (Undoes k) copied) (machine.undo_stage (words_of names) xs)) (sym turned) here

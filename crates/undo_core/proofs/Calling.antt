@@ -5,6 +5,7 @@ use Rattle.std.specs.Prelude.{slice_get}
 use Rattle.record_base.specs.declared.op.Op.{Op}
 use Rattle.record_base.specs.declared.message.Asked.{Asked}
 use Rattle.undo_plans.specs.declared.names.Names.{Names}
+use Rattle.undo_plans.specs.Requests.{RequestList}
 use Rattle.model_undo.specs.Machine as machine
 use Rattle.text_schedule.specs.declared.event.Call.{Call}
 use Rattle.model_lab.specs.ManagerSteps.{board_plans, ManagerState, waits_after, turn_of, called, goes_on, sent_of}
@@ -20,7 +21,7 @@ use Rattle.model_undo.specs.declared.phase.Why.{Why}
 use Rattle.model_undo.specs.declared.phase.Phase.{Phase}
 use Rattle.model_undo.specs.declared.phase.Phase.TheVariants as phase
 
-module _ (names : Names) (plan : List Op) (requests : List Asked) where
+module _ (names : Names) (plan : List Op) (requests : RequestList) where
   -- which stage of a manager shows a stage of the machine
   pub is_start : (r : Stage) → IsStage names plan requests r machine.AtStart → r ≡ stage.AtStart
   is_start stage.AtStart is = refl
@@ -235,7 +236,7 @@ stop_turn names m p shown (inr w) = setting_stops names m w.0 m.stage (sym shown
 
 -- ---- undo
 
-is_halt : (names : Names) (plan : List Op) (requests : List Asked) (r : Stage) (k : ℕ) (why : Why) → IsStage names plan requests r (machine.AtHalt k why) → (j : ℕ) × (cause : Why) × (r ≡ stage.AtHalt j cause)
+is_halt : (names : Names) (plan : List Op) (requests : RequestList) (r : Stage) (k : ℕ) (why : Why) → IsStage names plan requests r (machine.AtHalt k why) → (j : ℕ) × (cause : Why) × (r ≡ stage.AtHalt j cause)
 is_halt names plan requests stage.AtStart k why is = absurd is
 is_halt names plan requests (stage.Opened heeded task asked) k why is = absurd is
 is_halt names plan requests stage.AtEnd k why is = absurd is
@@ -256,7 +257,7 @@ no_undo names m s shows no_end no_halt = at s.machine.stage shows.stage where
   at machine.AtUndone is = refl
   at (machine.AtRefused k code) is = refl
 
-end_undoes : (names : Names) (plan : List Op) (requests : List Asked) (m : machine.Machine (words_of names)) (t : machine.Stage (words_of names)) → IsStage names plan requests stage.AtEnd t
+end_undoes : (names : Names) (plan : List Op) (requests : RequestList) (m : machine.Machine (words_of names)) (t : machine.Stage (words_of names)) → IsStage names plan requests stage.AtEnd t
     → machine.undoes (words_of names) t m ≡ Some (machine.enters (words_of names) (machine.undo_stage (words_of names) m.undo) m)
 end_undoes names plan requests m machine.AtStart is = absurd is
 end_undoes names plan requests m (machine.Opened heeded task part) is = absurd is
@@ -265,7 +266,7 @@ end_undoes names plan requests m (machine.AtHalt k why) is = absurd is
 end_undoes names plan requests m machine.AtUndone is = absurd is
 end_undoes names plan requests m (machine.AtRefused k code) is = absurd is
 
-halt_undoes : (names : Names) (plan : List Op) (requests : List Asked) (m : machine.Machine (words_of names)) (j : ℕ) (cause : Why) (t : machine.Stage (words_of names))
+halt_undoes : (names : Names) (plan : List Op) (requests : RequestList) (m : machine.Machine (words_of names)) (j : ℕ) (cause : Why) (t : machine.Stage (words_of names))
     → IsStage names plan requests (stage.AtHalt j cause) t → machine.undoes (words_of names) t m ≡ Some (machine.enters (words_of names) (machine.undo_stage (words_of names) m.undo) m)
 halt_undoes names plan requests m j cause machine.AtStart is = absurd is
 halt_undoes names plan requests m j cause (machine.Opened heeded task part) is = absurd is

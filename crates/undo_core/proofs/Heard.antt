@@ -17,6 +17,7 @@ use Rattle.mctp_net.specs.declared.taken.Taken.{Taken}
 use Rattle.mctp_net.specs.declared.taken.Taken.TheVariants as taken
 use Rattle.mctp_net.specs.Assembly.{Assemblies, drop_cause, after as kept_after, message_of, IsTaken}
 use Rattle.undo_plans.specs.declared.names.Names.{Names}
+use Rattle.undo_plans.specs.Requests.{RequestList}
 use Rattle.model_bus.specs.Bytes.{answers, ipmb_answers, pldm_answers, is_busy_code}
 use Rattle.model_ports.specs.Wires.{bus_of, bytes_of, answered_from}
 use Rattle.model_bus.specs.Answered.{Answered}
@@ -72,7 +73,7 @@ same_is_true : (on : Bus) → machine.same_bus on on ≡ true
 same_is_true Ipmb = refl
 same_is_true Smbus = refl
 
-heeds_stage : (names : Names) (plan : List Op) (requests : List Asked) (on : Bus) (r : Task) (asked : Asked) (t : machine.Stage (words_of names))
+heeds_stage : (names : Names) (plan : List Op) (requests : RequestList) (on : Bus) (r : Task) (asked : Asked) (t : machine.Stage (words_of names))
     → IsStage names plan requests (stage.Opened true r asked) t → bus_of asked ≡ on → Heeds names on asked t
 heeds_stage names plan requests on r asked machine.AtStart is goes = absurd is
 heeds_stage names plan requests on r asked (machine.Opened heeds of part) is goes =
@@ -123,7 +124,7 @@ heard_response names m s r t asked passes shows was goes test =
     ∙ either (is_answer m.names r) passes (is_busy_code r.code) taken (rests P s) (λ busy. ap (taken_or P s) (busy_is_none names a s.machine.stage s.machine busy))
 
 -- no request is heeded on the bus
-none_stage : (names : Names) (plan : List Op) (requests : List Asked) (on : Bus) (r : Stage) (t : machine.Stage (words_of names)) → IsStage names plan requests r t
+none_stage : (names : Names) (plan : List Op) (requests : RequestList) (on : Bus) (r : Stage) (t : machine.Stage (words_of names)) → IsStage names plan requests r t
     → ((k : Task) (asked : Asked) → r ≡ stage.Opened true k asked → bus_of asked ≡ on → ⊥) → heeded_on (board_plans names) on t ≡ None
 none_stage names plan requests on r machine.AtStart is other = refl
 none_stage names plan requests on (stage.Opened heeded k asked) (machine.Opened false of part) is other = refl

@@ -1,5 +1,6 @@
 pub mod Written
 pub mod Backs
+pub mod Room
 pub mod Calling
 pub mod Replies
 pub mod Heard

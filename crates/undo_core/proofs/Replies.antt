@@ -1,9 +1,9 @@
 -- The replies that a manager takes are the machine's.
-use Rattle.std.proofs.Common.{◌≡◌, ℕ, suc, ◌%◌, ◌<◌, ◌≤◌, ◌==◌, Bool, true, false, List, ◌∷◌, length, take, if◌then◌else◌, Option, Some, None, refl, sym, ◌∙◌, ap, subst, arith}
-use Rattle.std.specs.Option.{option_map}
+use Rattle.std.proofs.Common.{◌≡◌, ℕ, suc, ◌%◌, ◌<◌, ◌≤◌, ◌==◌, Bool, true, false, List, ◌∷◌, ◌++◌, length, take, if◌then◌else◌, Option, Some, None, refl, sym, ◌∙◌, ap, subst, arith}
+use Rattle.std.specs.Option.{option_map, option_to_list}
 use Rattle.std.specs.Prelude.{get_or, reverse, drop}
 use Rattle.std.proofs.lemmas.List.{length-map, length-reverse, length-take-le}
-use Rattle.std.proofs.lemmas.Option.{slice_get-get_or}
+use Rattle.std.proofs.lemmas.Option.{slice_get-get_or, same_Some}
 use Rattle.two_wire.specs.Codes.{success}
 use Rattle.two_wire.specs.declared.Bus.{Bus}
 use Rattle.record_base.specs.declared.op.Op.{Op}
@@ -11,6 +11,7 @@ use Rattle.record_base.specs.declared.message.Asked.{Asked}
 use Rattle.record_base.specs.declared.message.Asked.TheVariants.{Ipmi, Pldm}
 use Rattle.mctp_net.specs.Places.{seen}
 use Rattle.undo_plans.specs.declared.names.Names.{Names}
+use Rattle.undo_plans.specs.Requests.{RequestList}
 use Rattle.model_ports.specs.Wires.{bus_of}
 use Rattle.model_bus.specs.Answered.{Answered}
 use Rattle.model_undo.specs.Words.{is_busy}
@@ -40,14 +41,14 @@ undone_rest names requests k first rest within is =
     (same, sym (length-map (reverse (take k requests)) (own names) ∙ length-reverse (take k requests) ∙ length-take-le k requests short) ∙ ap (λ (l : List Asked). length l) same)
 
 -- so the stage after a reply to an undoing request is the machine's
-pub undoes_stage : (names : Names) (plan : List Op) (stopped : Bool) (requests : List Asked) (k : ℕ) (a : Answered) (r : Stage) (of : machine.Task (words_of names))
+pub undoes_stage : (names : Names) (plan : List Op) (stopped : Bool) (requests : RequestList) (k : ℕ) (a : Answered) (r : Stage) (of : machine.Task (words_of names))
     → IsTask names plan requests (task.Undoes k) of
-    → IsStage names plan requests r (if a.code == success then machine.undo_stage (words_of names) (backs names (take k requests)) else machine.AtRefused k a.code)
+    → IsStage names plan requests r (if a.code == success then machine.undo_stage (words_of names) (backs names (take k requests.members)) else machine.AtRefused k a.code)
     → IsStage names plan requests r (machine.stage_after (words_of names) stopped plan a of (machine.first_part (words_of names) of))
 undoes_stage names plan stopped requests k a r (machine.Gets j op) is at = absurd is
 undoes_stage names plan stopped requests k a r (machine.Sets j op undo) is at = absurd is
 undoes_stage names plan stopped requests k a r (machine.Undoes first rest) is at =
-    let left = undone_rest names requests k first rest is.0 is.1 in
+    let left = undone_rest names requests.members k first rest is.0 is.1 in
     subst (IsStage names plan requests r) (λ i. if a.code == success then machine.undo_stage (words_of names) (left.0 i) else machine.AtRefused (left.1 i) a.code) at
 
 -- ---- a reply is taken
@@ -57,18 +58,24 @@ pub own_bus : (names : Names) (asked : Asked) → bus_of (own names asked) ≡ b
 own_bus names (Ipmi from net_fn lun command body) = refl
 own_bus names (Pldm from kind command body) = refl
 
--- what undoes the acknowledged steps is kept
-undo_kept : (names : Names) (plan : List Op) (requests : List Asked) (a : Answered) (r : Task) (of : machine.Task (words_of names)) → IsTask names plan requests r of
-    → machine.undo_after (words_of names) a of (machine.first_part (words_of names) of) (backs names requests) ≡ backs names (with_done (done_by r a.code) requests)
+-- the request that waits comes first once it counts
+waited : (names : Names) (members : List Asked) (waiting : Option Asked) (undo : Asked) → option_map (own names) waiting ≡ Some undo
+    → undo ∷ backs names members ≡ backs names (members ++ option_to_list waiting)
+waited names members None undo is = let both : None ≡ Some undo = is in cc both
+waited names members (Some back) undo is = ap (λ (first : Asked). first ∷ backs names members) (sym (same_Some (own names back) undo is)) ∙ sym (backs_push names members back)
+
+-- what undoes the steps that were done counts
+undo_kept : (names : Names) (plan : List Op) (requests : RequestList) (a : Answered) (r : Task) (of : machine.Task (words_of names)) → IsTask names plan requests r of
+    → machine.undo_after (words_of names) a of (machine.first_part (words_of names) of) (backs names requests.members) ≡ backs names (with_done (done_by r a.code) requests)
 undo_kept names plan requests a (task.Gets k) (machine.Gets j op) is = refl
 undo_kept names plan requests a (task.Gets k) (machine.Sets j op undo) is = absurd is
 undo_kept names plan requests a (task.Gets k) (machine.Undoes first rest) is = absurd is
-undo_kept names plan requests a (task.Sets k back) (machine.Gets j op) is = absurd is
-undo_kept names plan requests a (task.Sets k back) (machine.Sets j op undo) is = at (a.code == success) where
-  at : (t : Bool) → (if t then (words_of names).setting undo ∷ backs names requests else backs names requests) ≡ backs names (with_done (if t then Some back else None) requests)
-  at true = ap (λ (first : Asked). first ∷ backs names requests) (sym is.2) ∙ sym (backs_push names requests back)
+undo_kept names plan requests a (task.Sets k) (machine.Gets j op) is = absurd is
+undo_kept names plan requests a (task.Sets k) (machine.Sets j op undo) is = at (a.code == success) where
+  at : (t : Bool) → (if t then (words_of names).setting undo ∷ backs names requests.members else backs names requests.members) ≡ backs names (with_done t requests)
+  at true = waited names requests.members requests.waiting ((words_of names).setting undo) is.2
   at false = refl
-undo_kept names plan requests a (task.Sets k back) (machine.Undoes first rest) is = absurd is
+undo_kept names plan requests a (task.Sets k) (machine.Undoes first rest) is = absurd is
 undo_kept names plan requests a (task.Undoes k) (machine.Gets j op) is = absurd is
 undo_kept names plan requests a (task.Undoes k) (machine.Sets j op undo) is = absurd is
 undo_kept names plan requests a (task.Undoes k) (machine.Undoes first rest) is = refl
@@ -84,12 +91,12 @@ pub record TookReply (names : Names) (a : Answered) (old new : Manager) (sent : 
   pub stopped : new.stopped ≡ old.stopped
   pub resent : new.resent ≡ 0
   pub joined : new.joined ≡ old.joined
-  pub undo : new.undo.requests ≡ with_done (done_by r a.code) old.undo.requests
+  pub undo : new.undo.requests.members ≡ with_done (done_by r a.code) old.undo.requests
   pub counts : counts_of new.counts ≡ machine.one_answered (bus_of asked) (counts_of old.counts)
   pub sequence : new.undo.next.ipmb ≡ new.counts.ipmb % 64
   pub instance : new.undo.next.smbus ≡ new.counts.smbus % 32
   pub stage : (of : machine.Task (words_of names)) → IsTask names old.steps old.undo.requests r of
-      → IsStage names old.steps (with_done (done_by r a.code) old.undo.requests) new.stage (machine.stage_after (words_of names) old.stopped old.steps a of (machine.first_part (words_of names) of))
+      → IsStage names old.steps new.undo.requests new.stage (machine.stage_after (words_of names) old.stopped old.steps a of (machine.first_part (words_of names) of))
   pub sends : (at : machine.Stage (words_of names)) → new.names ≡ names → IsStage names new.steps new.undo.requests new.stage at
       → IsSent sent (option_map (sent_of (board_plans names) names) (machine.sends_at (words_of names) at (counts_of new.counts)))
 
@@ -102,12 +109,12 @@ took_task names s a old new sent r asked shows took of is asks =
     let part = machine.first_part M of in
     let counted : machine.one_answered (machine.bus_at M part) s.machine.counts ≡ counts_of new.counts =
     (λ i. machine.one_answered (bus_of (sym asks i)) (shows.counts i)) ∙ ap (λ (b : Bus). machine.one_answered b (counts_of old.counts)) (own_bus names asked) ∙ sym took.counts in
-    let kept : machine.undo_after M a of part s.machine.undo ≡ backs names new.undo.requests =
+    let kept : machine.undo_after M a of part s.machine.undo ≡ backs names new.undo.requests.members =
     ap (machine.undo_after M a of part) shows.undo ∙ undo_kept names old.steps old.undo.requests a r of is ∙ ap (backs names) (sym took.undo) in
     let next = machine.stage_after M s.machine.stopped s.machine.plan a of part in
     let at : IsStage names new.steps new.undo.requests new.stage next =
-    subst (λ (x : List Op × List Asked × machine.Stage M). IsStage names x.0 x.1 new.stage x.2)
-    (λ i. (sym took.plan i, sym took.undo i, machine.stage_after M (sym shows.stopped i) (sym shows.plan i) a of part)) (took.stage of is) in
+    subst (λ (x : List Op × machine.Stage M). IsStage names x.0 new.undo.requests new.stage x.1)
+    (λ i. (sym took.plan i, machine.stage_after M (sym shows.stopped i) (sym shows.plan i) a of part)) (took.stage of is) in
     enters_does names new (record s { machine = record s.machine { undo = machine.undo_after M a of part s.machine.undo; counts = machine.one_answered (machine.bus_at M part) s.machine.counts } }) next sent
     (record {
       named = took.named ∙ shows.named;

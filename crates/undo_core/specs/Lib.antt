@@ -1,5 +1,6 @@
 pub mod Counted
 pub mod Bounds
+pub mod Room
 pub mod Shown
 pub mod Exchange
 pub mod Course

@@ -1,10 +1,11 @@
 -- The machine that a manager shows, and the packets that wait at it.
-use Rattle.std.specs.Prelude.{◌≡◌, ◌≢◌, Result, Ok, Err, suc, ◌<◌, Bool, List, ◌∷◌, length, map, take, reverse, Option, Some, None, slice_get, if◌then◌else◌}
+use Rattle.std.specs.Prelude.{◌≡◌, ◌≢◌, Result, Ok, Err, suc, ◌<◌, Bool, List, ◌∷◌, length, map, take, reverse, Option, Some, None, option_map, slice_get, if◌then◌else◌}
 use Rattle.std.specs.List.{AllZip}
 use Rattle.two_wire.specs.declared.Bus.TheVariants.{Ipmb, Smbus}
 use Rattle.record_base.specs.declared.op.Op.{Op}
 use Rattle.record_base.specs.declared.message.Asked.{Asked}
 use Rattle.undo_plans.specs.declared.names.Names.{Names}
+use Rattle.undo_plans.specs.Requests.{RequestList}
 use Rattle.mctp_net.specs.Places.{seen}
 use Rattle.model_bus.specs.Answered.{Answered}
 use Rattle.model_undo.specs.Words.{Words}
@@ -41,15 +42,17 @@ AreOthers names (Some listed) = listed ≢ names
 abbrev pub backs : Names → List Asked → List Asked
 backs names requests = map (own names) (reverse requests)
 
--- a task of the manager is this task of the machine, of the plan, with these requests that undo
-abbrev pub IsTask : (names : Names) → List Op → List Asked → Task → machine.Task (words_of names) → Type 0
+-- A task of the manager is this task of the machine, of the plan, with these requests that undo. The request that undoes a step waits while the step
+-- is carried out.
+abbrev pub IsTask : (names : Names) → List Op → RequestList → Task → machine.Task (words_of names) → Type 0
 IsTask names plan requests (task.Gets step) (machine.Gets place op) = (place ≡ step) × (slice_get plan step ≡ Some op)
-IsTask names plan requests (task.Sets step back) (machine.Sets place op undo) = (place ≡ step) × (slice_get plan step ≡ Some op) × (own names back ≡ (words_of names).setting undo)
-IsTask names plan requests (task.Undoes step) (machine.Undoes first rest) = (step < length requests) × (backs names (take (suc step) requests) ≡ first ∷ rest)
+IsTask names plan requests (task.Sets step) (machine.Sets place op undo) =
+    (place ≡ step) × (slice_get plan step ≡ Some op) × (option_map (own names) requests.waiting ≡ Some ((words_of names).setting undo))
+IsTask names plan requests (task.Undoes step) (machine.Undoes first rest) = (step < length requests.members) × (backs names (take (suc step) requests.members) ≡ first ∷ rest)
 IsTask names plan requests _ _ = ⊥
 
 -- a stage of the manager is this stage of the machine
-abbrev pub IsStage : (names : Names) → List Op → List Asked → Stage → machine.Stage (words_of names) → Type 0
+abbrev pub IsStage : (names : Names) → List Op → RequestList → Stage → machine.Stage (words_of names) → Type 0
 IsStage names plan requests stage.AtStart machine.AtStart = Unit {0}
 IsStage names plan requests (stage.Opened heeded task asked) (machine.Opened heeds of part) =
     (heeds ≡ heeded) × IsTask names plan requests task of × (part ≡ machine.first_part (words_of names) of) × (own names asked ≡ part.asked)
@@ -61,11 +64,11 @@ IsStage names plan requests _ _ = ⊥
 
 -- this holds of each task of the machine that the task is
 abbrev pub ForTask : Task → ((names : Names) → machine.Task (words_of names) → Type 0) → Type 0
-ForTask task Holds = (names : Names) (plan : List Op) (requests : List Asked) (of : machine.Task (words_of names)) → IsTask names plan requests task of → Holds names of
+ForTask task Holds = (names : Names) (plan : List Op) (requests : RequestList) (of : machine.Task (words_of names)) → IsTask names plan requests task of → Holds names of
 
 -- this holds of each stage of the machine that the stage is
 abbrev pub ForStage : Stage → ((names : Names) → machine.Stage (words_of names) → Type 0) → Type 0
-ForStage stage Holds = (names : Names) (plan : List Op) (requests : List Asked) (at : machine.Stage (words_of names)) → IsStage names plan requests stage at → Holds names at
+ForStage stage Holds = (names : Names) (plan : List Op) (requests : RequestList) (at : machine.Stage (words_of names)) → IsStage names plan requests stage at → Holds names at
 
 -- the manager shows this machine, and these packets wait at it
 pub record Shows (names : Names) (manager : Manager) (state : ManagerState (board_plans names)) : Type 0 where
@@ -77,7 +80,7 @@ pub record Shows (names : Names) (manager : Manager) (state : ManagerState (boar
   pub stage : IsStage names manager.steps manager.undo.requests manager.stage state.machine.stage
   pub stopped : state.machine.stopped ≡ manager.stopped
   pub resent : state.machine.resent ≡ manager.resent
-  pub undo : state.machine.undo ≡ backs names manager.undo.requests
+  pub undo : state.machine.undo ≡ backs names manager.undo.requests.members
   pub counts : state.machine.counts ≡ counts_of manager.counts
   pub sequence : manager.undo.next.ipmb ≡ number_of Ipmb manager.counts.ipmb
   pub instance : manager.undo.next.smbus ≡ number_of Smbus manager.counts.smbus

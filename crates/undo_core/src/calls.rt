@@ -2,6 +2,7 @@
 ghost use Rattle.text_schedule.specs.declared.event.Call.TheVariants.{Start, Quiet, Stop, Again, Undo};
 ghost use Rattle.undo_core.specs.Shown.{Calls};
 
+use crate::entering::{step_stage, undo_stage};
 use crate::manager::Manager;
 use crate::sending::Sent;
 use crate::stage::Stage;
@@ -15,7 +16,7 @@ impl Manager {
         let Stage::AtStart = self.stage else {
             return Err(WrongPhase);
         };
-        self.stage = self.step_stage(false, 0);
+        self.stage = step_stage(&self.steps, false, 0);
         self.resent = 0;
         Ok(self.open_frames())
     }
@@ -74,7 +75,7 @@ impl Manager {
             return Err(WrongPhase);
         }
         self.joined.clear();
-        self.stage = self.undo_stage(self.undo.requests.len());
+        self.stage = undo_stage(&self.undo.requests, self.undo.requests.len());
         self.resent = 0;
         Ok(self.open_frames())
     }

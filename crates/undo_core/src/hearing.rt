@@ -1,18 +1,9 @@
 //! Frames that come to a manager.
-ghost use Rattle.std.specs.Prelude.{◌≡◌, ◌&&◌, not, ◌+◌, ◌-◌, ◌*◌, ◌≤◌, ◌<◌, ◌==◌, ℕ, suc, length, take, slice_get, List, Some, None, IfSome, false, if◌then◌else◌};
+ghost use Rattle.std.specs.Prelude.{◌≡◌, ◌&&◌, not, ◌≤◌, length, None, IfSome, false, if◌then◌else◌};
 ghost use Rattle.two_wire.specs.Sizes.{most_message_bytes};
-ghost use Rattle.two_wire.specs.Codes.{success};
-ghost use Rattle.record_base.specs.declared.op.Op.{Op};
-ghost use Rattle.record_base.specs.declared.message.Asked.{Asked as AnyAsked};
-ghost use Rattle.record_kinds.specs.Limits.{inverse};
 ghost use Rattle.undo_plans.specs.declared.names.Names.{Names};
-ghost use Rattle.undo_plans.specs.Steps.{most_steps};
-ghost use Rattle.model_undo.specs.declared.phase.Why.TheVariants.{Refused, GetRefused};
-ghost use Rattle.model_undo.specs.Machine as machine;
-ghost use Rattle.undo_core.specs.Shown.{words_of, own, backs, IsTask, IsStage};
-ghost use Rattle.undo_core.specs.Bounds.{task_steps, steps_needed, task_undone, undone_needed, task_backs, most_backs, task_left, replies_left, done_by, with_done};
+ghost use Rattle.undo_core.specs.Shown.{own, ForShown, DoesAs, Takes, taken_if};
 ghost use Rattle.model_undo.specs.Words.{is_busy as is_busy_code};
-ghost use Rattle.undo_core.specs.Shown.{ForShown, DoesAs, Takes, taken_if};
 ghost use Rattle.undo_core.specs.Course.{Hears, Comes};
 ghost use Rattle.two_wire.specs.declared.Bus.TheVariants.{Ipmb as IsIpmb, Smbus as IsSmbus};
 ghost use Rattle.model_bus.specs.Bytes.{ipmb_answers, pldm_answers};
@@ -24,26 +15,18 @@ ghost use Rattle.model_ports.specs.Wires.{bus_of as bus_of_request, bytes_of, an
 ghost use Rattle.model_ports.specs.Bytes.{response_bytes};
 ghost use Rattle.model_lab.specs.ManagerSteps.{board_plans, hears_response, is_answer as is_answer_of, rests, hears_packet, hears_reply, is_part as is_part_of, joins as joins_packet};
 
-use crate::Why;
+use crate::entering::{Reply, stage_after};
 use crate::manager::Manager;
 use crate::sending::{Sent, bus_of};
-use crate::stage::{Stage, Task};
-use cfg_records::{Asked, RecordKind};
+use crate::stage::Stage;
+use cfg_records::Asked;
 use ipmb_frame::{Msg, Response, Sequence, read_frame};
 use mctp_net::{Packet, Taken, read_packet};
 use model_bus::PLDM_MESSAGE_TYPE;
 use pldm_base::{Instance, PldmBytes, read_pldm_reply};
-use record_kinds::Limits;
 use two_wire::size::MOST_MESSAGE_BYTES;
-use two_wire::{Bus, Bytes, Code, code};
+use two_wire::{Bus, Bytes, code};
 use undo_plans::NextNumbers;
-
-/// A reply that passed the test against the open request.
-#[derive(Clone, Copy)]
-struct Reply<'a> {
-    code: u8,
-    body: &'a [u8],
-}
 
 impl Manager {
     /// Hears the bytes of a frame.
@@ -179,138 +162,22 @@ impl Manager {
         else {
             return None;
         };
-        let done = task.done(reply.code);
         let counts = self.counts.after(bus_of(asked));
-        self.stage = self.stage_after(task, reply);
+        let task = *task;
+        self.stage = stage_after(
+            &self.steps,
+            self.stopped,
+            &mut self.undo.requests,
+            task,
+            reply,
+        );
         self.resent = 0;
-        if let Some(request) = done {
-            self.undo.requests.push(request);
-        }
         self.counts = counts;
         self.undo.next = NextNumbers {
             ipmb: self.counts.sequence(),
             smbus: self.counts.instance(),
         };
         self.open_frames()
-    }
-
-    /// The stage after the reply to a task's request.
-    fn stage_after(&self, task: &Task, reply: Reply<'_>) -> Stage
-        requires steps { task_steps task.now ≤ length self.now.steps }
-        requires undone { task_undone task.now ≤ length self.now.undo.requests }
-        ensures stage { (names : Names) (of : machine.Task (words_of names))
-            → IsTask names self.now.steps self.now.undo.requests task.now of
-            → IsStage names self.now.steps
-            (with_done (done_by task.now reply.entry.code) self.now.undo.requests) result
-            (machine.stage_after (words_of names) self.now.stopped self.now.steps
-            (record { code = reply.entry.code; body = reply.entry.body.now }) of
-            (machine.first_part (words_of names) of)) }
-        ensures planned { steps_needed result ≤ length self.now.steps }
-        ensures kept { undone_needed result ≤ task_undone task.now }
-        ensures few { task_backs task.now ≤ most_backs result }
-        ensures more { (back : AnyAsked) → done_by task.now reply.entry.code ≡ Some back
-            → suc (task_backs task.now) ≤ most_backs result }
-        ensures room { (back : AnyAsked) → done_by task.now reply.entry.code ≡ Some back
-            → task_backs task.now < most_steps }
-        ensures left { (undone : ℕ) → suc (replies_left (length self.now.steps) undone result)
-            ≤ task_left (length self.now.steps) undone task.now }
-        ensures left_more { (undone : ℕ) (back : AnyAsked)
-            → done_by task.now reply.entry.code ≡ Some back
-            → suc (replies_left (length self.now.steps) (suc undone) result)
-            ≤ task_left (length self.now.steps) undone task.now }
-    {
-        match task {
-            Task::Gets(step) => self.after_get(*step, reply),
-            Task::Sets(step, _) => self.after_set(*step, reply.code),
-            Task::Undoes(step) => self.after_undo(*step, reply.code),
-        }
-    }
-
-    fn after_get(&self, step: usize, reply: Reply<'_>) -> Stage
-        requires { step < length self.now.steps }
-        ensures stage { (names : Names) (requests : List AnyAsked) (op : Op)
-            → slice_get self.now.steps step ≡ Some op
-            → IsStage names self.now.steps requests result (if reply.entry.code == success
-            then machine.set_stage (words_of names) self.now.stopped step op
-            (inverse op reply.entry.body.now)
-            else machine.AtHalt step (GetRefused reply.entry.code)) }
-        ensures planned { steps_needed result ≤ length self.now.steps }
-        ensures kept { undone_needed result ≡ 0 }
-        ensures few { step ≤ most_backs result }
-        ensures left { (undone : ℕ) → suc (replies_left (length self.now.steps) undone result)
-            ≤ 3 * (length self.now.steps - step) + undone }
-    {
-        let op = self.steps.get(step).unwrap();
-        if let Some(code) = Code::new(reply.code) {
-            return Stage::AtHalt(step, Why::GetRefused(code));
-        }
-        let Some(back) = Limits::inverse(&op, reply.body) else {
-            return Stage::AtHalt(step, Why::NotRestorable);
-        };
-        if self.stopped {
-            return Stage::AtHalt(step, Why::Stop);
-        }
-        self.set_stage(step, Limits::set_asked(&back))
-    }
-
-    /// The stage in which the step is carried out. The request undoes it.
-    fn set_stage(&self, step: usize, back: Asked) -> Stage
-        requires { step < length self.now.steps }
-        ensures stage { (names : Names) (requests : List AnyAsked) (op undo : Op)
-            → slice_get self.now.steps step ≡ Some op
-            → own names back ≡ (words_of names).setting undo
-            → IsStage names self.now.steps requests result
-            (machine.begun (words_of names) (machine.Sets step op undo)) }
-        ensures planned { steps_needed result ≡ suc step }
-        ensures kept { undone_needed result ≡ 0 }
-        ensures few { most_backs result ≡ step }
-        ensures left { (steps undone : ℕ)
-            → replies_left steps undone result ≡ 3 * (steps - step) - 1 + undone }
-    {
-        Stage::Opened {
-            heeded: true,
-            task: Task::Sets(step, back),
-            asked: Limits::set_asked(&self.steps.get(step).unwrap()),
-        }
-    }
-
-    fn after_set(&self, step: usize, code: u8) -> Stage
-        requires { step < length self.now.steps }
-        ensures stage { (names : Names) (requests : List AnyAsked)
-            → IsStage names self.now.steps requests result (if code == success
-            then machine.next_stage (words_of names) self.now.stopped (suc step)
-            (slice_get self.now.steps (suc step))
-            else machine.AtHalt step (Refused code)) }
-        ensures planned { steps_needed result ≤ length self.now.steps }
-        ensures kept { undone_needed result ≡ 0 }
-        ensures few { suc step ≤ most_backs result }
-        ensures room { step < most_steps }
-        ensures left { (undone : ℕ) → suc (suc (replies_left (length self.now.steps) undone result))
-            ≤ 3 * (length self.now.steps - step) - 1 + undone }
-    {
-        let _steps = self.steps.len();
-        match Code::new(code) {
-            Some(code) => Stage::AtHalt(step, Why::Refused(code)),
-            None => self.step_stage(self.stopped, step + 1),
-        }
-    }
-
-    fn after_undo(&self, step: usize, code: u8) -> Stage
-        requires { step < length self.now.undo.requests }
-        ensures stage { (names : Names) (plan : List Op)
-            → IsStage names plan self.now.undo.requests result (if code == success
-            then machine.undo_stage (words_of names)
-            (backs names (take step self.now.undo.requests))
-            else machine.AtRefused step code) }
-        ensures planned { steps_needed result ≡ 0 }
-        ensures kept { undone_needed result ≤ step }
-        ensures few { most_backs result ≡ most_steps }
-        ensures left { (steps undone : ℕ) → replies_left steps undone result ≤ step }
-    {
-        match Code::new(code) {
-            Some(code) => Stage::AtRefused(step, code),
-            None => self.undo_stage(step),
-        }
     }
 }
 

@@ -2,11 +2,13 @@
 #![tactic(auto)]
 
 mod calls;
+mod entering;
 mod hearing;
 pub mod laws;
 mod manager;
 mod opening;
 mod phase;
+mod room;
 mod sending;
 mod showing;
 mod stage;

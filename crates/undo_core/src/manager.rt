@@ -1,6 +1,7 @@
 //! A manager.
 ghost use Rattle.std.specs.Prelude.{◌+◌, ◌≤◌, length};
-ghost use Rattle.undo_core.specs.Bounds.{steps_needed, undone_needed, most_backs, replies_left, most_replies};
+ghost use Rattle.undo_core.specs.Bounds.{steps_needed, undone_needed, most_backs, replies_left, most_replies, steps_ahead};
+ghost use Rattle.undo_core.specs.Room.{HasRoom};
 
 use crate::sending::Counts;
 use crate::stage::Stage;
@@ -44,8 +45,9 @@ pub struct Manager {
     /// The packets that wait.
     pub(crate) joined: Assembler,
     ghost planned: { steps_needed stage ≤ length steps },
-    ghost kept: { undone_needed stage ≤ length undo.requests },
-    ghost few: { length undo.requests ≤ most_backs stage },
+    ghost kept: { undone_needed stage ≤ length undo.requests.members },
+    ghost few: { length undo.requests.members ≤ most_backs stage },
     ghost counted: { counts.ipmb + counts.smbus
-        + replies_left (length steps) (length undo.requests) stage ≤ most_replies },
+        + replies_left (length steps) (length undo.requests.members) stage ≤ most_replies },
+    ghost roomy: { HasRoom (steps_ahead steps stage) undo.requests },
 }

@@ -8,12 +8,13 @@ ghost use Rattle.undo_core.specs.Shown.{words_of, backs, AreOthers, Shows};
 
 use crate::Why;
 use crate::manager::{Manager, OpenFault, ResumeFault};
+use crate::room::room_for;
 use crate::sending::Counts;
 use crate::stage::Stage;
 use mctp_net::Assembler;
 use std::alloc::Global;
 use two_wire::{Below, MOST_RETRIES, Retries};
-use undo_plans::{Names, NextNumbers, Plan, Requests, Steps, UndoList};
+use undo_plans::{Names, NextNumbers, Plan, Steps, UndoList};
 
 impl Manager {
     /// A manager of a plan, which it hasn't begun.
@@ -36,10 +37,10 @@ impl Manager {
         let Ok(joined) = Assembler::new(alloc) else {
             return Err(OpenFault::Memory);
         };
-        let Ok(requests) = Requests::new(alloc) else {
+        let Plan { steps, .. } = plan;
+        let Ok(requests) = room_for(alloc, &steps) else {
             return Err(OpenFault::Memory);
         };
-        let Plan { steps, .. } = plan;
         Ok(Manager {
             steps,
             retries,
@@ -69,7 +70,7 @@ impl Manager {
             ↔ ((retries ≤ most_retries) × AreOthers names undo.names) }
         ensures resumed { IfOk result (λ m. Shows names m (record {
           machine = resumed (words_of names) retries (record {
-            series = backs names undo.requests;
+            series = backs names undo.requests.members;
             next = record { ipmb = undo.next.ipmb; smbus = undo.next.smbus };
           });
           names = names;

@@ -1,10 +1,8 @@
-//! Where a manager is, and the stages that it enters.
-ghost use Rattle.std.specs.Prelude.{◌≡◌, ◌+◌, ◌-◌, ◌*◌, ◌≤◌, length, Some, ℕ};
-ghost use Rattle.std.specs.Prelude.{List, take, slice_get, option_map};
+//! Where a manager is.
+ghost use Rattle.std.specs.Prelude.{◌≡◌, List, option_map};
 ghost use Rattle.record_base.specs.declared.op.Op.{Op};
-ghost use Rattle.record_base.specs.declared.message.Asked.{Asked as AnyAsked};
 ghost use Rattle.undo_plans.specs.declared.names.Names.{Names as AnyNames};
-ghost use Rattle.undo_plans.specs.Steps.{most_steps};
+ghost use Rattle.undo_plans.specs.Requests.{RequestList};
 ghost use Rattle.two_wire.specs.declared.Bus.TheVariants.{Ipmb, Smbus};
 ghost use Rattle.model_undo.specs.Machine as machine;
 ghost use Rattle.model_undo.specs.Wires.{number_of};
@@ -12,14 +10,10 @@ ghost use Rattle.model_lab.specs.ManagerSteps.{board_plans, sent_of};
 ghost use Rattle.model_lab.specs.Faults.{begun_on};
 ghost use Rattle.undo_core.specs.Counted.{counts_of};
 ghost use Rattle.undo_core.specs.Shown.{words_of, backs, IsStage, ForShown, IsSent};
-ghost use Rattle.undo_core.specs.Bounds.{steps_needed, undone_needed, most_backs, replies_left};
 
 use crate::manager::Manager;
+use crate::Phase;
 use crate::sending::{Sent, bus_of, frames_of};
-use crate::stage::{Stage, Task};
-use crate::{Phase, Why};
-use cfg_records::RecordKind;
-use record_kinds::Limits;
 use two_wire::Bus;
 use undo_plans::UndoList;
 
@@ -69,7 +63,7 @@ impl Manager {
     /// went on from a list, those of that list.
     pub fn undo_list(&self) -> &UndoList
         ensures requests { ForShown self.now (λ names s.
-            backs names result.now.requests ≡ s.machine.undo) }
+            backs names result.now.requests.members ≡ s.machine.undo) }
         ensures sequence { ForShown self.now (λ names s.
             result.now.next.ipmb ≡ number_of Ipmb s.machine.counts.ipmb) }
         ensures instance { ForShown self.now (λ names s.
@@ -81,7 +75,7 @@ impl Manager {
 
     /// The frames of the open request.
     pub(crate) fn open_frames(&self) -> Option<Sent>
-        ensures { (names : AnyNames) (plan : List Op) (requests : List AnyAsked)
+        ensures { (names : AnyNames) (plan : List Op) (requests : RequestList)
             (at : machine.Stage (words_of names)) → self.now.names ≡ names
             → IsStage names plan requests self.now.stage at
             → IsSent result (option_map (sent_of (board_plans names) names)
@@ -89,56 +83,5 @@ impl Manager {
     {
         let asked = self.stage.open()?;
         Some(frames_of(&self.names, self.counts, asked))
-    }
-
-    /// The stage of a step: its Get, or the plan's end, or a halt before it.
-    pub(crate) fn step_stage(&self, stopped: bool, step: usize) -> Stage
-        requires { step ≤ length self.now.steps }
-        ensures stage { (names : AnyNames) (requests : List AnyAsked)
-            → IsStage names self.now.steps requests result
-            (machine.next_stage (words_of names) stopped step (slice_get self.now.steps step)) }
-        ensures planned { steps_needed result ≤ length self.now.steps }
-        ensures kept { undone_needed result ≡ 0 }
-        ensures few { step ≤ most_backs result }
-        ensures left { (undone : ℕ) → replies_left (length self.now.steps) undone result
-            ≤ 3 * (length self.now.steps - step) + undone }
-    {
-        match self.steps.get(step) {
-            None => Stage::AtEnd,
-            Some(op) => {
-                if stopped {
-                    return Stage::AtHalt(step, Why::Stop);
-                }
-                Stage::Opened {
-                    heeded: true,
-                    task: Task::Gets(step),
-                    asked: Limits::get_asked(&Limits::key(&op)),
-                }
-            }
-        }
-    }
-
-    /// The stage in which this many steps are still to be undone.
-    pub(crate) fn undo_stage(&self, left: usize) -> Stage
-        requires { left ≤ length self.now.undo.requests }
-        ensures stage { (names : AnyNames) (plan : List Op)
-            → IsStage names plan self.now.undo.requests result
-            (machine.undo_stage (words_of names) (backs names (take left self.now.undo.requests))) }
-        ensures planned { steps_needed result ≡ 0 }
-        ensures kept { undone_needed result ≤ left }
-        ensures few { most_backs result ≡ most_steps }
-        ensures left { (steps undone : ℕ) → replies_left steps undone result ≤ left }
-    {
-        if left == 0 {
-            return Stage::AtUndone;
-        }
-        match self.undo.requests.get(left - 1) {
-            None => Stage::AtUndone,
-            Some(request) => Stage::Opened {
-                heeded: true,
-                task: Task::Undoes(left - 1),
-                asked: request.copy(),
-            },
-        }
     }
 }

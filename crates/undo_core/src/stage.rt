@@ -6,7 +6,6 @@ ghost use Rattle.model_undo.specs.declared.phase.Why.{Why as AnyWhy};
 ghost use Rattle.record_base.specs.declared.message.Asked.{Asked as AnyAsked};
 ghost use Rattle.model_undo.specs.Machine as machine;
 ghost use Rattle.undo_core.specs.Shown.{words_of, ForTask, ForStage};
-ghost use Rattle.undo_core.specs.Bounds.{done_by};
 
 use crate::sending::bus_of;
 use crate::{Phase, Why};
@@ -14,12 +13,12 @@ use cfg_records::Asked;
 use two_wire::{Bus, Code};
 
 /// One step of the way there or back.
-#[derive(Debug, Drop)]
+#[derive(Clone, Copy, Debug)]
 pub enum Task {
     /// It gets the record that the step changes.
     Gets(usize),
-    /// It carries the step out. The request undoes it.
-    Sets(usize, Asked),
+    /// It carries the step out. The request that undoes it waits.
+    Sets(usize),
     /// It undoes the step.
     Undoes(usize),
 }
@@ -46,17 +45,7 @@ impl Task {
         ensures { ForTask self.now (λ names of. result ≡ machine.task_step (words_of names) of) }
     {
         match self {
-            Task::Gets(step) | Task::Sets(step, _) | Task::Undoes(step) => *step,
-        }
-    }
-
-    /// The request that undoes the step which this completion code acknowledges.
-    pub(crate) fn done(&self, code: u8) -> Option<Asked>
-        ensures { result ≡ done_by self.now code }
-    {
-        match self {
-            Task::Sets(_, back) if code == 0 => Some(back.copy()),
-            _ => None,
+            Task::Gets(step) | Task::Sets(step) | Task::Undoes(step) => *step,
         }
     }
 
@@ -66,7 +55,7 @@ impl Task {
     {
         match self {
             Task::Gets(step) => Phase::Getting(*step),
-            Task::Sets(step, _) => Phase::Setting(*step),
+            Task::Sets(step) => Phase::Setting(*step),
             Task::Undoes(step) => Phase::Undoing(*step),
         }
     }

@@ -1,12 +1,12 @@
 //! A manager, and the lines of what comes to it.
-use record_base::{Asked, Op, SetThresholds};
+use record_base::{Op, SetThresholds};
 use std::alloc::{AllocError, Global};
 use std::fmt::Debug;
 use std::process::Abort;
 use story_lines::{NoOutcome, NoScene, Scene, report_of};
-use two_wire::{Address, Below, Bus, Bytes, Retries};
+use two_wire::{Address, Below, Bus, Data, Retries};
 use undo_core::{Manager, OpenFault, ResumeFault, Sent, WrongPhase};
-use undo_plans::{Names, NextNumbers, Plan, Requests, Steps, UndoList};
+use undo_plans::{Names, NextNumbers, Plan, Requests, Steps, UndoList, UndoRequest};
 
 pub fn names() -> Names {
     Names {
@@ -59,19 +59,17 @@ fn content() -> [u8; 70] {
 
 /// A list of two requests over SMBus, of which the last, and so the next, is request 31.
 pub fn list(alloc: Global) -> Result<UndoList, AllocError> {
-    let mut requests = Requests::new(alloc)?;
-    requests.push(Asked::Pldm {
-        from: 0,
+    let mut requests = Requests::open(alloc, 0, 0)?;
+    requests.add(&UndoRequest::Pldm {
         kind: Below::new(2),
         command: 0x39,
-        body: Bytes::from_slice(&[5, 0, 1, 1, 2]),
-    });
-    requests.push(Asked::Pldm {
-        from: 0,
+        body: Data::new(&[5, 0, 1, 1, 2]),
+    })?;
+    requests.add(&UndoRequest::Pldm {
         kind: Below::new(3),
         command: 0x07,
-        body: Bytes::from_slice(&content()),
-    });
+        body: Data::new(&content()),
+    })?;
     let next = NextNumbers {
         ipmb: Below::new(4),
         smbus: Below::new(31),

@@ -11,7 +11,7 @@ use text_lines::{behind, byte, bytes, first_line, first_word, number, plain_numb
 use text_readings::read_readings;
 use text_schedule::read_schedule;
 use text_undo::{push_requests, read_undo, write_undo};
-use undo_plans::{Plan, Requests};
+use undo_plans::{Plan, Requests, UndoRequest};
 
 /// What a text is of.
 #[derive(Clone, Copy)]
@@ -108,9 +108,9 @@ fn cut(alloc: Global, parts: Option<(&str, &str)>) -> Result<Came, AllocError> {
 }
 
 /// Adds the line of a step's request, as an undo text has it.
-fn push_step(alloc: Global, text: &mut String, step: &Op<'_>) -> Result<(), AllocError> {
-    let mut requests = Requests::new(alloc)?;
-    requests.push(Limits::set_asked(step));
+fn push_step(alloc: Global, text: &mut String, step: &Op) -> Result<(), AllocError> {
+    let mut requests = Requests::open(alloc, 0, 0)?;
+    requests.add(&UndoRequest::of(&Limits::set_asked(step)))?;
     push_requests(alloc, text, &requests)
 }
 
@@ -147,6 +147,26 @@ fn came_of_undo(alloc: Global, text: &str) -> Result<Came, AllocError> {
     }
 }
 
+/// An undo text shows its list: each request in the order of the steps, the numbers and the names.
+fn came_of_list(alloc: Global, text: &str) -> Result<Came, AllocError> {
+    match read_undo(alloc, text) {
+        Ok(list) => {
+            let mut told = String::new(alloc);
+            for place in 0..list.requests.len() {
+                let request = list.requests.get(place).ok_or(AllocError)?;
+                write!(told, "{request:?}, ")?;
+            }
+            let (next, names) = (list.next, list.names);
+            write!(told, "{next:?}, {names:?}")?;
+            Ok(Came {
+                is_read: true,
+                text: told,
+            })
+        }
+        Err(fault) => refused(alloc, &fault),
+    }
+}
+
 /// The texts of a play, with `---` between them, show what Rust writes of them.
 fn came_of_play(alloc: Global, text: &str) -> Result<Came, AllocError> {
     let (board, others) = text.split_once("---\n").unwrap_or((text, ""));
@@ -171,7 +191,7 @@ pub fn came_of(alloc: Global, form: Form, text: &str) -> Result<Came, AllocError
         Form::Board => shown(alloc, read_board(alloc, text)),
         Form::Plan => came_of_plan(alloc, text),
         Form::Undo => came_of_undo(alloc, text),
-        Form::List => shown(alloc, read_undo(alloc, text)),
+        Form::List => came_of_list(alloc, text),
         Form::Schedule => shown(alloc, read_schedule(alloc, text)),
         Form::Readings => shown(alloc, read_readings(alloc, text)),
         Form::Play => came_of_play(alloc, text),

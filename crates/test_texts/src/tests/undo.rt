@@ -18,7 +18,7 @@ file list
 + next ipmb 4 smbus 0
 + ipmb 10260530000000005A6E
 + ipmb 10260518000000505F00
-=> UndoList { requests: Requests { items: [Ipmi { from: 0, net_fn: NetFn { number: 4 }, lun: Below { number: 0 }, command: 38, body: Bytes { items: [5, 24, 0, 0, 0, 80, 95, 0] } }, Ipmi { from: 0, net_fn: NetFn { number: 4 }, lun: Below { number: 0 }, command: 38, body: Bytes { items: [5, 48, 0, 0, 0, 0, 90, 110] } }] }, next: NextNumbers { ipmb: Below { number: 4 }, smbus: Below { number: 0 } }, names: None }
+=> Ipmi { net_fn: NetFn { number: 4 }, lun: Below { number: 0 }, command: 38, body: Data { bytes: [5, 24, 0, 0, 0, 80, 95, 0] } }, Ipmi { net_fn: NetFn { number: 4 }, lun: Below { number: 0 }, command: 38, body: Data { bytes: [5, 48, 0, 0, 0, 0, 90, 110] } }, NextNumbers { ipmb: Below { number: 4 }, smbus: Below { number: 0 } }, None
 
 # A text of version 2 has the names in line 3. Of its prefixes those are read that end behind lines 3, 4 and 5.
 file undo
@@ -34,7 +34,7 @@ file list
 + undo 2
 + next ipmb 4 smbus 0
 + names ipmb 2C 20 smbus 30 22 eid 08 0A
-=> UndoList { requests: Requests { items: [] }, next: NextNumbers { ipmb: Below { number: 4 }, smbus: Below { number: 0 } }, names: Some(Names { own_address: Address { byte: 44 }, peer_address: Address { byte: 32 }, own_wire: Address { byte: 48 }, peer_wire: Address { byte: 34 }, own_eid: 8, peer_eid: 10 }) }
+=> NextNumbers { ipmb: Below { number: 4 }, smbus: Below { number: 0 } }, Some(Names { own_address: Address { byte: 44 }, peer_address: Address { byte: 32 }, own_wire: Address { byte: 48 }, peer_wire: Address { byte: 34 }, own_eid: 8, peer_eid: 10 })
 
 file undo
 # The first bad line is named.

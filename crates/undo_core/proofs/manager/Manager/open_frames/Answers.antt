@@ -26,7 +26,7 @@ own_sent : (names : Names) (counts : Counts) (a : Asked) → sent_with names cou
 own_sent names counts (Ipmi from net_fn lun command body) = refl
 own_sent names counts (Pldm from kind command body) = refl
 
-open_sent : (names : Names) (plan : List Op) (requests : List Asked) (counts : Counts) (r : Sent) (heeded : Bool) (task : Task) (asked : Asked) (at : machine.Stage (words_of names))
+open_sent : (names : Names) (plan : List Op) (requests : RequestList) (counts : Counts) (r : Sent) (heeded : Bool) (task : Task) (asked : Asked) (at : machine.Stage (words_of names))
     → IsStage names plan requests (stage.Opened heeded task asked) at → IsSent (Some r) (Some (sent_with names counts asked))
     → IsSent (Some r) (option_map (sent_of (board_plans names) names) (machine.sends_at (words_of names) at counts))
 open_sent names plan requests counts r heeded task asked at is sent =

@@ -16,8 +16,8 @@ pub returns : goal.returns
 returns c names s shows =
     let requests = c.args.self.now.undo.requests in
     let t = machine.undo_stage (words_of names) s.machine.undo in
-    let all : backs names (take c.len.result requests) ≡ s.machine.undo =
-    ap (λ (n : ℕ). backs names (take n requests)) c.len.ensures.value ∙ ap (backs names) (take-length requests) ∙ sym shows.undo in
+    let all : backs names (take c.len.result requests.members) ≡ s.machine.undo =
+    ap (λ (n : ℕ). backs names (take n requests.members)) c.len.ensures.value ∙ ap (backs names) (take-length requests.members) ∙ sym shows.undo in
     let at : IsStage names c.args.self.now.steps requests c.undo_stage-self.result t =
     subst (λ (xs : List Asked). IsStage names c.args.self.now.steps requests c.undo_stage-self.result (machine.undo_stage (words_of names) xs)) all
     (c.undo_stage-self.ensures.stage names c.args.self.now.steps) in

@@ -1,0 +1,31 @@
+use Rattle.std.proofs.Common.{rules, ◌≡◌, ◌==◌, Some, if◌then◌else◌, false, sym, ◌∙◌, ap, subst, length}
+use Rattle.std.specs.Prelude.{slice_get}
+use Rattle.std.specs.Option.{option_map}
+use Rattle.std.proofs.lemmas.Option.{slice_get_read}
+use Rattle.two_wire.specs.Codes.{success}
+use Rattle.record_base.specs.declared.op.Op.{Op}
+use Rattle.record_base.specs.declared.message.Asked.{Asked}
+use Rattle.record_kinds.specs.Limits.{inverse}
+use Rattle.undo_plans.specs.Requests.{data_of, meant}
+use Rattle.model_undo.specs.declared.phase.Why.TheVariants.{GetRefused}
+use Rattle.model_undo.specs.Machine as machine
+use Rattle.undo_core.specs.Shown.{words_of, own, IsStage}
+use Rattle.undo_core.proofs.Backs.{same_read}
+use Rattle.undo_core.proofs.Room.{own_from_nobody, written, place_for, bytes_for_one, room_left}
+use Rattle.undo_core.proofs.entering.after_get.Goals as goal
+
+pub returns-clause-stage : goal.returns-clause-stage
+returns-clause-stage c names op there =
+    let zero : c.args.reply.code ≡ 0 = search rules in
+    let is_op : c.index-as_slice-step.result ≡ op = same_read c.as_slice.result.now c.args.steps.now c.args.step c.index-as_slice-step.result op c.as_slice.ensures.value c.index-as_slice-step.is there in
+    let made : inverse op c.args.reply.body.now ≡ Some c.in-Some-inverse.back = ap (λ (o : Op). inverse o c.args.reply.body.now) (sym is_op) ∙ sym c.in-Some-inverse.ensures in
+    let goes : c.args.stopped ≡ false = search rules in
+    let undo = c.in-Some-inverse.back in
+    let waits : option_map (own names) c.prepare.new.self.waiting ≡ Some ((words_of names).setting undo) =
+    ap (option_map (own names)) c.prepare.ensures.waiting
+    ∙ ap (λ (a : Asked). Some a) (ap (own names) c.of.ensures.request ∙ own_from_nobody names c.set_asked-asked.result ∙ ap (own names) c.set_asked-asked.ensures) in
+    let here = c.set_stage.ensures.stage names c.prepare.new.self op undo there waits in
+    let same : (if c.args.reply.code == success then machine.set_stage (words_of names) c.args.stopped c.args.step op (inverse op c.args.reply.body.now) else machine.AtHalt c.args.step (GetRefused c.args.reply.code))
+    ≡ machine.begun (words_of names) (machine.Sets c.args.step op undo) =
+    λ i. if zero i == success then machine.set_stage (words_of names) (goes i) c.args.step op (made i) else machine.AtHalt c.args.step (GetRefused (zero i)) in
+    subst (IsStage names c.args.steps.now c.prepare.new.self c.set_stage.result) (sym same) here

@@ -1,0 +1,37 @@
+//! How much room the requests need that undo a plan.
+ghost use Rattle.std.specs.Prelude.{◌≡◌, [], IfOk};
+ghost use Rattle.undo_core.specs.Room.{most_data, data_for, HasRoom};
+
+use cfg_records::Op;
+use std::alloc::{AllocError, Global};
+use two_wire::size::MOST_IPMI_REQUEST_DATA;
+use undo_plans::{MOST_UNDO_DATA, Requests, Steps};
+
+/// The most bytes of data of a request that undoes an operation of this kind.
+fn most_bytes(op: &Op) -> usize
+    ensures { result ≡ most_data op.now }
+{
+    match op {
+        Op::BiosAttribute(_) => MOST_UNDO_DATA,
+        _ => MOST_IPMI_REQUEST_DATA,
+    }
+}
+
+/// The most bytes of data of all requests that undo these steps.
+fn bytes_for(steps: &Steps) -> usize
+    ensures { result ≡ data_for steps.now }
+{
+    let mut bytes = 0;
+    for op in steps.as_slice() {
+        bytes += most_bytes(op);
+    }
+    bytes
+}
+
+/// No request, with the room for those that undo these steps.
+pub(crate) fn room_for(alloc: Global, steps: &Steps) -> Result<Requests, AllocError>
+    ensures members { IfOk result (λ requests. requests.members ≡ []) }
+    ensures room { IfOk result (λ requests. HasRoom steps.now requests) }
+{
+    Requests::open(alloc, steps.as_slice().len(), bytes_for(steps))
+}
