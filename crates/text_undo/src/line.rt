@@ -1,7 +1,7 @@
 //! The lines of an undo text.
 ghost use Rattle.std.specs.Prelude.{◌≡◌, ◌≢◌, ◌++◌, ◌∷◌, [], ◌<◌, ◌≤◌, ℕ, List, true, false, None, IfOk, IfSome, IfNone, OnOk, Ok, MatchOption, length, codes, string_bytes};
 ghost use Rattle.std.specs.Fmt.{decimal};
-ghost use Rattle.hex.specs.Hex.{IsBytes, decode_of, encode_upper};
+ghost use Rattle.hex.specs.Hex.{IsBytes, encode_upper};
 ghost use Rattle.text_lines.specs.Cuts.{ended};
 ghost use Rattle.record_base.specs.declared.message.Asked.{Asked as AnyAsked};
 ghost use Rattle.undo_plans.specs.declared.undo_list.NextNumbers.{NextNumbers as AnyNumbers};

@@ -1,6 +1,6 @@
 pub mod Written
 pub mod Backs
-pub mod Room
+pub mod Rooms
 pub mod Calling
 pub mod Replies
 pub mod Heard

@@ -1,12 +1,12 @@
 -- Requests whose data lie one behind another.
 use Rattle.std.specs.Prelude.{All, map, slice_range}
 use Rattle.std.proofs.Common.{◌≡◌, ◌≤◌, ℕ, List, [], ◌∷◌, ◌+◌, ◌-◌, ◌++◌, length, take, drop, refl, sym, ◌∙◌, ap, subst, arith}
-use Rattle.std.proofs.lemmas.List.{length-append, length-drop, length-take-le, take_all, take-append-le, take-append-drop, drop-append-le}
+use Rattle.std.proofs.lemmas.List.{length-drop, length-take-le, take_all, take-append-le, take-append-drop, drop-append-le}
 use Rattle.std.proofs.lemmas.List.Elements.{All-head, All-tail}
 use Rattle.std.proofs.Math.Seq.{drop-append_seam}
 use Rattle.undo_plans.specs.declared.undo_request.Head.{Head}
 use Rattle.undo_plans.specs.declared.undo_request.Mark.{Mark}
-use Rattle.undo_plans.specs.Requests.{most_data, request_of, request_at, Lies}
+use Rattle.undo_plans.specs.Requests.{request_of, request_at, Lies}
 
 -- what lies among the first bytes stays there
 range_stays : (from to : ℕ) (xs ys : List ℕ) → from ≤ to → to ≤ length xs → slice_range (xs ++ ys) from to ≡ slice_range xs from to
@@ -47,18 +47,3 @@ pub request_added : (head : Head) (kept : ℕ) (xs body : List ℕ) → kept ≤
 request_added head kept xs body there =
     let short : length (take kept xs) ≡ kept = length-take-le kept xs there in
     ap (request_of head) (subst (λ (n : ℕ). slice_range (take kept xs ++ body) n (n + length body) ≡ body) short (range_added (take kept xs) body))
-
--- and they lie there
-pub lies_added : (head : Head) (kept : ℕ) (xs body : List ℕ) → kept ≤ length xs → length body ≤ most_data head → Lies (length (take kept xs ++ body)) (mark_behind head kept body)
-lies_added head kept xs body there short = record {
-  rising = omega arith;
-  within = omega (arith, length-append (take kept xs) body, length-take-le kept xs there);
-  short = omega (arith, short);
-}
-
--- a mark lies among more bytes
-lies_more : (n m : ℕ) (mark : Mark) → n ≤ m → Lies n mark → Lies m mark
-lies_more n m mark more lies = record { rising = lies.rising; within = omega (arith, lies.within, more); short = lies.short }
-
-pub all_lie : (n m : ℕ) (marks : List Mark) → n ≤ m → All (Lies n) marks → All (Lies m) marks
-all_lie n m marks more all k d below = lies_more n m _ more (all k d below)

@@ -1,5 +1,5 @@
 //! A request that undoes a step, where it lies.
-ghost use Rattle.std.specs.Prelude.{◌≡◌, ◌≤◌, length, slice_range};
+ghost use Rattle.std.specs.Prelude.{◌≡◌, ◌≤◌, length};
 ghost use Rattle.undo_plans.specs.Requests.{meant, data_of, from_nobody, most_of, most_data, request_of, request_at, Lies};
 
 use record_base::Asked;

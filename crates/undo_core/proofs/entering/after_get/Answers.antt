@@ -11,7 +11,7 @@ use Rattle.model_undo.specs.declared.phase.Why.TheVariants.{GetRefused}
 use Rattle.model_undo.specs.Machine as machine
 use Rattle.undo_core.specs.Shown.{words_of, own, IsStage}
 use Rattle.undo_core.proofs.Backs.{same_read}
-use Rattle.undo_core.proofs.Room.{own_from_nobody, written, place_for, bytes_for_one, room_left}
+use Rattle.undo_core.proofs.Rooms.{own_from_nobody, written, place_for, bytes_for_one, room_left}
 use Rattle.undo_core.proofs.entering.after_get.Goals as goal
 
 pub returns-clause-stage : goal.returns-clause-stage
