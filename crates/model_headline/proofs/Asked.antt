@@ -181,7 +181,7 @@ module _ (setup : BoardFile) (names : Names) (plan : List Op) (start : Records) 
     other_asks quiet another = record {
       happenings = OnBus Ipmb asks (left_by done given.1 x.board) ∷ [];
       left = update (L setup names) Ipmb other_on on;
-      may = (((tt, another), refl, records_stay done quiet), tt);
+      may = (((tt, another), refl, (records_stay done quiet, λ series bodies ready. ready)), tt);
       reaches = refl;
       gives = tt;
       tied = port_tied ToOthers 0 done other_on

@@ -275,7 +275,7 @@ module _ (setup : BoardFile) (names : Names) (plan : List Op) (start : Records) 
         record {
           happenings = OnBus Smbus Clears x.board ∷ Undo ∷ [];
           left = now;
-          may = (((tt, tt), refl, refl), (tt, tt));
+          may = (((tt, tt), refl, (refl, λ series bodies ready. ready)), (tt, tt));
           reaches = ap (λ o. world.opens (F setup names) (L setup names) (W setup names) o w) (ap (λ s. undoes (words setup names) s machine) (sym at) ∙ is)
               ∙ same_world setup names sent y now ∙ ap (λ z. world_of setup names z now) (sym same);
           gives = tt;

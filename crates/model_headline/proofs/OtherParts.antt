@@ -290,7 +290,7 @@ module _ (setup : BoardFile) (names : Names) where
       went = record {
         happenings = OnBus Smbus event x.board ∷ [];
         left = update (L setup names) Smbus (packet_happens b ends event) on;
-        may = (((tt, another), refl, refl), tt);
+        may = (((tt, another), refl, (refl, λ series bodies ready. ready)), tt);
         reaches = refl;
         tied = tied_at (packet_happens b ends event) is (asks_stays (other_request (name_in p) taken.0) taken.1);
       };
@@ -302,7 +302,7 @@ module _ (setup : BoardFile) (names : Names) where
       went = record {
         happenings = OnBus Smbus (Closes (name_in p)) x.board ∷ [];
         left = update (L setup names) Smbus (packet_happens b ends (Closes (name_in p))) on;
-        may = (((tt, tt), refl, refl), tt);
+        may = (((tt, tt), refl, (refl, λ series bodies ready. ready)), tt);
         reaches = refl;
         tied = tied_at (packet_happens b ends (Closes (name_in p))) is (record { manager = refl; taken = refl; written = tied.written Smbus; more = λ n f at. at; mine = set_beside [] });
       };

@@ -53,7 +53,7 @@ module _ (setup : BoardFile) (names : Names) (plan : List Op) (start : Records) 
     ipmb_idles requester honest = record {
       happenings = OnBus Ipmb (IsIdle requester) x.board ∷ [];
       left = update (L setup names) Ipmb (idle_ipmb requester) on;
-      may = (((tt, λ e. closed_on Ipmb (honest (e ∙ ap (λ n. n.own_address) (sym tied.named)))), refl, refl), tt);
+      may = (((tt, λ e. closed_on Ipmb (honest (e ∙ ap (λ n. n.own_address) (sym tied.named)))), refl, (refl, λ series bodies ready. ready)), tt);
       reaches = refl;
       gives = tt;
       tied = record {
@@ -81,7 +81,7 @@ module _ (setup : BoardFile) (names : Names) (plan : List Op) (start : Records) 
     smbus_idles requester honest = record {
       happenings = OnBus Smbus (Plain (IsIdle requester)) x.board ∷ [];
       left = update (L setup names) Smbus (record (on Smbus) { bus = idle_smbus requester }) on;
-      may = (((tt, (tt, λ e. closed_on Smbus (honest (e ∙ ap (λ n. n.own_eid) (sym tied.named))))), refl, refl), tt);
+      may = (((tt, (tt, λ e. closed_on Smbus (honest (e ∙ ap (λ n. n.own_eid) (sym tied.named))))), refl, (refl, λ series bodies ready. ready)), tt);
       reaches = refl;
       gives = tt;
       tied = record {

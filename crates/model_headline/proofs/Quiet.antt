@@ -217,7 +217,7 @@ module _ (setup : BoardFile) (names : Names) (plan : List Op) (start : Records) 
     no_slot e = finish quiet (sym (deed_is (Some NoSlot) e)) (record {
       happenings = OnBus Smbus (Closes (name_in p)) x.board ∷ [];
       left = now (waits_as (set_at (name_in p) [] ends.port));
-      may = (((tt, tt), refl, refl), tt);
+      may = (((tt, tt), refl, (refl, λ series bodies ready. ready)), tt);
       reaches = refl;
       gives = tt;
       tied = leaves_tied quiet (waits_as (set_at (name_in p) [] ends.port))

@@ -25,7 +25,7 @@ use Rattle.model_undo.specs.declared.phase.Phase.TheVariants.{Fresh, Getting, Se
 use Rattle.model_undo.specs.Plan.{IsAfter, Halts}
 use Rattle.model_undo.specs.Giving.{Giving, given_in, GaveIn as Gave, CausedIn}
 use Rattle.model_undo.proofs.Giving.{halts_by_answers}
-use Rattle.model_undo.proofs.Single.{OneAnswer, one_of, one_answer}
+use Rattle.model_undo.proofs.Single.{one_of, one_answer}
 use Rattle.model_undo.specs.Machine.{count_of, phase_of}
 use Rattle.model_undo.specs.World as world
 use Rattle.model_undo.specs.World.{States, World, Happening}
