@@ -1,4 +1,4 @@
-use Rattle.std.proofs.Common.{rules, ◌≡◌, ◌==◌, Some, if◌then◌else◌, false, sym, ◌∙◌, ap, subst, length}
+use Rattle.std.proofs.Common.{rules, ◌≡◌, ◌==◌, List, Some, if◌then◌else◌, false, refl, sym, ◌∙◌, ap, subst, arith, length, get_or}
 use Rattle.std.specs.Prelude.{slice_get}
 use Rattle.std.specs.Option.{option_map}
 use Rattle.std.proofs.lemmas.Option.{slice_get_read}
@@ -6,10 +6,11 @@ use Rattle.two_wire.specs.Codes.{success}
 use Rattle.record_base.specs.declared.op.Op.{Op}
 use Rattle.record_base.specs.declared.message.Asked.{Asked}
 use Rattle.record_kinds.specs.Limits.{inverse}
-use Rattle.undo_plans.specs.Requests.{data_of, meant}
+use Rattle.undo_plans.specs.Requests.{meant}
 use Rattle.model_undo.specs.declared.phase.Why.TheVariants.{GetRefused}
 use Rattle.model_undo.specs.Machine as machine
 use Rattle.undo_core.specs.Shown.{words_of, own, IsStage}
+use Rattle.undo_core.specs.Room.{HasRoom}
 use Rattle.undo_core.proofs.Backs.{same_read}
 use Rattle.undo_core.proofs.Rooms.{own_from_nobody, written, place_for, bytes_for_one, room_left}
 use Rattle.undo_core.proofs.entering.after_get.Goals as goal
@@ -29,3 +30,27 @@ returns-clause-stage c names op there =
     ≡ machine.begun (words_of names) (machine.Sets c.args.step op undo) =
     λ i. if zero i == success then machine.set_stage (words_of names) (goes i) c.args.step op (made i) else machine.AtHalt c.args.step (GetRefused (zero i)) in
     subst (IsStage names c.args.steps.now c.prepare.new.self c.set_stage.result) (sym same) here
+
+pub prepare-requires-place : goal.prepare-requires-place
+prepare-requires-place c =
+    let steps = c.args.steps.now in
+    let there : slice_get steps c.args.step ≡ Some c.index-as_slice-step.result =
+    slice_get_read steps (length steps) c.args.step c.index-as_slice-step.result refl c.requires.step (c.index-as_slice-step.is ∙ ap (λ (l : List Op). get_or l c.args.step c.index-as_slice-step.result) c.as_slice.ensures.value) in
+    place_for steps c.args.step _ c.args.requests.now there c.requires.room
+
+pub prepare-requires-room : goal.prepare-requires-room
+prepare-requires-room c =
+    let steps = c.args.steps.now in
+    let there : slice_get steps c.args.step ≡ Some c.index-as_slice-step.result =
+    slice_get_read steps (length steps) c.args.step c.index-as_slice-step.result refl c.requires.step (c.index-as_slice-step.is ∙ ap (λ (l : List Op). get_or l c.args.step c.index-as_slice-step.result) c.as_slice.ensures.value) in
+    let fits = written c.index-as_slice-step.result c.in-Some-inverse.back c.args.reply.body.now c.set_asked-asked.result (meant c.of.result) (sym c.in-Some-inverse.ensures) c.set_asked-asked.ensures c.of.ensures.request c.of.ensures.fits in
+    omega (arith, fits, bytes_for_one steps c.args.step c.index-as_slice-step.result c.args.requests.now there c.requires.room)
+
+pub returns-clause-room : goal.returns-clause-room
+returns-clause-room c =
+    let steps = c.args.steps.now in
+    let there : slice_get steps c.args.step ≡ Some c.index-as_slice-step.result =
+    slice_get_read steps (length steps) c.args.step c.index-as_slice-step.result refl c.requires.step (c.index-as_slice-step.is ∙ ap (λ (l : List Op). get_or l c.args.step c.index-as_slice-step.result) c.as_slice.ensures.value) in
+    let fits = written c.index-as_slice-step.result c.in-Some-inverse.back c.args.reply.body.now c.set_asked-asked.result (meant c.of.result) (sym c.in-Some-inverse.ensures) c.set_asked-asked.ensures c.of.ensures.request c.of.ensures.fits in
+    subst (λ (l : List Op). HasRoom l c.prepare.new.self) (sym c.set_stage.ensures.ahead)
+    (room_left steps c.args.step _ c.index-as_slice-step.result c.args.requests.now c.prepare.new.self there c.requires.room fits c.prepare.ensures.places c.prepare.ensures.room)
