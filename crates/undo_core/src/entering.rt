@@ -173,13 +173,7 @@ fn set_stage(steps: &Steps, step: usize) -> Stage
     }
 }
 
-fn after_set(
-    steps: &Steps,
-    stopped: bool,
-    requests: &mut Requests,
-    step: usize,
-    code: u8,
-) -> Stage
+fn after_set(steps: &Steps, stopped: bool, requests: &mut Requests, step: usize, code: u8) -> Stage
     requires step { step < length steps.now }
     requires few { length requests.old.members ≤ step }
     requires room { HasRoom (drop (suc step) steps.now) requests.old }

@@ -11,8 +11,8 @@ ghost use Rattle.model_lab.specs.Faults.{begun_on};
 ghost use Rattle.undo_core.specs.Counted.{counts_of};
 ghost use Rattle.undo_core.specs.Shown.{words_of, backs, IsStage, ForShown, IsSent};
 
-use crate::manager::Manager;
 use crate::Phase;
+use crate::manager::Manager;
 use crate::sending::{Sent, bus_of, frames_of};
 use two_wire::Bus;
 use undo_plans::UndoList;
