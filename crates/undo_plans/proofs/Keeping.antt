@@ -1,11 +1,18 @@
 -- A plan gives the operations again that it keeps, and goes on to do so when values are added behind the others.
-use Rattle.std.proofs.Common.{◌≡◌, ℕ, suc, ◌+◌, ◌-◌, ◌<◌, ◌≤◌, List, [], ◌∷◌, ◌++◌, length, take, drop, map, refl, sym, ◌∙◌, ap, subst, arith, length-append}
+use Rattle.std.proofs.Common.{◌≡◌, ℕ, suc, ◌+◌, ◌-◌, ◌<◌, ◌≤◌, nat_lt, true, Option, Some, List, [], ◌∷◌, ◌++◌, length, take, drop, map, refl, sym, ◌∙◌, ap, subst, arith, length-append}
 use Rattle.std.specs.List.{All, slice_index_or}
+use Rattle.std.specs.Prelude.{slice_get}
+use Rattle.std.specs.Option.{option_map}
+use Rattle.std.proofs.Props.{props}
+use Rattle.std.proofs.lemmas.Bool.Decides.{nat_tests}
 use Rattle.std.proofs.lemmas.List.{map-append, length-drop, drop-append-le, take-append-le}
+use Rattle.std.proofs.lemmas.Option.{slice_get-map, slice_get-get_or}
 use Rattle.std.proofs.Math.Seq.{drop-append_seam, take-length}
 use Rattle.std.proofs.lemmas.List.Elements.{All-append, All-cons, All-nil}
 use Rattle.record_base.specs.declared.op.Op.{Op}
 use Rattle.record_base.specs.declared.op.Op.TheVariants as op
+use Rattle.record_base.specs.declared.field_changes.FieldChange.{FieldChange}
+use Rattle.record_base.specs.declared.state_effecter.SetStateEffecter.{SetStateEffecter}
 use Rattle.record_base.specs.BiosAttributeLaws.{few_sent, same_setting, sent_whole}
 use Rattle.undo_plans.specs.declared.kept.Kept.{Kept}
 use Rattle.undo_plans.specs.Kept.{value_of, with_value, IsAmong, kept_op}
@@ -74,3 +81,23 @@ pub all_among : (values : List ℕ) (ops : List Kept) (any : Op) → All (IsAmon
 all_among values ops any all =
     All-append (IsAmong (values ++ value_of any)) ops (behind values any ∷ []) (wider values (value_of any) ops all)
     (All-cons (IsAmong (values ++ value_of any)) (behind values any) [] (omega (arith, length-append values (value_of any))) (All-nil (IsAmong (values ++ value_of any))))
+
+-- ---- an operation is given again
+
+few_prop : (changes : List FieldChange) → IsProp (length changes ≤ 9)
+few_prop changes = hlevel props
+
+abbrev states_to : (effecter : ℕ) (changes : List FieldChange) → length changes ≤ 9 → SetStateEffecter
+states_to effecter changes few = record { effecter = effecter; changes = changes; few = few }
+
+-- operations on a state effecter with the same changes are the same
+pub same_states : (effecter : ℕ) (a b : List FieldChange) (p : length a ≤ 9) (q : length b ≤ 9) → a ≡ b → states_to effecter a p ≡ states_to effecter b q
+same_states effecter a b p q same =
+    subst (λ (changes : List FieldChange). (r : length changes ≤ 9) → states_to effecter a p ≡ states_to effecter changes r) same (λ r i. states_to effecter a (few_prop a p r i)) q
+
+-- the operation that is kept at a place
+pub kept_at : (values : List ℕ) (ops : List Kept) (place : ℕ) (kept d : Kept) → true ≡ nat_lt place (length ops) → kept ≡ slice_index_or ops place d
+    → slice_get (map (kept_op values) ops) place ≡ Some (kept_op values kept)
+kept_at values ops place kept d within is =
+    let below : place < length ops = grind (arith, nat_tests) in
+    slice_get-map (kept_op values) ops place ∙ ap (option_map (kept_op values)) (slice_get-get_or ops place d below ∙ ap Some (sym is))

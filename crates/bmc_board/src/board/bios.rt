@@ -61,10 +61,10 @@ fn handle_in(body: &[u8]) -> u32
 }
 
 /// Appends a part, with what a requester needs to ask for the next.
-pub(super) fn push_part<B: Buffer>(part: Part<'_>, to: &mut B)
+pub(super) fn push_part<B: Buffer>(part: &Part<'_>, to: &mut B)
     requires room { length (B.bytes to.old) + longest_part ≤ B.capacity }
-    requires short { length part.bytes.now ≤ part_length }
-    ensures { B.bytes to.new ≡ B.bytes to.old ++ shown_part part }
+    requires short { length part.now.bytes.now ≤ part_length }
+    ensures { B.bytes to.new ≡ B.bytes to.old ++ shown_part part.now }
 {
     to.extend_from_slice(&part.next.to_le_bytes());
     to.push(part.flag.byte());
@@ -77,6 +77,6 @@ pub(super) fn show_part<B: Buffer>(body: &[u8], table: &[u8], to: &mut B) -> Res
     ensures { Gives result (B.bytes to.old) (B.bytes to.new) (asked_part body.now table.now) }
 {
     let part = part(table, byte_at(body, 4), handle_in(body))?;
-    push_part(part, to);
+    push_part(&part, to);
     Ok(())
 }

@@ -43,7 +43,7 @@ fn show_later_part<B: Buffer>(entry: &[u8], transfer: u32, to: &mut B) -> Result
     ensures { Gives result (B.bytes to.old) (B.bytes to.new) (later_part entry.now transfer) }
 {
     let part = entry_part(entry, GET_NEXT_PART, transfer)?;
-    push_part(part, to);
+    push_part(&part, to);
     Ok(())
 }
 
