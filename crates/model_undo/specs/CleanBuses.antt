@@ -86,9 +86,9 @@ module _ (F : Family) (L : Bus → Line) (D : (bus : Bus) → Delivery (L bus)) 
   AlwaysRunsThroughBuses = AllCanBeSent → (plan : List F.words.Op) (retries : ℕ) (on : States L) (board : F.Board) → IsStart F L W on board → ((bus : Bus) → (D bus).HasPlace (on bus))
       → RunsThroughBuses plan (opening F L plan retries on board)
 
-  -- The same where each Get and each Set is one request. A plan that is begun takes two requests for each step that the board carries out. It ends after the last step, or halts at the first that the
-  -- board doesn't carry out. Its undo takes one request for each step that was carried out, and ends with the records of the start. Both schedules
-  -- are honest.
+  -- The same where each Get and each Set is one request. A plan that is begun takes two requests for each step that the board carries out. It ends
+  -- after the last step, or halts at the first that the board doesn't carry out. Its undo takes one request for each step that was carried out, and
+  -- ends with the records of the start. Both schedules are honest.
   pub record RunsOverBuses (plan : List F.words.Op) (opened : World F L) : Type 0 where
     pub steps : List F.words.Op
     pub rest : List F.words.Op
