@@ -31,15 +31,15 @@ returns-clause-stage c names op there =
     λ i. if zero i == success then machine.set_stage (words_of names) (goes i) c.args.step op (made i) else machine.AtHalt c.args.step (GetRefused (zero i)) in
     subst (IsStage names c.args.steps.now c.prepare.new.self c.set_stage.result) (sym same) here
 
-pub prepare-requires-place : goal.prepare-requires-place
-prepare-requires-place c =
+pub prepare-requires-clause-place : goal.prepare-requires-clause-place
+prepare-requires-clause-place c =
     let steps = c.args.steps.now in
     let there : slice_get steps c.args.step ≡ Some c.index-as_slice-step.result =
     slice_get_read steps (length steps) c.args.step c.index-as_slice-step.result refl c.requires.step (c.index-as_slice-step.is ∙ ap (λ (l : List Op). get_or l c.args.step c.index-as_slice-step.result) c.as_slice.ensures.value) in
     place_for steps c.args.step _ c.args.requests.now there c.requires.room
 
-pub prepare-requires-room : goal.prepare-requires-room
-prepare-requires-room c =
+pub prepare-requires-clause-room : goal.prepare-requires-clause-room
+prepare-requires-clause-room c =
     let steps = c.args.steps.now in
     let there : slice_get steps c.args.step ≡ Some c.index-as_slice-step.result =
     slice_get_read steps (length steps) c.args.step c.index-as_slice-step.result refl c.requires.step (c.index-as_slice-step.is ∙ ap (λ (l : List Op). get_or l c.args.step c.index-as_slice-step.result) c.as_slice.ensures.value) in
