@@ -35,12 +35,13 @@ pub enum OpenFault {
 #[derive(Clone, Copy, Debug, PartialEq, Eq)]
 pub struct PeriodFull;
 
-/// A board, and the history that led to it from the board that it opened with.
+/// A board, and the history that led to it from the board that it opened with. How long the history is stands in front, next to the lock that is
+/// round both: the two are written in each hold of the lock, and a line of the processor's cache that two threads write moves between them.
 #[derive(Drop)]
 pub struct Held<J: Opening, S: Store> {
-    board: Board<S>,
     history: Events,
     room: usize,
+    board: Board<S>,
     of: PhantomData<J>,
     ghost setup: { board.setup ≡ J.setup } by { same_file-prop board.setup J.setup },
     ghost room_is: { room ≡ J.room },
