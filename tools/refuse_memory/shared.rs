@@ -1,7 +1,7 @@
 //! Boards with a history, links in memory, and workers.
 use super::called::{Unwell, call_twice, digits, some};
 use super::controller::{GET_DEVICE_ID, GET_TID, answer_of, open_sample, place};
-use bmc_board::{Board, Records};
+use bmc_board::{Bench, Board, Records};
 use bmc_core::Port;
 use bmc_ports::{End, Gate, Heard, Held, Link, MemLink, NoThread, OpenFault, Opening, Shared, run_two};
 use std::alloc::Global;
@@ -132,7 +132,7 @@ fn given(alloc: Global) -> Result<Given, Unwell> {
     })
 }
 
-/// Has two workers serve the board, between `ready` and `called`, and gives the length of the history.
+/// Has two workers serve the board and a tick happen on it, between `ready` and `called`, and gives the length of the history.
 fn serve<J: Opening + Send + Sync, R: Print + Threads + Wait + Sync>(
     rt: &R,
     alloc: Global,
@@ -147,8 +147,9 @@ fn serve<J: Opening + Send + Sync, R: Print + Threads + Wait + Sync>(
     let Ok((shared, seats)) = Shared::<J, Records>::open(alloc, Blank::new(3), board, 8) else {
         return Err(Unwell::Input);
     };
+    let bench = [Bench::Tick];
     println!(rt; "ready")?;
-    let ran = run_two(rt, &shared, seats, ports, &mut first, &mut second, &[], &OpenGate, 2);
+    let ran = run_two(rt, &shared, seats, ports, &mut first, &mut second, &bench, &OpenGate, 2);
     println!(rt; "called")?;
     match ran {
         Ok((seats, ends)) => {

@@ -2,7 +2,7 @@
 //!
 //! IPMB and SMBUS are files, each a frame in hexadecimal digits on a line. In a round each port gets the frames of its file TIMES times over,
 //! which may be 4,096 requests together. It prints how many events a round has, and how many nanoseconds it takes at the least of ROUNDS and
-//! one more: by two workers (`two`), each in a thread of its own over frames in memory; by the same in one thread, one after the other
+//! one more: by two workers at once (`two`), over frames in memory; by the same in one thread, one after the other
 //! (`in-turn`); in a loop over both ports with a history and no lock (`held`); and in one with neither (`alone`). With 0 rounds it prints no
 //! time.
 #![tactic(auto)]

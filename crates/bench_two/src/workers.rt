@@ -1,4 +1,4 @@
-//! Two workers on one board under a lock, with its history: each in a thread of its own, or one after the other in this one.
+//! Two workers on one board under a lock, with its history: both at once, or one after the other in this thread.
 ghost use Rattle.std.specs.Prelude.{◌≡◌};
 ghost use Rattle.bmc_board.specs.State.{state_of};
 ghost use Rattle.bmc_board.specs.OwnStore.{own_records};

@@ -1,4 +1,4 @@
-//! Two port workers and a scanner, each in a thread of its own.
+//! Two port workers and a scanner, at once.
 ghost use Rattle.std.specs.Prelude.{◌≡◌, IfOk};
 ghost use Rattle.bmc_ports.specs.Seated.{ComesBack, AllComeBack};
 
@@ -67,7 +67,7 @@ fn happen<J: Opening, R: Wait>(
     (seat, end)
 }
 
-/// Runs the three threads.
+/// Runs each worker in a thread of its own, and the scanner in this one.
 fn run_three<J, A, B, G, R>(
     rt: &R,
     shared: &Shared<J, Records>,
@@ -112,18 +112,9 @@ where
                 )
                 .ok()
                 .ok_or(NoThread)?;
-            let scanner = scope
-                .spawn_with(
-                    SeatOf(Snapshot::of(&scanner)),
-                    move || -> (Seat<J>, End)
-                        ensures { ComesBack scanner result.0 result.1 }
-                    { happen(rt, shared, scanner, bench, turns) },
-                )
-                .ok()
-                .ok_or(NoThread)?;
+            let (scanner, scanner_end) = happen(rt, shared, scanner, bench, turns);
             let (first, first_end) = first.join(rt);
             let (second, second_end) = second.join(rt);
-            let (scanner, scanner_end) = scanner.join(rt);
             let seats = Seats {
                 first,
                 second,
@@ -134,8 +125,56 @@ where
     )
 }
 
-/// Serves both ports of a board and has events happen on it, each in a thread of its own, until all three end. Each makes at most so many
-/// turns: a port's worker makes one with each call of its link's `next`, and the scanner with each event of its list.
+/// Runs both workers where nothing is to happen beside them: the first in this thread, and the second in one of its own.
+fn run_pair<J, A, B, G, R>(
+    rt: &R,
+    shared: &Shared<J, Records>,
+    first: Side<'_, J, A>,
+    second: Side<'_, J, B>,
+    scanner: Seat<J>,
+    gate: &G,
+    turns: u32,
+) -> Result<(Seats<J>, [End; 3]), NoThread>
+where
+    J: Opening + Send + Sync,
+    A: Link + Send,
+    B: Link + Send,
+    G: Gate + Sync,
+    R: Threads + Wait + Sync,
+    requires numbers { (first.seat.number ≡ 0) × (second.seat.number ≡ 1) × (scanner.number ≡ 2) }
+    ensures { IfOk result (λ run. AllComeBack first.entry.seat second.entry.seat scanner run.0 run.1) }
+{
+    thread::scope(
+        thread::scope_env(),
+        rt,
+        |scope| -> Result<(Seats<J>, [End; 3]), NoThread>
+            requires { (first.seat.number ≡ 0) × (second.seat.number ≡ 1) × (scanner.number ≡ 2) }
+            ensures { IfOk result (λ run. AllComeBack first.entry.seat second.entry.seat scanner run.0 run.1) }
+        {
+            let second = scope
+                .spawn_with(
+                    SeatOf(Snapshot::of(&second.seat)),
+                    move || -> (Seat<J>, End)
+                        ensures { ComesBack second.entry.seat result.0 result.1 }
+                    { serve(rt, shared, second, gate, turns) },
+                )
+                .ok()
+                .ok_or(NoThread)?;
+            let (first, first_end) = serve(rt, shared, first, gate, turns);
+            let (scanner, scanner_end) = happen(rt, shared, scanner, &[], 0);
+            let (second, second_end) = second.join(rt);
+            let seats = Seats {
+                first,
+                second,
+                scanner,
+            };
+            Ok((seats, [first_end, second_end, scanner_end]))
+        },
+    )
+}
+
+/// Serves both ports of a board at once and has events happen on it, until all three end. One of the three runs in the caller's thread, and
+/// the others in threads of their own. Each makes at most so many turns: a port's worker makes one with each call of its link's `next`, and the scanner with each event of its list.
 pub fn run_two<J, A, B, G, R>(
     rt: &R,
     shared: &Shared<J, Records>,
@@ -171,5 +210,9 @@ where
         port: second_port,
         link: second_link,
     };
-    run_three(rt, shared, first, second, scanner, bench, gate, turns)
+    if bench.is_empty() {
+        run_pair(rt, shared, first, second, scanner, gate, turns)
+    } else {
+        run_three(rt, shared, first, second, scanner, bench, gate, turns)
+    }
 }

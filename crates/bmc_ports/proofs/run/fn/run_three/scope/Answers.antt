@@ -5,9 +5,8 @@ use Rattle.bmc_ports.proofs.run.fn.run_three.scope.Goals as goal
 pub returns : goal.returns
 returns g c =
     let one : c.in_ok-first.first.promise.0.value ≡ c.captures.first.seat = search rules in
-    let other : c.in_ok-second.second.promise.0.value ≡ c.captures.second.seat = search rules in
-    let last : c.in_ok-scanner.scanner.promise.0.value ≡ c.captures.scanner = search rules in (
+    let other : c.in_ok-second.second.promise.0.value ≡ c.captures.second.seat = search rules in (
       subst (λ seat. ComesBack seat c.join-first.result.0 c.join-first.result.1) one c.join-first.ensures,
       subst (λ seat. ComesBack seat c.join-second.result.0 c.join-second.result.1) other c.join-second.ensures,
-      subst (λ seat. ComesBack seat c.join-scanner.result.0 c.join-scanner.result.1) last c.join-scanner.ensures,
+      c.happen-scanner.ensures,
     )
