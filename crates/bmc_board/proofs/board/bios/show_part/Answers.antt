@@ -11,5 +11,5 @@ part_short : (asked : Option ℕ) (table : List ℕ) (part : Part) → MatchOpti
 part_short (Some offset) table part is = omega (arith, ap length is.bytes, length-take 192 (drop offset table))
 part_short None table part is = absurd cc
 
-pub push_part-requires-short : goal.push_part-requires-short
-push_part-requires-short g c = part_short _ _ _ c.in_ok-part.ensures
+pub push_part-requires-clause-short : goal.push_part-requires-clause-short
+push_part-requires-clause-short g c = part_short _ _ _ c.in_ok-part.ensures

@@ -14,7 +14,7 @@ later_short entry (Some o) part false e is =
     omega (arith, ap length (is.bytes ∙ ap (λ (whole : Bool). if whole then entry else part_bytes entry o) e), length-take 192 (drop o entry))
 later_short entry None part false e is = absurd cc
 
-pub push_part-requires-short : goal.push_part-requires-short
-push_part-requires-short g c =
+pub push_part-requires-clause-short : goal.push_part-requires-clause-short
+push_part-requires-clause-short g c =
     let entry : List ℕ = c.args.entry.now in
     later_short entry (asked_offset entry get_next_part c.args.transfer) c.in_ok-part.part (goes_whole entry) refl c.in_ok-part.ensures
