@@ -5,7 +5,7 @@ use Rattle.text_fields.proofs.Rows.{all_checked}
 use Rattle.plan_file.proofs.AttributeSteps.{text_there}
 use Rattle.plan_file.proofs.kind.bios_attribute.set_text.Goals as goal
 
-fits : (text : List ℕ) → length text ≤ 200 → length text ≤ 244
+fits : (text : List ℕ) → length text ≤ 200 → length text ≤ 65535
 fits text short = omega (arith, short)
 
 with_length : (text : List ℕ) → length text ≤ 200 → suc (suc (length text)) ≤ 244
