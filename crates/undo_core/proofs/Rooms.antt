@@ -1,7 +1,7 @@
 -- The room that the requests need that undo a plan.
 use Rattle.std.specs.Prelude.{drop, slice_get}
 use Rattle.std.specs.Option.{option_map, option_to_list}
-use Rattle.std.proofs.Common.{◌≡◌, ◌≤◌, ◌<◌, ◌+◌, ◌*◌, ℕ, zero, suc, List, [], ◌∷◌, ◌++◌, length, Option, Some, None, refl, sym, ◌∙◌, ap, subst, arith}
+use Rattle.std.proofs.Common.{◌≡◌, ◌≤◌, ◌<◌, ◌+◌, ◌*◌, ℕ, zero, suc, List, [], ◌∷◌, ◌++◌, length, Option, Some, None, refl, sym, ◌∙◌, ap, subst, add-one, arith}
 use Rattle.std.proofs.lemmas.List.{length-append}
 use Rattle.std.proofs.lemmas.Option.{same_Some}
 use Rattle.record_base.specs.declared.op.Op.{Op}
@@ -113,3 +113,20 @@ room_left steps k n any old new there has short places room = record {
 pub one_more : (members : List Asked) (waiting : Option Asked) → length (members ++ option_to_list waiting) ≤ suc (length members)
 one_more members None = omega (arith, length-append members [])
 one_more members (Some asked) = omega (arith, length-append members (asked ∷ []))
+
+-- ---- the bytes for steps, added up
+
+-- of the steps before the next one more
+pub added : (steps : List Op) (k bytes n : ℕ) (any : Op) → slice_get steps k ≡ Some any → n ≡ most_data any → bytes + data_for (drop k steps) ≡ data_for steps
+    → (bytes + n) + data_for (drop (k + 1) steps) ≡ data_for steps
+added steps k bytes n any there is so_far =
+    let next : data_for (drop k steps) ≡ most_data any + data_for (drop (k + 1) steps) = ap data_for (next_step steps k any there) ∙ ap (λ (m : ℕ). most_data any + data_for (drop m steps)) (sym (add-one k)) in
+    omega (arith, is, so_far, next)
+
+none_ahead : (steps : List Op) → drop (length steps) steps ≡ []
+none_ahead [] = refl
+none_ahead (x ∷ steps) = none_ahead steps
+
+-- of all
+pub all_added : (steps : List Op) (k bytes : ℕ) → k ≡ length steps → bytes + data_for (drop k steps) ≡ data_for steps → bytes ≡ data_for steps
+all_added steps k bytes all so_far = omega (arith, so_far, ap data_for (ap (λ (n : ℕ). drop n steps) all ∙ none_ahead steps))

@@ -40,7 +40,8 @@ pub(crate) fn step_stage(steps: &Steps, stopped: bool, step: usize) -> Stage
     ensures room { (requests : RequestList) → HasRoom (drop step steps.now) requests
         → HasRoom (steps_ahead steps.now result) requests }
 {
-    match steps.as_slice().get(step) {
+    let _steps = steps.len();
+    match steps.get(step) {
         None => Stage::AtEnd,
         Some(op) => {
             if stopped {
@@ -136,7 +137,8 @@ fn after_get(
         ≤ 3 * (length steps.now - step) + undone }
     ensures room { HasRoom (steps_ahead steps.now result) requests.new }
 {
-    let op = &steps.as_slice()[step];
+    let _steps = steps.len();
+    let op = steps.get(step).unwrap();
     if let Some(code) = Code::new(reply.code) {
         return Stage::AtHalt(step, Why::GetRefused(code));
     }

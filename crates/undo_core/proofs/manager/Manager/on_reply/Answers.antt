@@ -35,5 +35,5 @@ returns c names s shows =
       sequence = c.sequence.ensures;
       instance = c.instance.ensures;
       stage = c.stage_after-self.ensures.stage names;
-      sends = λ at named shown. c.open_frames.ensures names c.args.self.now.steps _ at named shown;
+      sends = λ at named shown. c.open_frames.ensures names c.args.self.now.steps c.stage_after-self.new.requests at named shown;
     })

@@ -4,6 +4,7 @@ use Rattle.record_base.specs.declared.op.Op.{Op}
 use Rattle.record_base.specs.declared.message.Asked.{Asked}
 use Rattle.record_base.specs.declared.message.Asked.TheVariants.{Ipmi, Pldm}
 use Rattle.undo_plans.specs.declared.names.Names.{Names}
+use Rattle.undo_plans.specs.Requests.{RequestList}
 use Rattle.model_ports.specs.Wires.{bus_of}
 use Rattle.model_undo.specs.Machine as machine
 use Rattle.model_undo.specs.Machine.{Counts, count_of}
