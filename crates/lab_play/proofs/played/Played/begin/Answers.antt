@@ -1,5 +1,4 @@
-use Rattle.std.proofs.Common.{List, length, ◌≤◌, subst}
-use Rattle.record_base.specs.declared.op.Op.{Op}
+use Rattle.std.proofs.Common.{ℕ, ◌≤◌, subst}
 use Rattle.undo_plans.specs.Steps.{most_steps}
 use Rattle.lab_play.proofs.played.Played.begin.Goals as goal
 
@@ -8,6 +7,6 @@ returns-clause-begins c = record {
   start = c.in_ok-start.ensures.pairs;
   once = c.in_ok-start.ensures.differ;
   shows = c.in_ok-lab.ensures.shows;
-  few = subst (λ (steps : List Op). length steps ≤ most_steps) c.as_slice-steps.ensures.value c.as_slice-steps.ensures.few;
+  few = subst (λ (n : ℕ). n ≤ most_steps) c.len-steps.ensures.value c.len-steps.ensures.few;
   watches = λ tag below. c.new-watch.ensures.opened tag below;
 }
