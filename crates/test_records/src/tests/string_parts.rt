@@ -1,7 +1,7 @@
 //! Strings that are set in parts, over PLDM.
 use super::attribute::asset;
 use super::{expect, expect_bytes, expect_told};
-use attribute_parts::{SetPart, Stagings, part_in};
+use attribute_parts::{Entry, SetPart, Stagings, part_in};
 use cfg_records::TextLengths;
 use std::alloc::Global;
 use std::process::Abort;
@@ -221,19 +221,21 @@ fn a_middle_part_that_ends_the_entry_is_refused(rt: HostRuntime) {
     expect(&rt, long == Err(PLDM_INVALID_LENGTH), "too long");
     let other = stagings.add(0x0C, 192, &[0; 192]);
     expect(&rt, other == Err(PLDM_INVALID_DATA), "nothing is staged");
-    let ended = stagings.ended(0x0B, 192, &[9; 13]);
+    let mut place = Entry::new();
+    let ended = stagings.ended(0x0B, 192, &[9; 13], &mut place);
     expect(&rt, ended.is_ok(), "what is staged stays");
 }
 
 #[test]
 fn a_requester_has_what_it_staged_until_it_ends(rt: HostRuntime) {
     let mut stagings = staged(&rt, rt.alloc());
-    let ended = stagings.ended(0x0B, 192, &[9; 13]).ok();
+    let mut place = Entry::new();
+    let ended = stagings.ended(0x0B, 192, &[9; 13], &mut place).ok();
     let op = ended.expect(&rt, "an operation");
     expect(&rt, op.attribute == 1 && op.attribute_type == 1, "a string");
-    assert_eq!(rt; op.value.len(), 202);
+    assert_eq!(rt; op.value.as_slice().len(), 202);
     expect_bytes(&rt, &op.value.as_slice()[189..], &[9; 13]);
     stagings.end(0x0B);
-    let ended = stagings.ended(0x0B, 192, &[9; 13]);
+    let ended = stagings.ended(0x0B, 192, &[9; 13], &mut place);
     expect(&rt, ended.is_err(), "nothing is staged any more");
 }
