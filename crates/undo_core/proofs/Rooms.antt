@@ -1,8 +1,7 @@
 -- The room that the requests need that undo a plan.
 use Rattle.std.specs.Prelude.{drop, slice_get}
-use Rattle.std.specs.Option.{option_map, option_to_list}
-use Rattle.std.proofs.Common.{◌≡◌, ◌≤◌, ◌<◌, ◌+◌, ◌*◌, ℕ, zero, suc, List, [], ◌∷◌, ◌++◌, length, Option, Some, None, refl, sym, ◌∙◌, ap, subst, add-one, arith}
-use Rattle.std.proofs.lemmas.List.{length-append}
+use Rattle.std.specs.Option.{option_map}
+use Rattle.std.proofs.Common.{◌≡◌, ◌≤◌, ◌<◌, ◌+◌, ◌*◌, ℕ, zero, suc, List, [], ◌∷◌, length, Option, Some, None, refl, sym, ◌∙◌, ap, subst, add-one, arith}
 use Rattle.std.proofs.lemmas.Option.{same_Some}
 use Rattle.record_base.specs.declared.op.Op.{Op}
 use Rattle.record_base.specs.declared.op.Op.TheVariants as op
@@ -108,11 +107,6 @@ room_left steps k n any old new there has short places room = record {
   places = omega (arith, has.places, places, ap (λ (l : List Op). length l) (next_step steps k any there));
   room = omega (arith, has.room, room, short, ap data_for (next_step steps k any there));
 }
-
--- the one that waits is one at most
-pub one_more : (members : List Asked) (waiting : Option Asked) → length (members ++ option_to_list waiting) ≤ suc (length members)
-one_more members None = omega (arith, length-append members [])
-one_more members (Some asked) = omega (arith, length-append members (asked ∷ []))
 
 -- ---- the bytes for steps, added up
 

@@ -1,5 +1,5 @@
 -- A plan gives the operations again that it keeps, and goes on to do so when values are added behind the others.
-use Rattle.std.proofs.Common.{◌≡◌, ℕ, suc, ◌+◌, ◌-◌, ◌<◌, ◌≤◌, nat_lt, true, Option, Some, List, [], ◌∷◌, ◌++◌, length, take, drop, map, refl, sym, ◌∙◌, ap, subst, arith, length-append}
+use Rattle.std.proofs.Common.{◌≡◌, ℕ, suc, ◌+◌, ◌<◌, ◌≤◌, nat_lt, true, Some, List, [], ◌∷◌, ◌++◌, length, take, drop, map, refl, sym, ◌∙◌, ap, subst, arith}
 use Rattle.std.specs.List.{All, slice_index_or}
 use Rattle.std.specs.Prelude.{slice_get}
 use Rattle.std.specs.Option.{option_map}
@@ -8,7 +8,6 @@ use Rattle.std.proofs.lemmas.Bool.Decides.{nat_tests}
 use Rattle.std.proofs.lemmas.List.{map-append, length-drop, drop-append-le, take-append-le}
 use Rattle.std.proofs.lemmas.Option.{slice_get-map, slice_get-get_or}
 use Rattle.std.proofs.Math.Seq.{drop-append_seam, take-length}
-use Rattle.std.proofs.lemmas.List.Elements.{All-append, All-cons, All-nil}
 use Rattle.record_base.specs.declared.op.Op.{Op}
 use Rattle.record_base.specs.declared.op.Op.TheVariants as op
 use Rattle.record_base.specs.declared.field_changes.FieldChange.{FieldChange}
@@ -72,15 +71,6 @@ one_more values ops any all =
     let before = same_ops values (value_of any) ops all in
     let last = last_op values any in
     map-append (kept_op (values ++ value_of any)) ops (behind values any ∷ []) ∙ (λ i. before i ++ last i ∷ [])
-
--- all lie among the values, with more behind these
-wider : (values more : List ℕ) (ops : List Kept) → All (IsAmong values) ops → All (IsAmong (values ++ more)) ops
-wider values more ops all k d below = omega (arith, all k d below, length-append values more)
-
-pub all_among : (values : List ℕ) (ops : List Kept) (any : Op) → All (IsAmong values) ops → All (IsAmong (values ++ value_of any)) (ops ++ behind values any ∷ [])
-all_among values ops any all =
-    All-append (IsAmong (values ++ value_of any)) ops (behind values any ∷ []) (wider values (value_of any) ops all)
-    (All-cons (IsAmong (values ++ value_of any)) (behind values any) [] (omega (arith, length-append values (value_of any))) (All-nil (IsAmong (values ++ value_of any))))
 
 -- ---- an operation is given again
 
