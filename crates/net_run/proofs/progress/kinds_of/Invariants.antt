@@ -3,4 +3,4 @@ use Rattle.net_run.specs.Progress.{kind_of}
 use Rattle.net_run.proofs.progress.kinds_of.Given as goal
 
 abbrev pub invariant-loop-place : goal.invariant-loop-place
-invariant-loop-place l = record { seen : l.kinds.items ≡ map kind_of (take l.place l.steps.now) }
+invariant-loop-place l = record { seen : l.kinds.items ≡ map kind_of (take l.place l.steps) }
