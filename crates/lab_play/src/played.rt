@@ -138,11 +138,16 @@ pub fn play(
 ) -> Result<Played, LabFault>
     ensures { Plays file plan.steps plan.retries events.now result }
 {
-    let Ok(mut played) = Played::begin(alloc, file, plan) else {
+    let Ok(played) = Played::begin(alloc, file, plan) else {
         return Err(LabFault::Memory);
     };
-    let ended = run(&mut played.lab, &mut played.watch, events);
-    played.ending(ended)
+    let Played {
+        start,
+        mut lab,
+        mut watch,
+    } = played;
+    let ended = run(&mut lab, &mut watch, events);
+    Played { start, lab, watch }.ending(ended)
 }
 
 /// Plays a plan as `play` does, and notes each event that happens.
@@ -157,9 +162,14 @@ pub fn play_noted<'a>(
     ensures plays { Plays file plan.steps plan.retries events.now result }
     ensures noted { NotesPlay file plan.steps plan.retries events.now result notes.new.items }
 {
-    let Ok(mut played) = Played::begin(alloc, file, plan) else {
+    let Ok(played) = Played::begin(alloc, file, plan) else {
         return Err(LabFault::Memory);
     };
-    let ended = run_noted(&mut played.lab, &mut played.watch, events, notes);
-    played.ending(ended)
+    let Played {
+        start,
+        mut lab,
+        mut watch,
+    } = played;
+    let ended = run_noted(&mut lab, &mut watch, events, notes);
+    Played { start, lab, watch }.ending(ended)
 }
