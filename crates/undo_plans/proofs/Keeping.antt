@@ -12,26 +12,11 @@ use Rattle.record_base.specs.declared.op.Op.{Op}
 use Rattle.record_base.specs.declared.op.Op.TheVariants as op
 use Rattle.record_base.specs.declared.field_changes.FieldChange.{FieldChange}
 use Rattle.record_base.specs.declared.state_effecter.SetStateEffecter.{SetStateEffecter}
+use Rattle.record_base.specs.BiosAttribute.{setting}
 use Rattle.record_base.specs.BiosAttributeLaws.{few_sent, same_setting, sent_whole}
 use Rattle.undo_plans.specs.declared.kept.Kept.{Kept}
-use Rattle.undo_plans.specs.Kept.{value_of, with_value, IsAmong, kept_op}
-
--- an operation without its value is the operation again, once it has the value
-put_together : (any : Op) → with_value (with_value any []) (value_of any) ≡ any
-put_together (op.BiosAttribute set) = ap op.BiosAttribute (same_setting set.attribute set.attribute_type _ set.value (few_sent set.value) set.fits (sent_whole set.value set.fits))
-put_together (op.Thresholds set) = refl
-put_together (op.Hysteresis set) = refl
-put_together (op.EventEnable set) = refl
-put_together (op.PowerPolicy set) = refl
-put_together (op.Watchdog set) = refl
-put_together (op.GlobalEnables set) = refl
-put_together (op.BootParam set) = refl
-put_together (op.NumericEffecter set) = refl
-put_together (op.StateEffecter set) = refl
-put_together (op.UserName set) = refl
-put_together (op.UserAccess set) = refl
-put_together (op.ChannelAccess set) = refl
-put_together (op.LanParam set) = refl
+use Rattle.undo_plans.specs.declared.kept.Kept.TheVariants as kept
+use Rattle.undo_plans.specs.Kept.{value_of, kept_of, IsAmong, kept_op}
 
 -- bytes among others stay where they are, with more behind the others
 same_bytes : (values more : List ℕ) (from count : ℕ) → from + count ≤ length values → take count (drop from (values ++ more)) ≡ take count (drop from values)
@@ -39,38 +24,64 @@ same_bytes values more from count within =
     ap (take count) (drop-append-le from values more (omega (arith, within)))
     ∙ take-append-le count (drop from values) more (omega (arith, within, length-drop from values))
 
-same_op : (values more : List ℕ) (kept : Kept) → IsAmong values kept → kept_op (values ++ more) kept ≡ kept_op values kept
-same_op values more kept within = ap (with_value kept.op) (same_bytes values more kept.from kept.count within)
+same_op : (values more : List ℕ) (any : Kept) → IsAmong values any → kept_op (values ++ more) any ≡ kept_op values any
+same_op values more (kept.BiosAttribute set) within =
+    ap (λ (bytes : List ℕ). op.BiosAttribute (setting set.attribute set.attribute_type bytes)) (same_bytes values more set.from set.count within)
+same_op values more (kept.Thresholds set) within = refl
+same_op values more (kept.Hysteresis set) within = refl
+same_op values more (kept.EventEnable set) within = refl
+same_op values more (kept.PowerPolicy set) within = refl
+same_op values more (kept.Watchdog set) within = refl
+same_op values more (kept.GlobalEnables set) within = refl
+same_op values more (kept.BootParam set) within = refl
+same_op values more (kept.NumericEffecter set) within = refl
+same_op values more (kept.StateEffecter set) within = refl
+same_op values more (kept.UserName set) within = refl
+same_op values more (kept.UserAccess set) within = refl
+same_op values more (kept.ChannelAccess set) within = refl
+same_op values more (kept.LanParam set) within = refl
 
-first_of : (values : List ℕ) (kept : Kept) (others : List Kept) → All (IsAmong values) (kept ∷ others) → IsAmong values kept
-first_of values kept others all = all 0 kept (omega arith)
+first_of : (values : List ℕ) (any : Kept) (others : List Kept) → All (IsAmong values) (any ∷ others) → IsAmong values any
+first_of values any others all = all 0 any (omega arith)
 
-rest_of : (values : List ℕ) (kept : Kept) (others : List Kept) → All (IsAmong values) (kept ∷ others) → All (IsAmong values) others
-rest_of values kept others all k d below = all (suc k) d (omega (arith, below))
+rest_of : (values : List ℕ) (any : Kept) (others : List Kept) → All (IsAmong values) (any ∷ others) → All (IsAmong values) others
+rest_of values any others all k d below = all (suc k) d (omega (arith, below))
 
 same_ops : (values more : List ℕ) (ops : List Kept) → All (IsAmong values) ops → map (kept_op (values ++ more)) ops ≡ map (kept_op values) ops
 same_ops values more [] all = refl
-same_ops values more (kept ∷ others) all =
-    let here = same_op values more kept (first_of values kept others all) in
-    let there = same_ops values more others (rest_of values kept others all) in
+same_ops values more (any ∷ others) all =
+    let here = same_op values more any (first_of values any others all) in
+    let there = same_ops values more others (rest_of values any others all) in
     λ i. here i ∷ there i
 
--- how an operation is kept whose value comes behind these
-abbrev pub behind : List ℕ → Op → Kept
-behind values any = record { op = with_value any []; from = length values; count = length (value_of any) }
-
-last_op : (values : List ℕ) (any : Op) → kept_op (values ++ value_of any) (behind values any) ≡ any
-last_op values any =
-    ap (λ (bytes : List ℕ). with_value (with_value any []) (take (length (value_of any)) bytes)) (drop-append_seam values (value_of any))
-    ∙ ap (with_value (with_value any [])) (take-length (value_of any)) ∙ put_together any
+-- an operation whose value lies behind these is given again
+put_together : (values : List ℕ) (any : Op) → kept_op (values ++ value_of any) (kept_of (length values) any) ≡ any
+put_together values (op.BiosAttribute set) =
+    let there : take (length set.value) (drop (length values) (values ++ set.value)) ≡ set.value =
+    ap (take (length set.value)) (drop-append_seam values set.value) ∙ take-length set.value in
+    ap (λ (bytes : List ℕ). op.BiosAttribute (setting set.attribute set.attribute_type bytes)) there
+    ∙ ap op.BiosAttribute (same_setting set.attribute set.attribute_type _ set.value (few_sent set.value) set.fits (sent_whole set.value set.fits))
+put_together values (op.Thresholds set) = refl
+put_together values (op.Hysteresis set) = refl
+put_together values (op.EventEnable set) = refl
+put_together values (op.PowerPolicy set) = refl
+put_together values (op.Watchdog set) = refl
+put_together values (op.GlobalEnables set) = refl
+put_together values (op.BootParam set) = refl
+put_together values (op.NumericEffecter set) = refl
+put_together values (op.StateEffecter set) = refl
+put_together values (op.UserName set) = refl
+put_together values (op.UserAccess set) = refl
+put_together values (op.ChannelAccess set) = refl
+put_together values (op.LanParam set) = refl
 
 -- an operation is added
 pub one_more : (values : List ℕ) (ops : List Kept) (any : Op) → All (IsAmong values) ops
-    → map (kept_op (values ++ value_of any)) (ops ++ behind values any ∷ []) ≡ map (kept_op values) ops ++ any ∷ []
+    → map (kept_op (values ++ value_of any)) (ops ++ kept_of (length values) any ∷ []) ≡ map (kept_op values) ops ++ any ∷ []
 one_more values ops any all =
     let before = same_ops values (value_of any) ops all in
-    let last = last_op values any in
-    map-append (kept_op (values ++ value_of any)) ops (behind values any ∷ []) ∙ (λ i. before i ++ last i ∷ [])
+    let last = put_together values any in
+    map-append (kept_op (values ++ value_of any)) ops (kept_of (length values) any ∷ []) ∙ (λ i. before i ++ last i ∷ [])
 
 -- ---- an operation is given again
 
@@ -86,8 +97,8 @@ same_states effecter a b p q same =
     subst (λ (changes : List FieldChange). (r : length changes ≤ 9) → states_to effecter a p ≡ states_to effecter changes r) same (λ r i. states_to effecter a (few_prop a p r i)) q
 
 -- the operation that is kept at a place
-pub kept_at : (values : List ℕ) (ops : List Kept) (place : ℕ) (kept d : Kept) → true ≡ nat_lt place (length ops) → kept ≡ slice_index_or ops place d
-    → slice_get (map (kept_op values) ops) place ≡ Some (kept_op values kept)
-kept_at values ops place kept d within is =
+pub kept_at : (values : List ℕ) (ops : List Kept) (place : ℕ) (any d : Kept) → true ≡ nat_lt place (length ops) → any ≡ slice_index_or ops place d
+    → slice_get (map (kept_op values) ops) place ≡ Some (kept_op values any)
+kept_at values ops place any d within is =
     let below : place < length ops = grind (arith, nat_tests) in
     slice_get-map (kept_op values) ops place ∙ ap (option_map (kept_op values)) (slice_get-get_or ops place d below ∙ ap Some (sym is))

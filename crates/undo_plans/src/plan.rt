@@ -2,7 +2,7 @@
 ghost use Rattle.std.specs.Prelude.{◌≡◌, ◌<◌, ◌≤◌, [], ◌∷◌, ◌++◌, OnErr, OnOk, length, slice_get};
 ghost use Rattle.undo_plans.specs.Steps.{most_steps};
 
-use crate::kept::{Kept, value_of, with_value};
+use crate::kept::{Kept, value_of};
 use record_base::Op;
 use std::alloc::{AllocError, Global};
 use std::marker::Model;
@@ -58,8 +58,7 @@ impl Steps {
         ensures { result ≡ slice_get self.now place }
     {
         let kept = self.ops.get(place)?;
-        let value = &self.values[kept.from..kept.from + kept.count];
-        Some(with_value(&kept.op, value))
+        Some(kept.op(self.values.as_slice()))
     }
 
     /// Adds a step, behind the others. Where memory is refused for it, the steps are what they were.
@@ -69,11 +68,7 @@ impl Steps {
         ensures kept { OnErr result (self.new ≡ self.old) }
     {
         let value = value_of(op);
-        let kept = Kept {
-            op: with_value(op, &[]),
-            from: self.values.len(),
-            count: value.len(),
-        };
+        let kept = Kept::of(op, self.values.len());
         self.ops.reserve(1)?;
         self.values.extend_from_slice(value)?;
         self.ops.push_reserved(kept);
