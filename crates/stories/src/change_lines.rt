@@ -21,9 +21,15 @@ fn change_of(asked: &Asked) -> Option<Op<'_>> {
     Some(op)
 }
 
-/// The data of the request that undoes the change from the reply of a Get.
-fn undo_text(alloc: Global, op: &Op<'_>, reply: &[u8]) -> Result<String, AllocError> {
-    match Limits::inverse(op, reply) {
+/// The data of the request that undoes the change, where a Get replied the bytes that the digits tell.
+fn undo_text(alloc: Global, asked: &Asked, digits: &str) -> Result<String, AllocError> {
+    let Some(op) = change_of(asked) else {
+        return String::from_str(alloc, "no change");
+    };
+    let Some(reply) = bytes_of(alloc, digits)? else {
+        return String::from_str(alloc, "no reply");
+    };
+    match Limits::inverse(&op, reply.as_slice()) {
         Some(undo) => hex::encode_upper(alloc, Limits::set_data(&undo).as_slice()),
         None => String::from_str(alloc, "none"),
     }
@@ -32,15 +38,9 @@ fn undo_text(alloc: Global, op: &Op<'_>, reply: &[u8]) -> Result<String, AllocEr
 /// `undo ipmi 10 25 05FF0301 : 0202`: the data of the request that undoes this Set, where a Get replied these before it.
 pub fn undo(alloc: Global, rest: &str) -> Result<String, AllocError> {
     let (words, reply) = rest.split_once(" :").unwrap_or((rest, ""));
-    let Some(asked) = asked_in(alloc, 0, words)? else {
-        return String::from_str(alloc, "no change");
-    };
-    let Some(op) = change_of(&asked) else {
-        return String::from_str(alloc, "no change");
-    };
-    match bytes_of(alloc, reply.trim_start())? {
-        Some(reply) => undo_text(alloc, &op, reply.as_slice()),
-        None => String::from_str(alloc, "no reply"),
+    match asked_in(alloc, 0, words)? {
+        Some(asked) => undo_text(alloc, &asked, reply.trim_start()),
+        None => String::from_str(alloc, "no change"),
     }
 }
 
@@ -106,10 +106,10 @@ fn between<'w>(alloc: Global, way: &'w str, before: &str) -> Result<Option<&'w s
 fn carried_out(
     alloc: Global,
     board: &mut Board<Records>,
-    ops: (&Op<'_>, &Op<'_>),
+    op: &Op<'_>,
+    undo: &Op<'_>,
     before: &str,
 ) -> Result<String, AllocError> {
-    let (op, undo) = ops;
     let first = way(alloc, board, (ONE, OTHER), op, undo)?;
     let Some(after) = between(alloc, first.as_str(), before)? else {
         return Ok(first);
@@ -123,32 +123,32 @@ fn carried_out(
     Ok(text)
 }
 
-/// The operation is carried out and undone, from a Get's reply.
+/// The change that the request asks for is carried out and undone, from a Get's reply.
 fn changed(
     alloc: Global,
     board: &mut Board<Records>,
-    op: &Op<'_>,
+    asked: &Asked,
     before: &str,
 ) -> Result<String, AllocError> {
+    let Some(op) = change_of(asked) else {
+        return String::from_str(alloc, "no change");
+    };
     let Some(reply) = bytes_of(alloc, before)? else {
         return String::from_str(alloc, "no reply");
     };
-    let Some(undo) = Limits::inverse(op, reply.as_slice()) else {
+    let Some(undo) = Limits::inverse(&op, reply.as_slice()) else {
         return String::from_str(alloc, "none");
     };
     let before = hex::encode_upper(alloc, reply.as_slice())?;
-    carried_out(alloc, board, (op, &undo), before.as_str())
+    carried_out(alloc, board, &op, &undo, before.as_str())
 }
 
 /// `change ipmi 10 25 05FF0301 : 0202 -> 0301 : 05FF0202`: behind the Set the data of a Get's reply before it and once it is undone; those in
 /// between, and the data of the request that undoes it. The Set and its undo come from two requesters, which then change places.
 pub fn change(alloc: Global, board: &mut Board<Records>, rest: &str) -> Result<String, AllocError> {
     let (words, before) = rest.split_once(" : ").unwrap_or((rest, ""));
-    let Some(asked) = asked_in(alloc, 0, words)? else {
-        return String::from_str(alloc, "no change");
-    };
-    match change_of(&asked) {
-        Some(op) => changed(alloc, board, &op, before),
+    match asked_in(alloc, 0, words)? {
+        Some(asked) => changed(alloc, board, &asked, before),
         None => String::from_str(alloc, "no change"),
     }
 }
