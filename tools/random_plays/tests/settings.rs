@@ -43,7 +43,7 @@ pub(super) enum Setting {
 }
 
 /// The operation that gives fields these states.
-fn states_op(states: [u8; 2]) -> Op {
+fn states_op(states: [u8; 2]) -> Op<'static> {
     let mut changes = FieldChanges::new();
     for state in states {
         let choice = if state == 0 { 0 } else { 1 };
@@ -66,8 +66,8 @@ fn parameter(change: &BootChange) -> BootParameter {
 }
 
 impl Setting {
-    /// The step as plans have it.
-    pub fn op(&self) -> Op {
+    /// The step as plans have it. The value that it gives to an attribute lies in the room.
+    pub fn op<'v>(&self, room: &'v mut Value) -> Op<'v> {
         match self {
             Setting::Policy(policy) => Op::PowerPolicy(SetPowerPolicy { policy: *policy }),
             Setting::Enables(byte) => Op::GlobalEnables(SetGlobalEnables { byte: *byte }),
@@ -78,7 +78,8 @@ impl Setting {
             Setting::Lan(set) => Op::LanParam(*set),
             Setting::Watchdog(set) => Op::Watchdog(*set),
             Setting::Quiet(index) => {
-                Op::BiosAttribute(SetBiosAttribute::of(QUIET, ENUMERATION_TYPE, &[1, *index]))
+                room.replace(&[1, *index]);
+                Op::BiosAttribute(SetBiosAttribute::of(QUIET, ENUMERATION_TYPE, room.as_slice()))
             }
             Setting::States(states) => states_op(*states),
         }

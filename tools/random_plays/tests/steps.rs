@@ -52,24 +52,22 @@ pub(super) enum Step {
 }
 
 impl Step {
-    /// The step as plans have it.
-    pub fn op(&self) -> Op {
+    /// The step as plans have it. The value that it gives to an attribute lies in the room.
+    pub fn op<'v>(&self, room: &'v mut Value) -> Op<'v> {
         match self {
             Step::Thresholds(set) => Op::Thresholds(*set),
             Step::Hysteresis(set) => Op::Hysteresis(*set),
             Step::Events(set) => Op::EventEnable(*set),
             Step::Numeric(set) => Op::NumericEffecter(*set),
-            Step::Setting(setting) => setting.op(),
-            Step::Text(text) => Op::BiosAttribute(SetBiosAttribute::of(
-                ASSET,
-                STRING_TYPE,
-                text.value().as_slice(),
-            )),
-            Step::Delay(number) => Op::BiosAttribute(SetBiosAttribute::of(
-                DELAY,
-                INTEGER_TYPE,
-                &u64::from(*number).to_le_bytes(),
-            )),
+            Step::Setting(setting) => setting.op(room),
+            Step::Text(text) => {
+                room.replace(text.value().as_slice());
+                Op::BiosAttribute(SetBiosAttribute::of(ASSET, STRING_TYPE, room.as_slice()))
+            }
+            Step::Delay(number) => {
+                room.replace(&u64::from(*number).to_le_bytes());
+                Op::BiosAttribute(SetBiosAttribute::of(DELAY, INTEGER_TYPE, room.as_slice()))
+            }
         }
     }
 

@@ -84,11 +84,11 @@ fn board_of(alloc: Global, scene: &Scene) -> Result<BoardFile, Fail> {
 
 /// The plan of a scene.
 fn plan_of(alloc: Global, scene: &Scene) -> Result<Plan, Fail> {
-    let mut ops = Vec::new(alloc);
+    let mut steps = Steps::none(alloc);
     for step in scene.steps.iter() {
-        ops.push(step.op())?;
+        let mut room = Value::new();
+        steps.push(&step.op(&mut room))?;
     }
-    let steps = Steps::new(ops).ok_or("steps")?;
     let retries = scene.retries;
     Ok(Plan { steps, retries })
 }
