@@ -50,7 +50,7 @@ pub(crate) fn step_stage(steps: &Steps, stopped: bool, step: usize) -> Stage
             Stage::Opened {
                 heeded: true,
                 task: Task::Gets(step),
-                asked: Limits::get_asked(&Limits::key(op)),
+                asked: Limits::get_asked(&Limits::key(&op)),
             }
         }
     }
@@ -142,7 +142,7 @@ fn after_get(
     if let Some(code) = Code::new(reply.code) {
         return Stage::AtHalt(step, Why::GetRefused(code));
     }
-    let Some(back) = Limits::inverse(op, reply.body) else {
+    let Some(back) = Limits::inverse(&op, reply.body) else {
         return Stage::AtHalt(step, Why::NotRestorable);
     };
     if stopped {
@@ -171,7 +171,7 @@ fn set_stage(steps: &Steps, step: usize) -> Stage
     Stage::Opened {
         heeded: true,
         task: Task::Sets(step),
-        asked: Limits::set_asked(&steps.as_slice()[step]),
+        asked: Limits::set_asked(&steps.get(step).unwrap()),
     }
 }
 
@@ -190,7 +190,7 @@ fn after_set(steps: &Steps, stopped: bool, requests: &mut Requests, step: usize,
         ≤ 3 * (length steps.now - step) - 1 + length requests.old.members }
     ensures room { HasRoom (steps_ahead steps.now result) requests.new }
 {
-    let _steps = steps.as_slice();
+    let _steps = steps.len();
     match Code::new(code) {
         Some(code) => Stage::AtHalt(step, Why::Refused(code)),
         None => {

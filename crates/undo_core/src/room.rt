@@ -1,5 +1,6 @@
 //! How much room the requests need that undo a plan.
-ghost use Rattle.std.specs.Prelude.{◌≡◌, [], IfOk};
+ghost use Rattle.std.specs.Prelude.{◌≡◌, ◌≤◌, [], IfOk};
+ghost use Rattle.undo_plans.specs.Requests.{most_undo_data};
 ghost use Rattle.undo_core.specs.Room.{most_data, data_for, HasRoom};
 
 use cfg_records::Op;
@@ -8,8 +9,9 @@ use two_wire::size::MOST_IPMI_REQUEST_DATA;
 use undo_plans::{MOST_UNDO_DATA, Requests, Steps};
 
 /// The most bytes of data of a request that undoes an operation of this kind.
-fn most_bytes(op: &Op) -> usize
-    ensures { result ≡ most_data op.now }
+fn most_bytes(op: &Op<'_>) -> usize
+    ensures value { result ≡ most_data op.now }
+    ensures small { result ≤ most_undo_data }
 {
     match op {
         Op::BiosAttribute(_) => MOST_UNDO_DATA,
@@ -22,8 +24,9 @@ fn bytes_for(steps: &Steps) -> usize
     ensures { result ≡ data_for steps.now }
 {
     let mut bytes = 0;
-    for op in steps.as_slice() {
-        bytes += most_bytes(op);
+    for place in 0..steps.len() {
+        let op = steps.get(place).unwrap();
+        bytes += most_bytes(&op);
     }
     bytes
 }
@@ -33,5 +36,5 @@ pub(crate) fn room_for(alloc: Global, steps: &Steps) -> Result<Requests, AllocEr
     ensures members { IfOk result (λ requests. requests.members ≡ []) }
     ensures room { IfOk result (λ requests. HasRoom steps.now requests) }
 {
-    Requests::open(alloc, steps.as_slice().len(), bytes_for(steps))
+    Requests::open(alloc, steps.len(), bytes_for(steps))
 }

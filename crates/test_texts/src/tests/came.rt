@@ -108,7 +108,7 @@ fn cut(alloc: Global, parts: Option<(&str, &str)>) -> Result<Came, AllocError> {
 }
 
 /// Adds the line of a step's request, as an undo text has it.
-fn push_step(alloc: Global, text: &mut String, step: &Op) -> Result<(), AllocError> {
+fn push_step(alloc: Global, text: &mut String, step: &Op<'_>) -> Result<(), AllocError> {
     let mut requests = Requests::open(alloc, 0, 0)?;
     requests.add(&UndoRequest::of(&Limits::set_asked(step)))?;
     push_requests(alloc, text, &requests)
