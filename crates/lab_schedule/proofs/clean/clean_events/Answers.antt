@@ -1,5 +1,4 @@
-use Rattle.std.proofs.Common.{Bool, List, length, ◌≤◌, sym, subst}
-use Rattle.record_base.specs.declared.op.Op.{Op}
+use Rattle.std.proofs.Common.{ℕ, Bool, length, ◌≤◌, sym, subst}
 use Rattle.undo_plans.specs.Steps.{most_steps}
 use Rattle.lab_schedule.specs.declared.drawing.Drawing.{Drawing}
 use Rattle.lab_schedule.specs.declared.make.Links.TheVariants as links
@@ -15,7 +14,7 @@ returns c =
     let old = c.in_ok-drawing.drawing in
     let mid = c.carry_out.new.self in
     let start = c.in_ok-drawing.ensures in
-    let few : length plan.steps ≤ most_steps = subst (λ (steps : List Op). length steps ≤ most_steps) c.as_slice-steps.ensures.value c.as_slice-steps.ensures.few in
+    let few : length plan.steps ≤ most_steps = subst (λ (n : ℕ). n ≤ most_steps) c.len-steps.ensures.value c.len-steps.ensures.few in
     elim c.if-undo.branch [
       | then-undo+in_ok-carry_out-2 w ↦
           subst (λ (d : Drawing). IsMade file plan.steps plan.retries (record { links = links.Clean; undo = c.args.undo }) d.events.items) (sym w.drawing-is)
