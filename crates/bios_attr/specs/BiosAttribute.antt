@@ -1,6 +1,5 @@
 -- The value of a BIOS attribute, as a kind of record (DSP0247). A value has the bytes that a value entry has behind the type.
-use Rattle.std.specs.Prelude.{◌≡◌, ℕ, ◌==◌, ◌&&◌, nat_le, nat_lt, not, List, [], ◌∷◌, ◌++◌, drop, length, slice_index, Bool, true, false, IsTrue, if◌then◌else◌, is_some, Option, Some, None, Result, Ok, Err, refl}
-use Rattle.std.specs.Int.{w32, from_le_bytes}
+use Rattle.std.specs.Prelude.{◌≡◌, ℕ, ◌==◌, ◌&&◌, nat_le, nat_lt, not, List, ◌∷◌, ◌++◌, drop, length, slice_index, Bool, true, false, IsTrue, if◌then◌else◌, is_some, Option, Some, None, Result, Ok, Err, refl}
 use Rattle.two_wire.specs.Codes.{pldm_invalid_data, pldm_invalid_length, pldm_invalid_attribute}
 use Rattle.record_base.specs.declared.key.Key.{Key}
 use Rattle.record_base.specs.declared.key.Key.TheVariants as key
@@ -20,31 +19,9 @@ use Rattle.record_base.specs.AttributeSizes.{most_indexes, most_text}
 use Rattle.record_base.specs.AttributeValue.{two_bytes, number_of, value_in}
 use Rattle.bios_attr.specs.ValueEntry.{shown_type, entry_in}
 use Rattle.record_base.specs.BiosAttribute.{setting}
+pub use Rattle.bios_attr.specs.EntryParts.{bios, set_current_value, get_current_value, start_and_end, get_first_part, get_next_part, no_handle, transfer_handle}
+use Rattle.bios_attr.specs.EntryParts.{first_body}
 use Rattle.record_base.specs.AttributeRange.{type_of, IsValue, is_allowed}
-
--- the PLDM type of BIOS control and configuration, and the commands that set and get an attribute's value
-abbrev pub bios : ℕ
-bios = 0x03
-
-abbrev pub set_current_value : ℕ
-set_current_value = 0x07
-
-abbrev pub get_current_value : ℕ
-get_current_value = 0x08
-
--- the transfer flag of data that is whole, and the transfer operations that ask for the first part and for a later one
-abbrev pub start_and_end : ℕ
-start_and_end = 0x05
-
-abbrev pub get_first_part : ℕ
-get_first_part = 0x01
-
-abbrev pub get_next_part : ℕ
-get_next_part = 0x00
-
--- a transfer handle that stands for nothing
-abbrev pub no_handle : List ℕ
-no_handle = 0 ∷ 0 ∷ 0 ∷ 0 ∷ []
 
 -- ---- what a Set makes
 
@@ -85,10 +62,6 @@ op_entry op = two_bytes op.attribute ++ op.attribute_type ∷ op.value
 -- the data of the request that carries out the operation: any handle, the flag, and the entry
 abbrev pub attribute_body : SetBiosAttribute → List ℕ
 attribute_body op = no_handle ++ start_and_end ∷ op_entry op
-
--- the transfer handle in the data of a request
-abbrev pub transfer_handle : List ℕ → ℕ
-transfer_handle body = from_le_bytes w32 (byte_at body 0 ∷ byte_at body 1 ∷ byte_at body 2 ∷ byte_at body 3 ∷ [])
 
 -- the operation in such data: too short first, then another flag, then too short for an entry
 abbrev pub attribute_in : List ℕ → Result SetBiosAttribute ℕ
@@ -141,7 +114,8 @@ words = record {
   key_of = λ op. op.attribute;
   get_asked = λ handle. pldm_request bios get_current_value (no_handle ++ get_first_part ∷ two_bytes handle);
   set_data = attribute_body;
-  set_asked = λ op. pldm_request bios set_current_value (attribute_body op);
+  -- the first part, where the entry goes in parts
+  set_asked = λ op. pldm_request bios set_current_value (first_body (attribute_body op));
   -- no further part is asked for
   set_reply = λ op. no_handle;
   next_live = λ op live. live;

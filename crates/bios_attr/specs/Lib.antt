@@ -1,6 +1,8 @@
 pub mod ValueEntry
 pub mod ValueEntryLaws
+pub mod EntryParts
 pub mod BiosAttribute
+pub mod EntryPartsLaws
 pub mod BiosAttributeLaws
 pub mod BiosAttributeKind
 pub mod Attributes

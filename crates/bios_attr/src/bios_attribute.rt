@@ -2,10 +2,12 @@
 ghost use Rattle.std.specs.Prelude.{◌≡◌, ◌+◌, ◌≤◌, ◌++◌, ◌∷◌, length};
 ghost use Rattle.record_base.specs.AttributeSizes.{most_data};
 ghost use Rattle.record_base.specs.AttributeValue.{two_bytes};
+ghost use Rattle.bios_attr.specs.EntryParts.{first_part};
 ghost use Rattle.bios_attr.specs.BiosAttribute.{no_handle, get_first_part, attribute_body, transfer_handle, attribute_in, attribute_shown_in, attribute_view, is_within, is_attribute_reply};
 
+use crate::entry_parts::{BEFORE_PART, goes_in_parts, part_at};
 use crate::value_entry::{entry_in, shown_type};
-use pldm_base::{GET_FIRST_PART, GET_NEXT_PART};
+use pldm_base::{GET_FIRST_PART, GET_NEXT_PART, MOST_WHOLE, PART_LENGTH, TransferFlag};
 use record_base::attribute_sizes::{BEFORE_VALUE, MOST_INDEXES, MOST_TEXT};
 use record_base::attribute_value::{AttributeValue, value_in};
 use record_base::value::DATA_CAPACITY;
@@ -17,19 +19,22 @@ use two_wire::code::{PLDM_INVALID_DATA, PLDM_INVALID_LENGTH};
 use two_wire::{Below, Buffer, Code};
 
 /// The PLDM type of BIOS control and configuration.
-const BIOS: u8 = 3;
+pub const BIOS: u8 = 3;
 
 /// The number of the command that sets an attribute's value.
-const SET_CURRENT_VALUE: u8 = 0x07;
+pub const SET_CURRENT_VALUE: u8 = 0x07;
 
 /// The number of the command that gets it.
-const GET_CURRENT_VALUE: u8 = 0x08;
+pub const GET_CURRENT_VALUE: u8 = 0x08;
 
 /// The transfer flag of data that is whole.
-const START_AND_END: u8 = 0x05;
+pub const START_AND_END: u8 = 0x05;
 
 /// How many bytes the data of a Set have at least, of whatever flag.
 const LEAST_SET: usize = 6;
+
+/// How many bytes an entry has before its value.
+const BEFORE_ENTRY_VALUE: usize = BEFORE_VALUE - BEFORE_PART;
 
 /// A transfer handle that stands for nothing.
 const NO_HANDLE: [u8; 4] = [0; 4];
@@ -177,6 +182,22 @@ impl AttributeLimits {
         let code = shown_type(self.read_only, self.range.type_code());
         write_entry(self.handle, code, value, reply);
     }
+
+    /// Appends the data of the first Get reply, which show this value: all of it, or the first part of an entry that goes in parts.
+    pub fn show_first<B: Buffer>(&self, value: &[u8], reply: &mut B)
+        requires { length (B.bytes reply.old) + length (first_part (attribute_view self.now value.now)) ≤ B.capacity }
+        ensures { B.bytes reply.new ≡ B.bytes reply.old ++ first_part (attribute_view self.now value.now) }
+    {
+        if BEFORE_ENTRY_VALUE + value.len() <= MOST_WHOLE {
+            self.show(value, reply);
+            return;
+        }
+        reply.extend_from_slice(&(PART_LENGTH as u32).to_le_bytes());
+        reply.push(TransferFlag::Start.byte());
+        let code = shown_type(self.read_only, self.range.type_code());
+        let first = &value[..PART_LENGTH - BEFORE_ENTRY_VALUE];
+        write_entry(self.handle, code, first, reply);
+    }
 }
 
 impl<'a> RecordKind<'a> for AttributeLimits {
@@ -235,7 +256,12 @@ impl<'a> RecordKind<'a> for AttributeLimits {
     }
 
     fn set_asked(op: &SetBiosAttribute<'a>) -> Asked {
-        Asked::pldm(Below::new(BIOS), SET_CURRENT_VALUE, body(op).as_slice())
+        let whole = body(op);
+        if !goes_in_parts(whole.as_slice()) {
+            return Asked::pldm(Below::new(BIOS), SET_CURRENT_VALUE, whole.as_slice());
+        }
+        let first = part_at(whole.as_slice(), 0).unwrap();
+        Asked::pldm(Below::new(BIOS), SET_CURRENT_VALUE, first.as_slice())
     }
 
     fn inverse(_op: &SetBiosAttribute<'a>, get_data: &'a [u8]) -> Option<SetBiosAttribute<'a>> {

@@ -7,6 +7,7 @@ pub mod bios_attribute;
 pub mod bios_table;
 pub mod current_values;
 mod entries;
+pub mod entry_parts;
 pub mod laws;
 pub mod rest;
 pub mod string_entry;

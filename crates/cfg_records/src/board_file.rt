@@ -7,7 +7,7 @@ ghost use Rattle.cfg_records.specs.BoardChannels.{channel_numbers, on_numbers, e
 use record_base::{
     Attributes, BootOptions, BootParameter, Channels, Device, GlobalEnables, Key, Lans,
     LogCapacity, NumericEffecters, PowerPolicy, SdrRecords, Sensors, SessionlessChannels,
-    StateEffecters, UserAccesses, Users, Value, Watchdog,
+    StartValue, StateEffecters, UserAccesses, Users, Watchdog,
 };
 use std::alloc::{AllocError, Global};
 
@@ -51,7 +51,7 @@ impl BoardFile {
     ghost use Rattle.cfg_records.specs.Boards.{joined, effecter_kinds, access_kinds, item_kinds, attribute_pairs, pairs_of, sensor_kinds};
 
     /// The records of its sensors: a line for each kind.
-    fn sensor_records(&self, alloc: Global) -> Result<Vec<(Key, Value)>, AllocError>
+    fn sensor_records(&self, alloc: Global) -> Result<Vec<(Key, StartValue)>, AllocError>
         ensures { IfOk result
             (λ pairs. pairs.items ≡ joined [] (sensor_kinds self.now.sensors.items)) }
     {
@@ -64,7 +64,7 @@ impl BoardFile {
     }
 
     /// The records of its effecters: a line for each kind.
-    fn effecter_records(&self, alloc: Global) -> Result<Vec<(Key, Value)>, AllocError>
+    fn effecter_records(&self, alloc: Global) -> Result<Vec<(Key, StartValue)>, AllocError>
         ensures { IfOk result (λ pairs. pairs.items ≡ joined [] (effecter_kinds self.now)) }
     {
         let numeric = self.numeric_effecters.items.as_slice();
@@ -75,7 +75,7 @@ impl BoardFile {
     }
 
     /// The records of its users and channels: a line for each kind, and one for each store.
-    fn access_records(&self, alloc: Global) -> Result<Vec<(Key, Value)>, AllocError>
+    fn access_records(&self, alloc: Global) -> Result<Vec<(Key, StartValue)>, AllocError>
         ensures { IfOk result (λ pairs. pairs.items ≡ joined [] (access_kinds self.now)) }
     {
         let names = self.users.items.as_slice().iter().map(|u| u.pair());
@@ -92,7 +92,7 @@ impl BoardFile {
     }
 
     /// The records of its items.
-    fn item_records(&self, alloc: Global) -> Result<Vec<(Key, Value)>, AllocError>
+    fn item_records(&self, alloc: Global) -> Result<Vec<(Key, StartValue)>, AllocError>
         ensures { IfOk result (λ pairs. pairs.items ≡ joined [] (item_kinds self.now)) }
     {
         let mut pairs = self.sensor_records(alloc)?;
@@ -104,15 +104,18 @@ impl BoardFile {
     }
 
     /// The records of its attributes.
-    fn attribute_records(&self, alloc: Global) -> Result<Vec<(Key, Value)>, AllocError>
+    fn attribute_records(&self, alloc: Global) -> Result<Vec<(Key, StartValue)>, AllocError>
         ensures { IfOk result (λ pairs. pairs.items ≡ attribute_pairs self.now) }
     {
-        let attributes = self.attributes.items.as_slice();
-        attributes.iter().map(|a| a.pair()).collect(alloc)
+        let mut pairs = Vec::new(alloc);
+        for attribute in self.attributes.items.as_slice() {
+            pairs.push(attribute.pair(alloc)?)?;
+        }
+        Ok(pairs)
     }
 
     /// The keys of the board's records, each once, with the values that they begin with: kind after kind.
-    pub fn records(&self, alloc: Global) -> Result<Vec<(Key, Value)>, AllocError>
+    pub fn records(&self, alloc: Global) -> Result<Vec<(Key, StartValue)>, AllocError>
         ensures pairs { IfOk result (λ pairs. pairs.items ≡ pairs_of self.now) }
         ensures differ { OnOk result (KeysDiffer (pairs_of self.now)) }
         ensures fit { OnOk result (LengthsFit (pairs_of self.now)) }

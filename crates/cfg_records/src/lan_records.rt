@@ -1,6 +1,6 @@
 //! The records of a board file's LAN parameters.
 use crate::board_file::BoardFile;
-use record_base::{Key, LanAddress, LanParameter, Value};
+use record_base::{Key, LanAddress, LanParameter, StartValue};
 use std::alloc::{AllocError, Global};
 
 impl BoardFile {
@@ -13,7 +13,7 @@ impl BoardFile {
         &self,
         alloc: Global,
         parameter: LanParameter,
-    ) -> Result<Vec<(Key, Value)>, AllocError>
+    ) -> Result<Vec<(Key, StartValue)>, AllocError>
         ensures { IfOk result (λ pairs. pairs.items ≡ lan_pairs self.now parameter) }
     {
         let lans = self.lans.items.as_slice();
@@ -24,7 +24,7 @@ impl BoardFile {
     pub(crate) fn push_lans(
         &self,
         alloc: Global,
-        pairs: &mut Vec<(Key, Value)>,
+        pairs: &mut Vec<(Key, StartValue)>,
     ) -> Result<(), AllocError>
         ensures { OnOk result (pairs.new.items ≡ joined pairs.old.items (lan_kinds self.now)) }
     {

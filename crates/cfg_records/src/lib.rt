@@ -4,6 +4,7 @@
 
 pub mod board_file;
 pub mod index;
+mod kept_record;
 pub mod lan_records;
 pub mod plain_store;
 pub mod sample;
@@ -21,7 +22,7 @@ pub use record_base::{
     NumericSize, Op, PossibleValues, PowerPolicy, RecordData, RecordKind, SdrRecord, SdrRecords,
     Sensor, Sensors, SessionlessChannels, SetBiosAttribute, SetBootParam, SetChannelAccess,
     SetEventEnable, SetGlobalEnables, SetHysteresis, SetNumericEffecter, SetPowerPolicy,
-    SetStateEffecter, SetThresholds, SetUserAccess, SetUserName, SetWatchdog, SixBits,
+    SetStateEffecter, SetThresholds, SetUserAccess, SetUserName, SetWatchdog, SixBits, StartValue,
     StateEffecter, StateEffecters, StateField, StoredAccess, StringAttribute, Text, TextLengths,
     ThresholdMasks, Thresholds, User, UserAccess, UserAccesses, UserNumber, UserOnChannel, Users,
     Value, Watchdog, attribute_sizes, board_sizes, byte_at, event_enable, lan, lan_item, mask,

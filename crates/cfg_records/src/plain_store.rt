@@ -8,8 +8,9 @@ ghost use Rattle.cfg_records.specs.Records.{records_of, KeysDiffer, LengthsFit};
 
 use crate::board_file::BoardFile;
 use crate::index::Index;
+use crate::kept_record::KeptRecord;
 use crate::store::Store;
-use record_base::{Key, Value};
+use record_base::{Key, StartValue};
 use std::alloc::{AllocError, Global};
 
 /// Why no store is made: the first that holds.
@@ -26,14 +27,14 @@ pub enum StoreFault {
 /// Records in a list, and for each key its record's place there.
 #[derive(Drop)]
 pub struct PlainStore {
-    records: Vec<(Key, Value)>,
+    records: Vec<KeptRecord>,
     places: Index,
     ghost placed: { ArePlaced records.items (place_of places) } by { ArePlaced-prop records.items (place_of places) },
 }
 
 impl PlainStore {
     /// A store of these pairs.
-    pub fn new(alloc: Global, pairs: &[(Key, Value)]) -> Result<Self, StoreFault>
+    pub fn new(alloc: Global, pairs: &[(Key, StartValue)]) -> Result<Self, StoreFault>
         ensures records { IfOk result
             (λ s. ⟦<PlainStore as Store>⟧.records s ≡ records_of pairs.now) }
         ensures differ { OnOk result (KeysDiffer pairs.now) }
@@ -54,7 +55,10 @@ impl PlainStore {
                 Ok(Some(_)) => return Err(StoreFault::TwiceTheSameKey),
                 Ok(None) => {}
             }
-            let Ok(()) = records.push((*key, value.copy())) else {
+            let Ok(kept) = KeptRecord::new(alloc, *key, value.as_slice()) else {
+                return Err(StoreFault::Memory);
+            };
+            let Ok(()) = records.push(kept) else {
                 return Err(StoreFault::Memory);
             };
         }
@@ -78,7 +82,7 @@ impl PlainStore {
     }
 }
 
-fn lengths_fit(pairs: &[(Key, Value)]) -> bool
+fn lengths_fit(pairs: &[(Key, StartValue)]) -> bool
     ensures { IsTrue result ↔ LengthsFit pairs.now }
 {
     pairs.iter().all(|p| p.0.is_length(p.1.len()))
@@ -99,10 +103,10 @@ impl Store for PlainStore {
     }
 
     fn value(&self, place: usize) -> &[u8] {
-        self.records[place].1.as_slice()
+        self.records[place].value()
     }
 
     fn write(&mut self, place: usize, value: &[u8]) {
-        self.records[place].1.replace(value);
+        self.records[place].write(value);
     }
 }

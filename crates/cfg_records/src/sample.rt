@@ -190,16 +190,16 @@ fn quiet(alloc: Global) -> Result<AttributeKind, AllocError>
 }
 
 /// A text of at most 200 bytes: "Asset", now "rack-1".
-fn asset() -> AttributeKind
-    ensures { IsAsset result }
+fn asset(alloc: Global) -> Result<AttributeKind, AllocError>
+    ensures { IfOk result IsAsset }
 {
     let lengths = TextLengths {
         least: 0,
         most: 200,
     };
-    let current = Text::from_slice(&[0x72, 0x61, 0x63, 0x6B, 0x2D, 0x31]);
-    let kind = StringAttribute::new(1, lengths, Text::new(), current);
-    AttributeKind::Text(kind.unwrap())
+    let current = Vec::from_slice(alloc, &[0x72, 0x61, 0x63, 0x6B, 0x2D, 0x31])?;
+    let kind = StringAttribute::new(1, lengths, Vec::new(alloc), current);
+    Ok(AttributeKind::Text(kind.unwrap()))
 }
 
 /// A number up to 300 by tens: "Delay", now 30.
@@ -233,7 +233,7 @@ fn attributes(alloc: Global) -> Result<Attributes, AllocError>
 {
     let mut attributes = Vec::new(alloc);
     attributes.push(attribute(0, &[0x51, 0x75, 0x69, 0x65, 0x74], quiet(alloc)?))?;
-    attributes.push(attribute(1, &[0x41, 0x73, 0x73, 0x65, 0x74], asset()))?;
+    attributes.push(attribute(1, &[0x41, 0x73, 0x73, 0x65, 0x74], asset(alloc)?))?;
     attributes.push(attribute(2, &[0x44, 0x65, 0x6C, 0x61, 0x79], delay()))?;
     Ok(Attributes::new(attributes).unwrap())
 }

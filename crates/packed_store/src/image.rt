@@ -1,27 +1,8 @@
 //! An image of records: a value with its length in front, in the room that its kind may take.
-ghost use Rattle.std.specs.Prelude.{◌≡◌, ◌+◌, ◌≤◌, ℕ, OnOk, IsTrue, length};
-ghost use Rattle.record_base.specs.Keys.{is_length};
+ghost use Rattle.std.specs.Prelude.{◌≡◌, ◌+◌, ◌≤◌, OnOk, length};
 ghost use Rattle.packed_store.specs.Image.{length_at, value_at, WroteAt, Added};
 
-use cfg_records::Key;
-use record_base::value::VALUE_CAPACITY;
 use std::alloc::AllocError;
-
-/// The length of the longest value of the key's kind.
-pub(crate) fn longest(key: &Key) -> usize
-    ensures bound { (n : ℕ) → IsTrue (is_length key.now n) → n ≤ result }
-    ensures least { (most : ℕ)
-        → ((n : ℕ) → IsTrue (is_length key.now n) → n ≤ most) → result ≤ most }
-    ensures short { result ≤ VALUE_CAPACITY }
-{
-    for unused in 0..VALUE_CAPACITY {
-        let length = VALUE_CAPACITY - unused;
-        if key.is_length(length) {
-            return length;
-        }
-    }
-    0
-}
 
 /// The value that lies at an offset.
 pub(crate) fn value_at(bytes: &[u8], at: usize) -> &[u8]

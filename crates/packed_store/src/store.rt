@@ -8,9 +8,9 @@ ghost use Rattle.packed_store.specs.Image.{IsImage, records_in};
 ghost use Rattle.packed_store.specs.ImageLaws.{IsImage-prop};
 ghost use Rattle.packed_store.specs.Places.{offset_of};
 
-use crate::image::{add, longest, value_at, write_at};
+use crate::image::{add, value_at, write_at};
 use crate::places::Places;
-use cfg_records::{BoardFile, Key, Store, StoreFault, Value};
+use cfg_records::{BoardFile, Key, StartValue, Store, StoreFault};
 use std::alloc::{AllocError, Global};
 
 /// Records in one byte image, and where each of them lies there.
@@ -22,14 +22,14 @@ pub struct PackedStore {
 }
 
 /// Whether one of the pairs has the key.
-fn has_key(pairs: &[(Key, Value)], key: &Key) -> bool
+fn has_key(pairs: &[(Key, StartValue)], key: &Key) -> bool
     ensures { result ≡ list_any (λ pair. same_key pair.0 key.now) pairs.now }
 {
     pairs.iter().any(|pair| pair.0.cmp(key).is_eq())
 }
 
 /// Whether no two of the pairs have the same key.
-fn keys_differ(pairs: &[(Key, Value)]) -> bool
+fn keys_differ(pairs: &[(Key, StartValue)]) -> bool
     ensures { IsTrue result ↔ KeysDiffer pairs.now }
 {
     for (place, pair) in pairs.iter().enumerate() {
@@ -40,7 +40,7 @@ fn keys_differ(pairs: &[(Key, Value)]) -> bool
     true
 }
 
-fn lengths_fit(pairs: &[(Key, Value)]) -> bool
+fn lengths_fit(pairs: &[(Key, StartValue)]) -> bool
     ensures { IsTrue result ↔ LengthsFit pairs.now }
 {
     pairs.iter().all(|p| p.0.is_length(p.1.len()))
@@ -48,7 +48,7 @@ fn lengths_fit(pairs: &[(Key, Value)]) -> bool
 
 impl PackedStore {
     /// An image of these pairs.
-    fn pack(alloc: Global, pairs: &[(Key, Value)]) -> Result<Self, AllocError>
+    fn pack(alloc: Global, pairs: &[(Key, StartValue)]) -> Result<Self, AllocError>
         requires differ { KeysDiffer pairs.now }
         requires fit { LengthsFit pairs.now }
         ensures { IfOk result
@@ -58,14 +58,14 @@ impl PackedStore {
         let mut bytes = Vec::new(alloc);
         for (key, value) in pairs {
             places.insert(*key, bytes.len())?;
-            add(&mut bytes, longest(key), value.as_slice())?;
+            add(&mut bytes, key.longest(), value.as_slice())?;
         }
         places.note_rows();
         Ok(PackedStore { bytes, places })
     }
 
     /// A store of these pairs.
-    pub fn new(alloc: Global, pairs: &[(Key, Value)]) -> Result<Self, StoreFault>
+    pub fn new(alloc: Global, pairs: &[(Key, StartValue)]) -> Result<Self, StoreFault>
         ensures records { IfOk result
             (λ s. ⟦<PackedStore as Store>⟧.records s ≡ records_of pairs.now) }
         ensures differ { OnOk result (KeysDiffer pairs.now) }

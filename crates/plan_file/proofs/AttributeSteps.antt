@@ -5,13 +5,14 @@ use Rattle.std.proofs.lemmas.Bool.Decides.{nat_tests}
 use Rattle.std.proofs.lemmas.Option.{same_Some}
 use Rattle.std.specs.List.{list_all}
 use Rattle.toml.specs.Data.{Data, Members, as_str}
+use Rattle.record_base.specs.AttributeSizes.{most_text}
 use Rattle.text_fields.specs.declared.field.Field.TheVariants as field
 use Rattle.text_fields.specs.declared.row.Row.{Row}
 use Rattle.text_fields.specs.declared.row.Shape.TheVariants as shape
 use Rattle.text_fields.specs.declared.row.Need.TheVariants as need
 use Rattle.text_fields.specs.Trees.{in_field, lacks, natural, members, members_in, number_in, or_none}
 use Rattle.text_fields.specs.Ranges.{has_type, is_in_range}
-use Rattle.text_fields.specs.Attributes.{short_text, text_of, text_in, is_below, are_indexes}
+use Rattle.text_fields.specs.Attributes.{text_within, string_of, string_in, is_below, are_indexes}
 use Rattle.text_fields.proofs.Rows.{Sound, Value, not_false}
 use Rattle.text_fields.proofs.Members.{listed}
 
@@ -66,27 +67,27 @@ text_row = record { 0 = field.Text; 1 = shape.AttributeText; 2 = need.Never }
 -- the text that a step gives, and no number besides
 pub record Texted (tree : Members) : Type 0 where
   pub text : List ℕ
-  pub found : text_in field.Text tree ≡ Some text
-  pub few : length text ≤ 200
+  pub found : string_in field.Text tree ≡ Some text
+  pub few : length text ≤ most_text
   pub no_number : in_field field.Number tree ≡ None
 
-few_cases : (text held : List ℕ) (b : Bool) → nat_le (length text) 200 ≡ b → (if b then Some text else None) ≡ Some held → length held ≤ 200
-few_cases text held true is same = let told : text ≡ held = same_Some text held same in rw (← told) (le_from (length text) 200 is)
+few_cases : (text held : List ℕ) (b : Bool) → nat_le (length text) most_text ≡ b → (if b then Some text else None) ≡ Some held → length held ≤ most_text
+few_cases text held true is same = let told : text ≡ held = same_Some text held same in rw (← told) (le_from (length text) most_text is)
 few_cases text held false is same = cc
 
-few_bytes : (o : Option (List ℕ)) (held : List ℕ) → option_and_then short_text o ≡ Some held → length held ≤ 200
-few_bytes (Some text) held is = few_cases text held (nat_le (length text) 200) refl is
+few_bytes : (o : Option (List ℕ)) (held : List ℕ) → option_and_then (text_within most_text) o ≡ Some held → length held ≤ most_text
+few_bytes (Some text) held is = few_cases text held (nat_le (length text) most_text) refl is
 few_bytes None held is = cc
 
-text_cases : (tree : Members) (d : Data) (o : Option (List ℕ)) → in_field field.Text tree ≡ Some d → text_of d ≡ o → is_some o ≡ true → in_field field.Number tree ≡ None → Texted tree
+text_cases : (tree : Members) (d : Data) (o : Option (List ℕ)) → in_field field.Text tree ≡ Some d → string_of d ≡ o → is_some o ≡ true → in_field field.Number tree ≡ None → Texted tree
 text_cases tree d (Some text) found is short none = record { text = text; found = rw (found, is) refl; few = few_bytes (as_str d) text is; no_number = none }
 text_cases tree d None found is short none = cc
 
 pub text_there : (tree : Members) → is_some (in_field field.Text tree) ≡ true → Sound tree text_row → Texted tree
 text_there tree some sound =
     let v = value_given tree text_row (in_field field.Text tree) refl some sound in
-    let (number, short) = and_parts (lacks field.Number tree) (is_some (text_of v.value)) v.within in
-    text_cases tree v.value (text_of v.value) v.found refl short (none_there (in_field field.Number tree) number)
+    let (number, short) = and_parts (lacks field.Number tree) (is_some (string_of v.value)) v.within in
+    text_cases tree v.value (string_of v.value) v.found refl short (none_there (in_field field.Number tree) number)
 
 -- ---- numbers
 

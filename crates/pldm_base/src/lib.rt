@@ -22,5 +22,5 @@ pub use message::{Header, Instance, PldmBytes, PldmReply, PldmRequest, PldmType}
 pub use reading::{read_pldm, read_pldm_reply};
 pub use sameness::same_request;
 pub use table::{GET_FIRST_PART, GET_NEXT_PART, MOST_WHOLE, PART_LENGTH, Part, TransferFlag};
-pub use transfer::{entry_part, part};
+pub use transfer::{entry_part, part, part_at};
 pub use writing::{begin_pldm_reply, write_pldm, write_pldm_reply};

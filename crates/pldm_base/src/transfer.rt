@@ -1,7 +1,7 @@
 //! The part of a table that a request asks for.
 ghost use Rattle.std.specs.Prelude.{◌≡◌, ◌^◌, ◌≤◌, ◌&&◌, length, nat_lt, MatchOption, IsOkAnd};
 ghost use Rattle.two_wire.specs.Codes.{pldm_invalid_data};
-ghost use Rattle.pldm_base.specs.Parts.{asked_of_entry, asked_offset, begins_part, flag_of, IsEntryPart, IsPart};
+ghost use Rattle.pldm_base.specs.Parts.{part_length, asked_of_entry, asked_offset, begins_part, flag_of, IsEntryPart, IsPart};
 
 use crate::{GET_FIRST_PART, GET_NEXT_PART, MOST_WHOLE, PART_LENGTH, Part, TransferFlag};
 use two_wire::Code;
@@ -56,11 +56,12 @@ fn is_later_part(table: &[u8], handle: u32) -> bool
     offset > 0 && offset % PART_LENGTH == 0 && offset < table.len()
 }
 
-// The part at an offset.
-fn part_at(table: &[u8], offset: u32) -> Part<'_>
+/// The part at an offset.
+pub fn part_at(table: &[u8], offset: u32) -> Part<'_>
     requires within { offset ≤ length table.now }
     requires named { length table.now ≤ 2 ^ 32 }
-    ensures { IsPart table.now offset result }
+    ensures part { IsPart table.now offset result }
+    ensures short { length result.bytes.now ≤ part_length }
 {
     let start = offset as usize;
     let is_last = table.len() - start <= PART_LENGTH;

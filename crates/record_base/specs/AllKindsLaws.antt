@@ -7,7 +7,7 @@ use Rattle.record_base.specs.declared.op.Op.{Op}
 use Rattle.record_base.specs.declared.live.Live.{Live}
 use Rattle.record_base.specs.declared.message.Asked.{Asked}
 use Rattle.record_base.specs.Keys.{is_length}
-use Rattle.record_base.specs.Meaning.{Decides, IsRefusal, room_for}
+use Rattle.record_base.specs.Meaning.{Decides, IsRefusal, room_for, most_shown}
 use Rattle.record_base.specs.RefusalLaws.{refused_field}
 use Rattle.record_base.specs.Kind.{KindWords, RecordWords, KindLaws, RecordLaws}
 use Rattle.record_base.specs.AllKinds.{Place, OpWords, words_as, any_words, OpLaws, is_of_own, sets_own, outcome_own, lifted}
@@ -124,9 +124,10 @@ module _ {K O : Type 0} (W : KindWords K O) (place : Place W) (op_words : Op →
     replies op own value live =
         subst (λ (o : Op). is_of_own (place.own_key (key_of o)) R → R.valid value → (op_words o).is_reply (R.view value live)) (sym own.1) (replies_own own.0 value live)
 
-    get_short : (key : Key) (found : Option ((own : K) × (key ≡ W.name own))) (value : List ℕ) (live : Live) → is_of_own found R → R.valid value → length (R.view value live) ≤ room_for (asked key)
+    get_short : (key : Key) (found : Option ((own : K) × (key ≡ W.name own))) (value : List ℕ) (live : Live) → is_of_own found R → R.valid value → length (R.view value live) ≤ most_shown key (asked key)
     get_short key (Some own) value live here is_valid =
-        subst (λ (a : Asked). length (R.view value live) ≤ room_for a) (sym (ap asked own.1 ∙ asks own.0)) (laws.get_short own.0 value live here is_valid)
+        subst (λ (k : Key). length (R.view value live) ≤ most_shown k (asked key)) (sym own.1)
+        (subst (λ (a : Asked). length (R.view value live) ≤ most_shown (W.name own.0) a) (sym (ap asked own.1 ∙ asks own.0)) (laws.get_short own.0 value live here is_valid))
     get_short key None value live here is_valid = absurd here
 
     same_own : (own : O) (made : Op) (value : List ℕ) (live : Live) → is_of_own (place.own_key (key_of (place.op own))) R → R.valid value → (op_words (place.op own)).inverse (R.view value live) ≡ Some made

@@ -6,7 +6,7 @@ use Rattle.record_base.specs.declared.key.Key.{Key}
 use Rattle.record_base.specs.declared.live.Live.{Live}
 use Rattle.record_base.specs.declared.message.Asked.{Asked}
 use Rattle.record_base.specs.Keys.{is_length}
-use Rattle.record_base.specs.Meaning.{Decides, IsRefusal, room_for}
+use Rattle.record_base.specs.Meaning.{Decides, IsRefusal, room_for, most_shown}
 
 -- the words for all records of the kind
 pub record KindWords (K O : Type 0) : Type 1 where
@@ -77,8 +77,8 @@ pub record RecordLaws {K O : Type 0} (words : KindWords K O) (record_words : Rec
   pub fits : (op : O) (old new : List ℕ) → record_words.sets op old new → IsTrue (is_length (words.name (words.key_of op)) (length new))
   -- a Get replies data of the kind
   pub replies : (op : O) (value : List ℕ) (live : Live) → record_words.is_of (words.key_of op) → record_words.valid value → words.is_reply op (record_words.view value live)
-  -- a Get reply fits the frame or message that carries it
-  pub get_short : (key : K) (value : List ℕ) (live : Live) → record_words.is_of key → record_words.valid value → length (record_words.view value live) ≤ room_for (words.get_asked key)
+  -- a Get reply fits the frame or message that carries it. That of an attribute may go in parts.
+  pub get_short : (key : K) (value : List ℕ) (live : Live) → record_words.is_of key → record_words.valid value → length (record_words.view value live) ≤ most_shown (words.name key) (words.get_asked key)
   -- the activity doesn't change the configuration bytes of a Get reply
   pub steady : (value : List ℕ) (live other : Live) → record_words.conf (record_words.view value live) ≡ record_words.conf (record_words.view value other)
   -- the configuration bytes of a Get reply determine the part of the value that a Get can show

@@ -37,6 +37,7 @@ pub mod Reader
 pub mod MemberLaws
 pub mod Sensor
 pub mod Values
+pub mod StartValue
 pub mod Distinct
 pub mod InOrder
 pub mod InOrderLaws

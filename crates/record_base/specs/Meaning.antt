@@ -1,9 +1,12 @@
 -- The words of a kind of record for an operation.
-use Rattle.std.specs.Prelude.{◌≢◌, ℕ, ◌<◌, List, Result, Ok, Err}
+use Rattle.std.specs.Prelude.{◌≢◌, ℕ, ◌+◌, ◌<◌, List, Result, Ok, Err}
 use Rattle.two_wire.specs.Codes.{node_busy, pldm_not_ready}
 use Rattle.two_wire.specs.Sizes.{most_ipmi_reply_data, most_pldm_reply_data}
+use Rattle.record_base.specs.declared.key.Key.{Key}
+use Rattle.record_base.specs.declared.key.Key.TheVariants as key
 use Rattle.record_base.specs.declared.message.Asked.{Asked}
 use Rattle.record_base.specs.declared.message.Asked.TheVariants.{Ipmi, Pldm}
+use Rattle.record_base.specs.AttributeSizes.{before_value, most_value}
 
 -- the outcome decides the property: the new value has it, or no value has it
 abbrev pub Decides : Result (List ℕ) ℕ → (List ℕ → Type 0) → Type 0
@@ -26,3 +29,9 @@ pub record IsRefusal (code : ℕ) : Type 0 where
 abbrev pub room_for : Asked → ℕ
 room_for (Ipmi from net_fn lun command body) = most_ipmi_reply_data
 room_for (Pldm from kind command body) = most_pldm_reply_data
+
+-- how many bytes the whole data of a record's Get reply have at most, where this request gets the record: those of an attribute may go in parts, and any
+-- other record's fit one reply
+abbrev pub most_shown : Key → Asked → ℕ
+most_shown (key.BiosAttribute handle) asked = before_value + most_value
+most_shown _ asked = room_for asked

@@ -5,16 +5,17 @@ ghost use Rattle.record_base.specs.AttributeRange.{AllowsIndexes, AllowsText, Al
 ghost use Rattle.record_base.specs.AttributeRangeLaws.{AllowsIndexes-prop, AllowsText-prop, AllowsNumber-prop};
 
 use crate::attribute_range::{AttributeRange, IntegerSteps, PossibleValues, TextLengths};
-use crate::attribute_sizes::{MOST_INDEXES, MOST_TEXT};
+use crate::attribute_sizes::{MOST_FEW, MOST_INDEXES, MOST_NAME};
 use crate::attribute_value::{ENUMERATION_TYPE, INTEGER_TYPE, STRING_TYPE};
 use crate::distinct::Numbered;
 use crate::items::Items;
 use crate::key::Key;
-use crate::value::Value;
+use crate::start_value::StartValue;
+use std::alloc::{AllocError, Global};
 use two_wire::Bytes;
 
-/// A text: a name, a possible value, or the value of a string.
-pub type Text = Bytes<{ MOST_TEXT }>;
+/// A short text: a name, or a possible value.
+pub type Text = Bytes<{ MOST_NAME }>;
 
 /// The indexes of possible values.
 pub type Indexes = Bytes<{ MOST_INDEXES }>;
@@ -36,8 +37,9 @@ pub struct StringAttribute {
     /// How its bytes are characters.
     pub string_type: u8,
     pub lengths: TextLengths,
-    pub default: Text,
-    pub current: Text,
+    /// Each of the two texts has memory of its own, so that the string is small where it is moved.
+    pub default: Items<u8>,
+    pub current: Items<u8>,
     ghost default_valid: { AllowsText lengths default } by { AllowsText-prop lengths default },
     ghost current_valid: { AllowsText lengths current } by { AllowsText-prop lengths current },
 }
@@ -82,6 +84,8 @@ impl EnumerationAttribute {
     ghost use Rattle.std.specs.Prelude.{◌≡◌, ◌≤◌, ◌↔◌, IsSome, IfSome, length};
     ghost use Rattle.record_base.specs.AttributeSizes.{most_indexes};
     ghost use Rattle.record_base.specs.AttributeRange.{AllowsIndexes};
+    ghost use Rattle.record_base.specs.declared.attribute_value.AttributeValue.TheVariants.{Indexes};
+    ghost use Rattle.record_base.specs.AttributeValue.{value_bytes};
 
     /// An enumeration with these possible values, or nothing where these are too many, or where it can't have a value.
     pub fn new(values: Vec<Text>, default: Indexes, current: Indexes) -> Option<Self>
@@ -106,17 +110,35 @@ impl EnumerationAttribute {
             current,
         })
     }
+
+    /// The bytes of the value that it begins with.
+    fn value(&self) -> StartValue
+        ensures { result ≡ value_bytes (Indexes self.now.current) }
+    {
+        let mut value = Bytes::<{ MOST_FEW }>::new();
+        value.push(self.current.len() as u8);
+        value.extend_from_slice(self.current.as_slice());
+        StartValue::few(value.as_slice())
+    }
 }
 
 impl StringAttribute {
-    ghost use Rattle.std.specs.Prelude.{◌≡◌, ◌↔◌, IsSome, IfSome};
+    ghost use Rattle.std.specs.Prelude.{◌≡◌, ◌↔◌, IsSome, IfSome, IfOk};
     ghost use Rattle.record_base.specs.AttributeRange.{AllowsText};
+    ghost use Rattle.record_base.specs.declared.attribute_value.AttributeValue.TheVariants.{Text};
+    ghost use Rattle.record_base.specs.AttributeValue.{value_bytes};
 
     /// A string with these lengths, or nothing where it can't have a value.
-    pub fn new(string_type: u8, lengths: TextLengths, default: Text, current: Text) -> Option<Self>
-        ensures made { IsSome result ↔ (AllowsText lengths default × AllowsText lengths current) }
+    pub fn new(
+        string_type: u8,
+        lengths: TextLengths,
+        default: Vec<u8>,
+        current: Vec<u8>,
+    ) -> Option<Self>
+        ensures made { IsSome result
+            ↔ (AllowsText lengths default.items × AllowsText lengths current.items) }
         ensures texts { IfSome result
-            (λ made. (made.default ≡ default) × (made.current ≡ current)) }
+            (λ made. (made.default ≡ default.items) × (made.current ≡ current.items)) }
         ensures parts { IfSome result
             (λ made. (made.string_type ≡ string_type) × (made.lengths ≡ lengths)) }
     {
@@ -126,9 +148,20 @@ impl StringAttribute {
         Some(StringAttribute {
             string_type,
             lengths,
-            default,
-            current,
+            default: Items::new(default),
+            current: Items::new(current),
         })
+    }
+
+    /// The bytes of the value that it begins with.
+    fn value(&self, alloc: Global) -> Result<StartValue, AllocError>
+        ensures { IfOk result (λ value. value ≡ value_bytes (Text self.now.current)) }
+    {
+        let text = self.current.as_slice();
+        let mut value = Vec::with_capacity(alloc, 2 + text.len())?;
+        value.extend_from_slice(&(text.len() as u16).to_le_bytes())?;
+        value.extend_from_slice(text)?;
+        Ok(StartValue::many(value))
     }
 }
 
@@ -154,7 +187,7 @@ impl IntegerAttribute {
 }
 
 impl AttributeKind {
-    ghost use Rattle.std.specs.Prelude.{◌≡◌, ◌≤◌};
+    ghost use Rattle.std.specs.Prelude.{◌≡◌, ◌≤◌, IfOk};
     ghost use Rattle.record_base.specs.AttributeValue.{value_bytes};
     ghost use Rattle.record_base.specs.Attribute.{type_of_kind, range_of, current_of};
 
@@ -186,35 +219,26 @@ impl AttributeKind {
     }
 
     /// The bytes of the value that it begins with.
-    pub fn value(&self) -> Value
-        ensures { result ≡ value_bytes (current_of self.now) }
+    pub fn value(&self, alloc: Global) -> Result<StartValue, AllocError>
+        ensures { IfOk result (λ value. value ≡ value_bytes (current_of self.now)) }
     {
-        let mut value = Value::new();
-        match self {
-            AttributeKind::Enumeration(enumeration) => {
-                value.push(enumeration.current.len() as u8);
-                value.extend_from_slice(enumeration.current.as_slice());
-            }
-            AttributeKind::Text(string) => {
-                value.extend_from_slice(&(string.current.len() as u16).to_le_bytes());
-                value.extend_from_slice(string.current.as_slice());
-            }
-            AttributeKind::Integer(integer) => {
-                value.extend_from_slice(&integer.current.to_le_bytes());
-            }
-        }
-        value
+        Ok(match self {
+            AttributeKind::Enumeration(enumeration) => enumeration.value(),
+            AttributeKind::Text(string) => string.value(alloc)?,
+            AttributeKind::Integer(integer) => StartValue::few(&integer.current.to_le_bytes()),
+        })
     }
 }
 
 impl Attribute {
-    ghost use Rattle.std.specs.Prelude.{◌≡◌};
+    ghost use Rattle.std.specs.Prelude.{◌≡◌, IfOk};
     ghost use Rattle.record_base.specs.Attribute.{attribute_value};
 
     /// The record of the attribute.
-    pub fn pair(&self) -> (Key, Value)
-        ensures { result ≡ (Key.BiosAttribute self.now.handle, attribute_value self.now) }
+    pub fn pair(&self, alloc: Global) -> Result<(Key, StartValue), AllocError>
+        ensures { IfOk result
+            (λ pair. pair ≡ (Key.BiosAttribute self.now.handle, attribute_value self.now)) }
     {
-        (Key::BiosAttribute(self.handle), self.kind.value())
+        Ok((Key::BiosAttribute(self.handle), self.kind.value(alloc)?))
     }
 }

@@ -4,8 +4,14 @@ use crate::value::DATA_CAPACITY;
 /// How many possible values an enumeration has at most.
 pub const MOST_INDEXES: usize = 16;
 
-/// How many bytes a text has at most.
-pub const MOST_TEXT: usize = 200;
+/// How many bytes a value has at most that isn't a text: the number of an enumeration's indexes, and the indexes.
+pub const MOST_FEW: usize = 1 + MOST_INDEXES;
+
+/// How many bytes a name or a possible value has at most.
+pub const MOST_NAME: usize = 200;
+
+/// How many bytes the text of a string has at most.
+pub const MOST_TEXT: usize = 1024;
 
 /// How many bytes the value of an attribute has at least: the number of indexes and one index, or the length of a text.
 pub const LEAST_VALUE: usize = 2;
@@ -22,7 +28,7 @@ pub const LONGEST_TEXT: usize = 65535;
 /// How many bytes stand before the value in the data of a Set or of a Get reply: handle, flag, attribute and type.
 pub const BEFORE_VALUE: usize = 8;
 
-/// How many bytes a request's value has at most.
+/// How many bytes the value of a Set has at most.
 pub const MOST_SENT: usize = DATA_CAPACITY - BEFORE_VALUE;
 
 /// How many attributes a board has at most.

@@ -3,7 +3,7 @@ ghost use Rattle.std.specs.Prelude.{◌≡◌, ◌<◌};
 ghost use Rattle.record_base.specs.BootParam.{boot_length, parameter_at, flag_bytes};
 
 use crate::key::Key;
-use crate::value::Value;
+use crate::start_value::StartValue;
 
 /// A parameter of the system boot options that a controller keeps (IPMI 2.0).
 #[derive(Clone, Copy, Debug, PartialEq, Eq, PartialOrd, Ord)]
@@ -134,15 +134,15 @@ impl BootOptions {
     }
 
     /// The record of the parameter.
-    pub fn pair(&self, parameter: BootParameter) -> (Key, Value)
+    pub fn pair(&self, parameter: BootParameter) -> (Key, StartValue)
         ensures { result ≡ (Key.BootParam parameter, boot_value self.now parameter) }
     {
         let value = match parameter {
-            BootParameter::ValidBitClearing => Value::from_slice(&[0, self.valid_bit_clearing]),
-            BootParameter::InfoAcknowledge => Value::from_slice(&[0, self.info_acknowledge]),
+            BootParameter::ValidBitClearing => StartValue::few(&[0, self.valid_bit_clearing]),
+            BootParameter::InfoAcknowledge => StartValue::few(&[0, self.info_acknowledge]),
             BootParameter::Flags => {
                 let [validity, device, console, overrides, instance] = self.flags.bytes();
-                Value::from_slice(&[0, validity, device, console, overrides, instance])
+                StartValue::few(&[0, validity, device, console, overrides, instance])
             }
         };
         (Key::BootParam(parameter), value)

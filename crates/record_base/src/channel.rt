@@ -7,7 +7,7 @@ use crate::bit_field::BitField;
 use crate::board_sizes::MOST_CHANNELS;
 use crate::distinct::{Distinct, Numbered};
 use crate::key::Key;
-use crate::value::Value;
+use crate::start_value::StartValue;
 
 /// The number of a channel (IPMI 2.0): 4 bits of a request.
 pub type ChannelNumber = BitField<4>;
@@ -101,7 +101,7 @@ impl Channel {
     ghost use Rattle.record_base.specs.Values.{access_value, stored};
 
     /// The record of its non-volatile store.
-    pub fn non_volatile_pair(&self) -> (Key, Value)
+    pub fn non_volatile_pair(&self) -> (Key, StartValue)
         ensures { result ≡ (
           Key.ChannelAccess (stored self.now.number AccessStore.NonVolatile),
           access_value self.now.non_volatile,
@@ -114,12 +114,12 @@ impl Channel {
         let ChannelAccess { access, limit } = self.non_volatile;
         (
             Key::ChannelAccess(stored),
-            Value::from_slice(&[access, limit]),
+            StartValue::few(&[access, limit]),
         )
     }
 
     /// The record of its volatile store.
-    pub fn volatile_pair(&self) -> (Key, Value)
+    pub fn volatile_pair(&self) -> (Key, StartValue)
         ensures { result ≡ (
           Key.ChannelAccess (stored self.now.number AccessStore.Volatile),
           access_value self.now.volatile,
@@ -132,7 +132,7 @@ impl Channel {
         let ChannelAccess { access, limit } = self.volatile;
         (
             Key::ChannelAccess(stored),
-            Value::from_slice(&[access, limit]),
+            StartValue::few(&[access, limit]),
         )
     }
 }

@@ -4,7 +4,7 @@ ghost use Rattle.record_base.specs.Sensor.EventEnable.{IsEventEnable, AreWithin,
 ghost use Rattle.record_base.specs.PartLaws.{IsEventEnable-prop};
 
 use crate::key::Key;
-use crate::value::Value;
+use crate::start_value::StartValue;
 
 /// The bit of the flags that says whether the sensor makes event messages.
 pub const MESSAGES_PLACE: usize = 7;
@@ -123,13 +123,13 @@ impl EventEnable {
     }
 
     /// The record of the sensor of this number.
-    pub fn pair(&self, sensor: u8) -> (Key, Value)
+    pub fn pair(&self, sensor: u8) -> (Key, StartValue)
         ensures { result ≡ (
           Key.EventEnable sensor,
           event_value self.now.messages self.now.scanning self.now.enabled,
         ) }
     {
         let value = event_value(self.messages, self.scanning, &self.enabled);
-        (Key::EventEnable(sensor), Value::from_slice(&value))
+        (Key::EventEnable(sensor), StartValue::few(&value))
     }
 }

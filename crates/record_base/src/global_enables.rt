@@ -5,7 +5,7 @@ ghost use Rattle.record_base.specs.PartLaws.{AreGlobalEnables-prop};
 
 use crate::key::Key;
 use crate::mask::has;
-use crate::value::Value;
+use crate::start_value::StartValue;
 
 /// The reserved bit, which no global enables have.
 const RESERVED_PLACE: usize = 4;
@@ -48,9 +48,9 @@ impl GlobalEnables {
     }
 
     /// The record of the enables.
-    pub fn pair(&self) -> (Key, Value)
+    pub fn pair(&self) -> (Key, StartValue)
         ensures { result ≡ (Key.GlobalEnables, enables_value self.now) }
     {
-        (Key::GlobalEnables, Value::from_slice(&[self.byte]))
+        (Key::GlobalEnables, StartValue::few(&[self.byte]))
     }
 }

@@ -3,7 +3,7 @@ ghost use Rattle.std.specs.Prelude.{◌≡◌};
 ghost use Rattle.record_base.specs.Sensor.Hysteresis.{hysteresis_value};
 
 use crate::key::Key;
-use crate::value::Value;
+use crate::start_value::StartValue;
 
 /// How far a reading goes back before an event is taken back: for rising and for falling thresholds, in raw units.
 #[derive(Clone, Copy, Debug, PartialEq, Eq)]
@@ -30,12 +30,12 @@ pub struct SetHysteresis {
 
 impl Hysteresis {
     /// The record of the sensor of this number.
-    pub fn pair(&self, sensor: u8) -> (Key, Value)
+    pub fn pair(&self, sensor: u8) -> (Key, StartValue)
         ensures { result ≡ (Key.Hysteresis sensor, hysteresis_value self.now) }
     {
         (
             Key::Hysteresis(sensor),
-            Value::from_slice(&[self.positive, self.negative]),
+            StartValue::few(&[self.positive, self.negative]),
         )
     }
 }

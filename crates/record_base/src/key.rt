@@ -1,5 +1,5 @@
 //! The names of records.
-ghost use Rattle.std.specs.Prelude.{◌≡◌, ◌<◌, IfSome};
+ghost use Rattle.std.specs.Prelude.{◌≡◌, ◌<◌, ◌≤◌, ℕ, IfSome, IsTrue};
 ghost use Rattle.record_base.specs.Keys.{is_length, slot};
 
 use crate::attribute_sizes::{LEAST_VALUE, MOST_VALUE};
@@ -7,6 +7,7 @@ use crate::boot_param::BootParameter;
 use crate::channel::StoredAccess;
 use crate::lan::ParameterOnChannel;
 use crate::user::{UserNumber, UserOnChannel};
+use crate::value::VALUE_CAPACITY;
 
 /// How many kinds of record a sensor has.
 pub const SENSOR_KINDS: usize = 3;
@@ -64,6 +65,29 @@ impl Key {
             Key::ChannelAccess(_) => length == 2,
             Key::BiosAttribute(_) => LEAST_VALUE <= length && length <= MOST_VALUE,
             Key::LanParam(on) => length == on.parameter.length(),
+        }
+    }
+    /// The length of the longest value of the key's kind.
+    pub fn longest(&self) -> usize
+        ensures is_one { IsTrue (is_length self.now result) }
+        ensures bound { (n : ℕ) → IsTrue (is_length self.now n) → n ≤ result }
+        ensures short { result ≤ VALUE_CAPACITY }
+    {
+        match self {
+            Key::Thresholds(_) => 6,
+            Key::Hysteresis(_) => 2,
+            Key::EventEnable(_) => 5,
+            Key::PowerPolicy => 1,
+            Key::Watchdog => 5,
+            Key::GlobalEnables => 1,
+            Key::BootParam(parameter) => parameter.length(),
+            Key::NumericEffecter(_) => 4,
+            Key::StateEffecter(_) => 8,
+            Key::UserName(_) => 16,
+            Key::UserAccess(_) => 1,
+            Key::ChannelAccess(_) => 2,
+            Key::BiosAttribute(_) => MOST_VALUE,
+            Key::LanParam(on) => on.parameter.length(),
         }
     }
     /// The table that has a sensor's record, and the sensor's number.

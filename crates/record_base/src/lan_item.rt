@@ -7,7 +7,7 @@ use crate::channel::ChannelNumber;
 use crate::distinct::{Distinct, Numbered};
 use crate::key::Key;
 use crate::lan::{Ipv4Address, LanAddress, LanParameter, ParameterOnChannel, VlanBytes};
-use crate::value::Value;
+use crate::start_value::StartValue;
 
 /// The greatest source of an address (IPMI 2.0, IP Address Source).
 pub const MOST_SOURCE: u8 = 4;
@@ -77,17 +77,17 @@ impl Lan {
     }
 
     /// The record of the parameter.
-    pub fn pair(&self, parameter: LanParameter) -> (Key, Value)
+    pub fn pair(&self, parameter: LanParameter) -> (Key, StartValue)
         ensures { result ≡ (lan_key self.now.number parameter, lan_value self.now parameter) }
     {
         let value = match parameter {
-            LanParameter::Address(LanAddress::Ip) => Value::from_slice(&self.ip.bytes()),
-            LanParameter::Address(LanAddress::SubnetMask) => Value::from_slice(&self.mask.bytes()),
+            LanParameter::Address(LanAddress::Ip) => StartValue::few(&self.ip.bytes()),
+            LanParameter::Address(LanAddress::SubnetMask) => StartValue::few(&self.mask.bytes()),
             LanParameter::Address(LanAddress::DefaultGateway) => {
-                Value::from_slice(&self.gateway.bytes())
+                StartValue::few(&self.gateway.bytes())
             }
-            LanParameter::AddressSource => Value::from_slice(&[self.source]),
-            LanParameter::Vlan => Value::from_slice(&self.vlan.bytes()),
+            LanParameter::AddressSource => StartValue::few(&[self.source]),
+            LanParameter::Vlan => StartValue::few(&self.vlan.bytes()),
         };
         let name = ParameterOnChannel {
             channel: self.number,

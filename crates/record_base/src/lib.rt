@@ -38,6 +38,7 @@ pub mod power_policy;
 pub mod sdr_record;
 pub mod sensor;
 pub mod sensor_thresholds;
+pub mod start_value;
 pub mod state_effecter;
 pub mod thresholds;
 pub mod user;
@@ -84,6 +85,7 @@ pub use power_policy::{PowerPolicy, SetPowerPolicy};
 pub use sdr_record::{SdrRecord, SdrRecords};
 pub use sensor::{Sensor, Sensors};
 pub use sensor_thresholds::{SetThresholds, Thresholds};
+pub use start_value::StartValue;
 pub use state_effecter::{SetStateEffecter, StateEffecter, StateEffecters, StateField};
 pub use thresholds::ThresholdMasks;
 pub use user::{

@@ -8,7 +8,7 @@ use crate::board_sizes::MOST_EFFECTERS;
 use crate::distinct::{Distinct, Numbered};
 use crate::key::Key;
 use crate::numeric_range::NumericRange;
-use crate::value::Value;
+use crate::start_value::StartValue;
 
 /// A numeric effecter: its id, whether it is enabled, the numbers that a request can set it to, and the bits of the present
 /// number.
@@ -76,7 +76,7 @@ impl NumericEffecter {
     }
 
     /// The record of the effecter.
-    pub fn pair(&self) -> (Key, Value)
+    pub fn pair(&self) -> (Key, StartValue)
         ensures { result ≡ (
           Key.NumericEffecter self.now.id,
           bytes_of self.now.range.size self.now.current,
@@ -84,7 +84,7 @@ impl NumericEffecter {
     {
         (
             Key::NumericEffecter(self.id),
-            self.range.size.bytes_of(self.current),
+            StartValue::few(self.range.size.bytes_of(self.current).as_slice()),
         )
     }
 }

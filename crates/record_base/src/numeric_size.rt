@@ -3,7 +3,7 @@ ghost use Rattle.std.specs.Prelude.{◌≡◌};
 ghost use Rattle.record_base.specs.NumericSize.{number_in};
 
 use crate::message::byte_at;
-use crate::value::Value;
+use two_wire::Bytes;
 
 /// The size of a numeric effecter's numbers (DSP0248). Signed numbers are in two's complement.
 #[derive(Clone, Copy, Debug, PartialEq, Eq)]
@@ -79,11 +79,11 @@ impl NumericSize {
     }
 
     /// The bytes of a number of the size, the low one first.
-    pub fn bytes_of(self, number: u32) -> Value
+    pub fn bytes_of(self, number: u32) -> Bytes<4>
         ensures { result ≡ bytes_of self number }
     {
         let bytes = number.to_le_bytes();
-        Value::from_slice(&bytes[..self.width()])
+        Bytes::from_slice(&bytes[..self.width()])
     }
 }
 

@@ -4,7 +4,7 @@ ghost use Rattle.record_base.specs.PowerPolicy.{IsPowerPolicy};
 ghost use Rattle.record_base.specs.PartLaws.{IsPowerPolicy-prop};
 
 use crate::key::Key;
-use crate::value::Value;
+use crate::start_value::StartValue;
 
 /// What a board does when power comes back (IPMI 2.0): 0 stay off, 1 as before, 2 power up, 3 unknown.
 #[derive(Clone, Copy, Debug)]
@@ -36,9 +36,9 @@ impl PowerPolicy {
     }
 
     /// The record of the policy.
-    pub fn pair(&self) -> (Key, Value)
+    pub fn pair(&self) -> (Key, StartValue)
         ensures { result ≡ (Key.PowerPolicy, policy_value self.now) }
     {
-        (Key::PowerPolicy, Value::from_slice(&[self.number]))
+        (Key::PowerPolicy, StartValue::few(&[self.number]))
     }
 }

@@ -4,8 +4,8 @@ ghost use Rattle.record_base.specs.Sensor.Thresholds.{IsThresholds};
 ghost use Rattle.record_base.specs.PartLaws.{IsThresholds-prop};
 
 use crate::key::Key;
+use crate::start_value::StartValue;
 use crate::thresholds::ThresholdMasks;
-use crate::value::Value;
 
 /// The thresholds of a sensor, and their values, one at each place. A place without a threshold has 0. The thresholds that the
 /// sensor has are in order.
@@ -41,9 +41,9 @@ impl Thresholds {
     }
 
     /// The record of the sensor of this number.
-    pub fn pair(&self, sensor: u8) -> (Key, Value)
+    pub fn pair(&self, sensor: u8) -> (Key, StartValue)
         ensures { result ≡ (Key.Thresholds sensor, self.now.values) }
     {
-        (Key::Thresholds(sensor), Value::from_slice(&self.values))
+        (Key::Thresholds(sensor), StartValue::few(&self.values))
     }
 }

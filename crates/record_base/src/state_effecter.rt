@@ -7,7 +7,8 @@ use crate::distinct::{Distinct, Numbered};
 use crate::field_changes::FieldChanges;
 use crate::items::Items;
 use crate::key::Key;
-use crate::value::Value;
+use crate::start_value::StartValue;
+use two_wire::Bytes;
 
 /// A field of a state effecter: the states that it can be in, and its present state.
 #[derive(Debug, Drop)]
@@ -99,15 +100,18 @@ impl StateEffecter {
     }
 
     /// The record of the effecter.
-    pub fn pair(&self) -> (Key, Value)
+    pub fn pair(&self) -> (Key, StartValue)
         ensures { result ≡ (Key.StateEffecter self.now.id, state_value self.now.fields) }
     {
         let _ = &self.fields;
-        let mut value = Value::new();
+        let mut value = Bytes::<8>::new();
         for field in self.fields.as_slice() {
             value.push(field.current);
         }
-        (Key::StateEffecter(self.id), value)
+        (
+            Key::StateEffecter(self.id),
+            StartValue::few(value.as_slice()),
+        )
     }
 
     /// Whether the effecter can have the value.

@@ -8,7 +8,7 @@ use crate::board_sizes::MOST_ACCESSES;
 use crate::channel::ChannelNumber;
 use crate::distinct::{Distinct, Numbered};
 use crate::key::Key;
-use crate::value::Value;
+use crate::start_value::StartValue;
 
 /// The number of a user (IPMI 2.0): 6 bits of a request. No user has the number 0.
 pub type UserNumber = BitField<6>;
@@ -104,10 +104,10 @@ impl User {
     ghost use Rattle.std.specs.Prelude.{◌≡◌};
 
     /// The record of the user's name.
-    pub fn pair(&self) -> (Key, Value)
+    pub fn pair(&self) -> (Key, StartValue)
         ensures { result ≡ (Key.UserName self.now.number, self.now.name) }
     {
-        (Key::UserName(self.number), Value::from_slice(&self.name))
+        (Key::UserName(self.number), StartValue::few(&self.name))
     }
 }
 
@@ -127,9 +127,9 @@ impl UserAccess {
     }
 
     /// The record of it.
-    pub fn pair(&self) -> (Key, Value)
+    pub fn pair(&self) -> (Key, StartValue)
         ensures { result ≡ (Key.UserAccess self.now.on, self.now.byte ∷ []) }
     {
-        (Key::UserAccess(self.on), Value::from_slice(&[self.byte]))
+        (Key::UserAccess(self.on), StartValue::few(&[self.byte]))
     }
 }

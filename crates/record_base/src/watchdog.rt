@@ -3,7 +3,7 @@ ghost use Rattle.record_base.specs.Watchdog.{watchdog_value, IsWatchdog};
 ghost use Rattle.record_base.specs.PartLaws.{IsWatchdog-prop};
 
 use crate::key::Key;
-use crate::value::Value;
+use crate::start_value::StartValue;
 
 /// The settings of a watchdog timer, by their bytes: the timer use (bit 7 don't log, bits 2:0 the use: at most 5, and 0 before
 /// the first Set), the actions (bits 6:4 the interrupt, bits 2:0 the action, each at most 3), no other bits, the pre-timeout
@@ -53,13 +53,13 @@ impl Watchdog {
     }
 
     /// The record of the settings.
-    pub fn pair(&self) -> (Key, Value)
+    pub fn pair(&self) -> (Key, StartValue)
         ensures { result ≡ (Key.Watchdog, settings_value self.now) }
     {
         let [low, high] = self.initial.to_le_bytes();
         (
             Key::Watchdog,
-            Value::from_slice(&[self.timer_use, self.actions, self.pre_timeout, low, high]),
+            StartValue::few(&[self.timer_use, self.actions, self.pre_timeout, low, high]),
         )
     }
 }

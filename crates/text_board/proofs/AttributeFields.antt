@@ -23,7 +23,7 @@ use Rattle.text_fields.specs.declared.row.Shape.TheVariants as shape
 use Rattle.text_fields.specs.declared.row.Row.{Row}
 use Rattle.text_board.specs.declared.tables.TheConstants.{ATTRIBUTE, ENUMERATION, STRING, INTEGER}
 use Rattle.text_fields.specs.Trees.{natural, IsNaturalIn, members, members_in, number_in, table_of, or_none}
-use Rattle.text_fields.specs.Attributes.{short_text, text_of, is_kind, is_below, are_values, are_indexes, is_as_long, is_stepped}
+use Rattle.text_fields.specs.Attributes.{text_within, text_of, string_of, is_kind, is_below, are_values, are_indexes, is_as_long, is_stepped}
 use Rattle.text_fields.specs.Ranges.{passes, has_text, is_between, is_sized_text, is_step}
 use Rattle.text_fields.specs.Faults.{field_faults, first}
 use Rattle.text_board.specs.Faults.{attribute_rows, attribute_faults_at, attribute_faults_from}
@@ -96,10 +96,10 @@ most_told tree most v is =
 -- a text of a length between these
 pub record SizedText (d : Data) (lengths : TextLengths) : Type 0 where
   pub text : List ℕ
-  pub found : text_of d ≡ Some text
+  pub found : string_of d ≡ Some text
   pub sized : is_as_long lengths.least lengths.most text ≡ true
 
-short : (text : List ℕ) → length text ≤ most_text → short_text text ≡ Some text
+short : (text : List ℕ) → length text ≤ most_text → text_within most_text text ≡ Some text
 short text few = let small : nat_le (length text) most_text ≡ true = grind (arith, nat_tests) in rw small refl
 
 sized_cases : (tree : Members) (d : Data) (o : Option (List ℕ)) (lengths : TextLengths) → number_in field.Least tree ≡ Some lengths.least → number_in field.Most tree ≡ Some lengths.most
@@ -117,7 +117,7 @@ pub sized_text : (tree : Members) (d : Data) (lengths : TextLengths) → number_
     → passes (is_sized_text tree) (as_str d) ≡ true → SizedText d lengths
 sized_text tree d lengths least most within = sized_cases tree d (as_str d) lengths least most refl within
 
-pub sized_is : (d : Data) (lengths : TextLengths) (text : List ℕ) → SizedText d lengths → text_of d ≡ Some text → AllowsText lengths text
+pub sized_is : (d : Data) (lengths : TextLengths) (text : List ℕ) → SizedText d lengths → string_of d ≡ Some text → AllowsText lengths text
 sized_is d lengths text there is =
     let same : there.text ≡ text = same_Some there.text text (sym there.found ∙ is) in
     true_allows (range.Text lengths) (value.Text text) (rw (← same) there.sized)

@@ -67,7 +67,7 @@ use Rattle.text_board.specs.declared.fault.FileFault.TheVariants as file
 use Rattle.text_fields.specs.Trees.{flag_in, table_of, table_in, members_in, members, or_none}
 use Rattle.text_fields.specs.Numeric.{size_at, sized_in}
 use Rattle.text_fields.specs.Users.{name_of}
-use Rattle.text_fields.specs.Attributes.{text_of, text_in}
+use Rattle.text_fields.specs.Attributes.{text_of, text_in, string_in}
 use Rattle.text_fields.specs.Ranges.{record_in, has_text}
 use Rattle.text_board.specs.AttributeItems.{IsTextIn, HoldsEnumeration, HoldsString, HoldsInteger, HoldsKind, HoldsAttribute, IsAttributeIn}
 use Rattle.text_board.specs.Holds.{HoldsDevice, HoldsEvents, HoldsSensor, operational, IsFieldIn, IsPresentIn, HoldsState, HasSized, HoldsRange, HoldsNumeric, IsNameIn, HoldsChannel, IsNumberIn, with_sessions, without_sessions, parts_of, HoldsBoot, HoldsBoard, Answers, Reads}
@@ -380,8 +380,8 @@ one_string tree a b p q =
     let least = one_number field.Least tree a.lengths.least b.lengths.least p.least q.least in
     let most = one_number field.Most tree a.lengths.most b.lengths.most p.most q.most in
     let lengths : a.lengths ≡ b.lengths = λ i. record { least = least i; most = most i; few = up_to most_text most a.lengths.few b.lengths.few i } in
-    let default = one_found (text_in field.Default tree) a.default b.default p.default q.default in
-    let current = one_found (text_in field.Current tree) a.current b.current p.current q.current in
+    let default = one_found (string_in field.Default tree) a.default b.default p.default q.default in
+    let current = one_found (string_in field.Current tree) a.current b.current p.current q.current in
     λ i. record {
       string_type = string_type i;
       lengths = lengths i;

@@ -10,7 +10,7 @@ use Rattle.record_base.specs.declared.attribute.StringAttribute.{StringAttribute
 use Rattle.record_base.specs.declared.attribute.IntegerAttribute.{IntegerAttribute}
 use Rattle.text_fields.specs.declared.field.Field.TheVariants as field
 use Rattle.text_fields.specs.Trees.{IsNaturalIn, flag_in, number_in, members_in, table_of}
-use Rattle.text_fields.specs.Attributes.{text_of, text_in}
+use Rattle.text_fields.specs.Attributes.{text_of, text_in, string_in}
 use Rattle.text_fields.specs.Ranges.{has_text}
 
 -- the member of an array is this text
@@ -28,8 +28,8 @@ pub record HoldsString (tree : Members) (attribute : StringAttribute) : Type 0 w
   pub string_type : number_in field.StringType tree ≡ Some attribute.string_type
   pub least : number_in field.Least tree ≡ Some attribute.lengths.least
   pub most : number_in field.Most tree ≡ Some attribute.lengths.most
-  pub default : text_in field.Default tree ≡ Some attribute.default
-  pub current : text_in field.Current tree ≡ Some attribute.current
+  pub default : string_in field.Default tree ≡ Some attribute.default
+  pub current : string_in field.Current tree ≡ Some attribute.current
 
 -- the item holds an integer
 pub record HoldsInteger (tree : Members) (attribute : IntegerAttribute) : Type 0 where

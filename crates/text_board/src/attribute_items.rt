@@ -21,7 +21,7 @@ use cfg_records::{
     IntegerSteps, StringAttribute, Text, TextLengths,
 };
 use std::alloc::Global;
-use text_fields::attributes::{indexes_of, text};
+use text_fields::attributes::{indexes_of, string_in, text};
 use text_fields::tree::{has_text, members_of};
 use text_fields::{Checked, Field, Row};
 use toml::{Table, Value};
@@ -92,16 +92,28 @@ fn lengths(item: &Checked<'_>) -> TextLengths
     TextLengths::new(least, item.natural(Field::Most) as u16).unwrap()
 }
 
+/// These bytes, in memory of their own.
+fn own(alloc: Global, bytes: &[u8]) -> Result<Vec<u8>, FileFault>
+    ensures held { IfOk result (λ own. own.items ≡ bytes.now) }
+    ensures err { IfErr result (λ why. why ≡ FileFault.Memory) }
+{
+    match Vec::from_slice(alloc, bytes) {
+        Ok(own) => Ok(own),
+        Err(_) => Err(FileFault::Memory),
+    }
+}
+
 /// The string that the table is.
-fn string(item: &Checked<'_>) -> StringAttribute
+fn string(alloc: Global, item: &Checked<'_>) -> Result<StringAttribute, FileFault>
     requires { item.now.rows.now ≡ STRING }
-    ensures { HoldsString (table_view item.now.table.now) result }
+    ensures held { IfOk result (HoldsString (table_view item.now.table.now)) }
+    ensures err { IfErr result (λ why. why ≡ FileFault.Memory) }
 {
     let string_type = item.byte(Field::StringType);
     let lengths = lengths(item);
-    let default = text(item.value(Field::Default)).unwrap();
-    let current = text(item.value(Field::Current)).unwrap();
-    StringAttribute::new(string_type, lengths, default, current).unwrap()
+    let default = own(alloc, string_in(item.table, Field::Default))?;
+    let current = own(alloc, string_in(item.table, Field::Current))?;
+    Ok(StringAttribute::new(string_type, lengths, default, current).unwrap())
 }
 
 /// The integer that the table is.
@@ -130,7 +142,8 @@ fn kind(alloc: Global, item: &Checked<'_>) -> Result<AttributeKind, FileFault>
         return Ok(AttributeKind::Enumeration(enumeration));
     }
     if has_text(item.table, Field::Kind, "string") {
-        return Ok(AttributeKind::Text(string(item)));
+        let string = string(alloc, item)?;
+        return Ok(AttributeKind::Text(string));
     }
     Ok(AttributeKind::Integer(integer(item)))
 }

@@ -111,7 +111,7 @@ pub const STRING: [Row; 8] = [
     Row(Field::NameText, Shape::ShortText, Need::Always),
     Row(Field::Kind, Shape::AttributeKind, Need::Always),
     Row(Field::StringType, BYTE, Need::Always),
-    Row(Field::Least, Shape::Number(0, 200), Need::Always),
+    Row(Field::Least, Shape::Number(0, 1024), Need::Always),
     Row(Field::Most, Shape::MostLength, Need::Always),
     Row(Field::Default, Shape::SizedText, Need::Always),
     Row(Field::Current, Shape::SizedText, Need::Always),

@@ -2,22 +2,34 @@
 use Rattle.std.specs.Prelude.{ℕ, ◌==◌, ◌-◌, ◌%◌, nat_lt, nat_le, Bool, false, ◌&&◌, ◌||◌, List, length, if◌then◌else◌, Option, Some, None, is_some, option_and_then, codes}
 use Rattle.std.specs.List.{list_all}
 use Rattle.std.specs.Str.{bytes_eq}
-use Rattle.record_base.specs.AttributeSizes.{most_text, most_indexes}
+use Rattle.record_base.specs.AttributeSizes.{most_name, most_text, most_indexes}
 use Rattle.toml.specs.Data.{Data, Members, as_str}
 use Rattle.text_fields.specs.declared.field.Field.{Field}
 use Rattle.text_fields.specs.Trees.{in_field, natural}
 
--- a text of at most 200 bytes
-abbrev pub short_text : List ℕ → Option (List ℕ)
-short_text text = if nat_le (length text) most_text then Some text else None
+-- a text of at most so many bytes
+abbrev pub text_within : ℕ → List ℕ → Option (List ℕ)
+text_within most text = if nat_le (length text) most then Some text else None
 
--- the text of at most 200 bytes that a value is
+-- a short text, of at most 200 bytes: a name, or a possible value
+abbrev pub short_text : List ℕ → Option (List ℕ)
+short_text text = text_within most_name text
+
+-- the short text that a value is
 abbrev pub text_of : Data → Option (List ℕ)
 text_of d = option_and_then short_text (as_str d)
 
--- the text of at most 200 bytes that a table has in the field
+-- the short text that a table has in the field
 abbrev pub text_in : Field → Members → Option (List ℕ)
 text_in named tree = option_and_then text_of (in_field named tree)
+
+-- the text of at most 1,024 bytes that a value is: what a string can be
+abbrev pub string_of : Data → Option (List ℕ)
+string_of d = option_and_then (text_within most_text) (as_str d)
+
+-- such a text that a table has in the field
+abbrev pub string_in : Field → Members → Option (List ℕ)
+string_in named tree = option_and_then string_of (in_field named tree)
 
 -- what an attribute is
 abbrev pub is_kind : List ℕ → Bool

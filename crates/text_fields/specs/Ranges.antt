@@ -25,7 +25,7 @@ use Rattle.text_fields.specs.States.{change_of}
 use Rattle.text_fields.specs.Users.{name_of, are_names}
 use Rattle.text_fields.specs.Channels.{is_access, is_channel, is_user_byte, store_of}
 use Rattle.text_fields.specs.Lan.{is_lan_number, is_lan_value}
-use Rattle.text_fields.specs.Attributes.{text_of, is_kind, are_values, are_indexes, is_as_long, is_stepped}
+use Rattle.text_fields.specs.Attributes.{text_of, string_of, is_kind, are_values, are_indexes, is_as_long, is_stepped}
 use Rattle.record_base.specs.declared.watchdog.Watchdog.{Watchdog}
 
 -- the value is an integer
@@ -236,7 +236,7 @@ are_present _ _ = false
 abbrev pub are_changes : List Data → Bool
 are_changes ds = is_between 1 8 (length ds) && list_all (λ d. is_some (change_of d)) ds
 
--- a length that is the most of an item: at most 200 bytes, and not below its least
+-- a length that is the most of an item: at most 1,024 bytes, and not below its least
 abbrev pub is_most : Members → ℕ → Bool
 is_most tree n = passes (λ least. is_between least most_text n) (number_in field.Least tree)
 
@@ -275,7 +275,7 @@ is_in_range tree shape.Select d = passes is_selection (as_str d)
 is_in_range tree shape.Offsets d = is_array_of is_offset d
 is_in_range tree shape.BootData d = passes (λ named. are_boot_data named d) (parameter_in tree)
 is_in_range tree shape.FewIndexes d = (lacks field.Text tree && lacks field.Number tree) && are_indexes most_indexes 256 (or_none (members d))
-is_in_range tree shape.AttributeText d = lacks field.Number tree && is_some (text_of d)
+is_in_range tree shape.AttributeText d = lacks field.Number tree && is_some (string_of d)
 is_in_range tree shape.Natural d = is_some (natural d)
 is_in_range tree shape.Sized d = passes (λ size. is_some (sized size d)) (size_in tree)
 is_in_range tree shape.Upper d = passes (λ size. in_order size (sized_in size field.Lower tree) (sized size d)) (size_in tree)

@@ -1,31 +1,32 @@
 //! BIOS attributes in files: their texts, lists and numbers.
 ghost use Rattle.std.specs.Prelude.{◌≡◌, ◌≤◌, true, map, is_some, Some, IsSome, length};
 ghost use Rattle.std.specs.List.{list_all, AllZip};
+ghost use Rattle.std.specs.Option.{option_copied};
 ghost use Rattle.record_base.specs.AttributeSizes.{most_indexes};
 ghost use Rattle.toml.specs.Data.{as_str};
 ghost use Rattle.toml.specs.View.{view, table_view};
 ghost use Rattle.text_fields.specs.Trees.{natural, IsNaturalIn, members, or_none, members_in};
-ghost use Rattle.text_fields.specs.Attributes.{short_text, text_of, text_in, is_kind, are_values, is_below, are_indexes, is_as_long, is_stepped};
+ghost use Rattle.text_fields.specs.Attributes.{short_text, text_of, text_in, string_of, string_in, is_kind, are_values, is_below, are_indexes, is_as_long, is_stepped};
 ghost use Rattle.text_fields.specs.Ranges.{passes, is_most, is_sized_text, is_upper_natural, is_step, is_in_range};
 
 use crate::field::Field;
 use crate::row::Shape;
 use crate::tree::{in_field, lacks, members_in, members_of, natural, number};
-use record_base::attribute_sizes::{MOST_INDEXES, MOST_TEXT};
+use record_base::attribute_sizes::{MOST_INDEXES, MOST_NAME, MOST_TEXT};
 use record_base::{Indexes, Text};
 use toml::{Table, Value};
 
-/// The text, where it has at most 200 bytes.
+/// The text, where it has at most 200 bytes: a name, or a possible value.
 fn short_text(text: &str) -> Option<Text>
     ensures { result ≡ short_text text.now }
 {
-    if text.len() > MOST_TEXT {
+    if text.len() > MOST_NAME {
         return None;
     }
     Some(Text::from_slice(text.as_bytes()))
 }
 
-/// The text of at most 200 bytes that the value is.
+/// The short text that the value is.
 pub fn text(value: &Value) -> Option<Text>
     ensures { result ≡ text_of (view value.now) }
 {
@@ -35,13 +36,34 @@ pub fn text(value: &Value) -> Option<Text>
     }
 }
 
-/// The text of at most 200 bytes that the table has in the field.
+/// The short text that the table has in the field.
 pub fn text_in(table: &Table, field: Field) -> Text
     requires { IsSome (text_in field (table_view table.now)) }
     ensures { text_in field (table_view table.now) ≡ Some result }
 {
     match in_field(table, field) {
         Some(value) => text(value).unwrap(),
+        None => unreachable!(),
+    }
+}
+
+/// The bytes of the text of at most 1,024 bytes that the value is: what a string can be. They lie where the file has them.
+fn string(value: &Value) -> Option<&[u8]>
+    ensures { option_copied result ≡ string_of (view value.now) }
+{
+    match value.as_str() {
+        Some(text) if text.len() <= MOST_TEXT => Some(text.as_bytes()),
+        _ => None,
+    }
+}
+
+/// The bytes of such a text that the table has in the field.
+pub fn string_in(table: &Table, field: Field) -> &[u8]
+    requires { IsSome (string_in field (table_view table.now)) }
+    ensures { string_in field (table_view table.now) ≡ Some result.now }
+{
+    match in_field(table, field) {
+        Some(value) => string(value).unwrap(),
         None => unreachable!(),
     }
 }
@@ -56,7 +78,7 @@ pub fn is_kind(value: &Value) -> bool
     }
 }
 
-/// Whether each of the values is a text of at most 200 bytes.
+/// Whether each of the values is a short text.
 fn all_texts(values: &[Value]) -> bool
     ensures { result ≡ list_all (λ value. is_some (text_of (view value))) values.now }
 {
@@ -209,9 +231,9 @@ pub fn are_only_indexes(item: &Table, value: &Value) -> bool
     lacks(item, Field::Text) && lacks(item, Field::Number) && are_indexes(value, MOST_INDEXES, 256)
 }
 
-/// Whether the value is a text of at most 200 bytes, and the item gives no number besides.
+/// Whether the value is a text that a string can be, and the item gives no number besides.
 pub fn is_only_text(item: &Table, value: &Value) -> bool
     ensures { result ≡ is_in_range (table_view item.now) Shape.AttributeText (view value.now) }
 {
-    lacks(item, Field::Number) && text(value).is_some()
+    lacks(item, Field::Number) && string(value).is_some()
 }

@@ -48,7 +48,7 @@ pub enum Shape {
     BootData,
     /// 1 to 16 bytes, in a list: indexes of an attribute's possible values, where the item has neither `text` nor `number`.
     FewIndexes,
-    /// A text of at most 200 bytes, where the item has no `number`.
+    /// A text of at most 1,024 bytes, where the item has no `number`.
     AttributeText,
     /// A whole number that isn't negative.
     Natural,
@@ -90,7 +90,7 @@ pub enum Shape {
     Values,
     /// Indexes of the item's values, in a list: at least one, and no more than there are values.
     Indexes,
-    /// A length of at most 200 bytes, not below the item's least.
+    /// A length of at most 1,024 bytes, not below the item's least.
     MostLength,
     /// A text of a length from the item's least to its most.
     SizedText,

@@ -10,14 +10,14 @@ use Rattle.record_base.specs.declared.attribute_value.AttributeValue.TheVariants
 use Rattle.record_base.specs.declared.bios_attribute.SetBiosAttribute.{SetBiosAttribute}
 use Rattle.text_fields.specs.declared.field.Field.TheVariants as field
 use Rattle.text_fields.specs.Trees.{in_field, natural, number_in, members_in}
-use Rattle.text_fields.specs.Attributes.{text_of, text_in}
+use Rattle.text_fields.specs.Attributes.{string_of, string_in}
 use Rattle.plan_file.specs.Kinds.BiosAttribute.{GivesValue, HoldsBiosAttribute, kind}
 use Rattle.text_fields.proofs.Unique.{same_made, one_found, one_list, one_natural, one_number}
 use Rattle.plan_file.proofs.StepKind.{IsOne}
 
 -- a field that the table lacks has no text and no number
-no_text : (tree : Members) (text : List ℕ) → in_field field.Text tree ≡ None → text_in field.Text tree ≡ Some text → ⊥
-no_text tree text lacks is = let none : text_in field.Text tree ≡ None = ap (option_and_then text_of) lacks in let both : None ≡ Some text = sym none ∙ is in cc both
+no_text : (tree : Members) (text : List ℕ) → in_field field.Text tree ≡ None → string_in field.Text tree ≡ Some text → ⊥
+no_text tree text lacks is = let none : string_in field.Text tree ≡ None = ap (option_and_then string_of) lacks in let both : None ≡ Some text = sym none ∙ is in cc both
 
 no_number : (tree : Members) (n : ℕ) → in_field field.Number tree ≡ None → number_in field.Number tree ≡ Some n → ⊥
 no_number tree n lacks is = let none : number_in field.Number tree ≡ None = ap (option_and_then natural) lacks in let both : None ≡ Some n = sym none ∙ is in cc both
@@ -27,7 +27,7 @@ one_value tree (attribute.Indexes ms) (attribute.Indexes ns) p q = ap attribute.
 one_value tree (attribute.Indexes ms) (attribute.Text b) p q = absurd (no_text tree b p.1.0 q.0)
 one_value tree (attribute.Indexes ms) (attribute.Number b) p q = absurd (no_number tree b p.1.1 q.0)
 one_value tree (attribute.Text a) (attribute.Indexes ns) p q = absurd (no_text tree a q.1.0 p.0)
-one_value tree (attribute.Text a) (attribute.Text b) p q = ap attribute.Text (one_found (text_in field.Text tree) a b p.0 q.0)
+one_value tree (attribute.Text a) (attribute.Text b) p q = ap attribute.Text (one_found (string_in field.Text tree) a b p.0 q.0)
 one_value tree (attribute.Text a) (attribute.Number b) p q = absurd (no_text tree a q.1.1 p.0)
 one_value tree (attribute.Number a) (attribute.Indexes ns) p q = absurd (no_number tree a q.1.1 p.0)
 one_value tree (attribute.Number a) (attribute.Text b) p q = absurd (no_text tree b p.1.1 q.0)

@@ -10,14 +10,14 @@ use Rattle.record_base.specs.AttributeValue.{type_of_value, value_bytes}
 use Rattle.record_base.specs.declared.bios_attribute.SetBiosAttribute.{SetBiosAttribute}
 use Rattle.text_fields.specs.declared.field.Field.TheVariants as field
 use Rattle.text_fields.specs.Trees.{IsNaturalIn, members_in, HasNumber, Lacks}
-use Rattle.text_fields.specs.Attributes.{text_in}
+use Rattle.text_fields.specs.Attributes.{string_in}
 use Rattle.plan_file.specs.declared.kind.bios_attribute.TheConstants.{FIELDS}
 use Rattle.plan_file.specs.StepKind.{StepKind}
 
 -- the step gives this value of an attribute, its indexes, its text or its number, and none besides
 abbrev pub GivesValue : Members → AttributeValue → Type 0
 GivesValue tree (attribute.Indexes indexes) = AllZip IsNaturalIn (members_in field.Indexes tree) indexes × (Lacks field.Text tree × Lacks field.Number tree)
-GivesValue tree (attribute.Text text) = (text_in field.Text tree ≡ Some text) × (Lacks field.Indexes tree × Lacks field.Number tree)
+GivesValue tree (attribute.Text text) = (string_in field.Text tree ≡ Some text) × (Lacks field.Indexes tree × Lacks field.Number tree)
 GivesValue tree (attribute.Number n) = HasNumber field.Number tree n × (Lacks field.Indexes tree × Lacks field.Text tree)
 
 -- the step holds a change of an attribute's value, to the one that it gives: the value's type, and its bytes

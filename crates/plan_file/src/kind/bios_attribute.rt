@@ -8,7 +8,7 @@ ghost use Rattle.plan_file.specs.Kinds.BiosAttribute.{GivesValue, HoldsBiosAttri
 
 use record_base::attribute_sizes::MOST_SENT;
 use record_base::{AttributeValue, SetBiosAttribute};
-use text_fields::attributes::{indexes_of, text, text_in};
+use text_fields::attributes::{indexes_of, string_in};
 use text_fields::tree::{in_field, members_in, number};
 use text_fields::{Checked, Field, Need, Row, Shape};
 use two_wire::{Bytes, Data};
@@ -59,8 +59,8 @@ fn set_text<'v>(step: &Checked<'_>, room: &'v mut Bytes<{ MOST_SENT }>) -> SetBi
     requires given { is_some (in_field Field.Text (table_view step.now.table.now)) ≡ true }
     ensures { HoldsBiosAttribute (table_view step.now.table.now) result }
 {
-    let text = text_in(step.table, Field::Text);
-    let value = AttributeValue::Text(Data::new(text.as_slice()));
+    let text = string_in(step.table, Field::Text);
+    let value = AttributeValue::Text(Data::new(text));
     set_to(step, &value, room)
 }
 

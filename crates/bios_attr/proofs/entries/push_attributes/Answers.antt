@@ -17,13 +17,11 @@ loop-attribute-preserved c =
     let old = c.args.table.now.items in
     let more : take (c.loop-attribute.attribute-index + 1) c.args.attributes.now ≡ before ++ item ∷ [] =
     take_more c.args.attributes.now c.loop-attribute.attribute-index item (omega arith) ∙ ap (λ (x : Attribute). before ++ x ∷ []) (sym c.attribute-item.is) in
-    let added : c.as_slice.result.now ≡ attribute_entry strings item = c.as_slice.ensures.value ∙ c.attribute_entry-entry.ensures.bytes in
     let bytes =
-    c.in_ok-extend_from_slice.ensures.items
-    ∙ ap (λ (xs : List ℕ). xs ++ c.as_slice.result.now) c.loop-attribute.invariant.0
-    ∙ ap (λ (xs : List ℕ). old ++ attribute_entries strings before ++ xs) added
+    c.in_ok-push_attribute.ensures.bytes
+    ∙ ap (λ (xs : List ℕ). xs ++ attribute_entry strings item) c.loop-attribute.invariant.0
     ∙ append_assoc old (attribute_entries strings before) (attribute_entry strings item)
     ∙ sym (ap (λ (xs : List ℕ). old ++ xs) (ap (attribute_entries strings) more ∙ pieces_more (attribute_entry strings) before item)) in (
       bytes,
-      subst (λ (xs : List Attribute). AreOf Attributes (attribute_contents strings xs)) (sym more) (contents_more strings before item c.loop-attribute.invariant.1 c.attribute_entry-entry.ensures.whole),
+      subst (λ (xs : List Attribute). AreOf Attributes (attribute_contents strings xs)) (sym more) (contents_more strings before item c.loop-attribute.invariant.1 c.in_ok-push_attribute.ensures.whole),
     )

@@ -16,9 +16,7 @@ loop-handle-preserved c =
     let first : 0 + length before ≡ k = omega (arith, long) in
     let all : string_entries 0 (take (k + 1) c.args.strings.now) ≡ string_entries 0 before ++ string_entry k item =
     ap (string_entries 0) more ∙ entries_more 0 before item ∙ ap (λ (h : ℕ). string_entries 0 before ++ string_entry h item) first in
-    let added : c.as_slice.result.now ≡ string_entry k item = c.as_slice.ensures.value ∙ c.string_entry-entry.ensures in
-    c.in_ok-extend_from_slice.ensures.items
-    ∙ ap (λ (xs : List ℕ). xs ++ c.as_slice.result.now) c.loop-handle.invariant
-    ∙ ap (λ (xs : List ℕ). old ++ string_entries 0 before ++ xs) added
+    c.in_ok-push_string.ensures
+    ∙ ap (λ (xs : List ℕ). xs ++ string_entry k item) c.loop-handle.invariant
     ∙ append_assoc old (string_entries 0 before) (string_entry k item)
     ∙ sym (ap (λ (xs : List ℕ). old ++ xs) all)

@@ -34,8 +34,8 @@ loop-key-preserved c =
     record {
       copied =
           c.in-Ok-push.ensures.items
-          ∙ ap (λ (ps : List Pair). let p : Pair = (pair.0, c.copy.result) in ps ++ p ∷ []) c.loop-key.invariant.copied
-          ∙ ap (λ (v : List ℕ). let p : Pair = (pair.0, v) in before ++ p ∷ []) c.copy.ensures
+          ∙ ap (λ (ps : List Pair). ps ++ c.in-Ok-new.kept ∷ []) c.loop-key.invariant.copied
+          ∙ ap (λ (p : Pair). before ++ p ∷ []) (c.in-Ok-new.ensures ∙ ap (λ (v : List ℕ). let p : Pair = (pair.0, v) in p) c.as_slice.ensures)
           ∙ sym more;
       counted = omega (arith, c.in-Ok-push.ensures.len, c.loop-key.invariant.counted);
       placed = subst (λ (ps : List Pair). ArePlaced ps places_then) (sym more) (placed_push before pair places places_then c.loop-key.invariant.placed added);

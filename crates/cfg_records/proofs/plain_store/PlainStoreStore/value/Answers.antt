@@ -21,4 +21,4 @@ returns c = λ key at.
     let read : c.index.result.now ≡ had.pair = c.index.ensures ∙ get_or_from_slice_get pairs place had.pair c.index.result.now had.is_it in
     ap (value_at pairs) at
     ∙ ap (option_map value_of) had.is_it
-    ∙ ap (λ (v : List ℕ). let found : Option (List ℕ) = Some v in found) (sym (c.as_slice.ensures.value ∙ ap (λ (p : Pair). p.1) read))
+    ∙ ap (λ (v : List ℕ). let found : Option (List ℕ) = Some v in found) (sym (c.value.ensures ∙ ap (λ (p : Pair). p.1) read))

@@ -19,9 +19,9 @@ loop-key-preserved c =
     let at_end : c.len.result ≡ length held.bytes.items = omega (arith, c.len.ensures, held.bytes.ok.0) in
     record {
       image = image_more c.args.pairs.now held.key-index pair held.bytes.items (offset_of held.places) c.requires.differ (omega arith) c.loop-key-item.is held.invariant.image held.invariant.written
-          c.requires.fit c.add.new.bytes.items after c.len.result c.longest.result c.as_slice.result.now at_end c.as_slice.ensures.value c.in_ok-insert.ensures c.longest.ensures.bound c.in_ok-add.ensures;
+          c.requires.fit c.add.new.bytes.items after c.len.result c.longest.result c.as_slice.result.now at_end c.as_slice.ensures c.in_ok-insert.ensures c.longest.ensures.bound c.in_ok-add.ensures;
       written = written_more c.args.pairs.now held.key-index pair held.bytes.items (offset_of held.places) c.requires.differ (omega arith) c.loop-key-item.is held.invariant.image held.invariant.written
-          c.requires.fit c.add.new.bytes.items after c.len.result c.longest.result c.as_slice.result.now at_end c.as_slice.ensures.value c.in_ok-insert.ensures c.longest.ensures.bound c.in_ok-add.ensures;
+          c.requires.fit c.add.new.bytes.items after c.len.result c.longest.result c.as_slice.result.now at_end c.as_slice.ensures c.in_ok-insert.ensures c.longest.ensures.bound c.in_ok-add.ensures;
     }
 
 pub returns : goal.returns
