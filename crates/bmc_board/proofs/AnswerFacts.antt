@@ -18,6 +18,7 @@ use Rattle.record_kinds.specs.declared.limits.Limits.{Limits}
 use Rattle.record_kinds.specs.declared.limits.Limits.TheVariants as kinds
 use Rattle.record_kinds.specs.Limits.{is_of, sets, outcome, get_asked, set_asked}
 use Rattle.record_kinds.specs.LimitsLaws as laws
+use Rattle.record_kinds.specs.SeriesLaws.{first_short}
 use Rattle.std.specs.Option.{option_map}
 use Rattle.record_kinds.specs.Boards.{attribute_at}
 use Rattle.record_base.specs.Attribute.{range_of}
@@ -172,7 +173,7 @@ refused_fit setup room fault before sound = record { short = omega arith; sound 
 
 get_short : (limits : Option Limits) (value : Option (List ℕ)) (live : LivePart) (unknown : ℕ) (key : Key) (room : ℕ) → ((l : Limits) → limits ≡ Some l → is_of l key) → IsSoundAt limits value → room_for (get_asked key) ≤ room
     → length (get_answer limits value live unknown).body ≤ room
-get_short (Some l) (Some v) live unknown key room of sound le = omega (arith, (laws.record_laws l).get_short key v live (of l refl) sound)
+get_short (Some l) (Some v) live unknown key room of sound le = omega (arith, first_short l key v live (of l refl) sound)
 get_short (Some l) None live unknown key room of sound le = omega arith
 get_short None (Some v) live unknown key room of sound le = omega arith
 get_short None None live unknown key room of sound le = omega arith

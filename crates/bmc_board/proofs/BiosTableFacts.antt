@@ -1,5 +1,5 @@
 -- The tables of a board's attributes are those that its definitions name.
-use Rattle.std.proofs.Common.{◌≡◌, ℕ, List, ◌++◌, map, ◌∙◌, ap}
+use Rattle.std.proofs.Common.{◌≡◌, ℕ, List, ◌++◌, map, ◌∙◌, ap, refl, subst}
 use Rattle.std.specs.Int.{w32, to_le_bytes}
 use Rattle.record_base.specs.declared.attribute.Attribute.{Attribute}
 use Rattle.pldm_base.specs.Crc.{crc_of}
@@ -9,7 +9,9 @@ use Rattle.bios_attr.specs.declared.bios_table.BiosTable.{BiosTable}
 use Rattle.bios_attr.specs.declared.bios_table.BiosTable.TheVariants.{Strings, Attributes, Values}
 use Rattle.bios_attr.specs.Tables.{padded, IsTable, Opened, AreTables, ShowsValues, table_named}
 use Rattle.bmc_board.specs.BiosTables.{table_bytes}
-use Rattle.bmc_board.specs.ToldTables.{table_of, Tells}
+use Rattle.bmc_board.specs.declared.board.Kept.{Kept}
+use Rattle.bmc_board.specs.declared.board.Kept.TheVariants.{Current}
+use Rattle.bmc_board.specs.ToldTables.{table_of, Tells, IsKept}
 
 -- entries have one table
 pub table_is : (entries table : List ℕ) → IsTable entries table → table ≡ table_of entries
@@ -23,12 +25,21 @@ opened_tell attributes tables are = record {
   heads = λ values. ap (value_entries values) are.heads;
 }
 
+-- they tell of them whichever values are shown
+pub shown_tell : (attributes : List Attribute) (before after : Opened) (values : ℕ → List ℕ) → Tells attributes before → ShowsValues before values after → Tells attributes after
+shown_tell attributes before after values tell shows = record {
+  strings = shows.strings ∙ tell.strings;
+  described = shows.attributes ∙ tell.described;
+  heads = λ others. ap (value_entries others) shows.heads ∙ tell.heads others;
+}
+
 -- the table of values that is shown is that of the values
 pub shown_values : (attributes : List Attribute) (before after : Opened) (values : ℕ → List ℕ) → Tells attributes before → ShowsValues before values after → after.values ≡ table_of (value_entries values (map head_of attributes))
 shown_values attributes before after values tell shows = table_is _ _ shows.shown ∙ ap table_of (tell.heads values)
 
--- so is each table
-pub named_is : (attributes : List Attribute) (before after : Opened) (values : ℕ → List ℕ) (table : BiosTable) → Tells attributes before → ShowsValues before values after → table_named after table ≡ table_bytes attributes values table
-named_is attributes before after values Strings tell shows = shows.strings ∙ tell.strings
-named_is attributes before after values Attributes tell shows = shows.attributes ∙ tell.described
-named_is attributes before after values Values tell shows = shown_values attributes before after values tell shows
+-- each table that is kept is what its definition names
+pub kept_is : (attributes : List Attribute) (tables : Opened) (values : ℕ → List ℕ) (table : BiosTable) (kept : Kept) → Tells attributes tables → IsKept kept attributes values tables
+    → (table ≡ Values → kept ≡ Current) → table_named tables table ≡ table_bytes attributes values table
+kept_is attributes tables values Strings kept tell is current = tell.strings
+kept_is attributes tables values Attributes kept tell is current = tell.described
+kept_is attributes tables values Values kept tell is current = subst (λ (k : Kept). IsKept k attributes values tables) (current refl) is

@@ -45,7 +45,7 @@ use Rattle.user_chan.specs.ChannelRequests.{store_at, named, change, asked_for}
 use Rattle.user_chan.specs.UserNamesLaws.{sixteen}
 use Rattle.std.proofs.Math.Nat.{ℕ_set}
 use Rattle.record_base.proofs.Operations.{set_thresholds, same_thresholds}
-use Rattle.record_kinds.specs.Limits.{set_asked}
+use Rattle.record_kinds.specs.Series.{set_whole}
 use Rattle.bmc_board.specs.Request as request
 use Rattle.bmc_board.specs.Request.{Request, asked_by}
 use Rattle.bmc_board.specs.ChannelCommands.{channel_asked}
@@ -66,7 +66,7 @@ six P at [] is = absurd (omega (arith, is))
 
 -- the request is read as the operation that it carries out
 abbrev IsRead : SetThresholds → Type 0
-IsRead o = asked_by (set_asked (op.Thresholds o)) ≡ Ok (request.Set (op.Thresholds o))
+IsRead o = asked_by (set_whole (op.Thresholds o)) ≡ Ok (request.Set (op.Thresholds o))
 
 thresholds_read : (o : SetThresholds) → IsRead o
 thresholds_read o =
@@ -88,7 +88,7 @@ set_events sensor messages scanning change = record { sensor = sensor; messages 
 
 -- the request is read as the operation that it carries out
 abbrev EventsAreRead : SetEventEnable → Type 0
-EventsAreRead o = asked_by (set_asked (op.EventEnable o)) ≡ Ok (request.Set (op.EventEnable o))
+EventsAreRead o = asked_by (set_whole (op.EventEnable o)) ≡ Ok (request.Set (op.EventEnable o))
 
 -- its masks are read
 masks_read : (to : EventMasks → EventChange) (sensor : ℕ) (messages scanning : Bool) (masks : EventMasks)
@@ -118,7 +118,7 @@ events_read sensor false false Reserved = refl
 
 -- so is a request for a boot parameter
 abbrev BootIsRead : SetBootParam → Type 0
-BootIsRead o = asked_by (set_asked (op.BootParam o)) ≡ Ok (request.Set (op.BootParam o))
+BootIsRead o = asked_by (set_whole (op.BootParam o)) ≡ Ok (request.Set (op.BootParam o))
 
 boot_read : (invalid : Bool) (change : BootChange) → BootIsRead (record { invalid = invalid; change = change })
 boot_read true (MarkAlone parameter.ValidBitClearing) = refl
@@ -139,7 +139,7 @@ set_numeric effecter size value = record { effecter = effecter; size = size; val
 
 -- the request is read as the operation that it carries out
 abbrev NumberIsRead : SetNumericEffecter → Type 0
-NumberIsRead o = asked_by (set_asked (op.NumericEffecter o)) ≡ Ok (request.Set (op.NumericEffecter o))
+NumberIsRead o = asked_by (set_whole (op.NumericEffecter o)) ≡ Ok (request.Set (op.NumericEffecter o))
 
 -- its id is read
 id_read : (effecter size : ℕ) (value : NumericBytes) → Ok (request.Set (op.NumericEffecter (set_numeric (effecter % 256 + 256 * (effecter / 256)) size value))) ≡ (let asked : Result Request ℕ = Ok (request.Set (op.NumericEffecter (set_numeric effecter size value))) in asked)
@@ -156,7 +156,7 @@ where_taken : (b : Bool) (asked other : Result Request ℕ) (code : ℕ) → b �
 where_taken true asked other code is same = same
 where_taken false asked other code is same = cc
 
-states_read : (o : SetStateEffecter) → asked_by (set_asked (op.StateEffecter o)) ≡ Ok (request.Set (op.StateEffecter o))
+states_read : (o : SetStateEffecter) → asked_by (set_whole (op.StateEffecter o)) ≡ Ok (request.Set (op.StateEffecter o))
 states_read o =
     where_taken (allow (PairsCountedAt 2) (state_body o)) _ _ pldm_invalid_length
     (same_tested _ _ (omega (arith, two_each o.changes)))
@@ -167,7 +167,7 @@ abbrev set_name : (user : ℕ) (name : List ℕ) → length name ≡ 16 → SetU
 set_name user name sixteen = record { user = user; name = name; sixteen = sixteen }
 
 abbrev NameIsRead : SetUserName → Type 0
-NameIsRead o = asked_by (set_asked (op.UserName o)) ≡ Ok (request.Set (op.UserName o))
+NameIsRead o = asked_by (set_whole (op.UserName o)) ≡ Ok (request.Set (op.UserName o))
 
 name_read : (o : SetUserName) → NameIsRead o
 name_read o =
@@ -181,7 +181,7 @@ name_read o =
 abbrev set_access : (first user limit : ℕ) → Option ℕ → SetUserAccess
 set_access first user limit session_limit = record { first = first; user = user; limit = limit; session_limit = session_limit }
 
-access_read : (first user limit : ℕ) (session_limit : Option ℕ) → asked_by (set_asked (op.UserAccess (set_access first user limit session_limit))) ≡ Ok (request.Set (op.UserAccess (set_access first user limit session_limit)))
+access_read : (first user limit : ℕ) (session_limit : Option ℕ) → asked_by (set_whole (op.UserAccess (set_access first user limit session_limit))) ≡ Ok (request.Set (op.UserAccess (set_access first user limit session_limit)))
 access_read first user limit (Some n) = refl
 access_read first user limit None = refl
 
@@ -220,7 +220,7 @@ abbrev asks : ChannelNumber → Option AccessStore → Option AccessStore → Si
 asks channel store other access limit = Ok (channel_asked (asked_for channel store other access limit))
 
 abbrev StoreIsRead : SetChannelAccess → Type 0
-StoreIsRead o = asked_by (set_asked (op.ChannelAccess o)) ≡ Ok (request.Set (op.ChannelAccess o))
+StoreIsRead o = asked_by (set_whole (op.ChannelAccess o)) ≡ Ok (request.Set (op.ChannelAccess o))
 
 one_store : (c : ChannelNumber) (s : AccessStore) (a l : SixBits) → asks c (Some s) (Some s) a l ≡ Ok (request.Set (op.ChannelAccess (change c s (Both a l))))
 one_store c NonVolatile a l = refl
@@ -256,7 +256,7 @@ long_enough o = le_true 6 (length (attribute_request o)) (omega arith)
 not_less : (n m : ℕ) → m ≤ n → nat_lt n m ≡ false
 not_less n m le = grind (arith, nat_tests)
 
-attribute_read : (o : SetBiosAttribute) → asked_by (set_asked (op.BiosAttribute o)) ≡ Ok (request.Set (op.BiosAttribute o))
+attribute_read : (o : SetBiosAttribute) → asked_by (set_whole (op.BiosAttribute o)) ≡ Ok (request.Set (op.BiosAttribute o))
 attribute_read o =
     let size : ℕ = length (attribute_request o) in
     (λ i. read_where (long_enough o i) (not_less size 6 (omega arith) i) (not_less size 8 (omega arith) i) (setting (o.attribute % 256 + 256 * (o.attribute / 256)) o.attribute_type o.value))

@@ -22,7 +22,8 @@ use Rattle.user_chan.specs.declared.lan_request.LanRequest.TheVariants as to_set
 use Rattle.user_chan.specs.declared.lan_request.LanShown.{LanShown}
 use Rattle.user_chan.specs.declared.lan_request.LanShown.TheVariants as to_show
 use Rattle.record_kinds.specs.Lans.{lan_at}
-use Rattle.record_kinds.specs.Limits.{get_asked, set_asked}
+use Rattle.record_kinds.specs.Limits.{get_asked}
+use Rattle.record_kinds.specs.Series.{set_whole}
 use Rattle.bmc_board.specs.declared.activity.Activity.{Activity}
 use Rattle.bmc_board.specs.declared.live.LiveCommand.TheVariants as live
 use Rattle.bmc_board.specs.Asks as request
@@ -79,7 +80,7 @@ abbrev asks_to_set : ChannelNumber → LanChange → Result Request ℕ
 asks_to_set c change = Ok (request.Set (op.LanParam (record { channel = c; change = change })))
 
 abbrev SetIsRead : ChannelNumber → LanChange → Type 0
-SetIsRead c change = asked_by (set_asked (op.LanParam (record { channel = c; change = change }))) ≡ asks_to_set c change
+SetIsRead c change = asked_by (set_whole (op.LanParam (record { channel = c; change = change }))) ≡ asks_to_set c change
 
 pub set_read : (c : ChannelNumber) (change : LanChange) → SetIsRead c change
 set_read c (Address Ip a) = λ i. asks_to_set (low_bits_again c i) (Address Ip a)

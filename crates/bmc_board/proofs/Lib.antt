@@ -15,6 +15,7 @@ pub mod AnswerFacts
 pub mod OneAnswer
 pub mod FromAnyone
 pub mod Decoded
+pub mod SeriesFacts
 pub mod Quiet
 pub mod ShownAgain
 pub mod Undone

@@ -1,7 +1,8 @@
 -- What a reading that is taken leaves, from what each of its steps makes.
-use Rattle.std.proofs.Common.{◌≡◌, ℕ, List, Bool, true, false, map, Option, if◌then◌else◌, ap, sym, ◌∙◌}
+use Rattle.std.proofs.Common.{◌≡◌, ℕ, List, Bool, true, false, map, Option, Some, None, if◌then◌else◌, refl, ap, sym, ◌∙◌}
 use Rattle.record_base.specs.Sensor.EventEnable.{is_scanning}
 use Rattle.record_base.specs.Requests.{byte_at}
+use Rattle.cfg_records.specs.declared.board_file.BoardFile.{BoardFile}
 use Rattle.cfg_records.specs.Records.{Records}
 use Rattle.record_base.specs.declared.key.Key.TheVariants as key
 use Rattle.record_base.specs.declared.sensor.Sensor.{Sensor}
@@ -11,8 +12,12 @@ use Rattle.sensor_recs.specs.declared.compared.Event.{Event}
 use Rattle.sensor_recs.specs.declared.compared.Taken.{Taken}
 use Rattle.sensor_recs.specs.Readings.{events_of}
 use Rattle.sensor_recs.specs.Taken.{LastReadings, last_of, with_reading, last_beyond, taken_after, log_record}
+use Rattle.record_kinds.specs.Boards.{sensor_at}
 use Rattle.bmc_board.specs.declared.activity.Activity.{Activity}
-use Rattle.bmc_board.specs.Sensing.{value_at, compared_at, logs, after_all, log_after, after_reading}
+use Rattle.bmc_board.specs.declared.bench.Bench.{Bench}
+use Rattle.bmc_board.specs.declared.bench.Bench.TheVariants.{Reading, Tick, Chassis}
+use Rattle.bmc_board.specs.State.{State, state, on_bench}
+use Rattle.bmc_board.specs.Sensing.{value_at, compared_at, logs, after_all, log_after, after_taking, after_reading, reads, bench_of}
 
 -- of two, the one that a test picks
 picked : {A : Type 0} (b : Bool) (x y : A) → b ≡ true → (if b then x else y) ≡ x
@@ -50,3 +55,18 @@ module _ (records : Records) (sensor : Sensor) where
       ∙ ap (λ (c : Compared). taking c last reading before) same
       ∙ ap (λ (o : Option Taken). taking (compared_at records sensor) o reading before) at
       ∙ sym (picked (is_scanning (byte_at (value_at records (key.EventEnable sensor.number)) 0)) _ _ scans)
+
+-- What happens on the bench leaves what is staged. So the state after it is the one before it, with its activity then.
+pub benched_so : (setup : BoardFile) (before : State) (event : Bench) → on_bench before (bench_of setup before event).1.activity ≡ (bench_of setup before event).1
+benched_so setup before (Reading number reading) = by (sensor_at setup.sensors.items number)
+  where
+    taken : (sensor : Sensor) (scans : Bool)
+        → let after = (if scans then after_taking before.records sensor (compared_at before.records sensor) reading before.activity else before.activity) in on_bench before after ≡ state before.records after
+    taken sensor true = refl
+    taken sensor false = refl
+
+    by : (found : Option Sensor) → let after = (reads setup before.records found reading before.activity).1 in on_bench before after ≡ state before.records after
+    by None = refl
+    by (Some sensor) = taken sensor (is_scanning (byte_at (value_at before.records (key.EventEnable sensor.number)) 0))
+benched_so setup before Tick = refl
+benched_so setup before (Chassis bits) = refl

@@ -12,7 +12,9 @@ use Rattle.record_base.specs.declared.message.Answered.{Answered}
 use Rattle.cfg_records.specs.declared.board_file.BoardFile.{BoardFile}
 use Rattle.record_kinds.specs.declared.limits.Limits.{Limits}
 use Rattle.record_base.specs.Kind.{RecordLaws}
-use Rattle.record_kinds.specs.Limits.{words, record_words, valid, sets, view, get_asked, set_asked, is_reply, inverse}
+use Rattle.record_kinds.specs.Limits.{words, record_words, valid, sets, view, get_asked, is_reply, inverse}
+use Rattle.record_kinds.specs.Series.{set_whole, first_shown}
+use Rattle.record_kinds.specs.SeriesLaws.{undoes_whole}
 use Rattle.record_kinds.specs.LimitsLaws as laws
 use Rattle.record_kinds.specs.SoundLaws.{valid_at}
 use Rattle.bmc_board.specs.Request.{Request}
@@ -37,8 +39,8 @@ read_as setup before asked request answered after is row = subst (λ (r : Result
 pub get_served : (setup : BoardFile) (before : State) (from : ℕ) (key : Key) (answered : Answered) (after : State) → Row setup before (sent_by from (get_asked key)) answered after → Serves setup before (Get key) answered after
 get_served setup before from key answered after row = read_as setup before (sent_by from (get_asked key)) (Get key) answered after (is_read_from_all from (get_asked key) ∙ ap (asked_from from) (gets_are_read key).is_read) row
 
-pub set_served : (setup : BoardFile) (before : State) (from : ℕ) (op : Op) (answered : Answered) (after : State) → Row setup before (sent_by from (set_asked op)) answered after → Serves setup before (Set op) answered after
-set_served setup before from op answered after row = read_as setup before (sent_by from (set_asked op)) (Set op) answered after (is_read_from_all from (set_asked op) ∙ ap (asked_from from) (sets_are_read op).is_read) row
+pub set_served : (setup : BoardFile) (before : State) (from : ℕ) (op : Op) (answered : Answered) (after : State) → Row setup before (sent_by from (set_whole op)) answered after → Serves setup before (Set op) answered after
+set_served setup before from op answered after row = read_as setup before (sent_by from (set_whole op)) (Set op) answered after (is_read_from_all from (set_whole op) ∙ ap (asked_from from) (sets_are_read op).is_read) row
 
 -- ---- requests that are carried out
 
@@ -50,13 +52,13 @@ unknown_is_fault setup key is = omega (arith, (unknown_is_refused setup key).is_
 not_refused : (answered : Answered) (fault : ℕ) → fault ≢ success → answered ≡ refused fault → answered.code ≡ success → ⊥
 not_refused answered fault is_fault refusal carried = is_fault (sym (ap (λ (a : Answered). a.code) refusal) ∙ carried)
 
--- a Get that was carried out shows a value that the record has, under its limits
+-- a Get that was carried out shows a value that the record has, under its limits, or the first part of it
 pub record Shows (limits : Option Limits) (value : Option (List ℕ)) (live : LivePart) (shown : Answered) : Type 0 where
   pub of : Limits
   pub limits_are : limits ≡ Some of
   pub old : List ℕ
   pub value_is : value ≡ Some old
-  pub body_is : shown ≡ done (view of old live)
+  pub body_is : shown ≡ done (first_shown of (view of old live))
 
 pub shows : (limits : Option Limits) (value : Option (List ℕ)) (live : LivePart) (unknown : ℕ) (shown : Answered) → unknown ≢ success → shown ≡ get_answer limits value live unknown → shown.code ≡ success → Shows limits value live shown
 shows (Some limits) (Some value) live unknown shown is_fault gets carried = record { of = limits; limits_are = refl; old = value; value_is = refl; body_is = gets }
@@ -94,7 +96,7 @@ pub sets_at : (limits : Option Limits) (value : Option (List ℕ)) (of : Limits)
 sets_at limits value of old unknown op before answered after limits_are value_is s =
     subst (λ (v : Option (List ℕ)). Sets (Some of) v unknown op before answered after) value_is (subst (λ (l : Option Limits). Sets l value unknown op before answered after) limits_are s)
 
--- what a Get replies is a reply of the record's kind
+-- what a Get replies is a reply of the record's kind, or the first part of one
 pub is_a_reply : IsAReply
 is_a_reply setup op before got shown h =
     let key : Key = key_of op in
@@ -102,7 +104,7 @@ is_a_reply setup op before got shown h =
     let seen : Shows (limits_at setup key) (before.records key) before.activity.live shown = shows _ _ before.activity.live (unknown_code setup key) shown (unknown_is_fault setup key) (ap (λ (g : Given). g.0) served) h.was_read in
     let is_valid : valid seen.of seen.old = valid_at _ _ seen.of seen.old seen.limits_are seen.value_is (h.sound key) in
     let reply : is_reply op (view seen.of seen.old before.activity.live) = (laws.record_laws seen.of).replies op seen.old before.activity.live (limits_are_of setup key seen.of seen.limits_are) is_valid in
-    subst (is_reply op) (sym (ap (λ (a : Answered). a.body) seen.body_is)) reply
+    record { limits = seen.of; has_limits = seen.limits_are; whole = view seen.of seen.old before.activity.live; is_whole = reply; shown = ap (λ (a : Answered). a.body) seen.body_is }
 
 pub is_undone : IsUndone
 is_undone setup op made before got until after from back shown changed undone h =
@@ -116,8 +118,9 @@ is_undone setup op made before got until after from back shown changed undone h 
     let change : IsCarriedOut seen.of seen.old op until changed after =
     carried_out seen.of seen.old unknown op until changed after (sets_at _ _ seen.of seen.old unknown op until changed after seen.limits_are had (set_served setup until h.changer op changed after h.change)) h.was_changed in
     let of_seen : RecordLaws words (record_words seen.of) = laws.record_laws seen.of in
-    let shown_is : view seen.of seen.old before.activity.live ≡ shown.body = sym (ap (λ (a : Answered). a.body) seen.body_is) in
-    let is_made : inverse op (view seen.of seen.old before.activity.live) ≡ Some made = ap (inverse op) shown_is ∙ h.undoes in
+    let shown_is : first_shown seen.of (view seen.of seen.old before.activity.live) ≡ shown.body = sym (ap (λ (a : Answered). a.body) seen.body_is) in
+    let is_made : inverse op (view seen.of seen.old before.activity.live) ≡ Some made =
+    undoes_whole seen.of op (view seen.of seen.old before.activity.live) made (limits_are_of setup key seen.of seen.limits_are) (ap (inverse op) shown_is ∙ h.undoes) in
     let can : sets seen.of made change.new seen.old = of_seen.undoes op made seen.old change.new before.activity.live is_valid change.is_set is_made in
     let here : (record_words seen.of).is_of key = of_seen.taken op seen.old change.new change.is_set in
     let same : key_of made ≡ key = of_seen.same_record op made seen.old before.activity.live here is_valid is_made in

@@ -14,6 +14,7 @@ use Rattle.record_base.specs.declared.live.Live.{Live as LivePart}
 use Rattle.cfg_records.specs.declared.board_file.BoardFile.{BoardFile}
 use Rattle.record_kinds.specs.declared.limits.Limits.{Limits}
 use Rattle.record_kinds.specs.Limits.{outcome, view, set_reply, next_live}
+use Rattle.record_kinds.specs.Series.{first_shown}
 use Rattle.attribute_parts.specs.declared.set_part.SetPart.{SetPart}
 use Rattle.attribute_parts.specs.declared.set_part.SetPart.TheVariants.{Start, Middle, End}
 use Rattle.attribute_parts.specs.Stagings.{with_staged, start_outcome, add_outcome, end_outcome}
@@ -34,9 +35,9 @@ Given = Answered × State
 abbrev pub with_records : State → Answered × Activity → Given
 with_records before given = (given.0, state before.records given.1)
 
--- the answer to a Get
+-- the answer to a Get: the data that show the record, or the first part of a long attribute's
 abbrev pub get_answer : Option Limits → Option (List ℕ) → LivePart → ℕ → Answered
-get_answer (Some limits) (Some value) live unknown = done (view limits value live)
+get_answer (Some limits) (Some value) live unknown = done (first_shown limits (view limits value live))
 get_answer _ _ live unknown = refused unknown
 
 -- the activity after a Set that was carried out

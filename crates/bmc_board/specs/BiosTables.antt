@@ -6,7 +6,6 @@ use Rattle.pldm_base.specs.declared.table.Part.{Part}
 use Rattle.pldm_base.specs.Parts.{asked_offset, part_bytes, is_last, next_handle, flag_of, flag_byte}
 use Rattle.cfg_records.specs.Records.{Records}
 use Rattle.record_base.specs.Requests.{byte_at}
-use Rattle.record_base.specs.declared.key.Key.TheVariants as key
 use Rattle.record_base.specs.declared.attribute.Attribute.{Attribute}
 use Rattle.cfg_records.specs.declared.board_file.BoardFile.{BoardFile}
 use Rattle.record_base.specs.declared.message.Answered.{Answered}
@@ -15,12 +14,8 @@ use Rattle.bios_attr.specs.declared.bios_table.BiosTable.TheVariants.{Strings, A
 use Rattle.bios_attr.specs.Attributes.{strings_of, string_entries, attribute_entries}
 use Rattle.bios_attr.specs.Values.{head_of, value_entries}
 use Rattle.bmc_board.specs.Replies.{done, refused}
-use Rattle.bmc_board.specs.Sensing.{value_at}
+pub use Rattle.bmc_board.specs.RecordBytes.{values_in}
 use Rattle.bmc_board.specs.ToldTables.{table_of}
-
--- the values of attributes, as their records stand
-abbrev pub values_in : Records → ℕ → List ℕ
-values_in records handle = value_at records (key.BiosAttribute handle)
 
 -- a table that tells of these attributes and of their values
 abbrev pub table_bytes : List Attribute → (ℕ → List ℕ) → BiosTable → List ℕ

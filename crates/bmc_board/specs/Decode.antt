@@ -5,7 +5,8 @@ use Rattle.record_base.specs.declared.key.Key.{Key}
 use Rattle.record_base.specs.declared.op.Op.{Op}
 use Rattle.record_base.specs.declared.message.Asked.{Asked}
 use Rattle.record_base.specs.declared.message.Asked.TheVariants.{Ipmi, Pldm}
-use Rattle.record_kinds.specs.Limits.{get_asked, set_asked, inverse, is_plain}
+use Rattle.record_kinds.specs.Limits.{get_asked, inverse, is_plain}
+use Rattle.record_kinds.specs.Series.{set_whole}
 use Rattle.bmc_board.specs.Request.{Request}
 use Rattle.bmc_board.specs.Request.{Get, Set, PartOfSet}
 use Rattle.bmc_board.specs.Request.{asked_by}
@@ -38,9 +39,9 @@ pub record Asks (asked : Asked) (request : Request) : Type 0 where
 abbrev pub GetsAreRead : Type 0
 GetsAreRead = (key : Key) → Asks (get_asked key) (Get key)
 
--- the request for an operation is read as that operation
+-- the request for an operation, with all its data, is read as that operation
 abbrev pub SetsAreRead : Type 0
-SetsAreRead = (op : Op) → Asks (set_asked op) (Set op)
+SetsAreRead = (op : Op) → Asks (set_whole op) (Set op)
 
 -- the operation that undoes another has 0 in each bit that a controller ignores
 abbrev pub UndosArePlain : Type 0

@@ -6,6 +6,7 @@ pub mod AttributeCommands
 pub mod Request
 pub mod State
 pub mod Replies
+pub mod RecordBytes
 pub mod Storage
 pub mod Sensing
 pub mod LanCommands
@@ -22,6 +23,7 @@ pub mod AnyAnswer
 pub mod AnyLive
 pub mod PldmTypes
 pub mod Decode
+pub mod SeriesRead
 pub mod Undo
 pub mod Quiet
 pub mod ToldTables

@@ -1,4 +1,4 @@
--- Requests whose commands set no configuration leave the records as they are.
+-- Requests whose commands set no configuration leave the records as they are, and what is staged.
 use Rattle.std.specs.Prelude.{◌≡◌, false}
 use Rattle.record_base.specs.declared.message.Asked.{Asked}
 use Rattle.record_base.specs.declared.message.Answered.{Answered}
@@ -13,3 +13,10 @@ KeepsRecords = (setup : BoardFile) (before : State) (asked : Asked) (answered : 
     → is_changing asked ≡ false
     → Row setup before asked answered after
     → after.records ≡ before.records
+
+-- and what requesters have staged
+abbrev pub KeepsStagings : Type 0
+KeepsStagings = (setup : BoardFile) (before : State) (asked : Asked) (answered : Answered) (after : State)
+    → is_changing asked ≡ false
+    → Row setup before asked answered after
+    → after.activity.stagings ≡ before.activity.stagings

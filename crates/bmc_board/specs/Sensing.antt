@@ -1,10 +1,9 @@
 -- Readings of a board's sensors, and what happens on the board beside requests (IPMI 2.0, "Get Sensor Reading", "Watchdog Timer").
-use Rattle.std.specs.Prelude.{◌≡◌, ℕ, [], List, map, fold, Bool, Option, Some, None, Result, Ok, Err, if◌then◌else◌}
+use Rattle.std.specs.Prelude.{◌≡◌, ℕ, List, map, fold, Bool, Option, Some, None, Result, Ok, Err, if◌then◌else◌}
 use Rattle.record_base.specs.Masks.{has}
 use Rattle.record_base.specs.Sensor.EventEnable.{is_scanning}
 use Rattle.record_base.specs.Requests.{byte_at}
 use Rattle.cfg_records.specs.Records.{Records}
-use Rattle.record_base.specs.declared.key.Key.{Key}
 use Rattle.record_base.specs.declared.key.Key.TheVariants as key
 use Rattle.record_base.specs.declared.sensor.Sensor.{Sensor}
 use Rattle.record_base.specs.declared.message.Answered.{Answered}
@@ -17,21 +16,13 @@ use Rattle.sensor_recs.specs.Readings.{events_of}
 use Rattle.sensor_recs.specs.Taken.{last_of, with_reading, last_beyond, taken_after, compared_of, reading_data, log_record}
 use Rattle.watch_boot.specs.Watchdog.{live_after_tick}
 use Rattle.record_kinds.specs.Boards.{sensor_at}
+pub use Rattle.bmc_board.specs.RecordBytes.{bytes_of, value_at}
 use Rattle.bmc_board.specs.declared.activity.Activity.{Activity}
 use Rattle.bmc_board.specs.declared.bench.Bench.{Bench}
 use Rattle.bmc_board.specs.declared.bench.Bench.TheVariants.{Reading, Tick, Chassis}
 use Rattle.bmc_board.specs.declared.bench.NoSensor.{NoSensor}
 use Rattle.bmc_board.specs.Replies.{done, refused, unknown_code}
 use Rattle.bmc_board.specs.State.{State, state}
-
--- the bytes of a value; none where there is no value
-abbrev pub bytes_of : Option (List ℕ) → List ℕ
-bytes_of (Some value) = value
-bytes_of None = []
-
--- the value of a record; no bytes where there is none
-abbrev pub value_at : Records → Key → List ℕ
-value_at records key = bytes_of (records key)
 
 -- ---- Get Sensor Reading
 

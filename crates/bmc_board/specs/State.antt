@@ -20,6 +20,10 @@ pub record State : Type 0 where
 abbrev pub state : Records → Activity → State
 state records activity = record { records = records; activity = activity }
 
+-- the state once what isn't configuration became this on the bench, where nobody stages a value
+abbrev pub on_bench : State → Activity → State
+on_bench before activity = state before.records (record activity { stagings = before.activity.stagings })
+
 -- a board's state, over a store that has these records
 abbrev pub state_of : {S : Type 0} {g h : _} → (S → Records) → Board S g h → State
 state_of records board = state (records board.store) board.activity

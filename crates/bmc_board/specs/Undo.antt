@@ -1,6 +1,6 @@
 -- What a change and its undo do to the records of a board, and to what its Gets show. The activity may be another at
 -- each moment.
-use Rattle.std.specs.Prelude.{◌≡◌, ℕ, Some}
+use Rattle.std.specs.Prelude.{◌≡◌, ℕ, List, Some}
 use Rattle.two_wire.specs.Codes.{success}
 use Rattle.record_kinds.specs.Limits.{key_of, limits_at}
 use Rattle.record_base.specs.declared.key.Key.{Key}
@@ -8,7 +8,8 @@ use Rattle.record_base.specs.declared.op.Op.{Op}
 use Rattle.record_base.specs.declared.message.Answered.{Answered}
 use Rattle.cfg_records.specs.declared.board_file.BoardFile.{BoardFile}
 use Rattle.record_kinds.specs.declared.limits.Limits.{Limits}
-use Rattle.record_kinds.specs.Limits.{conf, get_asked, set_asked, is_reply, inverse}
+use Rattle.record_kinds.specs.Limits.{conf, get_asked, is_reply, inverse}
+use Rattle.record_kinds.specs.Series.{set_whole, first_shown}
 use Rattle.record_kinds.specs.Sound.{IsSound}
 use Rattle.bmc_board.specs.State.{State}
 use Rattle.bmc_board.specs.Row.{Row}
@@ -25,10 +26,10 @@ pub record ChangesAndBack (setup : BoardFile) (op made : Op) (before got until a
   pub was_read : shown.code ≡ success
   pub undoes : inverse op shown.body ≡ Some made
   pub stayed : until.records ≡ got.records
-  pub change : Row setup until (sent_by changer (set_asked op)) changed after
+  pub change : Row setup until (sent_by changer (set_whole op)) changed after
   pub was_changed : changed.code ≡ success
   pub stayed_changed : from.records ≡ after.records
-  pub way_back : Row setup from (sent_by undoer (set_asked made)) undone back
+  pub way_back : Row setup from (sent_by undoer (set_whole made)) undone back
 
 -- a record of the operation is read by any requester, where each record is valid
 pub record Reads (setup : BoardFile) (op : Op) (before got : State) (shown : Answered) : Type 0 where
@@ -37,9 +38,17 @@ pub record Reads (setup : BoardFile) (op : Op) (before got : State) (shown : Ans
   pub read : Row setup before (sent_by reader (get_asked (key_of op))) shown got
   pub was_read : shown.code ≡ success
 
--- the data of its reply is a Get reply of the kind: `inverse` has an operation from it exactly where the operation can be undone
+-- the data are what a first reply shows of a Get reply of the operation's kind: all of it, or the first part of a long attribute's
+pub record ShowsReply (setup : BoardFile) (op : Op) (body : List ℕ) : Type 0 where
+  pub limits : Limits
+  pub has_limits : limits_at setup (key_of op) ≡ Some limits
+  pub whole : List ℕ
+  pub is_whole : is_reply op whole
+  pub shown : body ≡ first_shown limits whole
+
+-- So are the data of its reply. From a Get reply of the kind `inverse` has an operation exactly where the operation can be undone.
 abbrev pub IsAReply : Type 0
-IsAReply = (setup : BoardFile) (op : Op) (before got : State) (shown : Answered) → Reads setup op before got shown → is_reply op shown.body
+IsAReply = (setup : BoardFile) (op : Op) (before got : State) (shown : Answered) → Reads setup op before got shown → ShowsReply setup op shown.body
 
 -- then the undo is carried out, and all records are as before
 abbrev pub IsUndone : Type 0

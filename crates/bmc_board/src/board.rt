@@ -1,8 +1,9 @@
 //! A board.
 ghost use Rattle.record_kinds.specs.Sound.{IsSound};
 ghost use Rattle.record_kinds.specs.SoundLaws.{IsSound-prop};
-ghost use Rattle.bmc_board.specs.ToldTables.{Tells};
-ghost use Rattle.bmc_board.specs.BiosTableLaws.{Tells-prop};
+ghost use Rattle.bmc_board.specs.RecordBytes.{values_in};
+ghost use Rattle.bmc_board.specs.ToldTables.{Tells, IsKept};
+ghost use Rattle.bmc_board.specs.BiosTableLaws.{Tells-prop, IsKept-prop};
 
 mod bios;
 mod happen;
@@ -17,6 +18,13 @@ use cfg_records::{Store, Value};
 pub use opening::Records;
 use record_kinds::Setup;
 
+/// Whether the table of values that a board keeps is that of the values as they stand. A record that is written makes it stale.
+#[derive(Clone, Copy, Debug, PartialEq, Eq)]
+enum Kept {
+    Stale,
+    Current,
+}
+
 /// A board over any store of its records: what never changes of it, what isn't configuration, and its records. Each record has
 /// limits, and a value that they allow.
 #[derive(Drop)]
@@ -28,6 +36,9 @@ pub struct Board<S: Store> {
     made: Value,
     /// The tables of its attributes.
     tables: Tables,
+    /// Of the table of values among them.
+    kept: Kept,
     ghost sound: { IsSound setup (S.records store) } by { IsSound-prop setup (S.records store) },
     ghost tell: { Tells setup.attributes.items tables } by { Tells-prop setup.attributes.items tables },
+    ghost is_kept: { IsKept kept setup.attributes.items (values_in (S.records store)) tables } by { IsKept-prop kept setup.attributes.items (values_in (S.records store)) tables },
 }

@@ -2,9 +2,10 @@
 ghost use Rattle.bmc_board.specs.AnyAnswer.{HasAnswer, HasOneAnswer, NeverBusy, UnknownIsRefused, RefusedLeaves, StaysSound, AnswersFit};
 ghost use Rattle.bmc_board.specs.AnyLive.{AreLive, LeaveRecords};
 ghost use Rattle.bmc_board.specs.Decode.{IsReadFromAll, GetsAreRead, SetsAreRead, UndosArePlain};
+ghost use Rattle.bmc_board.specs.SeriesRead.{PartsAreRead, SetsBegin, LaterPartsAreRead, SeriesAreFromNobody};
 ghost use Rattle.bmc_board.specs.Undo.{IsAReply, IsUndone, IsSteady, IsShownAsBefore};
 ghost use Rattle.bmc_board.specs.PldmTypes.{TypesAreNamed};
-ghost use Rattle.bmc_board.specs.Quiet.{KeepsRecords};
+ghost use Rattle.bmc_board.specs.Quiet.{KeepsRecords, KeepsStagings};
 ghost use Rattle.bmc_board.specs.StandingValues.{AttributesHaveValues};
 ghost use Rattle.bmc_board.specs.Stores.{BothOrNone};
 
@@ -48,7 +49,16 @@ pub fn decode_law()
     ensures plain { UndosArePlain }
 {}
 
-/// A Get that is carried out replies data of the kind. Where a record was got and then set, and the Set has an inverse from the Get
+/// Each request of a series is read as what it does there: a part of an operation as its requester's part of that place, and the request
+/// for a later part of an attribute's entry as that. The kind's own request is the first of its series, and all are from nobody.
+pub fn series_law()
+    ensures parts { PartsAreRead }
+    ensures first { SetsBegin }
+    ensures later { LaterPartsAreRead }
+    ensures nobody { SeriesAreFromNobody }
+{}
+
+/// A Get that is carried out replies data of the kind, or the first part of them. Where a record was got and then set, and the Set has an inverse from the Get
 /// reply, the request of that inverse is carried out, and then every record of the board is what it was before, whoever asks, and
 /// whatever became of the activity.
 pub fn undo_law()
@@ -63,9 +73,10 @@ pub fn conf_law()
     ensures undone { IsShownAsBefore }
 {}
 
-/// A request whose command sets no configuration leaves every record as it is, be it carried out or refused.
+/// A request whose command sets no configuration leaves every record as it is, and what is staged, be it carried out or refused.
 pub fn quiet_law()
-    ensures { KeepsRecords }
+    ensures records { KeepsRecords }
+    ensures staged { KeepsStagings }
 {}
 
 /// A request that changes the access of a channel in one store, and its limit in another, changes both records, where both changes are

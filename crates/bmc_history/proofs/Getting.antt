@@ -5,6 +5,7 @@ use Rattle.record_base.specs.Meaning.{Decides}
 use Rattle.record_base.specs.Keys.{same_key}
 use Rattle.record_base.specs.KeyLaws.{exact_key}
 use Rattle.record_base.specs.declared.key.Key.{Key}
+use Rattle.record_base.specs.declared.key.Key.TheVariants as of_key
 use Rattle.record_base.specs.declared.op.Op.{Op}
 use Rattle.record_base.specs.declared.op.Op.TheVariants as of_kind
 use Rattle.record_base.specs.declared.bios_attribute.SetBiosAttribute.{SetBiosAttribute}
@@ -21,16 +22,16 @@ use Rattle.bmc_board.specs.Request.{Request}
 use Rattle.bmc_board.specs.Request.{Live, Get, Set, SetStores, PartOfSet, LaterPart}
 use Rattle.bmc_board.specs.Request.{asked_by}
 use Rattle.bmc_board.specs.State.{State}
-use Rattle.bmc_board.specs.Replies.{done, unknown_code}
+use Rattle.bmc_board.specs.Replies.{unknown_code}
 use Rattle.bmc_board.specs.Answer.{Given, get_answer, set_result, set_answer, outcome_at, both_given, set_at, end_staging, ended, reply}
-use Rattle.bmc_board.specs.AttributeParts.{named_in, limits_named}
+use Rattle.bmc_board.specs.AttributeParts.{named_in, limits_named, later_answer}
 use Rattle.bmc_board.proofs.LiveFacts.{unknown_is_refused}
 use Rattle.bmc_board.proofs.PartFacts.{staged_records, unstaged_records}
 use Rattle.bmc_history.specs.declared.event.Call.{Call}
 use Rattle.bmc_history.specs.declared.event.Call.TheVariants.{Exchanged, Benched}
 use Rattle.bmc_history.specs.declared.event.Event.{Event}
 use Rattle.bmc_history.specs.Replay.{Replays, IsAnswered, after_call}
-use Rattle.bmc_history.specs.Gets.{state_after, IsSetBy, Writes, MayWrite, NoneWrites, GetsWhatWasSet}
+use Rattle.bmc_history.specs.Gets.{state_after, IsSetBy, Writes, MayWrite, NoneWrites, IsGetOf, shown_by, GetsWhatWasSet}
 
 -- ---- calls that don't write a record keep it
 
@@ -160,6 +161,19 @@ after_both : (setup : BoardFile) (first : State) (events later : List Event) →
 after_both setup first [] later = refl
 after_both setup first (event ∷ events) later = after_both setup (after_call setup first event.call) events later
 
+-- the answer to a Get of a record that has this value
+answered_by : (setup : BoardFile) (before : State) (r : Result Request ℕ) (key : Key) (of : Limits) (value : List ℕ) → IsGetOf r key → limits_at setup key ≡ Some of → before.records key ≡ Some value
+    → (reply setup before r).0 ≡ shown_by r of (view of value before.activity.live)
+answered_by setup before (Ok (Get named)) key of value is at had =
+    λ i. get_answer ((ap (limits_at setup) is ∙ at) i) ((ap before.records is ∙ had) i) before.activity.live (unknown_code setup named)
+answered_by setup before (Ok (LaterPart handle transfer)) key of value is at had =
+    λ i. later_answer ((ap (limits_at setup) is ∙ at) i) ((ap before.records is ∙ had) i) before.activity.live (unknown_code setup (of_key.BiosAttribute handle)) transfer
+answered_by setup before (Ok (Live command body)) key of value is at had = absurd is
+answered_by setup before (Ok (Set op)) key of value is at had = absurd is
+answered_by setup before (Ok (SetStores first second)) key of value is at had = absurd is
+answered_by setup before (Ok (PartOfSet from part)) key of value is at had = absurd is
+answered_by setup before (Err code) key of value is at had = absurd is
+
 pub gets_what_was_set : GetsWhatWasSet
 gets_what_was_set setup first last op before between later set get shown h =
     let key : Key = key_of op in
@@ -172,10 +186,9 @@ gets_what_was_set setup first last op before between later set get shown h =
     let w : Written (limits_at setup key) (s.records key) op s (reply setup s (asked_by h.setter)) = written_by setup s (asked_by h.setter) op h.is_set carried in
     let mid_is : mid ≡ (reply setup s (asked_by h.setter)).1 = ap (after_call setup s) h.set_is in
     let has : t.records key ≡ Some w.new = calls_keep setup mid between key h.unwritten ∙ ap (λ (m : State). m.records key) mid_is ∙ w.has in
-    let answered : get_answer (limits_at setup key) (t.records key) t.activity.live (unknown_code setup key) ≡ shown =
-    sym (ap (λ (r : Result Request ℕ). (reply setup t r).0) h.is_get) ∙ subst (IsAnswered setup t) h.get_is from_get.0 in
-    let is : shown ≡ done (view w.of w.new t.activity.live) =
-    sym answered ∙ (λ i. get_answer (w.limits_are i) (has i) t.activity.live (unknown_code setup key)) in
+    let answered : (reply setup t (asked_by h.getter)).0 ≡ shown = subst (IsAnswered setup t) h.get_is from_get.0 in
+    let is : shown ≡ shown_by (asked_by h.getter) w.of (view w.of w.new t.activity.live) =
+    sym answered ∙ answered_by setup t (asked_by h.getter) key w.of w.new h.is_get w.limits_are has in
     record {
       limits = w.of;
       old = w.old;
@@ -183,5 +196,5 @@ gets_what_was_set setup first last op before between later set get shown h =
       limits_are = w.limits_are;
       had = w.had;
       was_set = w.was_set;
-      is_shown = subst (λ (m : State). shown ≡ done (view w.of w.new m.activity.live)) (sym (after_both setup first before (set ∷ between))) is;
+      is_shown = subst (λ (m : State). shown ≡ shown_by (asked_by h.getter) w.of (view w.of w.new m.activity.live)) (sym (after_both setup first before (set ∷ between))) is;
     }

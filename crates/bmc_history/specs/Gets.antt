@@ -1,7 +1,8 @@
 -- What a Get shows of a record that was set before in the same history.
-use Rattle.std.specs.Prelude.{◌≡◌, ℕ, List, [], ◌∷◌, ◌++◌, Some, Result, Ok, ◌⊎◌, fold}
+use Rattle.std.specs.Prelude.{◌≡◌, ℕ, List, [], ◌∷◌, ◌++◌, drop, Some, Result, Ok, ◌⊎◌, fold}
 use Rattle.two_wire.specs.Codes.{success}
 use Rattle.record_base.specs.declared.key.Key.{Key}
+use Rattle.record_base.specs.declared.key.Key.TheVariants as of_key
 use Rattle.record_base.specs.declared.op.Op.{Op}
 use Rattle.record_base.specs.declared.op.Op.TheVariants as of_kind
 use Rattle.record_base.specs.declared.bios_attribute.SetBiosAttribute.{SetBiosAttribute}
@@ -10,12 +11,15 @@ use Rattle.record_base.specs.declared.message.Answered.{Answered}
 use Rattle.cfg_records.specs.declared.board_file.BoardFile.{BoardFile}
 use Rattle.record_kinds.specs.declared.limits.Limits.{Limits}
 use Rattle.record_kinds.specs.Limits.{key_of, limits_at, sets, view}
+use Rattle.record_kinds.specs.Series.{first_shown}
+use Rattle.attribute_parts.specs.SetParts.{before_part}
 use Rattle.attribute_parts.specs.declared.set_part.SetPart.TheVariants.{End}
 use Rattle.attribute_parts.specs.Stagings.{end_outcome}
 use Rattle.bmc_board.specs.Request.{Request}
-use Rattle.bmc_board.specs.Request.{Get, Set, SetStores, PartOfSet}
+use Rattle.bmc_board.specs.Request.{Get, Set, SetStores, PartOfSet, LaterPart}
 use Rattle.bmc_board.specs.Request.{asked_by}
 use Rattle.bmc_board.specs.Replies.{done}
+use Rattle.bmc_board.specs.AttributeParts.{later_part}
 use Rattle.bmc_board.specs.State.{State}
 use Rattle.bmc_history.specs.declared.event.Call.{Call}
 use Rattle.bmc_history.specs.declared.event.Call.TheVariants.{Exchanged, Benched}
@@ -47,6 +51,17 @@ abbrev pub NoneWrites : BoardFile → (at : State) → Key → List Event → Ty
 NoneWrites setup at key [] = Unit {0}
 NoneWrites setup at key (event ∷ later) = (¬ MayWrite at key event.call) × NoneWrites setup (after_call setup at event.call) key later
 
+-- the request gets the record: all of it, or the first part of a long attribute's entry, or a later part of that
+abbrev pub IsGetOf : Result Request ℕ → Key → Type 0
+IsGetOf (Ok (Get named)) key = named ≡ key
+IsGetOf (Ok (LaterPart handle transfer)) key = of_key.BiosAttribute handle ≡ key
+IsGetOf _ key = ⊥
+
+-- its answer, from the data that show the whole record
+abbrev pub shown_by : Result Request ℕ → Limits → List ℕ → Answered
+shown_by (Ok (LaterPart handle transfer)) limits whole = later_part (drop before_part whole) transfer
+shown_by _ limits whole = done (first_shown limits whole)
+
 -- In a history, a Set of a record is carried out, and a Get of it is answered later. No call between the two may write the record.
 pub record SetsThenGets (setup : BoardFile) (first last : State) (op : Op) (before between later : List Event) (set get : Event) (shown : Answered) : Type 0 where
   pub replays : Replays setup first (before ++ (set ∷ (between ++ (get ∷ later)))) last
@@ -58,20 +73,20 @@ pub record SetsThenGets (setup : BoardFile) (first last : State) (op : Op) (befo
   pub unwritten : NoneWrites setup (after_call setup (state_after setup first before) set.call) (key_of op) between
   pub getter : Asked
   pub get_is : get.call ≡ Exchanged getter shown
-  pub is_get : asked_by getter ≡ Ok (Get (key_of op))
+  pub is_get : IsGetOf (asked_by getter) (key_of op)
 
--- a Get's answer at a state shows the value that the operation made of the record's value at an earlier state
-pub record ShowsWhatWasSet (setup : BoardFile) (op : Op) (at_set at_get : State) (shown : Answered) : Type 0 where
+-- a Get's answer at a state shows the value that the operation made of that at an earlier state, or the part of it that is asked for
+pub record ShowsWhatWasSet (setup : BoardFile) (op : Op) (at_set at_get : State) (asked : Result Request ℕ) (shown : Answered) : Type 0 where
   pub limits : Limits
   pub old : List ℕ
   pub new : List ℕ
   pub limits_are : limits_at setup (key_of op) ≡ Some limits
   pub had : at_set.records (key_of op) ≡ Some old
   pub was_set : sets limits op old new
-  pub is_shown : shown ≡ done (view limits new at_get.activity.live)
+  pub is_shown : shown ≡ shown_by asked limits (view limits new at_get.activity.live)
 
 -- such a Get shows what the Set wrote
 abbrev pub GetsWhatWasSet : Type 0
 GetsWhatWasSet = (setup : BoardFile) (first last : State) (op : Op) (before between later : List Event) (set get : Event) (shown : Answered)
-    → SetsThenGets setup first last op before between later set get shown
-    → ShowsWhatWasSet setup op (state_after setup first before) (state_after setup first (before ++ (set ∷ between))) shown
+    → (h : SetsThenGets setup first last op before between later set get shown)
+    → ShowsWhatWasSet setup op (state_after setup first before) (state_after setup first (before ++ (set ∷ between))) (asked_by h.getter) shown

@@ -9,7 +9,7 @@ pub fn replay_law()
     ensures goes_on { GoesOn }
 {}
 
-/// Whoever asks, a Get of a record shows what the last Set of it in the history wrote.
+/// Whoever asks, a Get of a record shows what the last Set of it in the history wrote, or the part of it that is asked for.
 pub fn get_law()
     ensures { GetsWhatWasSet }
 {}

@@ -10,8 +10,9 @@ use Rattle.cfg_records.specs.declared.board_file.BoardFile.{BoardFile}
 use Rattle.bmc_board.specs.declared.activity.Activity.{Activity}
 use Rattle.bmc_board.specs.declared.bench.Bench.{Bench}
 use Rattle.bmc_board.specs.declared.bench.Bench.TheVariants as bench
-use Rattle.bmc_board.specs.State.{state}
+use Rattle.bmc_board.specs.State.{on_bench as left_by_bench}
 use Rattle.bmc_board.specs.Sensing.{bench_of}
+use Rattle.bmc_board.proofs.SensingFacts.{benched_so as bench_leaves}
 use Rattle.model_bus.specs.Request.{Entry}
 use Rattle.model_ports.specs.Values.{Value, Asks, Tells, Part}
 use Rattle.model_ports.specs.PortSteps.{PortState, Deed, idles, hears, hears_all}
@@ -131,7 +132,7 @@ module _ (file : BoardFile) where
   -- ---- on the bench
 
   abbrev with_activity : (x : Lab plans) (activity : Activity) → Lab plans
-  with_activity x activity = record x { board = state x.board.records activity }
+  with_activity x activity = record x { board = left_by_bench x.board activity }
 
   benched_so : (e : Event) (x : Lab plans) (happened : Bench) → on_bench file x.board e ≡ benched file x.board happened ∷ []
       → Stepped e x (with_activity x (bench_of file x.board happened).1.activity)
@@ -143,7 +144,7 @@ module _ (file : BoardFile) where
       smbus = carries_none x.smbus.log;
       on_the_bench = sym is;
     };
-    replays = (refl, refl);
+    replays = (refl, sym (bench_leaves file x.board happened));
   }
 
   -- ---- each event, and all

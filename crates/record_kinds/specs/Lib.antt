@@ -3,6 +3,8 @@ pub mod OwnLaws
 pub mod Limits
 pub mod LimitsLaws
 pub mod LimitsKind
+pub mod Series
+pub mod SeriesLaws
 pub mod Boards
 pub mod Lans
 pub mod Places

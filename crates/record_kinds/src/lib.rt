@@ -3,6 +3,7 @@
 
 pub mod laws;
 pub mod limits;
+mod series;
 pub mod setup;
 
 pub use laws::starts_sound;

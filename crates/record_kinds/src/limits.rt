@@ -212,6 +212,26 @@ impl Setup {
     }
 }
 
+impl Limits<'_> {
+    ghost use Rattle.std.specs.Prelude.{◌≡◌, ◌+◌, ◌≤◌, ◌++◌, length};
+    ghost use Rattle.record_kinds.specs.Limits.{valid, view};
+    ghost use Rattle.record_kinds.specs.Series.{first_shown};
+
+    /// Appends what the first reply to a Get shows of this value: the whole data, or the first part of a long attribute's entry.
+    pub fn get_first<B: Buffer>(&self, value: &[u8], live: &Live, reply: &mut B)
+        requires is_valid { valid self.now value.now }
+        requires room { length (B.bytes reply.old)
+            + length (first_shown self.now (view self.now value.now live.now)) ≤ B.capacity }
+        ensures { B.bytes reply.new
+            ≡ B.bytes reply.old ++ first_shown self.now (view self.now value.now live.now) }
+    {
+        match self {
+            Limits::BiosAttribute(own) => own.show_first(value, reply),
+            _ => self.get_data(value, live, reply),
+        }
+    }
+}
+
 impl<'a, 'f> RecordKind<'a> for Limits<'f> {
     ghost use Rattle.std.specs.Prelude.{◌≡◌, ◌+◌, ◌≤◌, ◌++◌, length};
     ghost use Rattle.record_kinds.specs.LimitsKind as all;

@@ -10,8 +10,8 @@ ghost use Rattle.bmc_board.specs.Replies.{done, unknown_code};
 ghost use Rattle.bmc_board.specs.Sensing.{value_at};
 
 use crate::activity::Activity;
-use crate::board::Board;
 use crate::board::bios::{Standing, show_part, table_asked};
+use crate::board::{Board, Kept};
 use crate::command::Command;
 use crate::live::{
     LiveCommand, NO_ERROR, PLDM_TYPES, already_in_progress, device_data, progress_data,
@@ -21,7 +21,7 @@ use crate::request::{read_request, requester};
 use crate::storage::{
     add_entry, clear, part_in, sdr_info, sel_info, show_entry, show_sdr, time_in,
 };
-use bios_attr::Tables;
+use bios_attr::{BiosTable, Tables};
 use cfg_records::{
     AccessStore, Answered, Asked, BoardFile, ChannelNumber, CommandReader, Key, Op, RecordKind,
     SetChannelAccess, Store, StoredAccess, UserNumber, Value, byte_at,
@@ -107,7 +107,9 @@ impl<S: Store> Board<S> {
     ghost use Rattle.bmc_board.specs.Sensing.{reading_answer};
     ghost use Rattle.bmc_board.specs.Live.{progress_answer, leave_answer, longest_live_reply, longest_live};
     ghost use Rattle.bmc_board.specs.Serves.{given_by, serve_by, live_by, Fits, Says, Serves};
-    ghost use Rattle.bmc_board.specs.BiosTables.{table_answer, longest_part};
+    ghost use Rattle.bmc_board.specs.declared.board.Kept.TheVariants as kept;
+    ghost use Rattle.bios_attr.specs.declared.bios_table.BiosTable.TheVariants as bios_table;
+    ghost use Rattle.bmc_board.specs.BiosTables.{values_in, table_bytes, asked_part, table_answer, longest_part};
     ghost use Rattle.bmc_board.specs.Room.{longest_reply};
     ghost use Rattle.bmc_board.specs.Row.{Row};
     ghost use Rattle.bmc_board.specs.Request as request;
@@ -136,6 +138,7 @@ impl<S: Store> Board<S> {
             store,
             made: Value::new(),
             tables,
+            kept: Kept::Stale,
         })
     }
 
@@ -240,6 +243,30 @@ impl<S: Store> Board<S> {
         )
     }
 
+    /// Makes the table of values that of the values as they stand, where a record was written since.
+    fn keep_values(&mut self)
+        ensures kept { self.new.kept ≡ kept.Current }
+        ensures activity { self.new.activity ≡ self.old.activity }
+        ensures store { self.new.store ≡ self.old.store }
+        ensures setup { self.new.setup ≡ self.old.setup }
+    {
+        if self.kept == Kept::Stale {
+            self.tables.show(&Standing { store: &self.store });
+            self.kept = Kept::Current;
+        }
+    }
+
+    /// Appends the part of this table that the request asks for. The table of values is kept.
+    fn show_kept<B: Buffer>(&self, table: BiosTable, body: &[u8], to: &mut B) -> Result<(), Code>
+        requires room { length (B.bytes to.old) + longest_part ≤ B.capacity }
+        requires kept { table ≡ bios_table.Values → self.now.kept ≡ kept.Current }
+        ensures { Gives result (B.bytes to.old) (B.bytes to.new)
+            (asked_part body.now (table_bytes self.now.setup.attributes.items
+            (values_in (S.records self.now.store)) table)) }
+    {
+        show_part(body, self.tables.table(table), to)
+    }
+
     /// Appends a part of a table of the attributes, with their values as they stand.
     #[inline(never)]
     fn show_table<B: Buffer>(&mut self, body: &[u8], to: &mut B) -> Result<(), Code>
@@ -251,8 +278,10 @@ impl<S: Store> Board<S> {
         ensures setup { self.new.setup ≡ self.old.setup }
     {
         let table = table_asked(self.setup.attributes(), byte_at(body, 5))?;
-        self.tables.show(&Standing { store: &self.store });
-        show_part(body, self.tables.table(table), to)
+        if table == BiosTable::Values {
+            self.keep_values();
+        }
+        self.show_kept(table, body, to)
     }
 
     /// Carries out a live command with this data, and appends the data of the reply.
@@ -306,7 +335,7 @@ impl<S: Store> Board<S> {
     {
         match (self.setup.limits(key), self.store.get(key)) {
             (Some(limits), Some(value)) => {
-                limits.get_data(value, &self.activity.live, to);
+                limits.get_first(value, &self.activity.live, to);
                 Ok(())
             }
             _ => Err(unknown_code(&self.setup, key)),
@@ -324,6 +353,7 @@ impl<S: Store> Board<S> {
         match (self.setup.limits(&key), self.store.find(&key)) {
             (Some(limits), Some(place)) => {
                 limits.apply(op, self.store.value(place), &mut self.made)?;
+                self.kept = Kept::Stale;
                 self.store.write(place, self.made.as_slice());
                 Limits::next_live(op, &mut self.activity.live);
                 Limits::set_reply(op, to);
@@ -414,6 +444,7 @@ impl<S: Store> Board<S> {
         let place = self.try_set(&Op::ChannelAccess(*first))?;
         let made: Bytes<2> = Bytes::from_slice(self.made.as_slice());
         let other = self.try_set(&Op::ChannelAccess(*second))?;
+        self.kept = Kept::Stale;
         self.store.write(place, made.as_slice());
         self.store.write(other, self.made.as_slice());
         Ok(())

@@ -13,4 +13,5 @@ invariant_of-result g c = record {
   sound = subst (λ (r : Records). IsSound c.in_ok-setup.setup r) (sym c.requires)
       (subst (λ (f : BoardFile). IsSound f (records_of (pairs_of c.args.file))) (sym c.in_ok-setup.ensures) (starts_sound c.args.file));
   tell = subst (λ (f : BoardFile). Tells f.attributes.items c.in_ok-tables.tables) (sym c.in_ok-setup.ensures) (opened_tell c.args.file.attributes.items c.in_ok-tables.tables c.in_ok-tables.ensures.tables);
+  is_kept = tt;
 }

@@ -44,4 +44,4 @@ invariant_of-self-in-Some-Some g c =
     let had : records key ≡ Some old = c.value.ensures key place_is in
     let done : sets limits c.args.op.now old new = subst (sets limits c.args.op.now old) (sym c.as_slice.ensures.value) c.in_ok-apply-in-Some-Some.ensures.decides in
     let wrote : g.S.Store.records c.write.new.self ≡ with_record records key new = c.write.ensures.records key place_is in
-    record { sound = subst (IsSound file) (sym wrote) (sound_set file records key limits c.args.op.now old new c.args.self.now.sound at had done); tell = c.args.self.now.tell }
+    record { sound = subst (IsSound file) (sym wrote) (sound_set file records key limits c.args.op.now old new c.args.self.now.sound at had done); tell = c.args.self.now.tell; is_kept = tt }

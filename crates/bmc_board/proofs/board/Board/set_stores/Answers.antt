@@ -35,4 +35,4 @@ invariant_of-self-2 g c =
     c.write-2.ensures.records (key_of second) other_at ∙ (λ i. with_record (wrote i) (key_of second) (c.as_slice-3.ensures.value i)) in
     let is_sound : IsSound again.setup (with_record (with_record records (key_of first) x) (key_of second) y) =
     sound_with again.setup (with_record records (key_of first) x) (key_of second) two.limits y (sound_with again.setup records (key_of first) one.limits x again.sound one.at one.is_valid) two.at two.is_valid in
-    record { sound = subst (IsSound again.setup) (sym wrote_both) is_sound; tell = again.tell }
+    record { sound = subst (IsSound again.setup) (sym wrote_both) is_sound; tell = again.tell; is_kept = tt }
