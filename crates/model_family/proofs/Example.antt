@@ -18,6 +18,7 @@ use Rattle.model_undo.specs.Example.{addresses, messages, quiet_messages}
 use Rattle.model_family.specs.Family.{family, answer}
 use Rattle.model_ports.specs.Wires.{asked_from}
 use Rattle.model_lab.specs.ManagerWires.{wires}
+use Rattle.model_family.proofs.Board.{ready_at_first}
 use Rattle.model_family.specs.Example.{with_others, board, with_policy, to_port, to_manager, after, EndsUndone}
 
 module _ (setup : BoardFile) (others : Records) where
@@ -59,7 +60,7 @@ module _ (setup : BoardFile) (others : Records) where
 
   pub ends_undone : EndsUndone setup others
   ends_undone = record {
-    starts = λ all. record { on_bus = is_quiet; valid = is_valid all; ready = λ series. tt };
+    starts = λ all. record { on_bus = is_quiet; valid = is_valid all; ready = λ series. ready_at_first (addresses Smbus).manager series };
     may = (tt, (get_carried, (manager_may (after setup others 2) 1 refl, (set_carried, (manager_may (after setup others 4) 3 refl, (set_repeats, (tt, (undo_carried, (manager_may (after setup others 8) 6 refl, tt)))))))));
     sent = refl;
     set = refl;

@@ -1,3 +1,10 @@
+pub mod Parts
+pub mod Accepted
+pub mod Requests
+pub mod Gets
+pub mod Sets
+pub mod Ready
 pub mod IsFamily
+pub mod Finite
 pub mod Board
 pub mod Example

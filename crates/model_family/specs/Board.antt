@@ -6,13 +6,14 @@ use Rattle.record_base.specs.declared.message.Asked.{Asked}
 use Rattle.record_base.specs.declared.message.Answered.{Answered as BoardAnswer}
 use Rattle.cfg_records.specs.declared.board_file.BoardFile.{BoardFile}
 use Rattle.record_kinds.specs.Sound.{IsSound}
-use Rattle.bmc_board.specs.State.{State, opened}
+use Rattle.bmc_board.specs.declared.activity.Activity.{Activity}
+use Rattle.bmc_board.specs.State.{State, on_bench, opened}
 use Rattle.bmc_board.specs.Table.{is_changing}
 use Rattle.bmc_board.specs.Row.{Row}
-use Rattle.model_undo.specs.Family.{AllValid}
+use Rattle.model_undo.specs.Family.{AllValid, IsReady}
 use Rattle.model_bus.specs.Addresses.{Addresses}
 use Rattle.model_undo.specs.Line.{Exchange, Line}
-use Rattle.model_undo.specs.World.{World, OnBus, IsHonestOn, May}
+use Rattle.model_undo.specs.World.{World, OnBus, OnBench, IsHonestOn, May}
 use Rattle.model_family.specs.Family.{family, answer}
 use Rattle.model_ports.specs.Wires.{asked_from, reply_to}
 use Rattle.model_lab.specs.ManagerWires.{wires}
@@ -21,6 +22,14 @@ use Rattle.model_lab.specs.ManagerWires.{wires}
 pub record StartsValid (setup : BoardFile) (at : Bus → Addresses) : Type 0 where
   pub opened_valid : AllValid (family setup at) (opened setup).records
   pub sound_valid : (records : Records) → IsSound setup records → AllValid (family setup at) records
+
+-- a board that has heard nothing has nothing staged: it is ready for the first request of each series
+abbrev pub StartsReady : BoardFile → (Bus → Addresses) → Type 0
+StartsReady setup at = IsReady (family setup at) (opened setup)
+
+-- what isn't configuration may become anything on the bench, but for what is staged: the board has the same records, and is ready for the same
+abbrev pub BenchMay : BoardFile → (Bus → Addresses) → (Bus → Line) → Type 0
+BenchMay setup at L = (world : World (family setup at) L) (activity : Activity) → May (family setup at) L (wires at) world (OnBench (on_bench world.board activity))
 
 -- what happens on a bus has another's request carried out, or none
 abbrev pub IsOthers : (setup : BoardFile) (at : Bus → Addresses) (L : Bus → Line) (bus : Bus) → (L bus).Event → World (family setup at) L → Type 0

@@ -1,12 +1,17 @@
 -- The records of a board and its commands, as a family of kinds of record.
-use Rattle.std.specs.Prelude.{◌≡◌, ℕ, List, [], Option, Some, None, Ok}
+use Rattle.std.specs.Prelude.{◌≡◌, ◌<◌, ◌*◌, ℕ, List, [], ◌∷◌, length, take, Option, Some, None, Ok}
 use Rattle.two_wire.specs.declared.Bus.{Bus}
+use Rattle.two_wire.specs.declared.Bus.TheVariants.{Smbus}
 use Rattle.record_base.specs.declared.op.Op.{Op}
 use Rattle.record_base.specs.declared.live.Live.{Live}
 use Rattle.record_base.specs.declared.message.Asked.{Asked}
 use Rattle.cfg_records.specs.declared.board_file.BoardFile.{BoardFile}
 use Rattle.cfg_records.specs.Records.{Records, with_record}
+use Rattle.pldm_base.specs.Parts.{part_length}
+use Rattle.bios_attr.specs.EntryParts.{entry_of}
+use Rattle.attribute_parts.specs.Stagings.{Staged, most_stagings, staged_by, without}
 use Rattle.record_kinds.specs.declared.limits.Limits.{Limits}
+use Rattle.record_kinds.specs.Series.{Series, Reads, Sends}
 use Rattle.record_kinds.specs.Limits.{key_of, restorable, valid, sets, view, conf, limits_at}
 use Rattle.bmc_board.specs.Request.{Get, asked_by}
 use Rattle.bmc_board.specs.State.{State}
@@ -38,6 +43,15 @@ abbrev pub conf_within : Option Limits → List ℕ → List ℕ
 conf_within (Some limits) body = conf limits body
 conf_within None body = []
 
+-- ---- what a board is to have staged
+
+-- A board with these stagings is ready for the next request of a series of this requester, after replies with these data. For a first one
+-- fewer than eight others have a staging. Before a later one the requester has staged the parts that it sent.
+abbrev pub IsReadyFor : (own : ℕ) → Staged → Series → List (List ℕ) → Type 0
+IsReadyFor own stagings (Reads key) bodies = Unit {0}
+IsReadyFor own stagings (Sends asked) [] = length (without own stagings) < most_stagings
+IsReadyFor own stagings (Sends asked) (body ∷ bodies) = staged_by own stagings ≡ Some (take (part_length * length (body ∷ bodies)) (entry_of asked))
+
 -- the family of a board with this file, for that manager
 abbrev pub family : BoardFile → (Bus → Addresses) → Family
 family setup at = record {
@@ -53,7 +67,7 @@ family setup at = record {
   Restorable = restorable;
   Board = State;
   records = λ board. board.records;
-  Ready = λ board series bodies. Unit {0};
+  Ready = λ board series bodies. IsReadyFor (at Smbus).manager board.activity.stagings series bodies;
   IsGet = λ asked key. asked_by asked ≡ Ok (Get key);
   Row = λ board asked a after. Row setup board asked (board_answer a) after;
 }

@@ -1,3 +1,4 @@
 pub mod Family
 pub mod Board
 pub mod Example
+pub mod PartsExample

@@ -11,12 +11,13 @@ ghost use Rattle.model_undo.specs.Headline.{AlwaysStands, UndoneForGood, StopsOn
 ghost use Rattle.model_undo.specs.Giving.{HaltsByAnswers};
 ghost use Rattle.model_undo.specs.RecordsRun.{RecordsStand};
 ghost use Rattle.model_undo.specs.Resume.{GoesOnAlike};
-ghost use Rattle.model_undo.specs.Clean.{AnswersByRow, AlwaysRunsClean};
-ghost use Rattle.model_undo.specs.CleanBuses.{AlwaysRunsOverBuses};
+ghost use Rattle.model_undo.specs.Clean.{AnswersByRow};
+ghost use Rattle.model_undo.specs.CleanSeries.{AreFinite, AlwaysRunsThrough};
+ghost use Rattle.model_undo.specs.CleanBuses.{AlwaysRunsThroughBuses};
 ghost use Rattle.model_lab.specs.ManagerWords.{manager_words};
 ghost use Rattle.model_family.specs.Family.{family, answer};
 ghost use Rattle.model_lab.specs.ManagerWires.{wires};
-ghost use Rattle.model_family.specs.Board.{StartsValid, QuietMay, AnswersMay};
+ghost use Rattle.model_family.specs.Board.{StartsValid, StartsReady, QuietMay, BenchMay, AnswersMay};
 
 /// The kinds of record and the command relation meet the laws of a family, whatever the board's file is.
 pub fn records_are_a_family()
@@ -70,25 +71,30 @@ pub fn resumed_goes_on_alike()
     ensures { (at : Bus → Addresses) → GoesOnAlike (manager_words at) }
 {}
 
-/// Where the board answers each request at once and the manager takes each reply, a plan takes two requests for each step and ends done, or
-/// halts at the first step whose Get is refused, whose Get shows what can't be restored, or whose Set is refused. Its undo takes one request
-/// for each step that was done, and ends with the records of the start. This knows no bus.
-pub fn plans_run_clean()
+/// Each series of requests that the manager makes has an end, whatever the replies are.
+pub fn series_have_ends()
+    ensures { (at : Bus → Addresses) → AreFinite (manager_words at) }
+{}
+
+/// Where the board answers each request at once and the manager takes each reply, a plan takes as many requests as the Gets and Sets of its steps
+/// have, and ends done, or halts at the first step that the board doesn't carry out. Its undo takes as many as the series have that undo the steps
+/// that were done, and ends with the records of the start. This knows no bus.
+pub fn plans_run_through()
     ensures answers { (setup : BoardFile) (at : Bus → Addresses)
         → AnswersByRow (family setup at) (answer setup) }
-    ensures clean { (setup : BoardFile) (at : Bus → Addresses)
-        → AlwaysRunsClean (family setup at) (answer setup) }
+    ensures through { (setup : BoardFile) (at : Bus → Addresses)
+        → AlwaysRunsThrough (family setup at) (answer setup) }
 {}
 
 /// Over two buses that lose nothing a plan runs just so: each request is delivered once, each reply is delivered once, nobody else asks, and such a
 /// schedule is honest. The port of each bus is to have a place for the manager at the start, and what is sent in packets is to be cut.
-pub fn plans_run_clean_over_buses()
+pub fn plans_run_through_over_buses()
     ensures messages { (setup : BoardFile) (at : Bus → Addresses)
-        → AlwaysRunsOverBuses (family setup at) (in_messages at) (messages_come at)
+        → AlwaysRunsThroughBuses (family setup at) (in_messages at) (messages_come at)
         (wires at) (answer setup) }
     ensures packets { (setup : BoardFile) (at : Bus → Addresses) (split : List ℕ → List Packet)
         → IsCutting split
-        → AlwaysRunsOverBuses (family setup at) (with_packets at split) (packets_come at split)
+        → AlwaysRunsThroughBuses (family setup at) (with_packets at split) (packets_come at split)
         (wires at) (answer setup) }
 {}
 
@@ -97,7 +103,20 @@ pub fn boards_start_valid()
     ensures { (setup : BoardFile) (at : Bus → Addresses) → StartsValid setup at }
 {}
 
-/// Others may have the board answer requests whose commands set no configuration, at any moment.
+/// A board starts ready for the first request of each series, since nothing is staged.
+pub fn boards_start_ready()
+    ensures { (setup : BoardFile) (at : Bus → Addresses) → StartsReady setup at }
+{}
+
+/// What isn't configuration may become anything on the bench, but for what is staged.
+pub fn bench_may_change()
+    ensures messages { (setup : BoardFile) (at : Bus → Addresses)
+        → BenchMay setup at (in_messages at) }
+    ensures packets { (setup : BoardFile) (at : Bus → Addresses) (split : List ℕ → List Packet)
+        → BenchMay setup at (with_packets at split) }
+{}
+
+/// Others may have the board answer requests whose commands set no configuration, at any moment. These leave what is staged, too.
 pub fn quiet_requests_may_come()
     ensures messages { (setup : BoardFile) (at : Bus → Addresses)
         → QuietMay setup at (in_messages at) }

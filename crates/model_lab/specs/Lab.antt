@@ -8,7 +8,7 @@ use Rattle.mctp_net.specs.Assembly.{is_ours, nothing}
 use Rattle.cfg_records.specs.declared.board_file.BoardFile.{BoardFile}
 use Rattle.model_bus.specs.Request.{idles_of}
 use Rattle.bmc_board.specs.declared.activity.Activity.{Activity}
-use Rattle.bmc_board.specs.State.{State, state, opened as opened_board}
+use Rattle.bmc_board.specs.State.{State, on_bench, opened as opened_board}
 use Rattle.model_undo.specs.Machine.{opened as opened_machine}
 use Rattle.model_lab.specs.declared.way.Way.{Way}
 use Rattle.model_lab.specs.declared.way.Way.TheVariants.{ToPort, ToManager, ToOthers}
@@ -127,7 +127,7 @@ module _ (P : Plans) (setup : BoardFile) where
   step lab (OtherSmbus message) = port_does P Smbus ToOthers 0 (hears_all setup lab.smbus lab.board message) lab
   step lab (Noise on bytes) = lab
   step lab (Idles on requester) = with_port P on (idles requester (port_on P on lab)) lab
-  step lab (OnBench activity) = record lab { board = state lab.board.records activity }
+  step lab (OnBench activity) = record lab { board = on_bench lab.board activity }
 
   -- the lab after events
   unfoldable pub run : List Event → Lab P → Lab P

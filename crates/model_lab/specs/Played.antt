@@ -3,7 +3,7 @@ use Rattle.std.specs.Prelude.{◌≡◌, ℕ, ◌+◌, List, [], ◌∷◌, ◌+
 use Rattle.cfg_records.specs.declared.board_file.BoardFile.{BoardFile}
 use Rattle.record_base.specs.declared.key.Key.{Key}
 use Rattle.record_base.specs.declared.op.Op.{Op}
-use Rattle.record_base.specs.declared.message.Asked.{Asked}
+use Rattle.record_kinds.specs.Series.{Series}
 use Rattle.model_undo.specs.declared.phase.Phase.{Phase}
 use Rattle.model_undo.specs.Machine.{phase_of}
 use Rattle.model_lab.specs.ManagerSteps.{Plans, board_plans}
@@ -23,7 +23,7 @@ pub record Told : Type 0 where
   pub records : Key → Option (List ℕ)
   pub phase : Phase
   pub frames : List LabFrame
-  pub undo : List Asked
+  pub undo : List Series
 
 -- how a play ends: after all events, or at the event of this place, counted from 1, which has the fault and isn't taken
 pub data Ending : Type 0 where

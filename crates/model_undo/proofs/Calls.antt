@@ -12,7 +12,8 @@ use Rattle.model_undo.specs.declared.phase.Why.{Why}
 use Rattle.model_undo.specs.declared.phase.Why.TheVariants.{Stop, Refused, NotRestorable, GetRefused}
 use Rattle.model_undo.specs.Plan.{Because}
 use Rattle.model_undo.specs.Machine.{Task, Gets, Sets, Undoes, Stage, AtStart, Opened, AtEnd, AtHalt, AtUndone, AtRefused, Part, first_stage, undo_stage, next_stage, set_stage, goes_on, told_stage, bodies_with, next_asked, stage_after, undo_with, undo_after}
-use Rattle.model_undo.proofs.Undoable.{past_none, CanUndo, LeadsHome, length_of, sets_to_one, sets_to_valid, sets_back, ready}
+use Rattle.model_undo.specs.Undoable.{CanUndo}
+use Rattle.model_undo.proofs.Undoable.{past_none, LeadsHome, length_of, sets_to_one, sets_to_valid, sets_back, ready}
 use Rattle.model_undo.proofs.Series.{not_empty, is_of, is_next, one_more}
 use Rattle.model_undo.proofs.StageSound.{OfPlan, Got, SetSound, UndoSound, TaskSound, IsPart, StageSound, task_made}
 
@@ -78,7 +79,7 @@ module _ (F : Family) (laws : IsFamily F) (plan : List F.words.Op) (start : F.Re
       let same : F.records b ≡ F.records after = sym d.0 in
       (subst (CanUndo F plan start k undo) same t.0, subst (LeadsHome F op back) same t.1, d.1)
   set_so b after k op back bodies before undo None step t d =
-      (F.records b, t.0, record { op = op; back = back; step = step; done = d; undone = sets_back F laws op back (F.records b) (F.records after) t.1 d; series = refl })
+      (F.records b, t.0, record { op = op; back = back; step = step; same_key = t.1.same_key; done = d; undone = sets_back F laws op back (F.records b) (F.records after) t.1 d; series = refl })
 
   set : (b after : F.Board) (a : Answered) (k : ℕ) (op back : F.words.Op) (part : Part F.words) (undo : List F.words.Series) → Sound (Sets k op back) part None undo b → IsPart F plan start (Sets k op back) part → F.Row b part.asked a after
       → Sound (Sets k op back) part (Some a) undo after
@@ -158,12 +159,12 @@ module _ (F : Family) (laws : IsFamily F) (plan : List F.words.Op) (start : F.Re
   set_good stopped k op None bodies undo b of can all valid free is =
       let key = F.words.key_of op in
       let shown_by = F.words.joined (F.words.getting key) bodies in
-      let shown = laws.parts_show (F.records b) key bodies all in
+      let shown = laws.parts_show (F.records b) key bodies valid all in
       (can, (bodies, record { op = op; step = of.step; gave = all; not_restorable = laws.kinds.refuses op shown.value shown_by (valid key shown.value shown.found) shown.shows is }))
   set_good true k op (Some back) bodies undo b of can all valid free is = (can, refl)
   set_good false k op (Some back) bodies undo b of can all valid free is =
       let key = F.words.key_of op in
-      ((of, (can, ready F laws op back (F.words.joined (F.words.getting key) bodies) (F.records b) valid (laws.parts_show (F.records b) key bodies all) is, free (F.words.setting op))), tt, refl)
+      ((of, (can, ready F laws op back (F.words.joined (F.words.getting key) bodies) (F.records b) valid (laws.parts_show (F.records b) key bodies valid all) is, free (F.words.setting op))), tt, refl)
 
   next_good : (stopped : Bool) (k : ℕ) (o : Option F.words.Op) (undo : List F.words.Series) (b : F.Board) → k ≤ length plan → own ≡ plan → slice_get own k ≡ o → CanUndo F plan start k undo (F.records b)
       → Good (next_stage F.words stopped k o) None stopped undo b

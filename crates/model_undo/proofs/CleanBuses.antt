@@ -28,7 +28,7 @@ use Rattle.model_undo.specs.World.{States, update, World, Happening, Start, Undo
 use Rattle.model_undo.specs.Clean.{Moment, answered_in_all, AnswersByRow, one, clean, IsAtRest}
 use Rattle.model_undo.specs.CleanBuses.{reach_port, asks, replies, exchange, exchanges, AllCanBeSent, HasEnded, RunsThroughBuses, AlwaysRunsThroughBuses, RunsOverBuses, AlwaysRunsOverBuses}
 use Rattle.model_undo.specs.CleanSeries.{AreFinite, AnswersEach}
-use Rattle.model_undo.proofs.Undoable.{CanUndo}
+use Rattle.model_undo.specs.Undoable.{CanUndo}
 use Rattle.model_undo.proofs.StageSound.{task_made}
 use Rattle.model_undo.proofs.Calls.{first_good, undo_good}
 use Rattle.model_undo.proofs.Buses.{each_bus}

@@ -18,7 +18,8 @@ use Rattle.model_undo.specs.Plan.{IsAfter}
 use Rattle.model_undo.specs.Machine.{Task, Part, Gets, Sets, Undoes, Stage, AtStart, Opened, AtEnd, AtHalt, AtUndone, AtRefused, Machine, Turn, series_of, first_part, begun, bus_at, enters, first_stage, undo_stage, next_stage, set_stage, refused, goes_on, told_stage, finished, bodies_with, next_asked, stage_after, phase_at, undoes, undo_of, opened}
 use Rattle.model_undo.specs.Clean.{Moment, answered_in_all, AnswersByRow, one, clean, IsAtRest}
 use Rattle.model_undo.specs.CleanSeries.{AreFinite, Answers, AnswersAll, RefusesOne, shown, Goes, GoAll, Sticks, EndsIn, AnswersEach, AlwaysRunsThrough}
-use Rattle.model_undo.proofs.Undoable.{past_none, CanUndo, after_of, length_of}
+use Rattle.model_undo.specs.Undoable.{CanUndo}
+use Rattle.model_undo.proofs.Undoable.{past_none, after_of, length_of}
 use Rattle.model_undo.proofs.Series.{not_empty, is_of}
 use Rattle.model_undo.proofs.StageSound.{series_made}
 use Rattle.model_undo.proofs.Calls.{first_good, undo_good}
@@ -253,21 +254,21 @@ module _ (F : Family) (laws : IsFamily F) (finite : AreFinite F.words) (answer :
       let kept : F.records next ≡ r = laws.parts_keep b next key h.0 (record { code = success; body = body }) (is_of F.words (F.words.getting key) before h.0 h.1) row ∙ same in
       (h.0, h.1, (b, next, same, row), gave_all key r (before ++ body ∷ []) bodies next at kept h.3)
 
-  shows : (op : F.words.Op) (bodies : List (List ℕ)) (b at : F.Board) → AnswersAll F answer (F.words.getting (F.words.key_of op)) bodies b at → Showed F (F.words.key_of op) (shown F answer op bodies) (F.records b)
-  shows op bodies b at h =
+  shows : (op : F.words.Op) (bodies : List (List ℕ)) (b at : F.Board) → AllValid F (F.records b) → AnswersAll F answer (F.words.getting (F.words.key_of op)) bodies b at → Showed F (F.words.key_of op) (shown F answer op bodies) (F.records b)
+  shows op bodies b at valid h =
       let key = F.words.key_of op in
-      laws.parts_show (F.records b) key bodies (record { in_order = gave_all key (F.records b) [] bodies b at refl h.replied; some = h.some; no_more = h.no_more })
+      laws.parts_show (F.records b) key bodies valid (record { in_order = gave_all key (F.records b) [] bodies b at refl h.replied; some = h.some; no_more = h.no_more })
 
   restorable : (op back : F.words.Op) (bodies : List (List ℕ)) (b at : F.Board) → AllValid F (F.records b) → AnswersAll F answer (F.words.getting (F.words.key_of op)) bodies b at → F.words.inverse op (shown F answer op bodies) ≡ Some back
       → F.Restorable op (shown F answer op bodies)
   restorable op back bodies b at valid h is =
-      let s = shows op bodies b at h in
+      let s = shows op bodies b at valid h in
       laws.kinds.restores op back s.value (shown F answer op bodies) (valid (F.words.key_of op) s.value s.found) s.shows is
 
   not_restorable : (op : F.words.Op) (bodies : List (List ℕ)) (b at : F.Board) → AllValid F (F.records b) → AnswersAll F answer (F.words.getting (F.words.key_of op)) bodies b at → F.words.inverse op (shown F answer op bodies) ≡ None
       → ¬ F.Restorable op (shown F answer op bodies)
   not_restorable op bodies b at valid h is =
-      let s = shows op bodies b at h in
+      let s = shows op bodies b at valid h in
       laws.kinds.refuses op s.value (shown F answer op bodies) (valid (F.words.key_of op) s.value s.found) s.shows is
 
   -- ---- the undo
@@ -580,4 +581,5 @@ always_runs_through F laws finite answer by_row plan retries board valid free =
           (undone F laws finite answer by_row plan start r.last_stage r.last r.board n back r.over sum);
       undo_is_taken = subst (λ (x : Moment F). undo_of F.words x.turn.machine ≡ None → ⊥) (sym ends) (taken F laws finite answer by_row plan start r.last_stage r.last r.over);
       undo_each = subst (λ (x : Moment F). length x.turn.machine.undo ≡ steps) (sym ends) (length_of F plan start steps r.last.undo (F.records r.board) steps_done);
+      leads_back = subst (λ (x : Moment F). CanUndo F plan start steps x.turn.machine.undo (F.records x.board)) (sym ends) steps_done;
     }

@@ -61,12 +61,12 @@ module _ (F : Family) (laws : IsFamily F) (given : List (Giving F)) where
   giving_is_family : IsFamily (giving F given)
   giving_is_family = record {
     kinds = giving_kinds;
-    gets_show = λ b after asked key a is row carried. showed key a.body (F.records b) (laws.gets_show b after asked key a is row.0 carried);
+    gets_steady = λ b after c later asked other key a d is is_too same valid row row_too. laws.gets_steady b after c later asked other key a d is is_too same valid row.0 row_too.0;
     gets_agree = λ b after c later asked other key a d is is_too same row row_too. laws.gets_agree b after c later asked other key a d is is_too same row.0 row_too.0;
     parts_keep = λ b after key asked a is row. laws.parts_keep b after key asked a is row.0;
-    parts_show = λ r key bodies all.
+    parts_show = λ r key bodies valid all.
         let get = F.words.getting key in
-        showed key (F.words.joined get bodies) r (laws.parts_show r key bodies (all_answered_as F.words get (Gave (giving F given) r) (Gave F r) (gave_by r) bodies all));
+        showed key (F.words.joined get bodies) r (laws.parts_show r key bodies valid (all_answered_as F.words get (Gave (giving F given) r) (Gave F r) (gave_by r) bodies all));
     sets_go_on = λ b after op bodies a asked set carried is. laws.sets_go_on b after op bodies a asked (set_by b after op bodies a set) carried is;
     sets_do = λ b after op bodies a set carried is. does op (F.records b) (F.records after) (laws.sets_do b after op bodies a (set_by b after op bodies a set) carried is);
     refusals_keep = λ b after op bodies a set ne. laws.refusals_keep b after op bodies a (set_by b after op bodies a set) ne;

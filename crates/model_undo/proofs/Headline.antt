@@ -229,20 +229,15 @@ module _ (F : Family) (laws : IsFamily F) (L : Bus → Line) (lines : (bus : Bus
   shows_same b c valid same key one other is_get is_get_too shown again b' c' row row_again =
       let alike : again.code ≡ shown.code = laws.gets_agree b b' c c' one other key shown again is_get is_get_too same row row_again in (
         alike,
-        λ was_shown.
-            let before = laws.gets_show b b' one key shown is_get row was_shown in
-            let after = laws.gets_show c c' other key again is_get_too row_again (alike ∙ was_shown) in
-            let found : F.get (F.records b) key ≡ Some after.value = ap (λ (r : F.Records). F.get r key) (sym same) ∙ after.found in
-            let one_value : after.value ≡ before.value = same_Some _ _ (sym found ∙ before.found) in
-            laws.kinds.steady key before.value again.body shown.body (valid key before.value before.found) (subst (λ (v : F.Value). F.Shows key v again.body) one_value after.shows) before.shows,
+        λ was_shown. laws.gets_steady b b' c c' one other key shown again is_get is_get_too same valid row row_again was_shown (alike ∙ was_shown),
       )
 
   -- two Gets of several requests
   parts_show_same : (b c : F.Board) → AllValid F (F.records b) → F.records c ≡ F.records b → PartsShowSame F b c
   parts_show_same b c valid same key shown again was_shown is_shown =
       let get = F.words.getting key in
-      let before = laws.parts_show (F.records b) key shown was_shown in
-      let after = laws.parts_show (F.records c) key again is_shown in
+      let before = laws.parts_show (F.records b) key shown valid was_shown in
+      let after = laws.parts_show (F.records c) key again (subst (AllValid F) (sym same) valid) is_shown in
       let found : F.get (F.records b) key ≡ Some after.value = ap (λ (r : F.Records). F.get r key) (sym same) ∙ after.found in
       let one_value : after.value ≡ before.value = same_Some _ _ (sym found ∙ before.found) in
       laws.kinds.steady key before.value (F.words.joined get again) (F.words.joined get shown) (valid key before.value before.found)

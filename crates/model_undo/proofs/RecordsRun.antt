@@ -9,7 +9,8 @@ use Rattle.model_undo.specs.Machine.{Gets, Sets, Undoes, Stage, AtStart, Opened,
 use Rattle.model_undo.specs.Resume.{list_of, resumed}
 use Rattle.model_undo.specs.RecordsRun as desk
 use Rattle.model_undo.specs.RecordsRun.{Desk, DeskEvent, Starts, Quiets, Stops, GoesAgain, Undoes as UndoesAll, Resumes, Carries, Takes, Elsewhere, May, AllMay, run, happens, Answers, at_desk, RecordsStand}
-use Rattle.model_undo.proofs.Undoable.{CanUndo, length_of}
+use Rattle.model_undo.specs.Undoable.{CanUndo}
+use Rattle.model_undo.proofs.Undoable.{length_of}
 use Rattle.model_undo.proofs.StageSound.{StageSound, stage_kept, stage_stands, stage_halts}
 use Rattle.model_undo.proofs.Calls.{carried_sound, carried_valid, carried_ready, taken_good, first_good, undo_good, stop_good}
 

@@ -174,13 +174,17 @@ all_shown b after asked a is row = row.0 ∙ ap (λ (x : Asked). (answer b x).0)
 all_agree : (b after c later : Board) (asked other : Asked) (a d : Answered) → asked ≡ GetAll → other ≡ GetAll → Row b asked a after → Row c other d later → d.code ≡ a.code
 all_agree b after c later asked other a d is is_too row row_too = ap (λ (x : Answered). x.code) (all_shown c later other d is_too row_too) ∙ sym (ap (λ (x : Answered). x.code) (all_shown b after asked a is row))
 
+all_same : (b after c later : Board) (asked other : Asked) (a d : Answered) → asked ≡ GetAll → other ≡ GetAll → c.pair ≡ b.pair → Row b asked a after → Row c other d later → d.body ≡ a.body
+all_same b after c later asked other a d is is_too same row row_too =
+    ap (λ (x : Answered). x.body) (all_shown c later other d is_too row_too) ∙ ap (λ (p : Pair). p.low ∷ p.high ∷ []) same ∙ sym (ap (λ (x : Answered). x.body) (all_shown b after asked a is row))
+
 pub pairs_are_family : IsFamily pair_family
 pairs_are_family = record {
   kinds = kinds;
-  gets_show = λ b after asked key a is row carried. record { value = b.pair; found = refl; shows = ap (λ (x : Answered). x.body) (all_shown b after asked a is row) };
+  gets_steady = λ b after c later asked other key a d is is_too same valid row row_too carried carried_too. all_same b after c later asked other a d is is_too same row row_too;
   gets_agree = λ b after c later asked other key a d is is_too same row row_too. all_agree b after c later asked other a d is is_too row row_too;
   parts_keep = λ b after key asked a is row. gets_keep b after asked a is row;
-  parts_show = λ r key bodies all. record { value = r; found = refl; shows = gets_show r bodies all };
+  parts_show = λ r key bodies valid all. record { value = r; found = refl; shows = gets_show r bodies all };
   sets_go_on = sets_go_on;
   sets_do = sets_do;
   refusals_keep = λ b after op bodies a s ne. (refused_so b after op bodies a s ne).kept;

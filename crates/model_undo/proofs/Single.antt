@@ -1,10 +1,10 @@
 -- Where each series is one request, what is known of that request is known of the series.
-use Rattle.std.proofs.Common.{◌≡◌, ℕ, List, [], ◌∷◌, ◌++◌, refl, sym, ◌∙◌, subst, inl, inr}
-use Rattle.std.proofs.lemmas.Option.{none-some}
+use Rattle.std.proofs.Common.{◌≡◌, ℕ, List, [], ◌∷◌, ◌++◌, Some, refl, sym, ◌∙◌, ap, subst, inl, inr}
+use Rattle.std.proofs.lemmas.Option.{none-some, same_Some}
 use Rattle.two_wire.specs.Codes.{success}
 use Rattle.model_bus.specs.Answered.{Answered}
 use Rattle.model_undo.specs.Words.{Words, IsNext, IsOf, AreSingle, AllAnswered, get_asked, set_asked}
-use Rattle.model_undo.specs.Family.{Family, Gave}
+use Rattle.model_undo.specs.Family.{Family, AllValid, Gave}
 use Rattle.model_undo.specs.IsFamily.{Showed, AnswersSet, IsFamily, IsSingleFamily}
 
 module _ (M : Words) (single : AreSingle M) where
@@ -42,14 +42,24 @@ module _ (F : Family) (laws : IsSingleFamily F) where
       let shown = laws.gets_show gave.0 gave.1 (get_asked F.words key) key (record { code = success; body = body }) (laws.gets_are key) gave.3 refl in
       subst (Showed F key body) gave.2 shown
 
+  -- two Gets that are carried out where the records are the same show one configuration
+  one_configuration : (b after c later : F.Board) (asked other : F.words.Asked) (key : F.words.Key) (a d : Answered) → F.IsGet asked key → F.IsGet other key → F.records c ≡ F.records b → AllValid F (F.records b)
+      → F.Row b asked a after → F.Row c other d later → a.code ≡ success → d.code ≡ success → F.conf key d.body ≡ F.conf key a.body
+  one_configuration b after c later asked other key a d is is_too same valid row row_too carried carried_too =
+      let shown = laws.gets_show b after asked key a is row carried in
+      let again = laws.gets_show c later other key d is_too row_too carried_too in
+      let found : F.get (F.records b) key ≡ Some again.value = ap (λ (r : F.Records). F.get r key) (sym same) ∙ again.found in
+      let one_value : again.value ≡ shown.value = same_Some _ _ (sym found ∙ shown.found) in
+      laws.kinds.steady key shown.value d.body a.body (valid key shown.value shown.found) (subst (λ (v : F.Value). F.Shows key v d.body) one_value again.shows) shown.shows
+
   pub single_family : IsFamily F
   single_family = record {
     kinds = laws.kinds;
-    gets_show = laws.gets_show;
+    gets_steady = one_configuration;
     gets_agree = laws.gets_agree;
     parts_keep = λ b after key asked a is row.
         laws.gets_keep b after asked key a (subst (λ (x : F.words.Asked). F.IsGet x key) (sym (one_of F.words laws.single (F.words.getting key) asked is)) (laws.gets_are key)) row;
-    parts_show = λ r key bodies all.
+    parts_show = λ r key bodies valid all.
         let one = one_answer F.words laws.single (Gave F r) (F.words.getting key) bodies all in
         subst (λ (body : List ℕ). Showed F key body r) (sym one.joined_is) (one_shown key one.body r one.given);
     sets_go_on = λ b after op bodies a asked set e is. absurd (none-some asked (sym (laws.single.none_next (F.words.setting op) (bodies ++ a.body ∷ [])) ∙ is));

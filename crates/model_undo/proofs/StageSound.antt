@@ -8,7 +8,8 @@ use Rattle.model_undo.specs.Words.{is_busy, IsNext, IsSeries, IsMade, AreAnswere
 use Rattle.model_undo.specs.Family.{Family, Keeps, Gave}
 use Rattle.model_undo.specs.Plan.{IsAfter, Stands, Because, Halts}
 use Rattle.model_undo.specs.Machine.{Task, Gets, Sets, Undoes, Stage, AtStart, Opened, AtEnd, AtHalt, AtUndone, AtRefused, Part, series_of, bodies_with, next_asked, phase_at}
-use Rattle.model_undo.proofs.Undoable.{CanUndo, after_of, LeadsHome}
+use Rattle.model_undo.specs.Undoable.{CanUndo}
+use Rattle.model_undo.proofs.Undoable.{after_of, LeadsHome}
 use Rattle.model_undo.proofs.Series.{is_made}
 
 -- `plan` is what the records are compared with, `own` what the manager goes through; the reply is the one that is kept for the

@@ -5,27 +5,12 @@ use Rattle.std.proofs.lemmas.Option.{same_Some, none-some}
 use Rattle.model_undo.specs.Family.{Family, AllValid, SetsTo}
 use Rattle.model_undo.specs.IsFamily.{Showed, IsFamily}
 use Rattle.model_undo.specs.Plan.{IsAfter}
+use Rattle.model_undo.specs.Undoable.{CanUndo}
 
 pub past_none : {X : Type 0} (xs : List X) (n : ℕ) → slice_get xs n ≡ None → length xs ≤ n
 past_none [] n e = omega arith
 past_none (x ∷ xs) zero e = absurd (none-some x (sym e))
 past_none (x ∷ xs) (suc n) e = let h = past_none xs n e in omega arith
-
--- the series leads back over step k
-pub record LeadsBack (F : Family) (plan : List F.words.Op) (k : ℕ) (u : F.words.Series) (before r : F.Records) : Type 0 where
-  pub op : F.words.Op
-  pub back : F.words.Op
-  pub step : slice_get plan k ≡ Some op
-  pub done : SetsTo F op before r
-  pub undone : SetsTo F back r before
-  pub series : u ≡ F.words.setting back
-
--- the series, in order, lead back over the first k steps
-abbrev pub CanUndo : (F : Family) → List F.words.Op → F.Records → ℕ → List F.words.Series → F.Records → Type 0
-CanUndo F plan start zero [] r = r ≡ start
-CanUndo F plan start zero (u ∷ us) r = ⊥
-CanUndo F plan start (suc k) [] r = ⊥
-CanUndo F plan start (suc k) (u ∷ us) r = (before : F.Records) × CanUndo F plan start k us before × LeadsBack F plan k u before r
 
 pub after_of : (F : Family) (plan : List F.words.Op) (start : F.Records) (k : ℕ) (us : List F.words.Series) (r : F.Records) → CanUndo F plan start k us r → IsAfter F plan start k r
 after_of F plan start zero [] r h = h

@@ -18,7 +18,8 @@ use Rattle.model_undo.specs.Joined.{OthersStill, IsClosed, request_bytes, answer
 use Rattle.model_undo.specs.Line.{Exchange, Line}
 use Rattle.model_undo.specs.World as world
 use Rattle.model_undo.specs.World.{States, update, World, Happening, Start, Quiet, Stop, Again, Undo, Resume, ToManager, OnBus, OnBench, May, AllMay, run, happens, IsHonestOn, BoardMay}
-use Rattle.model_undo.proofs.Undoable.{CanUndo, length_of}
+use Rattle.model_undo.specs.Undoable.{CanUndo}
+use Rattle.model_undo.proofs.Undoable.{length_of}
 use Rattle.model_undo.proofs.Calls.{first_good, undo_good, stop_good}
 use Rattle.model_undo.proofs.Buses.{each_bus}
 use Rattle.model_undo.proofs.LineLaws.{IsLine}

@@ -9,6 +9,7 @@ use Rattle.model_undo.specs.declared.phase.Why.TheVariants.{Stop, Refused, NotRe
 use Rattle.model_undo.specs.declared.phase.Phase.{Phase}
 use Rattle.model_undo.specs.declared.phase.Phase.TheVariants.{Done, Halted, Undone}
 use Rattle.model_undo.specs.Plan.{IsAfter}
+use Rattle.model_undo.specs.Undoable.{CanUndo}
 use Rattle.model_undo.specs.Machine.{start_of, undo_of, opened}
 use Rattle.model_undo.specs.Clean.{Moment, clean, IsAtRest}
 
@@ -110,6 +111,7 @@ module _ (F : Family) (answer : F.Board → F.words.Asked → Answered × F.Boar
         IsAtRest F answer y Undone (requests + more + back) × (F.records y.board ≡ F.records board) × AnswersEach x.turn.machine.undo back x.board y.board)
     pub undo_is_taken : let x = clean F answer (requests + more) begun in undo_of F.words x.turn.machine ≢ None
     pub undo_each : let x = clean F answer (requests + more) begun in length x.turn.machine.undo ≡ length steps
+    pub leads_back : let x = clean F answer (requests + more) begun in CanUndo F plan (F.records board) (length steps) x.turn.machine.undo (F.records x.board)
 
   -- so it is with every plan, at every board of valid records that is ready
   abbrev pub AlwaysRunsThrough : Type 0

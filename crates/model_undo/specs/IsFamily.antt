@@ -44,14 +44,16 @@ pub record AreKinds (F : Family) : Type 0 where
 pub record IsFamily (F : Family) : Type 0 where
   pub kinds : AreKinds F
   -- whoever asks, and whatever isn't configuration, a Get that is one request is answered with one code where the records are the same. It
-  -- shows the value where it is carried out
-  pub gets_show : (board after : F.Board) (asked : F.words.Asked) (key : F.words.Key) (answered : Answered) → F.IsGet asked key → F.Row board asked answered after → answered.code ≡ success → Showed F key answered.body (F.records board)
+  -- shows one configuration where it is carried out and the records are valid
+  pub gets_steady : (board after other_board later : F.Board) (asked other : F.words.Asked) (key : F.words.Key) (answered other_answer : Answered) → F.IsGet asked key → F.IsGet other key → F.records other_board ≡ F.records board
+      → AllValid F (F.records board) → F.Row board asked answered after → F.Row other_board other other_answer later → answered.code ≡ success → other_answer.code ≡ success
+      → F.conf key other_answer.body ≡ F.conf key answered.body
   pub gets_agree : (board after other_board later : F.Board) (asked other : F.words.Asked) (key : F.words.Key) (answered other_answer : Answered) → F.IsGet asked key → F.IsGet other key → F.records other_board ≡ F.records board
       → F.Row board asked answered after → F.Row other_board other other_answer later → other_answer.code ≡ answered.code
   -- the manager's Get: none of its requests changes a record. Their replies show the value together, where each was answered with 00h and the
-  -- records were the same
+  -- records were the same, and valid
   pub parts_keep : (board after : F.Board) (key : F.words.Key) (asked : F.words.Asked) (answered : Answered) → IsOf F.words (F.words.getting key) asked → F.Row board asked answered after → F.records after ≡ F.records board
-  pub parts_show : (records : F.Records) (key : F.words.Key) (bodies : List (List ℕ)) → AllAnswered F.words (Gave F records) (F.words.getting key) bodies → Showed F key (F.words.joined (F.words.getting key) bodies) records
+  pub parts_show : (records : F.Records) (key : F.words.Key) (bodies : List (List ℕ)) → AllValid F records → AllAnswered F.words (Gave F records) (F.words.getting key) bodies → Showed F key (F.words.joined (F.words.getting key) bodies) records
   -- the manager's Set: a request that is carried out with another to come changes no record, and the board is ready for that other. The last
   -- one that is carried out does the operation
   pub sets_go_on : (board after : F.Board) (op : F.words.Op) (bodies : List (List ℕ)) (answered : Answered) (following : F.words.Asked) → AnswersSet F op bodies board answered after → answered.code ≡ success

@@ -3,6 +3,7 @@ pub mod PhaseNames
 pub mod Family
 pub mod IsFamily
 pub mod Plan
+pub mod Undoable
 pub mod Machine
 pub mod Resume
 pub mod Wires
