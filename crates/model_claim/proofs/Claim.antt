@@ -1,13 +1,14 @@
 -- The claim holds, since the model's headline does.
 use Rattle.std.proofs.Common.{◌≡◌, ℕ, List, [], ◌∷◌, ◌++◌, map, refl, sym, ◌∙◌, ap, subst, inl, inr}
 use Rattle.std.proofs.lemmas.List.{map-append, append_cancel_right}
+use Rattle.two_wire.specs.Codes.{success}
 use Rattle.two_wire.specs.declared.Bus.{Bus}
 use Rattle.two_wire.specs.declared.Bus.TheVariants.{Ipmb, Smbus}
 use Rattle.record_base.specs.declared.op.Op.{Op}
 use Rattle.record_base.specs.declared.message.Asked.{Asked}
 use Rattle.record_base.specs.declared.message.Answered.{Answered}
 use Rattle.cfg_records.specs.declared.board_file.BoardFile.{BoardFile}
-use Rattle.record_kinds.specs.Limits.{key_of, get_asked, set_asked}
+use Rattle.record_kinds.specs.Limits.{key_of}
 use Rattle.bmc_board.specs.Row.{Row}
 use Rattle.bmc_board.proofs.OneAnswer.{has_one_answer}
 use Rattle.undo_plans.specs.declared.names.Names.{Names}
@@ -25,16 +26,18 @@ use Rattle.model_headline.specs.Each.{Each}
 use Rattle.model_headline.specs.Tied.{F}
 use Rattle.model_headline.specs.Answers as answers
 use Rattle.model_headline.specs.Theorem as law
+use Rattle.model_headline.proofs.Series.{of_is}
 use Rattle.model_headline.proofs.Theorem.{headline}
-use Rattle.model_claim.specs.Manager.{Call, Start, Quiet, Stop, Again, Undo, Why, Stopped, GetRefused, SetRefused, NotRestorable, Phase, Halted, Undone, own_on, by_manager}
+use Rattle.model_claim.specs.Manager.{Call, Start, Quiet, Stop, Again, Undo, Why, Stopped, GetRefused, SetRefused, NotRestorable, Phase, Halted, Undone, Reads, sends, request_after, own_on, by_manager}
 use Rattle.model_claim.specs.Lab.{Heard, Entry, Carried, Idled, Event, Calls, ToBmc, ToMgr, OtherIpmb, OtherSmbus, Noise, Idles, OnBench, Lab, port_on, step}
 use Rattle.model_claim.specs.Claim.{ours, AllHonest, first, after, GaveIn, IsCause, Claim}
+use Rattle.model_claim.proofs.Series.{board_of, all_given}
 use Rattle.model_claim.proofs.Labs.{none_orderly, Steps, step_so}
 use Rattle.model_claim.proofs.Honesty.{Runs, runs_so, first_honest, later_honest}
 use Rattle.model_claim.proofs.Grows.{step_grows}
 use Rattle.model_claim.proofs.Meaning.{after_so, stands_so, shows_so}
 use Rattle.model_claim.specs.Seen.{bare, seen_entry, seen_log, words_of, P, W, spell, seen_call, seen_event, seen_why, seen_lab, stage_of, Made}
-use Rattle.model_claim.proofs.Holds.{Reads, Holds}
+use Rattle.model_claim.proofs.Holds.{Reads as EntryReads, Holds}
 use Rattle.text_schedule.specs.declared.event.Call.TheVariants as lab_call
 use Rattle.model_undo.specs.declared.phase.Phase.TheVariants as undo_phase
 
@@ -148,10 +151,6 @@ has_stop (e ∷ es) (inr is) = let more = has_stop es is in record { earlier = e
 
 -- ---- the claim
 
--- an answer of the undo model, in the words of the board
-abbrev pub board_of : UndoAnswered → Answered
-board_of a = record { code = a.code; body = a.body }
-
 -- nothing was put together yet
 abbrev pub nothing_made : Made
 nothing_made = record { ipmb = []; smbus = []; manager = [] }
@@ -205,7 +204,7 @@ module _ (setup : BoardFile) (names : Names) (plan : List Op) (retries : ℕ) wh
   port_log Ipmb made x = refl
   port_log Smbus made x = refl
 
-  pub holds_reads : (on : Bus) (x : Lab) → Holds names x → Each (Reads names on) (port_on on x).log
+  pub holds_reads : (on : Bus) (x : Lab) → Holds names x → Each (EntryReads names on) (port_on on x).log
   holds_reads Ipmb x h = h.ipmb_reads
   holds_reads Smbus x h = h.smbus_reads
 
@@ -237,7 +236,7 @@ module _ (setup : BoardFile) (names : Names) (plan : List Op) (retries : ℕ) wh
         let put = added on was.kept grown.more (port_on on z).log (port_on on (step (ours setup) names z here)).log grown.is carried_so in
         let bytes_same : put.heard.bytes ≡ was.kept.request.bytes = ap (λ (r : bus.Request). r.bytes) put.request in
         let asker : put.heard.requester ≡ own_on on names = ap (λ (r : bus.Request). r.requester) put.request ∙ was.from_manager in
-        let reads : Each (Reads names on) (Carried put.heard put.answer ∷ (port_on on z).log) = subst (Each (Reads names on)) put.is (holds_reads on (step (ours setup) names z here) one.holds) in
+        let reads : Each (EntryReads names on) (Carried put.heard put.answer ∷ (port_on on z).log) = subst (Each (EntryReads names on)) put.is (holds_reads on (step (ours setup) names z here) one.holds) in
         let answer_same : put.answer ≡ board_of a =
         ap board_of (sym (reply_read on put.heard.bytes (words_of put.answer)) ∙ ap (answered_from on) (put.reply ∙ was.replies) ∙ reply_read on was.kept.request.bytes a) in
         record {
@@ -287,11 +286,20 @@ module _ (setup : BoardFile) (names : Names) (plan : List Op) (retries : ℕ) wh
       ap (λ (y : lab.Lab (P names)). machine.phase_of (W names) y.manager.machine) g.is ∙ ap (λ (p : Phase). machine.phase_at (W names) (stage_of names p)) at_halt in
       by_why why (subst (answers.CausedBy setup names (law.GaveIn setup names plan retries (map seen_event events)) (In (lab.Calls lab_call.Stop) (map seen_event events)) plan) phase_is (theorem.halts (map seen_event events) (g.honest, g.live)))
     where
+      GaveThere : Asked → UndoAnswered → Type 0
+      GaveThere = law.GaveIn setup names plan retries (map seen_event events) k
+
+      said : (asked : Asked) (a : UndoAnswered) → GaveThere (by_manager names asked) a → GaveIn setup (ours setup) names plan retries events k asked (board_of a)
+      said asked a = gave events k asked a all
+
       by_why : (why : Why) → answers.CausedBy setup names (law.GaveIn setup names plan retries (map seen_event events)) (In (lab.Calls lab_call.Stop) (map seen_event events)) plan (undo_phase.Halted k (seen_why names why)) → IsCause setup (ours setup) names plan retries events k why
       by_why Stopped was = let is = has_stop events was in (is.earlier, is.rest, is.all)
-      by_why (GetRefused code) was = (was.0, was.1, was.2, gave events k (get_asked (key_of was.0)) (record { code = code; body = was.1 }) all was.3, was.4)
-      by_why (SetRefused code) was = (was.0, was.1, was.2, gave events k (set_asked was.0) (record { code = code; body = was.1 }) all was.3, was.4)
-      by_why NotRestorable was = (was.0, was.1, was.2, gave events k (get_asked (key_of was.0)) (record { code = 0; body = was.1 }) all was.3, was.4)
+      by_why (GetRefused code) was = let is = of_is (addresses names) (Reads (key_of was.0)) was.1 was.4 in
+          (was.0, is.0, was.2, was.3, said (request_after (Reads (key_of was.0)) is.0) (record { code = code; body = was.2 }) (subst (λ (q : Asked). GaveThere q (record { code = code; body = was.2 })) is.1 was.5), was.6)
+      by_why (SetRefused code) was = let is = of_is (addresses names) (sends was.0) was.1 was.4 in
+          (was.0, is.0, was.2, was.3, said (request_after (sends was.0) is.0) (record { code = code; body = was.2 }) (subst (λ (q : Asked). GaveThere q (record { code = code; body = was.2 })) is.1 was.5), was.6)
+      by_why NotRestorable was =
+          (was.0, was.1, was.2, all_given names GaveThere (GaveIn setup (ours setup) names plan retries events k) (Reads (key_of was.0)) (λ asked body. said asked (record { code = success; body = body })) was.1 was.3, was.4)
 
   pub claim : Claim setup (ours setup) names plan retries
   claim = record {

@@ -121,4 +121,4 @@ module _ (setup : BoardFile) where
   row_served (Err code) before a after row = ap (λ (g : Given). g.1.records) row
 
   pub is_controller : IsController setup (ours setup)
-  is_controller = record { begins = refl; serves = λ before asked. row_served (asked_by asked) before _ _ (has_answer setup before asked) }
+  is_controller = record { begins = (refl, refl); serves = λ before asked. row_served (asked_by asked) before _ _ (has_answer setup before asked) }

@@ -1,5 +1,5 @@
 -- What a lab does at an honest event is what the model's does.
-use Rattle.std.proofs.Common.{◌≡◌, ℕ, ◌+◌, ◌%◌, Bool, true, false, not, ◌&&◌, cond, List, [], ◌∷◌, ◌++◌, map, Option, Some, None, refl, sym, ◌∙◌, ap, subst, arith, inl, inr}
+use Rattle.std.proofs.Common.{◌≡◌, ℕ, ◌+◌, ◌%◌, Bool, true, false, not, ◌&&◌, cond, List, [], ◌∷◌, ◌++◌, map, Option, Some, None, refl, sym, ◌∙◌, ap, subst, arith}
 use Rattle.std.specs.Prelude.{◌==◌, nat_lt, slice_get}
 use Rattle.std.specs.Option.{option_map}
 use Rattle.std.proofs.lemmas.Option.{slice_get-map}
@@ -11,7 +11,6 @@ use Rattle.mctp_net.specs.declared.message.Message.{Message}
 use Rattle.record_base.specs.declared.message.Asked.{Asked}
 use Rattle.record_base.specs.declared.message.Asked.TheVariants.{Ipmi, Pldm}
 use Rattle.record_base.specs.declared.message.Answered.{Answered}
-use Rattle.record_kinds.specs.Limits.{key_of}
 use Rattle.cfg_records.specs.declared.board_file.BoardFile.{BoardFile}
 use Rattle.undo_plans.specs.declared.names.Names.{Names}
 use Rattle.pldm_base.specs.Message.{request_bytes}
@@ -24,7 +23,7 @@ use Rattle.model_lab.specs.Lab as lab
 use Rattle.model_headline.specs.Each.{Each}
 use Rattle.model_headline.proofs.Each.{each_at, each_append, each_map}
 use Rattle.model_claim.specs.Frames.{Value, Asks, Tells, Part, circle, envelope, packets_of, is_meant, is_taken, waits_after, whole}
-use Rattle.model_claim.specs.Manager.{Call, Start, Quiet, Stop, Again, Undo, Task, Gets, Sets, Undoes, Phase, Fresh, Open, Done, Halted, Undone, UndoRefused, Manager, Turn, rests, called, bus_of, asked_for, are_all, open_in, frames_of, carried_out, refused, told, told_in, is_part, read_in}
+use Rattle.model_claim.specs.Manager.{Call, Start, Quiet, Stop, Again, Undo, Task, Gets, Sets, Undoes, Phase, Fresh, Open, Done, Halted, Undone, UndoRefused, Manager, Turn, rests, called, bus_of, series_of, next_after, asked_for, open_in, frames_of, carried_out, refused, told, told_in, is_part, read_in}
 use Rattle.model_claim.specs.Manager as the_manager
 use Rattle.model_claim.specs.Lab.{Deed, stays, hears, hears_packets, Way, ToPort, ToManager, ToOthers, Frame, Event, Calls, ToBmc, ToMgr, OtherIpmb, OtherSmbus, Noise, Idles, OnBench, Lab, port_on, idles_on, with_frames, sends, goes_on, port_does, opens, delivered, returned, hears_all, step}
 use Rattle.model_claim.specs.Claim.{ours, IsDelivered, IsHonest}
@@ -32,6 +31,7 @@ use Rattle.model_claim.proofs.Packets.{is_kept}
 use Rattle.model_claim.proofs.Cuts.{cuts_alike}
 use Rattle.model_claim.proofs.Answers.{is_busy}
 use Rattle.model_claim.proofs.Sends.{frames_alike, IsSeen, call_lands}
+use Rattle.model_claim.proofs.Series.{task_made}
 use Rattle.model_claim.proofs.Returns.{LowValue, comes}
 use Rattle.model_claim.proofs.Ports.{Does, MayCome, parts_suit, packets_do, does}
 use Rattle.model_claim.specs.Seen.{P, seen_value, seen_way, seen_frame, seen_event, seen_call, seen_port, seen_manager, seen_lab, Made}
@@ -85,11 +85,13 @@ call_orderly Undo (Halted k why) m h = none_orderly
 call_orderly Undo Undone m h = h
 call_orderly Undo (UndoRefused k code) m h = h
 
-carried_orderly : (all : Bool) (task : Task) (bodies : List (List ℕ)) (m : Manager) → IsOrderly m.waits → IsOrderly (carried_out all task bodies m).manager.waits
-carried_orderly false task bodies m h = h
-carried_orderly true (Gets k op) bodies m h = h
-carried_orderly true (Sets k op back) bodies m h = h
-carried_orderly true (Undoes back rest) bodies m h = h
+carried_orderly : (another : Option Asked) (task : Task) (bodies : List (List ℕ)) (m : Manager) → IsOrderly m.waits → IsOrderly (carried_out another task bodies m).manager.waits
+carried_orderly (Some asked) (Gets k op) bodies m h = h
+carried_orderly (Some asked) (Sets k op back) bodies m h = h
+carried_orderly (Some asked) (Undoes back rest) bodies m h = h
+carried_orderly None (Gets k op) bodies m h = h
+carried_orderly None (Sets k op back) bodies m h = h
+carried_orderly None (Undoes back rest) bodies m h = h
 
 refused_orderly : (task : Task) (code : ℕ) (m : Manager) → IsOrderly m.waits → IsOrderly (refused task code m).manager.waits
 refused_orderly (Gets k op) code m h = h
@@ -101,9 +103,9 @@ told_orderly names task bodies None m h = h
 told_orderly names task bodies (Some a) m h =
     let next : Manager = record m { answered = the_manager.one_more (bus_of (asked_for names task bodies)) m.answered } in
     let with_it = bodies ++ a.body ∷ [] in
-    let done = carried_out (are_all task with_it) task with_it next in
+    let done = carried_out (next_after (series_of task) with_it) task with_it next in
     picks (is_busy a.code) (rests m) (cond (a.code == success) done (refused task a.code next)) h
-    (picks (a.code == success) done (refused task a.code next) (carried_orderly (are_all task with_it) task with_it next h) (refused_orderly task a.code next h))
+    (picks (a.code == success) done (refused task a.code next) (carried_orderly (next_after (series_of task) with_it) task with_it next h) (refused_orderly task a.code next h))
 
 hears_orderly : (names : Names) (v : Value) (phase : Phase) (m : Manager) → IsOrderly m.waits → IsOrderly (the_manager.hears names v phase m).manager.waits
 hears_orderly names (Asks r) phase m h = h
@@ -142,9 +144,7 @@ module _ (setup : BoardFile) (names : Names) where
       parts_suit names setup ToPort (packets_of (envelope names.peer_wire names.own_wire names.peer_eid names.own_eid true (n % 8)) (1 ∷ request_bytes (record { header = record { instance = n % circle Smbus; pldm_type = kind; command = command }; body = body })))
 
   task_managers : (task : Task) (bodies : List (List ℕ)) → IsManagers (addresses names) (asked_for names task bodies)
-  task_managers (Gets k op) bodies = managers (addresses names) (asked_for names (Gets k op) bodies) (asked_for names (Gets k op) bodies, inl (key_of op, refl), inl refl)
-  task_managers (Sets k op back) bodies = managers (addresses names) (asked_for names (Sets k op back) bodies) (asked_for names (Sets k op back) bodies, inr (op, refl), inl refl)
-  task_managers (Undoes back rest) bodies = managers (addresses names) (asked_for names (Undoes back rest) bodies) (asked_for names (Undoes back rest) bodies, inr (back, refl), inl refl)
+  task_managers task bodies = managers (addresses names) (asked_for names task bodies) (task_made names task bodies)
 
   turn_holds : (t : Turn) (x : Lab) → Holds names x → IsOrderly t.manager.waits → Holds names (goes_on names t x)
   turn_holds t x h orderly = at t.sends t.manager.phase

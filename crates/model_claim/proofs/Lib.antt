@@ -5,6 +5,7 @@ mod Answers
 mod Cuts
 mod Machine
 mod Sends
+mod Series
 mod Returns
 mod Ports
 mod Labs

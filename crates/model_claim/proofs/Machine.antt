@@ -1,6 +1,7 @@
 -- The manager's table is the machine of the undo model.
-use Rattle.std.proofs.Common.{◌≡◌, ℕ, suc, ◌+◌, Bool, true, false, cond, List, [], ◌∷◌, ◌++◌, length, map, Option, Some, None, refl, ◌∙◌, ap}
+use Rattle.std.proofs.Common.{◌≡◌, ℕ, suc, ◌+◌, Bool, true, false, cond, List, [], ◌∷◌, ◌++◌, length, map, Option, Some, None, refl, sym, ◌∙◌, ap}
 use Rattle.std.specs.Prelude.{◌==◌, nat_lt, slice_get}
+use Rattle.std.specs.Option.{option_map}
 use Rattle.std.proofs.lemmas.List.{length-map}
 use Rattle.two_wire.specs.Codes.{success}
 use Rattle.two_wire.specs.declared.Bus.{Bus}
@@ -8,13 +9,14 @@ use Rattle.two_wire.specs.declared.Bus.TheVariants.{Ipmb, Smbus}
 use Rattle.record_base.specs.declared.op.Op.{Op}
 use Rattle.record_base.specs.declared.message.Asked.{Asked}
 use Rattle.record_base.specs.declared.message.Answered.{Answered}
-use Rattle.record_kinds.specs.Limits.{inverse}
+use Rattle.record_kinds.specs.Limits.{key_of, inverse}
 use Rattle.undo_plans.specs.declared.names.Names.{Names}
 use Rattle.model_undo.specs.Words.{Words}
 use Rattle.model_undo.specs.Machine as machine
 use Rattle.model_lab.specs.ManagerSteps as manager
-use Rattle.model_claim.specs.Manager.{Call, Start, Quiet, Stop, Again, Undo, Task, Gets, Sets, Undoes, Phase, Fresh, Open, Done, Halted, Undone, UndoRefused, Manager, Turn, enters, rests, next_step, set_step, undo_step, next_part, called, carried_out, refused, one_more, bus_of, asked_for, are_all, shown_by}
-use Rattle.model_claim.specs.Seen.{seen_as, words_of, P, W, series, seen_call, seen_task, part_of, stage_of, counts_of, machine_of}
+use Rattle.model_claim.specs.Manager.{Call, Start, Quiet, Stop, Again, Undo, Stopped, Task, Gets, Sets, Undoes, Phase, Fresh, Open, Done, Halted, Undone, UndoRefused, Manager, Turn, enters, rests, next_step, set_step, undo_step, called, carried_out, refused, one_more, bus_of, joined, Reads, sends, next_after, series_of, by_manager, asked_for}
+use Rattle.model_claim.specs.Seen.{seen_as, words_of, P, W, seen_call, seen_task, part_of, stage_of, counts_of, machine_of}
+use Rattle.model_claim.proofs.Series.{after_is}
 use Rattle.model_undo.specs.declared.phase.Why.TheVariants as undo_why
 
 module _ (names : Names) where
@@ -62,7 +64,7 @@ module _ (names : Names) where
   begins None m = refl
   begins (Some op) m = refl
 
-  goes_back : (ops : List Op) (m : Manager) → machine.enters M (machine.undo_stage M (map (series names) ops)) (machine_of names m) ≡ seen_turn (enters (undo_step ops) m)
+  goes_back : (ops : List Op) (m : Manager) → machine.enters M (machine.undo_stage M (map sends ops)) (machine_of names m) ≡ seen_turn (enters (undo_step ops) m)
   goes_back [] m = refl
   goes_back (back ∷ rest) m = refl
 
@@ -139,10 +141,10 @@ module _ (names : Names) where
   gets_then true k (Some op) m = refl
   gets_then false k (Some op) m = refl
 
-  -- the task's next request
+  -- another request of the record, unless the plan is to stop
   more_gets : (stopped : Bool) (k : ℕ) (op : Op) (bodies : List (List ℕ)) (m : Manager)
       → machine.enters M (machine.goes_on M stopped (machine.Gets k op) (part_of names (asked_for names (Gets k op) bodies) bodies)) (machine_of names m)
-      ≡ seen_turn (enters (next_part (Gets k op) stopped bodies) m)
+      ≡ seen_turn (enters (cond stopped (Halted k Stopped) (Open true (Gets k op) bodies)) m)
   more_gets true k op bodies m = refl
   more_gets false k op bodies m = refl
 
@@ -157,46 +159,53 @@ module _ (names : Names) where
 
     -- the turn that the answer makes
     abbrev pub turn_told : Task → Turn
-    turn_told task = cond (a.code == success) (carried_out (are_all task bodies_then) task bodies_then (answered task bodies m)) (refused task a.code (answered task bodies m))
+    turn_told task = cond (a.code == success) (carried_out (next_after (series_of task) bodies_then) task bodies_then (answered task bodies m)) (refused task a.code (answered task bodies m))
 
     -- the machine takes the reply to the request of a task, with these counts
     abbrev takes_with : Task → machine.Counts → machine.Turn M
     takes_with task counts =
         machine.enters M (machine.stage_after M m.stopped m.plan (words_of a) (seen_task names task) (part_of names (asked_for names task bodies) bodies))
-        (record (machine_of names m) { undo = machine.undo_after M (words_of a) (seen_task names task) (part_of names (asked_for names task bodies) bodies) (map (series names) m.undo); counts = counts })
+        (record (machine_of names m) { undo = machine.undo_after M (words_of a) (seen_task names task) (part_of names (asked_for names task bodies) bodies) (map sends m.undo); counts = counts })
 
     counted : (task : Task) → takes_with task (machine.one_answered (bus_of (asked_for names task bodies)) (counts_of names m.answered)) ≡ takes_with task (counts_of names (answered task bodies m).answered)
     counted task = ap (takes_with task) (counts_alike (bus_of (asked_for names task bodies)) m.answered)
 
-    -- the task's next request, unless these replies are all
-    abbrev next : Task → Bool → Option Asked
-    next task true = None
-    next task false = Some (asked_for names task bodies_then)
+    -- the manager's next request, where there is one
+    abbrev next : Option Asked → Option Asked
+    next another = option_map (by_manager names) another
+
+    -- it is the one after these replies
+    open_then : (task : Task) (asked : Asked) → next_after (series_of task) bodies_then ≡ Some asked → by_manager names asked ≡ asked_for names task bodies_then
+    open_then task asked e = ap (by_manager names) (sym (after_is (series_of task) bodies a.body asked e))
 
     pub takes_turn : (task : Task) → machine.takes M (words_of a) (seen_task names task) (part_of names (asked_for names task bodies) bodies) (machine_of names m) ≡ seen_turn (turn_told task)
-    takes_turn (Gets k op) = counted (Gets k op) ∙ at (a.code == success) (are_all (Gets k op) bodies_then)
+    takes_turn (Gets k op) = counted (Gets k op) ∙ at (a.code == success) (next_after (Reads (key_of op)) bodies_then) refl
       where
-        at : (ok all : Bool)
-            → machine.enters M (cond ok (machine.told_stage M m.stopped m.plan (machine.Gets k op) bodies_then (next (Gets k op) all)) (machine.AtHalt k (undo_why.GetRefused a.code))) (machine_of names (answered (Gets k op) bodies m))
-            ≡ seen_turn (cond ok (carried_out all (Gets k op) bodies_then (answered (Gets k op) bodies m)) (refused (Gets k op) a.code (answered (Gets k op) bodies m)))
-        at true true = sets_then m.stopped k op (inverse op (shown_by bodies_then)) (answered (Gets k op) bodies m)
-        at true false = more_gets m.stopped k op bodies_then (answered (Gets k op) bodies m)
-        at false all = refl
-    takes_turn (Sets k op back) = counted (Sets k op back) ∙ at (a.code == success) (are_all (Sets k op back) bodies_then)
+        at : (ok : Bool) (another : Option Asked) → next_after (Reads (key_of op)) bodies_then ≡ another
+            → machine.enters M (cond ok (machine.told_stage M m.stopped m.plan (machine.Gets k op) bodies_then (next another)) (machine.AtHalt k (undo_why.GetRefused a.code))) (machine_of names (answered (Gets k op) bodies m))
+            ≡ seen_turn (cond ok (carried_out another (Gets k op) bodies_then (answered (Gets k op) bodies m)) (refused (Gets k op) a.code (answered (Gets k op) bodies m)))
+        at true None e = sets_then m.stopped k op (inverse op (joined bodies_then)) (answered (Gets k op) bodies m)
+        at true (Some asked) e =
+            ap (λ (q : Asked). machine.enters M (machine.goes_on M m.stopped (machine.Gets k op) (part_of names q bodies_then)) (machine_of names (answered (Gets k op) bodies m))) (open_then (Gets k op) asked e)
+            ∙ more_gets m.stopped k op bodies_then (answered (Gets k op) bodies m)
+        at false another e = refl
+    takes_turn (Sets k op back) = counted (Sets k op back) ∙ at (a.code == success) (next_after (sends op) bodies_then) refl
       where
-        at : (ok all : Bool)
-            → machine.enters M (cond ok (machine.told_stage M m.stopped m.plan (machine.Sets k op back) bodies_then (next (Sets k op back) all)) (machine.AtHalt k (undo_why.Refused a.code)))
-            (record (machine_of names (answered (Sets k op back) bodies m)) { undo = cond ok (machine.undo_with M back (next (Sets k op back) all) (map (series names) m.undo)) (map (series names) m.undo) })
-            ≡ seen_turn (cond ok (carried_out all (Sets k op back) bodies_then (answered (Sets k op back) bodies m)) (refused (Sets k op back) a.code (answered (Sets k op back) bodies m)))
-        at true true = gets_then m.stopped (suc k) (slice_get m.plan (suc k)) (record (answered (Sets k op back) bodies m) { undo = back ∷ m.undo })
-        at true false = refl
-        at false all = refl
-    takes_turn (Undoes back rest) = counted (Undoes back rest) ∙ at (a.code == success) (are_all (Undoes back rest) bodies_then)
+        at : (ok : Bool) (another : Option Asked) → next_after (sends op) bodies_then ≡ another
+            → machine.enters M (cond ok (machine.told_stage M m.stopped m.plan (machine.Sets k op back) bodies_then (next another)) (machine.AtHalt k (undo_why.Refused a.code)))
+            (record (machine_of names (answered (Sets k op back) bodies m)) { undo = cond ok (machine.undo_with M back (next another) (map sends m.undo)) (map sends m.undo) })
+            ≡ seen_turn (cond ok (carried_out another (Sets k op back) bodies_then (answered (Sets k op back) bodies m)) (refused (Sets k op back) a.code (answered (Sets k op back) bodies m)))
+        at true None e = gets_then m.stopped (suc k) (slice_get m.plan (suc k)) (record (answered (Sets k op back) bodies m) { undo = back ∷ m.undo })
+        at true (Some asked) e =
+            ap (λ (q : Asked). machine.enters M (machine.Opened true (machine.Sets k op back) (part_of names q bodies_then)) (machine_of names (answered (Sets k op back) bodies m))) (open_then (Sets k op back) asked e)
+        at false another e = refl
+    takes_turn (Undoes back rest) = counted (Undoes back rest) ∙ at (a.code == success) (next_after (sends back) bodies_then) refl
       where
-        at : (ok all : Bool)
-            → machine.enters M (cond ok (machine.told_stage M m.stopped m.plan (seen_task names (Undoes back rest)) bodies_then (next (Undoes back rest) all)) (machine.AtRefused (length (map (series names) rest)) a.code))
+        at : (ok : Bool) (another : Option Asked) → next_after (sends back) bodies_then ≡ another
+            → machine.enters M (cond ok (machine.told_stage M m.stopped m.plan (seen_task names (Undoes back rest)) bodies_then (next another)) (machine.AtRefused (length (map sends rest)) a.code))
             (machine_of names (answered (Undoes back rest) bodies m))
-            ≡ seen_turn (cond ok (carried_out all (Undoes back rest) bodies_then (answered (Undoes back rest) bodies m)) (refused (Undoes back rest) a.code (answered (Undoes back rest) bodies m)))
-        at true true = goes_back rest (answered (Undoes back rest) bodies m)
-        at true false = refl
-        at false all = ap (λ (n : ℕ). machine.enters M (machine.AtRefused n a.code) (machine_of names (answered (Undoes back rest) bodies m))) (length-map rest (series names))
+            ≡ seen_turn (cond ok (carried_out another (Undoes back rest) bodies_then (answered (Undoes back rest) bodies m)) (refused (Undoes back rest) a.code (answered (Undoes back rest) bodies m)))
+        at true None e = goes_back rest (answered (Undoes back rest) bodies m)
+        at true (Some asked) e =
+            ap (λ (q : Asked). machine.enters M (machine.Opened true (seen_task names (Undoes back rest)) (part_of names q bodies_then)) (machine_of names (answered (Undoes back rest) bodies m))) (open_then (Undoes back rest) asked e)
+        at false another e = ap (λ (n : ℕ). machine.enters M (machine.AtRefused n a.code) (machine_of names (answered (Undoes back rest) bodies m))) (length-map rest sends)

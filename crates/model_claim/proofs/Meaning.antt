@@ -17,9 +17,9 @@ use Rattle.model_undo.specs.Machine as machine
 use Rattle.model_undo.specs.Headline as undo_headline
 use Rattle.model_family.specs.Family.{SetsWithin, conf_within}
 use Rattle.model_headline.specs.Tied.{F}
-use Rattle.model_claim.specs.Manager.{Gets, Sets, Undoes, Phase, Fresh, Open, Done, Halted, Undone, UndoRefused}
+use Rattle.model_claim.specs.Manager.{Gets, Sets, Undoes, Phase, Fresh, Open, Done, Halted, Undone, UndoRefused, sends}
 use Rattle.model_claim.specs.Claim.{ours, SetsTo, IsAfter, Stands, ShowsSame}
-use Rattle.model_claim.specs.Seen.{words_of, W, series, stage_of}
+use Rattle.model_claim.specs.Seen.{words_of, W, stage_of}
 
 module _ (setup : BoardFile) (names : Names) where
   abbrev family : Family
@@ -52,9 +52,9 @@ module _ (setup : BoardFile) (names : Names) where
     stands_so (Open true (Sets k op back) bodies) r is = both k (suc k) r is
     stands_so (Open false (Sets k op back) bodies) r is = both k (suc k) r is
     stands_so (Open true (Undoes back rest) bodies) r is =
-        swapped (suc (length rest)) (length rest) r (subst (λ n. plans.IsAfter family plan start (suc n) r ⊎ plans.IsAfter family plan start n r) (length-map rest (series names)) is)
+        swapped (suc (length rest)) (length rest) r (subst (λ n. plans.IsAfter family plan start (suc n) r ⊎ plans.IsAfter family plan start n r) (length-map rest sends) is)
     stands_so (Open false (Undoes back rest) bodies) r is =
-        both (length rest) (suc (length rest)) r (subst (λ n. plans.IsAfter family plan start n r ⊎ plans.IsAfter family plan start (suc n) r) (length-map rest (series names)) is)
+        both (length rest) (suc (length rest)) r (subst (λ n. plans.IsAfter family plan start n r ⊎ plans.IsAfter family plan start (suc n) r) (length-map rest sends) is)
     stands_so Done r is = after_so (length plan) r is
     stands_so (Halted k why) r is = after_so k r is
     stands_so Undone r is = is

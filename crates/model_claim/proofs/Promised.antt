@@ -1,8 +1,10 @@
 -- A play keeps its promise.
 use Rattle.std.proofs.Common.{◌≡◌, ◌⊎◌, ℕ, suc, List, [], ◌∷◌, ◌++◌, length, sym, ap, subst, inl, inr}
+use Rattle.two_wire.specs.Codes.{success}
 use Rattle.record_base.specs.declared.op.Op.{Op}
 use Rattle.record_base.specs.declared.message.Asked.{Asked}
-use Rattle.record_kinds.specs.Limits.{key_of, get_asked, set_asked}
+use Rattle.record_kinds.specs.Limits.{key_of}
+use Rattle.record_kinds.specs.Series.{Reads, sends, request_after}
 use Rattle.cfg_records.specs.declared.board_file.BoardFile.{BoardFile}
 use Rattle.cfg_records.specs.Records.{Records}
 use Rattle.text_schedule.specs.declared.event.Call.TheVariants as call
@@ -19,16 +21,19 @@ use Rattle.model_undo.specs.declared.phase.Phase.{Phase}
 use Rattle.model_undo.specs.declared.phase.Phase.TheVariants.{Fresh, Getting, Setting, Done, Halted, Unsettled, Undoing, Undone, UndoRefused}
 use Rattle.model_undo.specs.Plan as plans
 use Rattle.model_lab.specs.Meaning.{lab_names}
+use Rattle.model_lab.specs.ManagerSteps.{addresses}
 use Rattle.model_lab.specs.Played.{Told, Ending, Whole, Stops, happens, IsPlayed}
 use Rattle.model_headline.specs.Tied.{F}
 use Rattle.model_headline.specs.Answers.{CausedBy}
 use Rattle.model_headline.specs.Plays as plays
 use Rattle.model_headline.specs.Plays.{taken_by, told_by, ToldStands, lab_after}
 use Rattle.model_headline.proofs.Plays.{plays_stand}
-use Rattle.model_claim.specs.Manager.{own_on, bus_of}
+use Rattle.model_headline.proofs.Series.{of_is}
+use Rattle.model_claim.specs.Manager.{own_on, bus_of, by_manager}
 use Rattle.model_claim.specs.Claim.{IsAfter}
 use Rattle.model_claim.specs.Promise.{Says, Gave, IsWhy, Promise}
 use Rattle.model_claim.specs.Keeps.{KeepsPromise}
+use Rattle.model_claim.proofs.Series.{board_of, all_given}
 use Rattle.model_claim.proofs.Meaning.{after_so}
 
 record HasStop (events : List Event) : Type 0 where
@@ -79,15 +84,22 @@ module _ (file : BoardFile) (plan : List Op) (retries : ℕ) where
           answers = ap (λ (given : Given). given.0) (sym (has_one_answer file x.board (sent_by from asked) (record { code = a.code; body = a.body }) (happens file g.event x).board g.answers.row));
         }
 
-    -- by which the manager asks
-    abbrev asker : Asked → ℕ
-    asker asked = own_on (bus_of asked) lab_names
+    module _ (k : ℕ) where
+      abbrev GaveThere : Asked → UndoAnswered → Type 0
+      GaveThere = plays.GaveIn file plan retries taken k
 
-    why_so : (k : ℕ) (why : Why) → CausedBy file lab_names (plays.GaveIn file plan retries taken) (In (Calls call.Stop) taken) plan (Halted k why) → IsWhy file plan start taken k why
-    why_so k Stop was = let is = has_stop taken was in (is.earlier, is.rest, is.all)
-    why_so k (GetRefused code) was = (was.0, was.1, was.2, gave k (get_asked (key_of was.0)) (asker (get_asked (key_of was.0))) (record { code = code; body = was.1 }) was.3, was.4)
-    why_so k (Refused code) was = (was.0, was.1, was.2, gave k (set_asked was.0) (asker (set_asked was.0)) (record { code = code; body = was.1 }) was.3, was.4)
-    why_so k NotRestorable was = (was.0, was.1, was.2, gave k (get_asked (key_of was.0)) (asker (get_asked (key_of was.0))) (record { code = 0; body = was.1 }) was.3, was.4)
+      -- the manager asked
+      said : (asked : Asked) (a : UndoAnswered) → GaveThere (by_manager lab_names asked) a → Gave file plan start k asked (board_of a)
+      said asked a = gave k asked (own_on (bus_of asked) lab_names) a
+
+      why_so : (why : Why) → CausedBy file lab_names (plays.GaveIn file plan retries taken) (In (Calls call.Stop) taken) plan (Halted k why) → IsWhy file plan start taken k why
+      why_so Stop was = let is = has_stop taken was in (is.earlier, is.rest, is.all)
+      why_so (GetRefused code) was = let is = of_is (addresses lab_names) (Reads (key_of was.0)) was.1 was.4 in
+          (was.0, is.0, was.2, was.3, said (request_after (Reads (key_of was.0)) is.0) (record { code = code; body = was.2 }) (subst (λ (q : Asked). GaveThere q (record { code = code; body = was.2 })) is.1 was.5), was.6)
+      why_so (Refused code) was = let is = of_is (addresses lab_names) (sends was.0) was.1 was.4 in
+          (was.0, is.0, was.2, was.3, said (request_after (sends was.0) is.0) (record { code = code; body = was.2 }) (subst (λ (q : Asked). GaveThere q (record { code = code; body = was.2 })) is.1 was.5), was.6)
+      why_so NotRestorable was =
+          (was.0, was.1, was.2, all_given lab_names GaveThere (Gave file plan start k) (Reads (key_of was.0)) (λ asked body. said asked (record { code = success; body = body })) was.1 was.3, was.4)
 
   -- what is told of the start is that of the lab that begins
   begins : (events : List Event) (ending : Ending) → IsPlayed file plan retries events ending → first_records ≡ (told_by ending).start

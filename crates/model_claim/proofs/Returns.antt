@@ -1,5 +1,5 @@
 -- What each frame makes of the manager is the model's.
-use Rattle.std.proofs.Common.{◌≡◌, ℕ, ◌<◌, Bool, true, false, not, ◌&&◌, cond, List, Option, Some, None, refl, sym, ◌∙◌, ap, arith, inl, inr}
+use Rattle.std.proofs.Common.{◌≡◌, ℕ, ◌<◌, Bool, true, false, not, ◌&&◌, cond, List, Option, Some, None, refl, sym, ◌∙◌, ap, arith}
 use Rattle.std.specs.Prelude.{◌==◌}
 use Rattle.two_wire.specs.Codes.{success}
 use Rattle.two_wire.specs.declared.Bus.{Bus}
@@ -11,7 +11,6 @@ use Rattle.mctp_net.specs.Assembly.{Assemblies, drop_cause}
 use Rattle.record_base.specs.declared.message.Asked.{Asked}
 use Rattle.record_base.specs.declared.message.Asked.TheVariants.{Ipmi, Pldm}
 use Rattle.record_base.specs.declared.message.Answered.{Answered}
-use Rattle.record_kinds.specs.Limits.{key_of}
 use Rattle.undo_plans.specs.declared.names.Names.{Names}
 use Rattle.model_bus.specs.Answered.{Answered as UndoAnswered}
 use Rattle.model_undo.specs.Machine as machine
@@ -21,12 +20,13 @@ use Rattle.model_lab.specs.ManagerSteps.{addresses}
 use Rattle.model_lab.specs.ManagerSteps as manager
 use Rattle.model_lab.specs.Lab as lab
 use Rattle.model_claim.specs.Frames.{Value, Asks, Tells, Part, is_taken, waits_after, whole}
-use Rattle.model_claim.specs.Manager.{Task, Gets, Sets, Undoes, Phase, Fresh, Open, Done, Halted, Undone, UndoRefused, Manager, Turn, rests, asked_for, told, told_in, is_part, read_in, hears, are_all, carried_out, refused}
+use Rattle.model_claim.specs.Manager.{Task, Gets, Sets, Undoes, Phase, Fresh, Open, Done, Halted, Undone, UndoRefused, Manager, Turn, rests, series_of, next_after, asked_for, told, told_in, is_part, read_in, hears, carried_out, refused}
 use Rattle.model_claim.specs.Lab.{Lab, goes_on}
 use Rattle.model_claim.proofs.Packets.{Agrees, IsKept, is_kept}
 use Rattle.model_claim.proofs.Answers.{is_busy, of_answer, responses_alike, messages_alike}
 use Rattle.model_claim.proofs.Machine.{seen_turn, at_phase, answered, bodies_then, turn_told, takes_turn}
 use Rattle.model_claim.proofs.Sends.{seen_deed, turn_lands, IsSeen}
+use Rattle.model_claim.proofs.Series.{task_made}
 use Rattle.model_claim.specs.Seen.{seen_as, words_of, P, W, seen_value, seen_task, part_of, stage_of, machine_of, seen_manager, seen_lab, Made}
 use Rattle.model_claim.proofs.Holds.{IsOrderly, IsLow}
 
@@ -60,11 +60,13 @@ module _ (names : Names) (x : Lab) (made : Made) where
     goes_there : (t : Turn) → opened.waits ≡ t.manager.waits → manager.goes_on (P names) there (seen_turn names t) ≡ seen_deed names made_then t
     goes_there t e = λ i. record { manager = record { machine = machine_of names t.manager; names = names; listed = Some names; joined = seen_as (e i) made_then }; sent = (seen_deed names made_then t).sent }
 
-    carried_waits : (all : Bool) (task : Task) (bodies : List (List ℕ)) (m : Manager) → m.waits ≡ (carried_out all task bodies m).manager.waits
-    carried_waits false task bodies m = refl
-    carried_waits true (Gets k op) bodies m = refl
-    carried_waits true (Sets k op back) bodies m = refl
-    carried_waits true (Undoes back rest) bodies m = refl
+    carried_waits : (another : Option Asked) (task : Task) (bodies : List (List ℕ)) (m : Manager) → m.waits ≡ (carried_out another task bodies m).manager.waits
+    carried_waits (Some asked) (Gets k op) bodies m = refl
+    carried_waits (Some asked) (Sets k op back) bodies m = refl
+    carried_waits (Some asked) (Undoes back rest) bodies m = refl
+    carried_waits None (Gets k op) bodies m = refl
+    carried_waits None (Sets k op back) bodies m = refl
+    carried_waits None (Undoes back rest) bodies m = refl
 
     refused_waits : (task : Task) (code : ℕ) (m : Manager) → m.waits ≡ (refused task code m).manager.waits
     refused_waits (Gets k op) code m = refl
@@ -76,11 +78,11 @@ module _ (names : Names) (x : Lab) (made : Made) where
     turn_so a = turn_told names a opened bodies task
 
     waits_so : (a : Answered) → opened.waits ≡ (turn_so a).manager.waits
-    waits_so a = at (a.code == success) (are_all task (bodies_then names a opened bodies))
+    waits_so a = at (a.code == success) (next_after (series_of task) (bodies_then names a opened bodies))
       where
-        at : (ok all : Bool) → opened.waits ≡ (cond ok (carried_out all task (bodies_then names a opened bodies) (answered names task bodies opened)) (refused task a.code (answered names task bodies opened))).manager.waits
-        at true all = carried_waits all task (bodies_then names a opened bodies) (answered names task bodies opened)
-        at false all = refused_waits task a.code (answered names task bodies opened)
+        at : (ok : Bool) (another : Option Asked) → opened.waits ≡ (cond ok (carried_out another task (bodies_then names a opened bodies) (answered names task bodies opened)) (refused task a.code (answered names task bodies opened))).manager.waits
+        at true another = carried_waits another task (bodies_then names a opened bodies) (answered names task bodies opened)
+        at false another = refused_waits task a.code (answered names task bodies opened)
 
     answer_so : (a : Answered) (busy : Bool) → is_busy a.code ≡ busy
         → cond busy (manager.rests (P names) there) (taken (words_of a)) ≡ seen_deed names made_then (cond busy (rests opened) (turn_so a))
@@ -116,9 +118,7 @@ module _ (names : Names) (x : Lab) (made : Made) where
     managers_low (Pldm from kind command body) is = tt
 
     task_low : (task : Task) → LowAsked (asked_for names task bodies)
-    task_low (Gets k op) = managers_low (asked_for names (Gets k op) bodies) (managers (addresses names) (asked_for names (Gets k op) bodies) (asked_for names (Gets k op) bodies, inl (key_of op, refl), inl refl))
-    task_low (Sets k op back) = managers_low (asked_for names (Sets k op back) bodies) (managers (addresses names) (asked_for names (Sets k op back) bodies) (asked_for names (Sets k op back) bodies, inr (op, refl), inl refl))
-    task_low (Undoes back rest) = managers_low (asked_for names (Undoes back rest) bodies) (managers (addresses names) (asked_for names (Undoes back rest) bodies) (asked_for names (Undoes back rest) bodies, inr (back, refl), inl refl))
+    task_low task = managers_low (asked_for names task bodies) (managers (addresses names) (asked_for names task bodies) (task_made names task bodies))
 
     pub response_told : (r : Response) → IsLow names r.header → manager.hears_reply (P names) Ipmb (response_bytes r) there ≡ seen_deed names made_then (told names task bodies (told_in (m.answered Ipmb) (asked_for names task bodies) r) opened)
     response_told r low = by_response r low (asked_for names task bodies) (task_low task) ∙ answer_told (told_in (m.answered Ipmb) (asked_for names task bodies) r)

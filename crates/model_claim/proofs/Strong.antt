@@ -9,7 +9,7 @@ use Rattle.record_base.specs.declared.message.Answered.{Answered}
 use Rattle.cfg_records.specs.declared.board_file.BoardFile.{BoardFile}
 use Rattle.cfg_records.specs.Records.{Records}
 use Rattle.record_kinds.specs.declared.limits.Limits.{Limits}
-use Rattle.record_kinds.specs.Limits.{key_of, limits_at, get_asked, set_asked, conf}
+use Rattle.record_kinds.specs.Limits.{key_of, limits_at, conf}
 use Rattle.bmc_board.specs.Request.{asked_by}
 use Rattle.bmc_board.specs.State.{State}
 use Rattle.bmc_board.specs.Row.{Row}
@@ -29,14 +29,15 @@ use Rattle.model_headline.specs.Each.{Each}
 use Rattle.model_headline.specs.Tied.{F}
 use Rattle.model_headline.specs.Answers as answers
 use Rattle.model_headline.specs.Theorem as law
-use Rattle.model_claim.specs.Manager.{Stop, Why, Stopped, GetRefused, SetRefused, NotRestorable, Gets, Sets, Undoes, Phase, Fresh, Open, Done, Halted, Undone, UndoRefused, by_manager}
+use Rattle.model_claim.specs.Manager.{Stop, Why, Stopped, GetRefused, SetRefused, NotRestorable, Gets, Sets, Undoes, Phase, Fresh, Open, Done, Halted, Undone, UndoRefused, Reads, sends, request_after, by_manager}
 use Rattle.model_claim.specs.Lab.{Event, Calls, Carried, Lab, port_on, step}
 use Rattle.model_claim.specs.Claim.{ours, SetsTo, IsAfter, Stands, ShowsSame, AllHonest, first, after, GaveIn, IsCause, Claim}
-use Rattle.model_claim.specs.Seen.{P, W, spell, seen_log, series, bare, seen_event, seen_lab, stage_of}
-use Rattle.model_claim.proofs.Holds.{Reads}
+use Rattle.model_claim.specs.Seen.{P, W, spell, seen_log, bare, seen_event, seen_lab, stage_of}
+use Rattle.model_claim.proofs.Holds.{Reads as EntryReads}
 use Rattle.model_claim.proofs.Labs.{step_so}
 use Rattle.model_claim.proofs.Honesty.{first_honest, later_honest}
-use Rattle.model_claim.proofs.Claim.{ran, port_log, holds_reads, board_of}
+use Rattle.model_claim.proofs.Series.{board_of, is_of, all_back}
+use Rattle.model_claim.proofs.Claim.{ran, port_log, holds_reads}
 use Rattle.model_claim.specs.Refines.{Refines}
 use Rattle.model_claim.proofs.Controller.{row_served}
 use Rattle.model_claim.proofs.Refined.{all_here, honest_alike}
@@ -74,9 +75,9 @@ module _ (setup : BoardFile) (names : Names) where
     stands_back (Open true (Sets k op back) bodies) r is = both k (suc k) r is
     stands_back (Open false (Sets k op back) bodies) r is = both k (suc k) r is
     stands_back (Open true (Undoes back rest) bodies) r is =
-        subst (λ n. plans.IsAfter (F setup names) plan start (suc n) r ⊎ plans.IsAfter (F setup names) plan start n r) (sym (length-map rest (series names))) (swapped (length rest) (suc (length rest)) r is)
+        subst (λ n. plans.IsAfter (F setup names) plan start (suc n) r ⊎ plans.IsAfter (F setup names) plan start n r) (sym (length-map rest sends)) (swapped (length rest) (suc (length rest)) r is)
     stands_back (Open false (Undoes back rest) bodies) r is =
-        subst (λ n. plans.IsAfter (F setup names) plan start n r ⊎ plans.IsAfter (F setup names) plan start (suc n) r) (sym (length-map rest (series names))) (both (length rest) (suc (length rest)) r is)
+        subst (λ n. plans.IsAfter (F setup names) plan start n r ⊎ plans.IsAfter (F setup names) plan start (suc n) r) (sym (length-map rest sends)) (both (length rest) (suc (length rest)) r is)
     stands_back Done r is = after_back (length plan) r is
     stands_back (Halted k why) r is = after_back k r is
     stands_back Undone r is = is
@@ -120,7 +121,7 @@ module _ (setup : BoardFile) (names : Names) (plan : List Op) (retries : ℕ) wh
       let y : Lab = step (ours setup) names x g.event in
       let after_is : lab.step (P names) setup (law.after setup names plan retries (map seen_event g.before)) (seen_event g.event) ≡ seen_lab names one.made y =
       ap (λ (l : lab.Lab (P names)). lab.step (P names) setup l (seen_event g.event)) f.is ∙ one.is in
-      let reads : Each (Reads names g.bus) (Carried g.heard (board_of a) ∷ (port_on g.bus x).log) = subst (Each (Reads names g.bus)) g.carried (holds_reads setup names plan retries g.bus y one.holds) in
+      let reads : Each (EntryReads names g.bus) (Carried g.heard (board_of a) ∷ (port_on g.bus x).log) = subst (Each (EntryReads names g.bus)) g.carried (holds_reads setup names plan retries g.bus y one.holds) in
       let was : answers.Answers setup names (seen_lab names f.made_then x) (seen_lab names one.made y) (by_manager names asked) a = record {
         bus = g.bus;
         kept = record { request = bare g.heard; reply = spell g.bus g.heard.bytes (board_of a) };
@@ -172,13 +173,17 @@ module _ (setup : BoardFile) (names : Names) (plan : List Op) (retries : ℕ) wh
         subst (λ (es : List Event). In (lab.Calls lab_call.Stop) (map seen_event es)) (sym is.2) (stop_in is.0 is.1)
     caused events all (Halted k (GetRefused code)) c =
         let is = c k (GetRefused code) refl in
-        (is.0, is.1, is.2, gave_back events k (get_asked (key_of is.0)) (record { code = code; body = is.1 }) all is.3, is.4)
+        let asked = request_after (Reads (key_of is.0)) is.1 in
+        (is.0, by_manager names asked, is.2, is.3, is_of names (Reads (key_of is.0)) is.1, gave_back events k asked (record { code = code; body = is.2 }) all is.4, is.5)
     caused events all (Halted k (SetRefused code)) c =
         let is = c k (SetRefused code) refl in
-        (is.0, is.1, is.2, gave_back events k (set_asked is.0) (record { code = code; body = is.1 }) all is.3, is.4)
+        let asked = request_after (sends is.0) is.1 in
+        (is.0, by_manager names asked, is.2, is.3, is_of names (sends is.0) is.1, gave_back events k asked (record { code = code; body = is.2 }) all is.4, is.5)
     caused events all (Halted k NotRestorable) c =
         let is = c k NotRestorable refl in
-        (is.0, is.1, is.2, gave_back events k (get_asked (key_of is.0)) (record { code = success; body = is.1 }) all is.3, is.4)
+        let back = all_back names (law.GaveIn setup names plan retries (map seen_event events) k) (GaveIn setup (ours setup) names plan retries events k) (Reads (key_of is.0))
+        (λ asked body. gave_back events k asked (record { code = success; body = body }) all) in
+        (is.0, is.1, is.2, back is.1 is.3, is.4)
 
     halts_there : (events : List Event) → Trusted (map seen_event events) → Caused events (law.phase_after setup names plan retries (map seen_event events))
     halts_there events trusted =

@@ -12,13 +12,14 @@ use Rattle.cfg_records.specs.declared.board_file.BoardFile.{BoardFile}
 use Rattle.cfg_records.specs.Boards.{pairs_of}
 use Rattle.cfg_records.specs.Records.{Records, records_of, with_record}
 use Rattle.record_kinds.specs.declared.limits.Limits.{Limits}
-use Rattle.record_kinds.specs.Limits.{key_of, get_asked, set_asked, restorable, limits_at, sets, view, conf}
+use Rattle.record_kinds.specs.Limits.{key_of, restorable, limits_at, sets, view, conf}
+use Rattle.record_kinds.specs.Series.{first_shown}
 use Rattle.bmc_board.specs.State.{State, opened}
 use Rattle.bmc_board.specs.Request.{Request, Get, Set, SetStores, PartOfSet, asked_by}
 use Rattle.bmc_board.specs.Table.{is_changing}
 use Rattle.bmc_board.specs.Answer.{answer_of}
 use Rattle.model_claim.specs.Frames.{Bus, Ipmb, Smbus, Packet, Value, Part, span, is_taken}
-use Rattle.model_claim.specs.Manager.{Op, Asked, Ipmi, Pldm, Answered, Names, Stop, Why, Stopped, GetRefused, SetRefused, NotRestorable, Gets, Sets, Undoes, Phase, Fresh, Open, Done, Halted, Undone, UndoRefused, own_on, by_manager, open_in}
+use Rattle.model_claim.specs.Manager.{Op, Asked, Ipmi, Pldm, Answered, Names, Stop, Why, Stopped, GetRefused, SetRefused, NotRestorable, Gets, Sets, Undoes, Phase, Fresh, Open, Done, Halted, Undone, UndoRefused, own_on, by_manager, Series, Reads, sends, first_of, next_after, request_after, joined, open_in}
 use Rattle.model_claim.specs.Lab.{PldmRequest, Controller, Heard, Carried, heard_in, pldm_heard, Way, ToPort, ToManager, Frame, Event, Calls, ToBmc, ToMgr, OtherIpmb, OtherSmbus, Noise, Idles, OnBench, Lab, port_on, idles_on, step, run, opening}
 
 -- ---- what commands do to records
@@ -34,14 +35,14 @@ module _ (setup : BoardFile) where
     pub accepted : sets limits op before after
     pub changed : new ≡ with_record old (key_of op) after
 
-  -- a Get is answered with 00h and a view of its record's value, or refused where there is none
+  -- A Get is answered with 00h and a view of its record's value (of a long attribute's, the first part), or refused where there is none.
   abbrev pub Shows : Option Limits → Option (List ℕ) → State → Answered → Type 0
-  Shows (Some limits) (Some value) before a = a ≡ record { code = success; body = view limits value before.activity.live }
+  Shows (Some limits) (Some value) before a = a ≡ record { code = success; body = first_shown limits (view limits value before.activity.live) }
   Shows limits value before a = a.code ≢ success
 
   -- What is asked for is answered so, and leaves such a board. A Set changes its own record alone, or is refused since it can't be accepted. A part of
-  -- a Set leaves every record, or is carried out as such a Set. No honest event has one, nor a request that sets two. Any other, as that of a live
-  -- command, leaves every record, whatever it is answered.
+  -- a Set leaves every record, or is carried out as such a Set. No honest event has a request that sets two. Any other, as that of a live command or
+  -- of a later part of a Get, leaves every record, whatever it is answered.
   abbrev pub IsServed : Result Request ℕ → (before : State) → Answered → (after : State) → Type 0
   IsServed (Ok (Get key)) before a after = (after.records ≡ before.records) × Shows (limits_at setup key) (before.records key) before a
   IsServed (Ok (Set op)) before a after = ((a.code ≡ success) × SetsTo op before.records after.records)
@@ -50,9 +51,9 @@ module _ (setup : BoardFile) where
   IsServed (Ok (SetStores first second)) before a after = a.code ≢ success → after.records ≡ before.records
   IsServed request before a after = after.records ≡ before.records
 
-  -- it begins with the file's records, and serves each request so
+  -- it begins with the file's records and nothing staged, and serves each request so
   pub record IsController (c : Controller) : Type 0 where
-    pub begins : c.begins.records ≡ records_of (pairs_of setup)
+    pub begins : (c.begins.records ≡ records_of (pairs_of setup)) × (c.begins.activity.stagings ≡ [])
     pub serves : (before : State) (asked : Asked) → IsServed (asked_by asked) before (c.answer before asked).0 (c.answer before asked).1
 
   -- The controller that the claim is of. Its board is as above, which is all that needs to be known of its answers.
@@ -144,6 +145,14 @@ module _ (c : Controller) (names : Names) where
 
 -- ---- the claim
 
+-- The requests of a series from this one on, where there is one, were answered in order up to the last, each with 00h and these data. The replies to
+-- those before it have the data `before`. `Given` says which answers were given.
+abbrev pub AreGiven : (Given : Asked → Answered → Type 0) → Series → (before : List (List ℕ)) → Option Asked → (bodies : List (List ℕ)) → Type 0
+AreGiven Given series before None [] = Unit {0}
+AreGiven Given series before (Some asked) (body ∷ bodies) =
+    let with_it = before ++ body ∷ [] in Given asked (record { code = success; body = body }) × AreGiven Given series with_it (next_after series with_it) bodies
+AreGiven Given series before asked bodies = ⊥
+
 module _ (setup : BoardFile) (c : Controller) (names : Names) (plan : List Op) (retries : ℕ) where
   -- the lab as it begins, and after events
   abbrev pub first : Lab
@@ -167,15 +176,15 @@ module _ (setup : BoardFile) (c : Controller) (names : Names) (plan : List Op) (
     pub carried : (port_on bus (step c names (after before) event)).log ≡ Carried heard a ∷ (port_on bus (after before)).log
     pub answered : c.answer (after before).board heard.asked ≡ (a, (step c names (after before) event).board)
 
-  -- what made a plan halt at step k: a call of `stop`, or the answer to the step's Get or Set
+  -- what made a plan halt at step k: a call of `stop`, or answers to requests of the step's Get or Set
   abbrev pub IsCause : List Event → ℕ → Why → Type 0
   IsCause events k Stopped = (before : List Event) × (later : List Event) × (events ≡ before ++ Calls Stop ∷ later)
-  IsCause events k (GetRefused code) =
-      (op : Op) × (body : List ℕ) × (slice_get plan k ≡ Some op) × GaveIn events k (get_asked (key_of op)) (record { code = code; body = body }) × (code ≢ success)
-  IsCause events k (SetRefused code) =
-      (op : Op) × (body : List ℕ) × (slice_get plan k ≡ Some op) × GaveIn events k (set_asked op) (record { code = code; body = body }) × (code ≢ success)
-  IsCause events k NotRestorable =
-      (op : Op) × (body : List ℕ) × (slice_get plan k ≡ Some op) × GaveIn events k (get_asked (key_of op)) (record { code = success; body = body }) × (¬ restorable op body)
+  IsCause events k (GetRefused code) = (op : Op) × (bodies : List (List ℕ)) × (body : List ℕ) × (slice_get plan k ≡ Some op)
+      × GaveIn events k (request_after (Reads (key_of op)) bodies) (record { code = code; body = body }) × (code ≢ success)
+  IsCause events k (SetRefused code) = (op : Op) × (bodies : List (List ℕ)) × (body : List ℕ) × (slice_get plan k ≡ Some op)
+      × GaveIn events k (request_after (sends op) bodies) (record { code = code; body = body }) × (code ≢ success)
+  IsCause events k NotRestorable = (op : Op) × (bodies : List (List ℕ)) × (slice_get plan k ≡ Some op)
+      × AreGiven (GaveIn events k) (Reads (key_of op)) [] (Some (first_of (Reads (key_of op)))) bodies × (¬ restorable op (joined bodies))
 
   -- After every honest schedule, and so at each of its events, the phase says what the records are. Once the plan is undone, and after all
   -- that comes then, every record is what it was, and each Get is answered with the same code and shows the same configuration. A plan that

@@ -8,7 +8,7 @@ use Rattle.mctp_net.specs.declared.message.Message.{Message}
 pub use Rattle.pldm_base.specs.declared.message.PldmRequest.{PldmRequest}
 use Rattle.pldm_base.specs.Message.{request_in as pldm_in, request_bytes as pldm_bytes, reply_bytes as pldm_reply}
 use Rattle.bmc_board.specs.declared.activity.Activity.{Activity}
-use Rattle.bmc_board.specs.State.{State, state}
+use Rattle.bmc_board.specs.State.{State, on_bench}
 use Rattle.model_claim.specs.Frames.{Bus, Ipmb, Smbus, Request, Envelope, Packet, Value, Asks, Tells, Part, circle, envelope, packets_of, is_meant, is_taken, whole, waits_after}
 use Rattle.model_claim.specs.Manager.{Op, Asked, Ipmi, Pldm, Answered, Names, Call, Fresh, Manager, Turn, called, hears as manager_hears, own_on, bus_of, open_in, frames_of}
 
@@ -118,15 +118,13 @@ hears_control port before e (Some told) =
 
 -- a PLDM request from an endpoint
 abbrev pub pldm_heard : ℕ → PldmRequest → Heard
-pldm_heard from r =
-    record { requester = from; number = r.header.instance; bytes = 1 ∷ pldm_bytes r; asked = Pldm from r.header.pldm_type r.header.command r.body }
+pldm_heard from r = record { requester = from; number = r.header.instance; bytes = 1 ∷ pldm_bytes r; asked = Pldm from r.header.pldm_type r.header.command r.body }
 
 abbrev pub hears_pldm : Controller → Port → State → Envelope → Option PldmRequest → Deed
 hears_pldm c port before e None = stays port before
 hears_pldm c port before e (Some r) =
     let t = turn Smbus (pldm_heard e.source_eid r) c port.log before in
-    let sent = replies port e (1 ∷ pldm_reply (record { header = r.header; code = t.answer.code; body = t.answer.body })) in
-    record { port = record port { log = t.log }; board = t.board; sent = sent }
+    record { port = record port { log = t.log }; board = t.board; sent = replies port e (1 ∷ pldm_reply (record { header = r.header; code = t.answer.code; body = t.answer.body })) }
 
 -- a whole message, by its type: 00h control, 01h PLDM
 abbrev pub hears_typed : Controller → Port → State → Envelope → List ℕ → Deed
@@ -265,7 +263,7 @@ module _ (c : Controller) (names : Names) where
   step x (OtherSmbus m) = port_does names Smbus ToOthers 0 (hears_all m x.smbus x.board) x
   step x (Noise on bytes) = x
   step x (Idles on requester) = with_port on (record (port_on on x) { log = Idled requester ∷ (port_on on x).log }) x
-  step x (OnBench activity) = record x { board = state x.board.records activity }
+  step x (OnBench activity) = record x { board = on_bench x.board activity }
 
   -- the lab after events
   unfoldable pub run : List Event → Lab → Lab

@@ -1,12 +1,14 @@
 -- A manager: what each call and each frame makes of it, and when it sends the frames of its open request.
-use Rattle.std.specs.Prelude.{ℕ, suc, ◌+◌, ◌==◌, ◌&&◌, ◌||◌, not, ◌/◌, ◌%◌, nat_lt, Bool, true, false, List, [], ◌∷◌, ◌++◌, length, map, Option, Some, None, if◌then◌else◌, slice_get, unwrap_or}
+use Rattle.std.specs.Prelude.{ℕ, suc, ◌+◌, ◌==◌, ◌&&◌, ◌||◌, not, ◌/◌, ◌%◌, nat_lt, Bool, true, false, List, [], ◌∷◌, ◌++◌, length, map, Option, Some, None, if◌then◌else◌, slice_get}
 use Rattle.two_wire.specs.Codes.{success, node_busy, pldm_not_ready}
 use Rattle.pldm_base.specs.Message.{request_bytes}
 pub use Rattle.record_base.specs.declared.op.Op.{Op}
 pub use Rattle.record_base.specs.declared.message.Asked.{Asked}
 pub use Rattle.record_base.specs.declared.message.Asked.TheVariants.{Ipmi, Pldm}
 pub use Rattle.record_base.specs.declared.message.Answered.{Answered}
-use Rattle.record_kinds.specs.Limits.{key_of, get_asked, set_asked, inverse}
+pub use Rattle.bios_attr.specs.EntryParts.{joined}
+use Rattle.record_kinds.specs.Limits.{key_of, inverse}
+pub use Rattle.record_kinds.specs.Series.{Series, Reads, sends, first_of, next_after, request_after}
 use Rattle.bmc_board.specs.Decode.{sent_by}
 pub use Rattle.undo_plans.specs.declared.names.Names.{Names}
 use Rattle.model_claim.specs.Frames.{Bus, Ipmb, Smbus, Response, Packet, Value, Asks, Tells, Part, circle, envelope, packets_of, is_taken, whole, waits_after}
@@ -15,7 +17,7 @@ use Rattle.model_claim.specs.Frames.{Bus, Ipmb, Smbus, Response, Packet, Value, 
 pub data Call : Type 0 where
   Start Quiet Stop Again Undo : Call
 
--- why a plan halted: it was to stop, the Get or the Set of a step was refused, or the step can't be undone from the reply to its Get
+-- why a plan halted: it was to stop, the Get or the Set of a step was refused, or the step can't be undone from the replies to its Get
 pub data Why : Type 0 where
   Stopped NotRestorable : Why
   GetRefused SetRefused : (code : ℕ) → Why
@@ -68,18 +70,14 @@ bus_of (Pldm from kind command body) = Smbus
 abbrev pub by_manager : Names → Asked → Asked
 by_manager names asked = sent_by (own_on (bus_of asked) names) asked
 
--- A task's series, which is one request today: the request after replies with these data; whether such replies are all of the series; and what
--- they show together.
+-- the requests of a task, and the one after replies with these data
+abbrev pub series_of : Task → Series
+series_of (Gets k op) = Reads (key_of op)
+series_of (Sets k op back) = sends op
+series_of (Undoes back rest) = sends back
+
 abbrev pub asked_for : Names → Task → (bodies : List (List ℕ)) → Asked
-asked_for names (Gets k op) bodies = by_manager names (get_asked (key_of op))
-asked_for names (Sets k op back) bodies = by_manager names (set_asked op)
-asked_for names (Undoes back rest) bodies = by_manager names (set_asked back)
-
-abbrev pub are_all : Task → (bodies : List (List ℕ)) → Bool
-are_all task bodies = true
-
-abbrev pub shown_by : (bodies : List (List ℕ)) → List ℕ
-shown_by bodies = unwrap_or (slice_get bodies 0) []
+asked_for names task bodies = by_manager names (request_after (series_of task) bodies)
 
 -- the open request
 abbrev pub open_in : Names → Phase → Option Asked
@@ -125,11 +123,6 @@ abbrev pub undo_step : List Op → Phase
 undo_step [] = Undone
 undo_step (back ∷ rest) = Open true (Undoes back rest) []
 
--- the task's next request; a plan that is to stop gets no more of a record
-abbrev pub next_part : Task → Bool → (bodies : List (List ℕ)) → Phase
-next_part (Gets k op) true bodies = Halted k Stopped
-next_part task stopped bodies = Open true task bodies
-
 -- a call; in a phase that isn't one for the call nothing changes
 abbrev pub called : Call → Phase → Manager → Turn
 called Start Fresh m = enters (next_step false 0 (slice_get m.plan 0)) m
@@ -144,12 +137,13 @@ called Undo Done m = enters (undo_step m.undo) (record m { waits = [] })
 called Undo (Halted k why) m = enters (undo_step m.undo) (record m { waits = [] })
 called call phase m = rests m
 
--- requests of the task were carried out, all or not, and their replies have these data
-abbrev pub carried_out : (all : Bool) → Task → (bodies : List (List ℕ)) → Manager → Turn
-carried_out false task bodies m = enters (next_part task m.stopped bodies) m
-carried_out true (Gets k op) bodies m = enters (set_step m.stopped k op (inverse op (shown_by bodies))) m
-carried_out true (Sets k op back) bodies m = enters (next_step m.stopped (suc k) (slice_get m.plan (suc k))) (record m { undo = back ∷ m.undo })
-carried_out true (Undoes back rest) bodies m = enters (undo_step rest) m
+-- Requests of the task were carried out, whose replies have these data: another is to come, or they were all. A plan that is to stop gets no more.
+abbrev pub carried_out : (another : Option Asked) → Task → (bodies : List (List ℕ)) → Manager → Turn
+carried_out (Some asked) (Gets k op) bodies m = enters (if m.stopped then Halted k Stopped else Open true (Gets k op) bodies) m
+carried_out (Some asked) task bodies m = enters (Open true task bodies) m
+carried_out None (Gets k op) bodies m = enters (set_step m.stopped k op (inverse op (joined bodies))) m
+carried_out None (Sets k op back) bodies m = enters (next_step m.stopped (suc k) (slice_get m.plan (suc k))) (record m { undo = back ∷ m.undo })
+carried_out None (Undoes back rest) bodies m = enters (undo_step rest) m
 
 -- it was refused
 abbrev pub refused : Task → ℕ → Manager → Turn
@@ -170,7 +164,7 @@ told names task bodies (Some a) m =
     let next : Manager = record m { answered = one_more (bus_of (asked_for names task bodies)) m.answered } in
     let with_it = bodies ++ a.body ∷ [] in
     if a.code == node_busy || a.code == pldm_not_ready then rests m
-    else if a.code == success then carried_out (are_all task with_it) task with_it next
+    else if a.code == success then carried_out (next_after (series_of task) with_it) task with_it next
     else refused task a.code next
 
 -- ---- frames

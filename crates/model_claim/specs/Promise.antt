@@ -1,13 +1,15 @@
 -- What a play promises of what it tells, whatever the board file, the plan and the schedule are, where it tells no event that broke the
 -- premise on packets.
-use Rattle.std.specs.Prelude.{◌≡◌, ◌≢◌, ◌⊎◌, ℕ, suc, List, ◌∷◌, ◌++◌, length, Some, slice_get}
+use Rattle.std.specs.Prelude.{◌≡◌, ◌≢◌, ◌⊎◌, ℕ, suc, List, [], ◌∷◌, ◌++◌, length, Some, slice_get}
 use Rattle.two_wire.specs.Codes.{success}
 use Rattle.record_base.specs.declared.op.Op.{Op}
 use Rattle.record_base.specs.declared.message.Asked.{Asked}
 use Rattle.record_base.specs.declared.message.Answered.{Answered}
 use Rattle.cfg_records.specs.declared.board_file.BoardFile.{BoardFile}
 use Rattle.cfg_records.specs.Records.{Records}
-use Rattle.record_kinds.specs.Limits.{key_of, get_asked, set_asked, restorable}
+use Rattle.bios_attr.specs.EntryParts.{joined}
+use Rattle.record_kinds.specs.Limits.{key_of, restorable}
+use Rattle.record_kinds.specs.Series.{Reads, sends, first_of, request_after}
 use Rattle.bmc_board.specs.State.{State}
 use Rattle.bmc_board.specs.Decode.{sent_by}
 use Rattle.bmc_board.specs.Answer.{answer_of}
@@ -19,7 +21,7 @@ use Rattle.model_undo.specs.declared.phase.Why.TheVariants.{Stop, Refused, NotRe
 use Rattle.model_undo.specs.declared.phase.Phase.{Phase}
 use Rattle.model_undo.specs.declared.phase.Phase.TheVariants.{Fresh, Getting, Setting, Done, Halted, Unsettled, Undoing, Undone, UndoRefused}
 use Rattle.model_lab.specs.Played.{Told}
-use Rattle.model_claim.specs.Claim.{IsAfter}
+use Rattle.model_claim.specs.Claim.{IsAfter, AreGiven}
 
 module _ (file : BoardFile) (plan : List Op) (start : Records) where
   -- what the phase says of the records: those after so many of the plan's steps, which count from 0
@@ -41,17 +43,17 @@ module _ (file : BoardFile) (plan : List Op) (start : Records) where
     pub at : IsAfter file plan start k before.records
     pub answers : (answer_of file before (sent_by from asked)).0 ≡ a
 
-  -- why a plan halted at step k: the schedule has a call of `stop`, or the board refused the step's Get or Set, or answered its Get with data
-  -- from which the step can't be undone. A watchdog's step can't while its timer runs, which isn't configuration: so of that step this says little,
-  -- and the second tier says which answer it was.
+  -- why a plan halted at step k: the schedule has a call of `stop`, or the board refused a request of the step's Get or Set, or answered those of
+  -- its Get with data from which the step can't be undone. A watchdog's step can't while its timer runs, and a part of a Set is refused where those
+  -- before it aren't staged. Neither is configuration: so of such steps this says little, and the second tier says which answer it was.
   abbrev pub IsWhy : List Event → ℕ → Why → Type 0
   IsWhy events k Stop = (before : List Event) × (later : List Event) × (events ≡ before ++ Calls call.Stop ∷ later)
-  IsWhy events k (GetRefused code) =
-      (op : Op) × (body : List ℕ) × (slice_get plan k ≡ Some op) × Gave k (get_asked (key_of op)) (record { code = code; body = body }) × (code ≢ success)
-  IsWhy events k (Refused code) =
-      (op : Op) × (body : List ℕ) × (slice_get plan k ≡ Some op) × Gave k (set_asked op) (record { code = code; body = body }) × (code ≢ success)
-  IsWhy events k NotRestorable =
-      (op : Op) × (body : List ℕ) × (slice_get plan k ≡ Some op) × Gave k (get_asked (key_of op)) (record { code = success; body = body }) × (¬ restorable op body)
+  IsWhy events k (GetRefused code) = (op : Op) × (bodies : List (List ℕ)) × (body : List ℕ) × (slice_get plan k ≡ Some op)
+      × Gave k (request_after (Reads (key_of op)) bodies) (record { code = code; body = body }) × (code ≢ success)
+  IsWhy events k (Refused code) = (op : Op) × (bodies : List (List ℕ)) × (body : List ℕ) × (slice_get plan k ≡ Some op)
+      × Gave k (request_after (sends op) bodies) (record { code = code; body = body }) × (code ≢ success)
+  IsWhy events k NotRestorable = (op : Op) × (bodies : List (List ℕ)) × (slice_get plan k ≡ Some op)
+      × AreGiven (Gave k) (Reads (key_of op)) [] (Some (first_of (Reads (key_of op)))) bodies × (¬ restorable op (joined bodies))
 
 -- In each phase, that says what the records are. Where the plan is undone, every record is what it was at the start. Where it halted, there is
 -- a reason.

@@ -6,10 +6,8 @@ use Rattle.mctp_net.specs.declared.packet.Name.{Name}
 use Rattle.mctp_net.specs.declared.packet.Packet.{Packet}
 use Rattle.mctp_net.specs.Cut.{piece}
 use Rattle.mctp_net.specs.Assembly.{Assemblies, name_of, is_name}
-use Rattle.record_base.specs.declared.op.Op.{Op}
 use Rattle.record_base.specs.declared.message.Asked.{Asked}
 use Rattle.record_base.specs.declared.message.Answered.{Answered}
-use Rattle.record_kinds.specs.Limits.{set_asked}
 use Rattle.undo_plans.specs.declared.names.Names.{Names}
 use Rattle.model_bus.specs.Request as bus
 use Rattle.model_bus.specs.Answered.{Answered as UndoAnswered}
@@ -22,7 +20,7 @@ use Rattle.model_lab.specs.ManagerSteps as manager
 use Rattle.model_lab.specs.ManagerSteps.{Plans, board_plans}
 use Rattle.model_lab.specs.Lab as lab
 use Rattle.model_claim.specs.Frames.{Value, Asks, Tells, Part}
-use Rattle.model_claim.specs.Manager.{Call, Start, Quiet, Stop, Again, Undo, Why, Stopped, GetRefused, SetRefused, NotRestorable, Task, Gets, Sets, Undoes, Phase, Fresh, Open, Done, Halted, Undone, UndoRefused, Manager, by_manager, asked_for}
+use Rattle.model_claim.specs.Manager.{Call, Start, Quiet, Stop, Again, Undo, Why, Stopped, GetRefused, SetRefused, NotRestorable, Task, Gets, Sets, Undoes, Phase, Fresh, Open, Done, Halted, Undone, UndoRefused, Manager, sends, asked_for}
 use Rattle.model_claim.specs.Lab.{Heard, Entry, Carried, Idled, Port, Deed, Way, ToPort, ToManager, ToOthers, Frame, Event, Calls, ToBmc, ToMgr, OtherIpmb, OtherSmbus, Noise, Idles, OnBench, Lab}
 use Rattle.model_lab.specs.declared.way.Way.TheVariants as lab_way
 use Rattle.model_lab.specs.declared.way.Way.{Way as LabWay}
@@ -133,14 +131,10 @@ module _ (names : Names) where
   seen_why (SetRefused code) = undo_why.Refused code
   seen_why NotRestorable = undo_why.NotRestorable
 
-  -- the request that carries an operation out
-  abbrev pub series : Op → Asked
-  series op = by_manager names (set_asked op)
-
   abbrev pub seen_task : Task → machine.Task W
   seen_task (Gets k op) = machine.Gets k op
   seen_task (Sets k op back) = machine.Sets k op back
-  seen_task (Undoes back rest) = machine.Undoes (series back) (map series rest)
+  seen_task (Undoes back rest) = machine.Undoes (sends back) (map sends rest)
 
   -- its open request, after replies with these data
   abbrev pub part_of : Asked → List (List ℕ) → machine.Part W
@@ -164,7 +158,7 @@ module _ (names : Names) where
     stage = stage_of m.phase;
     stopped = m.stopped;
     resent = m.resent;
-    undo = map series m.undo;
+    undo = map sends m.undo;
     counts = counts_of m.answered;
   }
 

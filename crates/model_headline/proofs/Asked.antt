@@ -17,7 +17,7 @@ use Rattle.bmc_board.specs.State.{State}
 use Rattle.bmc_board.specs.Answer.{answer_of}
 use Rattle.bmc_board.specs.Table.{is_changing}
 use Rattle.bmc_board.proofs.OneAnswer.{has_answer}
-use Rattle.bmc_board.proofs.Quiet.{keeps_records}
+use Rattle.bmc_board.proofs.Quiet.{keeps_records, keeps_stagings}
 use Rattle.model_bus.specs.Request.{Request as Heard, Kept, Entry, Carried, Idled, is_same, carried_since, idles_of}
 use Rattle.model_bus.specs.Numbering.{is_above}
 use Rattle.model_bus.specs.BusState.{BusState, Frame, Content, Reply, Event, ReachesPort, OtherAsks, request_of, at_port, comes, hears as model_hears, happens, new_bytes, carried_content, carried_now}
@@ -33,6 +33,7 @@ use Rattle.model_undo.specs.Giving.{given_by}
 use Rattle.model_undo.specs.World as world
 use Rattle.model_undo.specs.World.{States, World, OnBus, update}
 use Rattle.model_ports.specs.Wires.{family_answer, reply_to, answered_from, asked_from}
+use Rattle.model_family.proofs.Board.{kept_by}
 use Rattle.model_family.proofs.IsFamily.{is_family}
 use Rattle.undo_plans.specs.declared.names.Names.{Names}
 use Rattle.model_ports.specs.Values.{Asks}
@@ -176,12 +177,17 @@ module _ (setup : BoardFile) (names : Names) (plan : List Op) (start : Records) 
     records_stay IsBusy quiet = refl
     records_stay IsNew quiet = keeps_records setup x.board (asked_in r) given.0 given.1 quiet (has_answer setup x.board (asked_in r))
 
+    stagings_stay : (o : Outcome) → is_changing (asked_in r) ≡ false → (left_by o given.1 x.board).activity.stagings ≡ x.board.activity.stagings
+    stagings_stay (Repeats reply) quiet = refl
+    stagings_stay IsBusy quiet = refl
+    stagings_stay IsNew quiet = keeps_stagings setup x.board (asked_in r) given.0 given.1 quiet (has_answer setup x.board (asked_in r))
+
     other_asks : is_changing (asked_in r) ≡ false → r.header.requester.address ≢ names.own_address
         → Goes setup names x on (left_lab ToOthers 0 done)
     other_asks quiet another = record {
       happenings = OnBus Ipmb asks (left_by done given.1 x.board) ∷ [];
       left = update (L setup names) Ipmb other_on on;
-      may = (((tt, another), refl, (records_stay done quiet, λ series bodies ready. ready)), tt);
+      may = (((tt, another), refl, kept_by setup (addresses names) x.board (left_by done given.1 x.board) (records_stay done quiet) (stagings_stay done quiet)), tt);
       reaches = refl;
       gives = tt;
       tied = port_tied ToOthers 0 done other_on

@@ -1,10 +1,10 @@
--- Over a link that loses nothing a plan is done after two requests a step, or halts, and is undone.
+-- Over a link that loses nothing a plan is done after the requests of its Gets and Sets, or halts, and is undone.
 use Rattle.std.proofs.Common.{lit<, ◌≡◌, ℕ, zero, suc, ◌+◌, ◌*◌, ◌<◌, ◌≤◌, ◌++◌, Bool, true, false, cond, List, [], ◌∷◌, length, Option, Some, None, refl, sym, ◌∙◌, ap, subst, arith, length-append}
 use Rattle.std.specs.Prelude.{slice_get, IfSome, ◌==◌, nat_le}
 use Rattle.std.specs.Option.{option_map}
 use Rattle.std.proofs.lemmas.Bool.{cond_both}
 use Rattle.std.proofs.lemmas.Bool.Decides.{nat_tests}
-use Rattle.std.proofs.lemmas.Option.{none-some}
+use Rattle.std.proofs.lemmas.Option.{none-some, IfSome_then}
 use Rattle.two_wire.specs.Codes.{success}
 use Rattle.two_wire.specs.declared.Bus.{Bus}
 use Rattle.two_wire.specs.declared.Bus.TheVariants.{Ipmb, Smbus}
@@ -13,6 +13,7 @@ use Rattle.record_base.specs.declared.op.Op.{Op}
 use Rattle.record_base.specs.declared.message.Asked.{Asked}
 use Rattle.record_base.specs.declared.message.Asked.TheVariants.{Ipmi, Pldm}
 use Rattle.cfg_records.specs.declared.board_file.BoardFile.{BoardFile}
+use Rattle.record_kinds.specs.Series.{Series}
 use Rattle.record_kinds.specs.Sound.{IsSound}
 use Rattle.record_kinds.proofs.Starts.{starts_sound}
 use Rattle.bmc_board.specs.State.{State}
@@ -20,19 +21,19 @@ use Rattle.bmc_board.proofs.AnswerFacts.{stays_sound}
 use Rattle.bmc_board.proofs.OneAnswer.{has_answer}
 use Rattle.model_bus.specs.Answered.{Answered}
 use Rattle.model_undo.specs.Words.{Words}
-use Rattle.model_undo.specs.declared.phase.Why.{Why}
-use Rattle.model_undo.specs.declared.phase.Why.TheVariants.{Stop, Refused, NotRestorable, GetRefused}
 use Rattle.model_undo.specs.declared.phase.Phase.{Phase}
 use Rattle.model_undo.specs.declared.phase.Phase.TheVariants.{Undone}
 use Rattle.model_undo.specs.Plan.{IsAfter}
 use Rattle.model_undo.specs.Wires.{IsMade}
-use Rattle.model_undo.specs.Machine.{Counts, Task, Gets, Sets, Undoes, Part as TaskPart, Stage, AtStart, Opened, AtEnd, AtHalt, AtUndone, AtRefused, Machine, Turn, Sending, enters, sends_at, takes, series_of, bodies_with, finished, refused, set_stage, next_stage, undo_stage, first_stage, stage_after, undo_after, one_answered, bus_at, phase_of, open_bus, open_bus_at, undo_of, opened}
-use Rattle.model_undo.specs.Clean.{Moment, answered_in_all, told, one, clean, Sticks, EndsIn, IsAtRest, RunsClean}
-use Rattle.model_undo.proofs.Clean.{always_runs_clean}
+use Rattle.model_undo.specs.Machine.{Counts, Task, Gets, Sets, Undoes, Part as TaskPart, Stage, AtStart, Opened, AtEnd, AtHalt, AtUndone, AtRefused, Machine, Turn, Sending, enters, sends_at, takes, series_of, bodies_with, next_asked, goes_on as task_goes_on, told_stage, finished, refused, set_stage, next_stage, undo_stage, first_stage, stage_after, undo_after, one_answered, bus_at, phase_of, open_bus, open_bus_at, undo_of, opened}
+use Rattle.model_undo.specs.Clean.{Moment, answered_in_all, told, one, clean, IsAtRest}
+use Rattle.model_undo.specs.CleanSeries.{AnswersEach, RunsThrough}
+use Rattle.model_undo.proofs.CleanSeries.{always_runs_through}
 use Rattle.model_lab.specs.ManagerWords.{manager_words}
 use Rattle.model_family.specs.Family.{answer}
-use Rattle.model_family.proofs.IsFamily.{is_single, is_family}
-use Rattle.model_family.proofs.Board.{starts_valid}
+use Rattle.model_family.proofs.IsFamily.{is_family}
+use Rattle.model_family.proofs.Board.{starts_valid, starts_ready}
+use Rattle.model_family.proofs.Finite.{are_finite}
 use Rattle.undo_plans.specs.declared.names.Names.{Names}
 use Rattle.text_schedule.specs.declared.event.Call.{Call}
 use Rattle.text_schedule.specs.declared.event.Call.TheVariants.{Start as StartCall, Undo as UndoCall}
@@ -46,12 +47,25 @@ use Rattle.model_lab.proofs.Stepping.{runs_by}
 use Rattle.model_headline.specs.Made.{AllSeries, StageMade}
 use Rattle.model_headline.specs.Tied.{P, F}
 use Rattle.model_headline.specs.Theorem.{first, after}
-use Rattle.model_headline.specs.CleanLink.{HasEnded, RunsOnCleanLink}
+use Rattle.model_headline.specs.CleanParts.{step_parts, back_parts}
+use Rattle.model_headline.specs.CleanLink.{AreOfOne, count_at, HasEnded, RunsOnCleanLink}
 use Rattle.model_headline.proofs.Made.{takes_made, undo_made, starts_made}
 use Rattle.model_headline.proofs.CleanQueue.{Link, link_of, dues_of, settles, settles_more, Shows, settled, called_goes, all_sent}
 use Rattle.model_headline.proofs.CleanFresh.{NoIdles, sends_newest, Fresh, Calm, calm_more, Goes, goes, called_fresh}
 use Rattle.model_headline.proofs.CleanExchange.{Rest, link_at, IsClear, clear_idles, not_busy, part_of, Exchanged, ipmb_exchange}
 use Rattle.model_headline.proofs.CleanSmbus.{smbus_exchange}
+use Rattle.model_headline.proofs.CleanCounts.{steps_few, more_few, each_few}
+use Rattle.model_headline.proofs.CleanBack.{steps_counted, backs_counted}
+use Rattle.model_headline.proofs.CleanOnes.{split_of_one, steps_two, backs_one, more_one}
+
+-- a board is the one that is left
+left_at : (board then left begun : State) → board ≡ then → then.records ≡ begun.records → then ≡ left → (board.records ≡ begun.records) × (board ≡ left)
+left_at board then left begun is records left_is = (ap (λ (b : State). b.records) is ∙ records, is ∙ left_is)
+
+-- what is taken is there
+taken_some : {X : Type 0} (Q : X → Type 0) (o : Option X) → IfSome o Q → (o ≡ None → ⊥) → (x : X) × (o ≡ Some x) × Q x
+taken_some Q None all some = absurd (some refl)
+taken_some Q (Some x) all some = (x, refl, all)
 
 module _ (setup : BoardFile) (names : Names) where
   abbrev M : Words
@@ -75,7 +89,7 @@ module _ (setup : BoardFile) (names : Names) where
   next_heeded true k (Some op) = tt
   next_heeded false k (Some op) = tt
 
-  undo_heeded : (list : List Asked) → IsHeeded (undo_stage M list)
+  undo_heeded : (list : List Series) → IsHeeded (undo_stage M list)
   undo_heeded [] = tt
   undo_heeded (u ∷ us) = tt
 
@@ -93,10 +107,21 @@ module _ (setup : BoardFile) (names : Names) where
   refused_heeded code (Sets k op back) = tt
   refused_heeded code (Undoes u us) = tt
 
+  goes_on_heeded : (stopped : Bool) (task : Task M) (part : TaskPart M) → IsHeeded (task_goes_on M stopped task part)
+  goes_on_heeded true (Gets k op) part = tt
+  goes_on_heeded false (Gets k op) part = tt
+  goes_on_heeded stopped (Sets k op back) part = tt
+  goes_on_heeded stopped (Undoes u us) part = tt
+
+  told_heeded : (stopped : Bool) (plan : List Op) (task : Task M) (bodies : List (List ℕ)) (o : Option Asked) → IsHeeded (told_stage M stopped plan task bodies o)
+  told_heeded stopped plan task bodies None = finished_heeded stopped plan (M.joined (series_of M task) bodies) task
+  told_heeded stopped plan task bodies (Some asked) = goes_on_heeded stopped task (record { asked = asked; before = bodies })
+
   after_heeded : (stopped : Bool) (plan : List Op) (a : Answered) (task : Task M) (part : TaskPart M) → IsHeeded (stage_after M stopped plan a task part)
   after_heeded stopped plan a task part =
-      cond_both (a.code == success) (finished M stopped plan (M.joined (series_of M task) (bodies_with M a part)) task) (refused M a.code task) IsHeeded
-      (λ _. finished_heeded stopped plan (M.joined (series_of M task) (bodies_with M a part)) task) (λ _. refused_heeded a.code task)
+      let bodies = bodies_with M a part in
+      let o = next_asked M a task part in
+      cond_both (a.code == success) (told_stage M stopped plan task bodies o) (refused M a.code task) IsHeeded (λ _. told_heeded stopped plan task bodies o) (λ _. refused_heeded a.code task)
 
   -- what holds where a request was just sent, or nothing
   record Going (stage : Stage M) (m : Machine M) (b : State) (r : Rest setup names) : Type 0 where
@@ -330,36 +355,38 @@ module _ (setup : BoardFile) (names : Names) where
       (subst (λ (x : Lab (P setup names)). Goes (P setup names) setup x number (8 * k)) (sym u.is)
       (delivered k (undo_stage M m.undo) from b u.next Undone n u.going rest u.y number u.there u.fresh small))
 
-  -- a schedule that undoes, and what the lab is after it
-  abbrev TakesBack : Turn M → State → ℕ → ℕ → State → Type 0
-  TakesBack t b k n start = let y = clean (F setup names) (answer setup) k (record { turn = t; board = b }) in IsAtRest (F setup names) (answer setup) y Undone n × (y.board.records ≡ start.records)
+  -- a schedule that undoes, and what the lab is after it; the board is `left` then
+  abbrev TakesBack : Turn M → State → ℕ → ℕ → (start left : State) → Type 0
+  TakesBack t b k n start left =
+      let y = clean (F setup names) (answer setup) k (record { turn = t; board = b }) in IsAtRest (F setup names) (answer setup) y Undone n × (y.board.records ≡ start.records) × (y.board ≡ left)
 
-  record IsBack (z : Lab (P setup names)) (n : ℕ) (start : State) : Type 0 where
+  record IsBack (z : Lab (P setup names)) (n : ℕ) (start left : State) : Type 0 where
     moment_then : Moment (F setup names)
     ended : Ended z moment_then Undone n
     back : moment_then.board.records ≡ start.records
+    is_left : moment_then.board ≡ left
 
   undoing : (stage : Stage M) (m : Machine M) (b : State) (r : Rest setup names) (z : Lab (P setup names)) (number : ℕ) → Going stage m b r → link_of (P setup names) z [] ≡ link_at setup names (enters M stage m) b r
-      → Shows (P setup names) setup z number [] → (k n : ℕ) (start : State) → IfSome (undo_of M (enters M stage m).machine) (λ t. TakesBack t b k n start) → (undo_of M (enters M stage m).machine ≡ None → ⊥)
-      → (es : List Event) → DeliversFrom (P setup names) setup (length z.frames) es (step (P setup names) setup z (Calls UndoCall)) → IsBack (run (P setup names) setup es (step (P setup names) setup z (Calls UndoCall))) n start
-  undoing AtEnd m b r z number g is shows k n start back taken es d =
-      record { moment_then = clean (F setup names) (answer setup) k (moment (undo_stage M m.undo) (enters M AtEnd m).machine b); ended = undoing_so AtEnd m b r z number g is shows refl k n back.0 es d; back = back.1 }
-  undoing (AtHalt j why) m b r z number g is shows k n start back taken es d =
-      record { moment_then = clean (F setup names) (answer setup) k (moment (undo_stage M m.undo) (enters M (AtHalt j why) m).machine b); ended = undoing_so (AtHalt j why) m b r z number g is shows refl k n back.0 es d; back = back.1 }
-  undoing AtStart m b r z number g is shows k n start back taken es d = absurd (taken refl)
-  undoing (Opened heeded task part) m b r z number g is shows k n start back taken es d = absurd (taken refl)
-  undoing AtUndone m b r z number g is shows k n start back taken es d = absurd (taken refl)
-  undoing (AtRefused j code) m b r z number g is shows k n start back taken es d = absurd (taken refl)
+      → Shows (P setup names) setup z number [] → (k n : ℕ) (start left : State) → IfSome (undo_of M (enters M stage m).machine) (λ t. TakesBack t b k n start left) → (undo_of M (enters M stage m).machine ≡ None → ⊥)
+      → (es : List Event) → DeliversFrom (P setup names) setup (length z.frames) es (step (P setup names) setup z (Calls UndoCall)) → IsBack (run (P setup names) setup es (step (P setup names) setup z (Calls UndoCall))) n start left
+  undoing AtEnd m b r z number g is shows k n start left back taken es d =
+      record { moment_then = clean (F setup names) (answer setup) k (moment (undo_stage M m.undo) (enters M AtEnd m).machine b); ended = undoing_so AtEnd m b r z number g is shows refl k n back.0 es d; back = back.1; is_left = back.2 }
+  undoing (AtHalt j why) m b r z number g is shows k n start left back taken es d =
+      record { moment_then = clean (F setup names) (answer setup) k (moment (undo_stage M m.undo) (enters M (AtHalt j why) m).machine b); ended = undoing_so (AtHalt j why) m b r z number g is shows refl k n back.0 es d; back = back.1; is_left = back.2 }
+  undoing AtStart m b r z number g is shows k n start left back taken es d = absurd (taken refl)
+  undoing (Opened heeded task part) m b r z number g is shows k n start left back taken es d = absurd (taken refl)
+  undoing AtUndone m b r z number g is shows k n start left back taken es d = absurd (taken refl)
+  undoing (AtRefused j code) m b r z number g is shows k n start left back taken es d = absurd (taken refl)
 
   undoing_delivered : (stage : Stage M) (m : Machine M) (b : State) (r : Rest setup names) (z : Lab (P setup names)) (number : ℕ) → Going stage m b r → link_of (P setup names) z [] ≡ link_at setup names (enters M stage m) b r
-      → Shows (P setup names) setup z number [] → (k n : ℕ) (start : State) → IfSome (undo_of M (enters M stage m).machine) (λ t. TakesBack t b k n start) → (undo_of M (enters M stage m).machine ≡ None → ⊥)
+      → Shows (P setup names) setup z number [] → (k n : ℕ) (start left : State) → IfSome (undo_of M (enters M stage m).machine) (λ t. TakesBack t b k n start left) → (undo_of M (enters M stage m).machine ≡ None → ⊥)
       → number + 8 * k ≤ 65530 → Goes (P setup names) setup (step (P setup names) setup z (Calls UndoCall)) (length z.frames) (8 * k)
-  undoing_delivered AtEnd m b r z number g is shows k n start back taken small = undo_delivered AtEnd m b r z number g is shows refl k n back.0 small
-  undoing_delivered (AtHalt j why) m b r z number g is shows k n start back taken small = undo_delivered (AtHalt j why) m b r z number g is shows refl k n back.0 small
-  undoing_delivered AtStart m b r z number g is shows k n start back taken small = absurd (taken refl)
-  undoing_delivered (Opened heeded task part) m b r z number g is shows k n start back taken small = absurd (taken refl)
-  undoing_delivered AtUndone m b r z number g is shows k n start back taken small = absurd (taken refl)
-  undoing_delivered (AtRefused j code) m b r z number g is shows k n start back taken small = absurd (taken refl)
+  undoing_delivered AtEnd m b r z number g is shows k n start left back taken small = undo_delivered AtEnd m b r z number g is shows refl k n back.0 small
+  undoing_delivered (AtHalt j why) m b r z number g is shows k n start left back taken small = undo_delivered (AtHalt j why) m b r z number g is shows refl k n back.0 small
+  undoing_delivered AtStart m b r z number g is shows k n start left back taken small = absurd (taken refl)
+  undoing_delivered (Opened heeded task part) m b r z number g is shows k n start left back taken small = absurd (taken refl)
+  undoing_delivered AtUndone m b r z number g is shows k n start left back taken small = absurd (taken refl)
+  undoing_delivered (AtRefused j code) m b r z number g is shows k n start left back taken small = absurd (taken refl)
 
   -- ---- the schedule
 
@@ -458,51 +485,51 @@ module _ (setup : BoardFile) (names : Names) where
     both_taken [] later y one two = two
     both_taken (e ∷ es) later y one two = (one.0, both_taken es later (step (P setup names) setup y e) one.1 two)
 
-    undo_goes : (es : List Event) (k j n q : ℕ) (phase : Phase) → let x = clean (F setup names) (answer setup) k (moment stage0 m0 x0.board) in
-        IsAtRest (F setup names) (answer setup) x phase n → IfSome (undo_of M x.turn.machine) (λ t. TakesBack t x.board j q x0.board) → (undo_of M x.turn.machine ≡ None → ⊥)
+    undo_goes : (es : List Event) (k j n q : ℕ) (left : State) (phase : Phase) → let x = clean (F setup names) (answer setup) k (moment stage0 m0 x0.board) in
+        IsAtRest (F setup names) (answer setup) x phase n → IfSome (undo_of M x.turn.machine) (λ t. TakesBack t x.board j q x0.board left) → (undo_of M x.turn.machine ≡ None → ⊥)
         → 8 * k + 8 * j ≤ 65530 → CanRun k → IsCleanRun (P setup names) setup es x0
         → let z = run (P setup names) setup es x0 in Goes (P setup names) setup (step (P setup names) setup z (Calls UndoCall)) (length z.frames) (8 * j)
-    undo_goes es k j n q phase rest back taken small can c =
+    undo_goes es k j n q left phase rest back taken small can c =
         let e = ran_to es k phase n rest c in
         let z = run (P setup names) setup es x0 in
-        let back_there = subst (λ (y : Moment (F setup names)). IfSome (undo_of M y.turn.machine) (λ t. TakesBack t y.board j q x0.board)) e.same back in
+        let back_there = subst (λ (y : Moment (F setup names)). IfSome (undo_of M y.turn.machine) (λ t. TakesBack t y.board j q x0.board left)) e.same back in
         let taken_there = subst (λ (y : Moment (F setup names)). undo_of M y.turn.machine ≡ None → ⊥) e.same taken in
         let few = can.few es c in
         let sent = all_sent (P setup names) setup z e.number e.shows in
-        undoing_delivered e.stage e.machine e.board e.rest z e.number e.going e.is e.shows j q x0.board back_there taken_there (omega (arith, few, sent, small))
+        undoing_delivered e.stage e.machine e.board e.rest z e.number e.going e.is e.shows j q x0.board left back_there taken_there (omega (arith, few, sent, small))
 
-    can_undo : (k j n q : ℕ) (phase : Phase) → let x = clean (F setup names) (answer setup) k (moment stage0 m0 x0.board) in
-        IsAtRest (F setup names) (answer setup) x phase n → IfSome (undo_of M x.turn.machine) (λ t. TakesBack t x.board j q x0.board) → (undo_of M x.turn.machine ≡ None → ⊥)
+    can_undo : (k j n q : ℕ) (left : State) (phase : Phase) → let x = clean (F setup names) (answer setup) k (moment stage0 m0 x0.board) in
+        IsAtRest (F setup names) (answer setup) x phase n → IfSome (undo_of M x.turn.machine) (λ t. TakesBack t x.board j q x0.board left) → (undo_of M x.turn.machine ≡ None → ⊥)
         → 8 * k + 8 * j ≤ 65530 → CanRun k → CanUndo
-    can_undo k j n q phase rest back taken small can =
+    can_undo k j n q left phase rest back taken small can =
         let first_part = can.events in
-        let g = undo_goes first_part k j n q phase rest back taken small can can.clean_run in
+        let g = undo_goes first_part k j n q left phase rest back taken small can can.clean_run in
         record {
           events = first_part ++ Calls UndoCall ∷ g.events;
           clean_undo = record { before = first_part; deliveries = g.events; ran = can.clean_run; delivered = g.delivers; all = refl };
           taken = λ es c.
               let z = run (P setup names) setup c.before x0 in
-              let more = undo_goes c.before k j n q phase rest back taken small can c.ran in
+              let more = undo_goes c.before k j n q left phase rest back taken small can c.ran in
               let few = can.few c.before c.ran in
               subst (λ (l : List Event). AllTaken (P setup names) setup l x0) (sym c.all)
               (both_taken c.before (Calls UndoCall ∷ c.deliveries) x0 (can.taken c.before c.ran) (call_taken z UndoCall (omega (arith, few, small)), more.taken c.deliveries c.delivered));
         }
 
-    undone_to : (es : List Event) (k j n q : ℕ) (phase : Phase) → let x = clean (F setup names) (answer setup) k (moment stage0 m0 x0.board) in
-        IsAtRest (F setup names) (answer setup) x phase n → IfSome (undo_of M x.turn.machine) (λ t. TakesBack t x.board j q x0.board) → (undo_of M x.turn.machine ≡ None → ⊥)
-        → IsCleanUndo (P setup names) setup es x0 → IsBack (run (P setup names) setup es x0) q x0.board
-    undone_to es k j n q phase rest back taken c =
+    undone_to : (es : List Event) (k j n q : ℕ) (left : State) (phase : Phase) → let x = clean (F setup names) (answer setup) k (moment stage0 m0 x0.board) in
+        IsAtRest (F setup names) (answer setup) x phase n → IfSome (undo_of M x.turn.machine) (λ t. TakesBack t x.board j q x0.board left) → (undo_of M x.turn.machine ≡ None → ⊥)
+        → IsCleanUndo (P setup names) setup es x0 → IsBack (run (P setup names) setup es x0) q x0.board left
+    undone_to es k j n q left phase rest back taken c =
         let e = ran_to c.before k phase n rest c.ran in
         let z = run (P setup names) setup c.before x0 in
-        let back_there = subst (λ (y : Moment (F setup names)). IfSome (undo_of M y.turn.machine) (λ t. TakesBack t y.board j q x0.board)) e.same back in
+        let back_there = subst (λ (y : Moment (F setup names)). IfSome (undo_of M y.turn.machine) (λ t. TakesBack t y.board j q x0.board left)) e.same back in
         let taken_there = subst (λ (y : Moment (F setup names)). undo_of M y.turn.machine ≡ None → ⊥) e.same taken in
-        let u = undoing e.stage e.machine e.board e.rest z e.number e.going e.is e.shows j q x0.board back_there taken_there c.deliveries c.delivered in
+        let u = undoing e.stage e.machine e.board e.rest z e.number e.going e.is e.shows j q x0.board left back_there taken_there c.deliveries c.delivered in
         let same : run (P setup names) setup c.deliveries (step (P setup names) setup z (Calls UndoCall)) ≡ run (P setup names) setup es x0 =
         sym ((runs_by (P setup names) setup).one (Calls UndoCall) c.deliveries z) ∙ sym ((runs_by (P setup names) setup).more c.before (Calls UndoCall ∷ c.deliveries) x0) ∙ ap (λ (l : List Event). run (P setup names) setup l x0) (sym c.all) in
-        subst (λ (y : Lab (P setup names)). IsBack y q x0.board) same u
+        subst (λ (y : Lab (P setup names)). IsBack y q x0.board left) same u
 
     has_ended : (es : List Event) (x : Moment (F setup names)) (phase : Phase) (n : ℕ) → Ended (run (P setup names) setup es x0) x phase n
-        → HasEnded setup names plan retries es phase n × ((after setup names plan retries es).board ≡ x.board)
+        → HasEnded setup names plan retries es phase n × ((after setup names plan retries es).board ≡ x.board) × ((after setup names plan retries es).manager.machine.undo ≡ x.turn.machine.undo)
     has_ended es x phase n e =
         let z = run (P setup names) setup es x0 in
         let machine_is : z.manager.machine ≡ (enters M e.stage e.machine).machine = ap (λ (l : Link (P setup names)). l.manager.machine) e.is in
@@ -515,64 +542,126 @@ module _ (setup : BoardFile) (names : Names) where
             closed = ap (open_bus M) machine_is ∙ e.closed;
           },
           ap (λ (l : Link (P setup names)). l.board) e.is ∙ sym (ap (λ (y : Moment (F setup names)). y.board) e.same),
+          ap (λ (m : Machine M). m.undo) machine_is ∙ sym (ap (λ (y : Moment (F setup names)). y.turn.machine.undo) e.same),
         )
 
-    -- a plan of at most 256 steps takes few frames
-    abbrev Runs : Type 0
-    Runs = RunsClean (F setup names) (answer setup) plan x0.board (moment stage0 m0 x0.board)
+    -- ---- a plan of at most 256 steps takes few frames
 
-    most_more : (i : ℕ) (ops : List Op) (b : State) (phase : Phase) (more : ℕ) → EndsIn (F setup names) (answer setup) i ops b phase more → more ≤ 2
-    most_more i [] b phase more e = let none = e.1 in omega (arith, none)
-    most_more i (op ∷ ops) b phase more e = by e.0 e.1
-      where
-        by : (why : Why) → Sticks (F setup names) (answer setup) b op why more → more ≤ 2
-        by Stop s = absurd s
-        by (GetRefused code) s = let one = s.2 in omega (arith, one)
-        by NotRestorable s = let one = s.2 in omega (arith, one)
-        by (Refused code) s = let two = s.4 in omega (arith, two)
+    abbrev Runs : Type 0
+    Runs = RunsThrough (F setup names) (answer setup) plan x0.board (moment stage0 m0 x0.board)
+
+    -- where the plan is over
+    abbrev over : Runs → Moment (F setup names)
+    over r = clean (F setup names) (answer setup) (r.requests + r.more) (moment stage0 m0 x0.board)
+
+    -- the undo that follows
+    abbrev undone_by : Runs → Turn M → Moment (F setup names)
+    undone_by r t = clean (F setup names) (answer setup) r.back (record { turn = t; board = (over r).board })
+
+    record Undoes_so (r : Runs) (t : Turn M) : Type 0 where
+      rest : IsAtRest (F setup names) (answer setup) (undone_by r t) Undone (r.requests + r.more + r.back)
+      records : (undone_by r t).board.records ≡ x0.board.records
+      answers : AnswersEach (F setup names) (answer setup) (over r).turn.machine.undo r.back (over r).board (undone_by r t).board
+
+    -- the undo leaves a board
+    record GoesBack (r : Runs) : Type 0 where
+      left : State
+      takes : IfSome (undo_of M (over r).turn.machine) (λ t. TakesBack t (over r).board r.back (r.requests + r.more + r.back) x0.board left)
+      answers : AnswersEach (F setup names) (answer setup) (over r).turn.machine.undo r.back (over r).board left
+
+    goes_back : (r : Runs) → GoesBack r
+    goes_back r =
+        let o = undo_of M (over r).turn.machine in
+        let there = taken_some (Undoes_so r) o (IfSome_then o r.undo (λ t so. record { rest = so.0; records = so.1; answers = so.2 })) r.undo_is_taken in
+        let left = (undone_by r there.0).board in
+        record {
+          left = left;
+          takes = subst (λ (u : Option (Turn M)). IfSome u (λ t. TakesBack t (over r).board r.back (r.requests + r.more + r.back) x0.board left)) (sym there.1) (there.2.rest, there.2.records, refl);
+          answers = there.2.answers;
+        }
 
     few_steps : (r : Runs) → length plan ≤ 256 → length r.steps ≤ 256
     few_steps r few = let all = ap (λ (l : List Op). length l) r.whole ∙ length-append r.steps r.rest in omega (arith, few, all)
 
-    small_run : (r : Runs) → length plan ≤ 256 → CanRun (length r.steps + length r.steps + r.more)
-    small_run r few =
-        let k = length r.steps in
+    few_run : (r : Runs) → length plan ≤ 256 → r.requests + r.more ≤ 3084
+    few_run r few =
         let steps = few_steps r few in
-        let more = most_more k r.rest r.at r.phase r.more r.ends in
-        can_run (k + k + r.more) r.phase (k + k + r.more) r.run.0 (omega (arith, steps, more))
+        let all = steps_few setup (addresses names) r.steps r.requests x0.board r.at r.go in
+        let more = more_few setup (addresses names) (length r.steps) r.rest r.at r.phase r.more r.ends in
+        omega (arith, steps, all, more)
+
+    few_back : (r : Runs) → length plan ≤ 256 → r.back ≤ 1536
+    few_back r few =
+        let steps = few_steps r few in
+        let f = exchanges (r.requests + r.more) stage0 m0 x0.board r0 going0 in
+        let made : AllSeries (addresses names) (over r).turn.machine.undo = subst (λ (y : Moment (F setup names)). AllSeries (addresses names) y.turn.machine.undo) (sym f.same) f.going.undo in
+        let g = goes_back r in
+        let all = each_few setup (addresses names) (over r).turn.machine.undo made r.back (over r).board g.left g.answers in
+        let each = r.undo_each in
+        omega (arith, steps, all, each)
+
+    small_run : (r : Runs) → length plan ≤ 256 → CanRun (r.requests + r.more)
+    small_run r few = let run = few_run r few in can_run (r.requests + r.more) r.phase (r.requests + r.more) r.run.0 (omega (arith, run))
 
     small_undo : (r : Runs) → length plan ≤ 256 → CanUndo
     small_undo r few =
-        let k = length r.steps in
-        let steps = few_steps r few in
-        let more = most_more k r.rest r.at r.phase r.more r.ends in
-        can_undo (k + k + r.more) k (k + k + r.more) (k + k + r.more + k) r.phase r.run.0 r.undo r.undo_is_taken (omega (arith, steps, more)) (small_run r few)
+        let run = few_run r few in
+        let back = few_back r few in
+        let g = goes_back r in
+        can_undo (r.requests + r.more) r.back (r.requests + r.more) (r.requests + r.more + r.back) g.left r.phase r.run.0 g.takes r.undo_is_taken (omega (arith, run, back)) (small_run r few)
+
+    by_parts : (r : Runs) → (r.requests ≡ step_parts setup names r.steps r.requests x0.board r.at r.go) × (r.back ≡ back_parts setup names plan x0.board.records (length r.steps) (over r).turn.machine.undo (over r).board.records r.leads_back)
+    by_parts r =
+        let g = goes_back r in (
+          steps_counted setup names r.steps r.requests x0.board r.at r.go (starts_sound setup),
+          backs_counted setup names plan x0.board.records (length r.steps) (over r).turn.machine.undo (over r).board.records r.leads_back r.back (over r).board g.left g.answers,
+        )
+
+    -- a plan of steps of one request each
+    of_one : (r : Runs) → AreOfOne plan → (r.requests ≡ length r.steps + length r.steps) × (r.more ≡ count_at r.phase) × (r.back ≡ length r.steps)
+    of_one r all =
+        let split = split_of_one r.steps r.rest (subst AreOfOne r.whole all) in
+        let parts = by_parts r in (
+          parts.0 ∙ steps_two setup names r.steps r.requests x0.board r.at r.go split.0,
+          more_one setup names (length r.steps) r.rest r.at r.phase r.more split.1 r.ends,
+          parts.1 ∙ backs_one setup names plan x0.board.records (length r.steps) (over r).turn.machine.undo (over r).board.records r.leads_back all,
+        )
 
     pub runs_on_clean_link : RunsOnCleanLink setup names plan retries
     runs_on_clean_link =
-        let r : RunsClean (F setup names) (answer setup) plan x0.board (moment stage0 m0 x0.board) =
-        always_runs_clean (F setup names) (is_family setup (addresses names)) (is_single setup (addresses names)).single (answer setup) (λ b asked. has_answer setup b asked) plan retries x0.board (starts_valid setup (addresses names)).opened_valid (λ series. tt) in
-        let k = length r.steps in
-        let n = k + k + r.more in
-        let x = clean (F setup names) (answer setup) n (moment stage0 m0 x0.board) in
+        let r : Runs =
+        always_runs_through (F setup names) (is_family setup (addresses names)) (are_finite (addresses names)) (answer setup) (λ b asked. has_answer setup b asked) plan retries x0.board (starts_valid setup (addresses names)).opened_valid (starts_ready setup (addresses names)) in
+        let n = r.requests + r.more in
+        let x = over r in
+        let g = goes_back r in
         record {
           steps = r.steps;
           rest = r.rest;
           whole = r.whole;
           at = r.at;
+          requests = r.requests;
           go = r.go;
           phase = r.phase;
           more = r.more;
           ends = r.ends;
+          undo = x.turn.machine.undo;
+          rested = x.board;
+          leads_back = r.leads_back;
+          back = r.back;
+          left = g.left;
+          goes_back = g.answers;
+          by_parts = by_parts r;
+          of_one = of_one r;
           can_run = λ few. let can = small_run r few in (can.events, can.clean_run);
           can_undo = λ few. let can = small_undo r few in (can.events, can.clean_undo);
           run_taken = λ few. (small_run r few).taken;
           undo_taken = λ few. (small_undo r few).taken;
           ran = λ es c.
               let h = has_ended es x r.phase n (ran_to es n r.phase n r.run.0 c) in
-              (h.0, subst (λ (b : State). IsAfter (F setup names) plan x0.board.records k b.records) (sym h.1) r.run.1);
+              (h.0, subst (λ (b : State). IsAfter (F setup names) plan x0.board.records (length r.steps) b.records) (sym h.1) r.run.1, h.2, h.1);
           undone = λ es c.
-              let u = undone_to es n k n (n + k) r.phase r.run.0 r.undo r.undo_is_taken c in
-              let h = has_ended es u.moment_then Undone (n + k) u.ended in
-              (h.0, ap (λ (b : State). b.records) h.1 ∙ u.back);
+              let u = undone_to es n r.back n (n + r.back) g.left r.phase r.run.0 g.takes r.undo_is_taken c in
+              let h = has_ended es u.moment_then Undone (n + r.back) u.ended in
+              let is = left_at (after setup names plan retries es).board u.moment_then.board g.left x0.board h.1 u.back u.is_left in
+              (h.0, is.0, is.1);
         }

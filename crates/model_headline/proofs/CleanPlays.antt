@@ -96,12 +96,12 @@ module _ (file : BoardFile) (plan : List Op) (retries : ℕ) where
 
   abbrev HasRun : Lab plans → Type 0
   HasRun y =
-      let k = length law.steps in (phase_of plans.words y.manager.machine ≡ law.phase) × (begun_on plans.words Ipmb y.manager.machine + begun_on plans.words Smbus y.manager.machine ≡ k + k + law.more)
-      × IsAfter (F file lab_names) plan x0.board.records k y.board.records
+      (phase_of plans.words y.manager.machine ≡ law.phase) × (begun_on plans.words Ipmb y.manager.machine + begun_on plans.words Smbus y.manager.machine ≡ law.requests + law.more)
+      × IsAfter (F file lab_names) plan x0.board.records (length law.steps) y.board.records
 
   abbrev HasUndone : Lab plans → Type 0
   HasUndone y =
-      let k = length law.steps in (phase_of plans.words y.manager.machine ≡ Undone) × (begun_on plans.words Ipmb y.manager.machine + begun_on plans.words Smbus y.manager.machine ≡ k + k + law.more + k)
+      (phase_of plans.words y.manager.machine ≡ Undone) × (begun_on plans.words Ipmb y.manager.machine + begun_on plans.words Smbus y.manager.machine ≡ law.requests + law.more + law.back)
       × (y.board.records ≡ x0.board.records)
 
   pub ends_clean : length plan ≤ 256 → (events : List Event) (ending : Ending) → IsPlayed file plan retries events ending → EndsClean file plan retries events ending

@@ -1,9 +1,10 @@
 -- On a clean link the open request on SMBus is carried out, packet by packet, and its reply is taken.
-use Rattle.std.proofs.Common.{lit<, ◌≡◌, ℕ, ◌+◌, ◌%◌, ◌<◌, ◌≤◌, Bool, true, false, cond, not, ◌&&◌, List, [], ◌∷◌, length, map, Some, None, refl, sym, ◌∙◌, ap, subst, arith, inl, inr}
-use Rattle.std.specs.Prelude.{◌==◌}
+use Rattle.std.proofs.Common.{lit<, ◌≡◌, ℕ, ◌+◌, ◌*◌, ◌%◌, ◌<◌, ◌≤◌, Bool, true, false, cond, not, ◌&&◌, List, [], ◌∷◌, length, map, Some, None, refl, sym, ◌∙◌, ap, subst, arith}
+use Rattle.std.specs.Prelude.{◌==◌, nat_le, drop}
 use Rattle.std.proofs.lemmas.Bool.{and_from, eq-eqb}
-use Rattle.std.proofs.lemmas.List.{length-map}
-use Rattle.std.proofs.lemmas.Option.{none-some}
+use Rattle.std.specs.Option.{option_map}
+use Rattle.std.proofs.lemmas.Bool.Decides.{nat_tests}
+use Rattle.std.proofs.lemmas.List.{length-map, length-take}
 use Rattle.two_wire.specs.declared.Bus.{Bus}
 use Rattle.two_wire.specs.declared.Bus.TheVariants.{Ipmb, Smbus}
 use Rattle.mctp_net.specs.declared.packet.Packet.{Packet}
@@ -21,7 +22,11 @@ use Rattle.record_base.specs.declared.op.Op.TheVariants as op
 use Rattle.record_base.specs.declared.message.Asked.{Asked}
 use Rattle.record_base.specs.declared.message.Asked.TheVariants.{Ipmi, Pldm}
 use Rattle.cfg_records.specs.declared.board_file.BoardFile.{BoardFile}
-use Rattle.record_kinds.specs.Limits.{get_asked, set_asked}
+use Rattle.bios_attr.specs.BiosAttribute.{op_entry}
+use Rattle.bios_attr.specs.EntryParts.{entry_in, is_in_parts, set_part, part_at, first_request, request_at, alone_at}
+use Rattle.pldm_base.specs.Parts.{part_length, most_whole}
+use Rattle.record_kinds.specs.Limits.{get_asked}
+use Rattle.record_kinds.specs.Series.{set_whole}
 use Rattle.record_kinds.specs.Sound.{IsSound}
 use Rattle.record_base.specs.declared.numeric_effecter.NumericBytes.{NumericBytes}
 use Rattle.record_base.specs.declared.numeric_effecter.NumericBytes.TheVariants.{One, Two, Four, Other}
@@ -37,7 +42,7 @@ use Rattle.model_bus.specs.Bytes.{answers}
 use Rattle.model_bus.proofs.NumberLaws.{smbus_numbers}
 use Rattle.model_bus.specs.Answered.{Answered}
 use Rattle.model_undo.specs.Words.{is_busy}
-use Rattle.model_undo.specs.Wires.{number_of, IsSeries, IsOf, IsMade}
+use Rattle.model_undo.specs.Wires.{number_of, IsMade}
 use Rattle.model_bus.specs.Addresses.{Addresses}
 use Rattle.model_undo.specs.Machine.{Task, Opened, Machine, enters, takes, reply_of, stage_after, undo_after, one_answered}
 use Rattle.model_lab.specs.ManagerWords.{from_manager, manager_words}
@@ -54,6 +59,7 @@ use Rattle.model_lab.specs.ManagerSteps.{addresses, ManagerState, ManagerDeed, g
 use Rattle.model_ports.proofs.Turning.{turns_by}
 use Rattle.model_ports.proofs.Parts.{parts_are_cuts}
 use Rattle.model_headline.specs.Tied.{P, F, rules_on, smbus_bus}
+use Rattle.model_headline.proofs.Series.{mapped, part_is, alone_is, IsOfAll, made_so}
 use Rattle.model_headline.proofs.Sending.{made_type, from_zero}
 use Rattle.model_headline.proofs.CleanQueue.{Link, port_goes, manager_goes, settles, settles_more}
 use Rattle.model_headline.proofs.CleanTest.{accepts}
@@ -68,7 +74,7 @@ abbrev IsShort : Asked → Type 0
 IsShort (Ipmi from net_fn lun command body) = Unit {0}
 IsShort (Pldm from kind command body) = length body ≤ 252
 
-short_value : (id size : ℕ) (v : NumericBytes) → IsShort (set_asked (op.NumericEffecter (record { effecter = id; size = size; value = v })))
+short_value : (id size : ℕ) (v : NumericBytes) → IsShort (set_whole (op.NumericEffecter (record { effecter = id; size = size; value = v })))
 short_value id size (One a) = omega arith
 short_value id size (Two a b) = omega arith
 short_value id size (Four a b c d) = omega arith
@@ -80,26 +86,57 @@ get_short (key.StateEffecter id) = omega arith
 get_short (key.BiosAttribute handle) = omega arith
 get_short _ = tt
 
-set_short : (o : Op) → IsShort (set_asked o)
-set_short (op.NumericEffecter o) = short_value o.effecter o.size o.value
-set_short (op.StateEffecter o) = omega (arith, two_each o.changes, o.few)
-set_short (op.BiosAttribute o) = omega (arith, o.fits)
-set_short _ = tt
+-- a part is short
+part_short : (entry : List ℕ) (offset : ℕ) → length (set_part entry offset) ≤ 252
+part_short entry offset = let most = length-take part_length (drop offset entry) in omega (arith, most)
+
+-- where a request goes in one piece it is short
+abbrev IsShortAlone : Asked → Type 0
+IsShortAlone asked = is_in_parts asked ≡ false → IsShort asked
+
+first_short : (asked : Asked) → IsShortAlone asked → IsShort (first_request asked)
+first_short (Ipmi from net_fn lun command body) short = tt
+first_short (Pldm from kind command body) short = by (is_in_parts (Pldm from kind command body)) refl
+  where
+    by : (t : Bool) → is_in_parts (Pldm from kind command body) ≡ t → length (cond t (set_part (entry_in body) 0) body) ≤ 252
+    by true t = part_short (entry_in body) 0
+    by false t = short t
+
+later_short : (asked : Asked) (place : ℕ) (next : Asked) → IsShortAlone asked → request_at asked place ≡ Some next → IsShort next
+later_short (Ipmi from net_fn lun command body) place next short e = subst IsShort (alone_is (Ipmi from net_fn lun command body) place next e).1 tt
+later_short (Pldm from kind command body) place next short e = by (is_in_parts (Pldm from kind command body)) refl e
+  where
+    by : (t : Bool) → is_in_parts (Pldm from kind command body) ≡ t → cond t (option_map (Pldm from kind command) (part_at body place)) (alone_at (Pldm from kind command body) place) ≡ Some next → IsShort next
+    by true t e =
+        let m = mapped (Pldm from kind command) (part_at body place) next e in
+        let few : length m.0 ≤ 252 = subst (λ (part : List ℕ). length part ≤ 252) (part_is body place m.0 m.1).1 (part_short (entry_in body) (part_length * place)) in
+        subst IsShort m.2 few
+    by false t e = subst IsShort (alone_is (Pldm from kind command body) place next e).1 (short t)
+
+-- an entry that goes whole has at most 205 bytes
+whole_short : (entry : List ℕ) → not (nat_le (length entry) most_whole) ≡ false → length entry ≤ most_whole
+whole_short entry t = grind (arith, nat_tests)
+
+alone_short : (o : Op) → IsShortAlone (set_whole o)
+alone_short (op.NumericEffecter o) whole = short_value o.effecter o.size o.value
+alone_short (op.StateEffecter o) whole = omega (arith, two_each o.changes, o.few)
+alone_short (op.BiosAttribute o) whole = let few = whole_short (op_entry o) whole in omega (arith, few)
+alone_short _ whole = tt
 
 from_short : (at : Bus → Addresses) (asked : Asked) → IsShort asked → IsShort (from_manager at asked)
 from_short at (Ipmi from net_fn lun command body) h = tt
 from_short at (Pldm from kind command body) h = h
 
-series_short : (at : Bus → Addresses) (series : Asked) → IsSeries (manager_words at) series → IsShort series
-series_short at series (inl is) = subst IsShort (sym is.1) (from_short at (get_asked is.0) (get_short is.0))
-series_short at series (inr is) = subst IsShort (sym is.1) (from_short at (set_asked is.0) (set_short is.0))
+all_short : IsOfAll IsShort
+all_short = record {
+  gets = get_short;
+  get_parts = λ handle transfer. omega arith;
+  sets = λ o. first_short (set_whole o) (alone_short o);
+  set_parts = λ o place next e. later_short (set_whole o) place next (alone_short o) e;
+}
 
 made_short : (at : Bus → Addresses) (asked : Asked) → IsMade (manager_words at) asked → IsShort asked
-made_short at asked made = by made.2
-  where
-    by : IsOf (manager_words at) made.0 asked → IsShort asked
-    by (inl same) = subst IsShort (sym same) (series_short at made.0 made.1)
-    by (inr another) = absurd (none-some asked another.1)
+made_short at asked made = made_so at IsShort all_short (from_short at) asked made
 
 module _ (setup : BoardFile) (names : Names) where
   abbrev asking : ℕ → Envelope

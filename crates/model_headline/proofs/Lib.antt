@@ -1,5 +1,6 @@
 pub mod Each
 pub mod Made
+pub mod Series
 pub mod Frames
 pub mod Sending
 pub mod Sent
@@ -29,5 +30,10 @@ pub mod CleanExchange
 pub mod CleanTest
 pub mod CleanPackets
 pub mod CleanSmbus
+pub mod CleanCounts
+pub mod CleanParts
+pub mod CleanGets
+pub mod CleanBack
+pub mod CleanOnes
 pub mod CleanLink
 pub mod CleanPlays

@@ -1,15 +1,17 @@
 -- Each request that a manager sends is one that it makes.
-use Rattle.std.proofs.Common.{ℕ, suc, Bool, true, false, List, [], ◌∷◌, Option, Some, None, refl, inl, inr}
+use Rattle.std.proofs.Common.{◌≡◌, ℕ, suc, Bool, true, false, List, [], ◌∷◌, Option, Some, None, refl, inl, inr}
 use Rattle.std.specs.Prelude.{◌==◌, slice_get, IfSome}
 use Rattle.std.proofs.lemmas.Bool.{cond_both}
 use Rattle.two_wire.specs.Codes.{success}
 use Rattle.two_wire.specs.declared.Bus.{Bus}
 use Rattle.record_base.specs.declared.op.Op.{Op}
 use Rattle.record_base.specs.declared.message.Asked.{Asked}
+use Rattle.record_kinds.specs.Series.{Series}
 use Rattle.model_bus.specs.Answered.{Answered}
 use Rattle.model_undo.specs.Words.{Words}
+use Rattle.model_undo.specs.Wires.{IsSeries, IsMade}
 use Rattle.model_bus.specs.Addresses.{Addresses}
-use Rattle.model_undo.specs.Machine.{Task, Gets, Sets, Undoes, Part, Stage, AtStart, Opened, AtEnd, AtHalt, AtUndone, AtRefused, begun, Machine, Turn, series_of, bodies_with, takes, finished, refused, set_stage, next_stage, undo_stage, undo_after, first_stage, starts}
+use Rattle.model_undo.specs.Machine.{Task, Gets, Sets, Undoes, Part, Stage, AtStart, Opened, AtEnd, AtHalt, AtUndone, AtRefused, begun, Machine, Turn, series_of, bodies_with, next_asked, takes, goes_on, told_stage, finished, refused, set_stage, next_stage, undo_stage, undo_with, undo_after, first_stage, starts}
 use Rattle.model_lab.specs.ManagerWords.{manager_words}
 use Rattle.model_headline.specs.Made as made
 
@@ -17,7 +19,7 @@ module _ (at : Bus → Addresses) where
   abbrev M : Words
   M = manager_words at
 
-  abbrev AllSeries : List Asked → Type 0
+  abbrev AllSeries : List Series → Type 0
   AllSeries ss = made.AllSeries at ss
 
   abbrev TaskMade : Task M → Type 0
@@ -38,9 +40,9 @@ module _ (at : Bus → Addresses) where
   set_made : (k : ℕ) (op back : Op) → StageMade (begun M (Sets k op back))
   set_made k op back = ((M.setting op, inr (op, refl), inl refl), tt)
 
-  pub undo_made : (undo : List Asked) → AllSeries undo → StageMade (undo_stage M undo)
+  pub undo_made : (undo : List Series) → AllSeries undo → StageMade (undo_stage M undo)
   undo_made [] all = tt
-  undo_made (first ∷ rest) all = ((first, all.0, inl refl), all.1)
+  undo_made (first ∷ rest) all = ((first, all.0, inl refl), all)
 
   first_made : (o : Option Op) → StageMade (first_stage M o)
   first_made None = tt
@@ -59,22 +61,46 @@ module _ (at : Bus → Addresses) where
   finished_made : (stopped : Bool) (plan : List Op) (shown : List ℕ) (task : Task M) → TaskMade task → StageMade (finished M stopped plan shown task)
   finished_made stopped plan shown (Gets k op) made = set_stage_made stopped k op (M.inverse op shown)
   finished_made stopped plan shown (Sets k op back) made = next_made stopped (suc k) (slice_get plan (suc k))
-  finished_made stopped plan shown (Undoes first rest) made = undo_made rest made
+  finished_made stopped plan shown (Undoes first rest) made = undo_made rest made.1
 
   refused_made : (code : ℕ) (task : Task M) → StageMade (refused M code task)
   refused_made code (Gets k op) = tt
   refused_made code (Sets k op back) = tt
   refused_made code (Undoes first rest) = tt
 
-  kept_made : (a : Answered) (task : Task M) (part : Part M) (undo : List Asked) → AllSeries undo → AllSeries (undo_after M a task part undo)
+  -- the series of a task
+  pub task_series : (task : Task M) → TaskMade task → IsSeries M (series_of M task)
+  task_series (Gets k op) made = inl (M.key_of op, refl)
+  task_series (Sets k op back) made = inr (op, refl)
+  task_series (Undoes first rest) made = made.0
+
+  goes_on_made : (stopped : Bool) (task : Task M) (part : Part M) → TaskMade task → IsMade M part.asked → StageMade (goes_on M stopped task part)
+  goes_on_made true (Gets k op) part made is = tt
+  goes_on_made false (Gets k op) part made is = (is, made)
+  goes_on_made stopped (Sets k op back) part made is = (is, made)
+  goes_on_made stopped (Undoes first rest) part made is = (is, made)
+
+  -- the task goes on by its next request, or is done
+  told_made : (stopped : Bool) (plan : List Op) (task : Task M) (bodies : List (List ℕ)) (o : Option Asked) → TaskMade task → M.next (series_of M task) bodies ≡ o → StageMade (told_stage M stopped plan task bodies o)
+  told_made stopped plan task bodies None made e = finished_made stopped plan _ task made
+  told_made stopped plan task bodies (Some asked) made e =
+      goes_on_made stopped task (record { asked = asked; before = bodies }) made (series_of M task, task_series task made, inr (bodies, e))
+
+  undo_with_made : (back : Op) (o : Option Asked) (undo : List Series) → AllSeries undo → AllSeries (undo_with M back o undo)
+  undo_with_made back None undo all = (inr (back, refl), all)
+  undo_with_made back (Some asked) undo all = all
+
+  kept_made : (a : Answered) (task : Task M) (part : Part M) (undo : List Series) → AllSeries undo → AllSeries (undo_after M a task part undo)
   kept_made a (Gets k op) part undo all = all
-  kept_made a (Sets k op back) part undo all = cond_both (a.code == success) (M.setting back ∷ undo) undo AllSeries (λ _. (inr (back, refl), all)) (λ _. all)
+  kept_made a (Sets k op back) part undo all =
+      let o = next_asked M a (Sets k op back) part in
+      cond_both (a.code == success) (undo_with M back o undo) undo AllSeries (λ _. undo_with_made back o undo all) (λ _. all)
   kept_made a (Undoes first rest) part undo all = all
 
   pub takes_made : (a : Answered) (task : Task M) (part : Part M) (m : Machine M) → TaskMade task → AllSeries m.undo → MachineMade (takes M a task part m).machine
   takes_made a task part m made all = record {
-    stage = cond_both (a.code == success) (finished M m.stopped m.plan (M.joined (series_of M task) (bodies_with M a part)) task) (refused M a.code task) StageMade
-        (λ _. finished_made m.stopped m.plan _ task made) (λ _. refused_made a.code task);
+    stage = cond_both (a.code == success) (told_stage M m.stopped m.plan task (bodies_with M a part) (next_asked M a task part)) (refused M a.code task) StageMade
+        (λ _. told_made m.stopped m.plan task (bodies_with M a part) (next_asked M a task part) made refl) (λ _. refused_made a.code task);
     undo = kept_made a task part m.undo all;
   }
 

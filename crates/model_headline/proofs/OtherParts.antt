@@ -16,13 +16,12 @@ use Rattle.mctp_net.specs.Control.{Request as ControlRequest, request_of as cont
 use Rattle.pldm_base.specs.declared.message.PldmRequest.{PldmRequest}
 use Rattle.pldm_base.specs.Message.{request_in as pldm_request_in}
 use Rattle.pldm_base.proofs.InBytes.{request-in}
-use Rattle.record_base.specs.declared.message.Answered.{Answered as BoardAnswer}
 use Rattle.cfg_records.specs.declared.board_file.BoardFile.{BoardFile}
 use Rattle.bmc_board.specs.State.{State}
 use Rattle.bmc_board.specs.Table.{is_changing}
 use Rattle.bmc_board.specs.Answer.{answer_of}
 use Rattle.bmc_board.proofs.OneAnswer.{has_answer}
-use Rattle.bmc_board.proofs.Quiet.{keeps_records}
+use Rattle.bmc_board.proofs.Quiet.{keeps_records, keeps_stagings}
 use Rattle.model_bus.specs.Repeat.{In}
 use Rattle.model_bus.specs.Request.{Request as Heard, Kept, Entry}
 use Rattle.model_bus.specs.Numbering.{is_above}
@@ -37,11 +36,13 @@ use Rattle.model_undo.specs.Machine.{count_of}
 use Rattle.model_undo.specs.World.{States, OnBus, OnBench, update}
 use Rattle.model_ports.specs.Wires.{family_answer}
 use Rattle.model_ports.specs.Seen.{seen, WaitsAlike}
+use Rattle.model_family.proofs.Board.{kept_by}
 use Rattle.undo_plans.specs.declared.names.Names.{Names}
 use Rattle.model_ports.specs.Values.{parts_of}
 use Rattle.model_ports.specs.Bytes.{pldm_heard_in}
 use Rattle.model_ports.specs.PortSteps.{PortState, Deed, turn, spelled, left_by, pldm_asked, stays, hears_control, hears_pldm, hears_typed, hears_message, hears_part, hears_parts, ends_message, hears_all}
 use Rattle.model_ports.specs.PortEvents.{name_in, part_answer_to, event_by, happens_if, IsPortOf}
+use Rattle.model_lab.specs.ManagerSteps.{addresses}
 use Rattle.model_lab.specs.Honest.{IsAnother, ChangesNothing}
 use Rattle.model_lab.specs.declared.way.Way.TheVariants.{ToOthers}
 use Rattle.model_lab.specs.Lab.{Lab, frame_now, with_port, port_does}
@@ -118,38 +119,43 @@ module _ (setup : BoardFile) (names : Names) (before : State) where
       let fits = ends_fits (record port { kept = kept_after port.eid port.kept p }) p (drop_cause port.eid port.kept p) all in
       record { wire = fits.wire; answered = fits.answered }
 
--- ---- a message that sets no configuration leaves the records
+-- ---- a message that sets no configuration leaves the records and what is staged
 
 module _ (setup : BoardFile) (before : State) where
-  abbrev Keeps : Deed → Type 0
-  Keeps d = d.board.records ≡ before.records
+  -- no record changes, and nothing of what is staged
+  abbrev Leaves : State → Type 0
+  Leaves after = (after.records ≡ before.records) × (after.activity.stagings ≡ before.activity.stagings)
 
-  turn_keeps : (o : Outcome) (answered : BoardAnswer) (after : State) → after.records ≡ before.records → (left_by o after before).records ≡ before.records
-  turn_keeps (Repeats reply) answered after same = refl
-  turn_keeps IsBusy answered after same = refl
-  turn_keeps IsNew answered after same = same
+  abbrev Keeps : Deed → Type 0
+  Keeps d = Leaves d.board
+
+  turn_leaves : (o : Outcome) (after : State) → Leaves after → Leaves (left_by o after before)
+  turn_leaves (Repeats reply) after same = (refl, refl)
+  turn_leaves IsBusy after same = (refl, refl)
+  turn_leaves IsNew after same = same
 
   pldm_keeps : (port : PortState) (m : Message) (o : Option PldmRequest) → ((r : PldmRequest) → o ≡ Some r → is_changing (pldm_asked m.envelope.source_eid r) ≡ false) → Keeps (hears_pldm setup port before m o)
   unfolding turn
-  pldm_keeps port m None quiet = refl
+  pldm_keeps port m None quiet = (refl, refl)
   pldm_keeps port m (Some r) quiet =
       let s = pldm_heard_in m.envelope.source_eid r in
       let asked = pldm_asked m.envelope.source_eid r in
       let given = answer_of setup before asked in
-      turn_keeps (outcome (is_above 32) s port.log) given.0 given.1 (keeps_records setup before asked given.0 given.1 (quiet r refl) (has_answer setup before asked))
+      let row = has_answer setup before asked in
+      turn_leaves (outcome (is_above 32) s port.log) given.1 (keeps_records setup before asked given.0 given.1 (quiet r refl) row, keeps_stagings setup before asked given.0 given.1 (quiet r refl) row)
 
   control_keeps : (port : PortState) (m : Message) (o : Option ControlRequest) → Keeps (hears_control port before m o)
-  control_keeps port m None = refl
-  control_keeps port m (Some r) = refl
+  control_keeps port m None = (refl, refl)
+  control_keeps port m (Some r) = (refl, refl)
 
   typed_keeps : (port : PortState) (m : Message) (body : List ℕ) → ChangesNothing m.envelope.source_eid body → Keeps (hears_typed setup port before m body)
-  typed_keeps port m [] quiet = refl
+  typed_keeps port m [] quiet = (refl, refl)
   typed_keeps port m (kind ∷ rest) quiet = by (kind == 0) (kind == 1) refl
     where
       by : (zero one : Bool) → (kind == 1) ≡ one → Keeps (cond zero (hears_control port before m (control_request_of m.body)) (cond one (hears_pldm setup port before m (pldm_request_in rest)) (stays port before)))
       by true one e = control_keeps port m (control_request_of m.body)
       by false true e = pldm_keeps port m (pldm_request_in rest) (λ r read. quiet rest r (ap (λ (k : ℕ). k ∷ rest) (eqb-true _ _ e)) (request-in r rest read))
-      by false false e = refl
+      by false false e = (refl, refl)
 
   message_keeps : (port : PortState) (m : Message) → ChangesNothing m.envelope.source_eid m.body → Keeps (hears_message setup port before m)
   unfolding hears_message
@@ -157,14 +163,14 @@ module _ (setup : BoardFile) (before : State) where
     where
       by : (t : Bool) → Keeps (cond t (hears_typed setup port before m m.body) (stays port before))
       by true = typed_keeps port m m.body quiet
-      by false = refl
+      by false = (refl, refl)
 
   -- a packet of no bytes that is all of its message
   abbrev empty_part : Envelope → Packet
   empty_part e = record { envelope = e; start = true; end = true; sequence = 0; payload = [] }
 
   empty_ends : (port : PortState) (e : Envelope) (c : Option DropCause) → Keeps (ends_message setup port before (empty_part e) c)
-  empty_ends port e (Some cause) = refl
+  empty_ends port e (Some cause) = (refl, refl)
   empty_ends port e None = message_keeps port (message_of port.kept (empty_part e)) (λ rest r is. absurd cc)
 
   parts_empty : (port : PortState) (e : Envelope) → Keeps (hears_parts setup port before (empty_part e ∷ []))
@@ -173,12 +179,12 @@ module _ (setup : BoardFile) (before : State) where
 
   no_parts : (port : PortState) → Keeps (hears_parts setup port before [])
   unfolding hears_parts
-  no_parts port = refl
+  no_parts port = (refl, refl)
 
   heard_keeps : (port : PortState) (m : Message) → ChangesNothing m.envelope.source_eid m.body → (t : Bool)
       → Keeps (cond t (hears_message setup (kept_with_parts port m) before m) (stays (kept_with_parts port m) before))
   heard_keeps port m quiet true = message_keeps (kept_with_parts port m) m quiet
-  heard_keeps port m quiet false = refl
+  heard_keeps port m quiet false = (refl, refl)
 
   -- the packets of bytes in an envelope
   abbrev parts_at : Envelope → List ModelPacket → List Packet
@@ -376,14 +382,14 @@ module _ (setup : BoardFile) (names : Names) where
     held now d = each_map (frame_now (P setup names) Smbus ToOthers 0 (unsent d)) (IsHeld setup names now) d.sent (each_by_place _ d.sent (λ n v at. tt))
 
     ends_so : (d : Deed) → Keeps setup x.board d → Quietly setup names x on (record x { smbus = d.port }) → Goes setup names x on (port_does (P setup names) Smbus ToOthers 0 d x)
-    ends_so d keeps first =
+    ends_so d leaves first =
         let now = first.went.left in
         let t = first.went.tied in
         goes_quietly setup names x (port_does (P setup names) Smbus ToOthers 0 d x) on (quietly_on setup names x (record x { smbus = d.port }) (port_does (P setup names) Smbus ToOthers 0 d x) on first (record {
           went = record {
             happenings = OnBench d.board ∷ [];
             left = now;
-            may = ((keeps, λ series bodies ready. ready), tt);
+            may = (kept_by setup (addresses names) x.board d.board leaves.0 leaves.1, tt);
             reaches = refl;
             tied = record {
               named = t.named;
@@ -414,4 +420,4 @@ module _ (setup : BoardFile) (names : Names) where
 
         by : (t : Bool) → Goes setup names x on (port_does (P setup names) Smbus ToOthers 0 (cond t (hears_parts setup x.smbus x.board (parts_of m)) (stays x.smbus x.board)) x)
         by true = ends_so (hears_parts setup x.smbus x.board (parts_of m)) (parts_keep setup x.board x.smbus m quiet) (parts_go (parts_of m) (all_others m there) x on tied x.board)
-        by false = ends_so (stays x.smbus x.board) refl (quiet_there setup names x on tied)
+        by false = ends_so (stays x.smbus x.board) (refl, refl) (quiet_there setup names x on tied)

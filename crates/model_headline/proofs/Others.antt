@@ -8,7 +8,7 @@ use Rattle.record_base.specs.declared.op.Op.{Op}
 use Rattle.cfg_records.specs.declared.board_file.BoardFile.{BoardFile}
 use Rattle.cfg_records.specs.Records.{Records}
 use Rattle.bmc_board.specs.declared.activity.Activity.{Activity}
-use Rattle.bmc_board.specs.State.{state}
+use Rattle.bmc_board.specs.State.{on_bench}
 use Rattle.model_bus.specs.Request.{Entry, Idled}
 use Rattle.model_bus.specs.BusState.{BusState, IsIdle, is_open}
 use Rattle.model_bus.specs.PacketBus.{Plain}
@@ -114,9 +114,9 @@ module _ (setup : BoardFile) (names : Names) (plan : List Op) (start : Records) 
     pub noise_goes : Goes setup names x on x
     noise_goes = record { happenings = []; left = on; may = tt; reaches = refl; gives = tt; tied = tied }
 
-    pub bench_goes : (activity : Activity) → Goes setup names x on (record x { board = state x.board.records activity })
+    pub bench_goes : (activity : Activity) → Goes setup names x on (record x { board = on_bench x.board activity })
     bench_goes activity = record {
-      happenings = OnBench (state x.board.records activity) ∷ [];
+      happenings = OnBench (on_bench x.board activity) ∷ [];
       left = on;
       may = ((refl, λ series bodies ready. ready), tt);
       reaches = refl;

@@ -8,6 +8,7 @@ use Rattle.cfg_records.specs.declared.board_file.BoardFile.{BoardFile}
 use Rattle.bmc_board.specs.State.{State}
 use Rattle.model_bus.specs.Repeat.{In}
 use Rattle.model_bus.specs.Answered.{Answered}
+use Rattle.model_undo.proofs.Series.{all_answered_as}
 use Rattle.model_undo.specs.declared.phase.Why.TheVariants.{Stop, Refused, NotRestorable, GetRefused}
 use Rattle.model_undo.specs.declared.phase.Phase.{Phase}
 use Rattle.model_undo.specs.declared.phase.Phase.TheVariants.{Fresh, Getting, Setting, Done, Halted, Unsettled, Undoing, Undone, UndoRefused}
@@ -148,9 +149,12 @@ module _ (file : BoardFile) where
     caused_so : (es : List Event) (phase : Phase) → CausedBy file lab_names (law.GaveIn file lab_names plan retries (events_from es first)) (In (lab.Calls called.Stop) (events_from es first)) plan phase
         → CausedBy file lab_names (GaveIn file plan retries es) (In (event.Calls called.Stop) es) plan phase
     caused_so es (Halted k Stop) c = stop_from es first c
-    caused_so es (Halted k (Refused code)) c = (c.0, c.1, c.2, gave_so es k _ _ c.3, c.4)
-    caused_so es (Halted k (GetRefused code)) c = (c.0, c.1, c.2, gave_so es k _ _ c.3, c.4)
-    caused_so es (Halted k NotRestorable) c = (c.0, c.1, c.2, gave_so es k _ _ c.3, c.4)
+    caused_so es (Halted k (Refused code)) c = (c.0, c.1, c.2, c.3, c.4, gave_so es k _ _ c.5, c.6)
+    caused_so es (Halted k (GetRefused code)) c = (c.0, c.1, c.2, c.3, c.4, gave_so es k _ _ c.5, c.6)
+    caused_so es (Halted k NotRestorable) c =
+        let words = (F file lab_names).words in
+        let given = law.GaveIn file lab_names plan retries (events_from es first) k in
+        (c.0, c.1, c.2, all_answered_as words (words.getting (words.key_of c.0)) given (GaveIn file plan retries es k) (gave_so es k) c.1 c.3, c.4)
     caused_so es Fresh c = tt
     caused_so es (Getting k) c = tt
     caused_so es (Setting k) c = tt

@@ -17,7 +17,10 @@ use Rattle.pldm_base.proofs.InBytes.{request-in_back}
 use Rattle.record_base.specs.declared.message.Asked.{Asked}
 use Rattle.record_base.specs.declared.message.Asked.TheVariants.{Ipmi, Pldm}
 use Rattle.cfg_records.specs.declared.board_file.BoardFile.{BoardFile}
-use Rattle.record_kinds.specs.Limits.{get_asked, set_asked}
+use Rattle.record_base.specs.declared.op.Op.{Op}
+use Rattle.bios_attr.specs.EntryParts.{is_in_parts, part_at, first_request, request_at, alone_at}
+use Rattle.record_kinds.specs.Limits.{get_asked}
+use Rattle.record_kinds.specs.Series.{set_whole}
 use Rattle.bmc_board.specs.Table.{is_pldm_type, pldm_line_of}
 use Rattle.bmc_board.specs.Request.{Request as BoardRequest, asked_by, asked_at, pldm_refusals}
 use Rattle.bmc_board.proofs.Decoded.{gets_are_read, sets_are_read}
@@ -29,7 +32,7 @@ use Rattle.model_bus.specs.Request.{Request as Heard}
 use Rattle.model_bus.specs.Assembly.{Name}
 use Rattle.model_bus.specs.PacketBus.{rules_of, request_name}
 use Rattle.model_bus.proofs.Cutting.{cuts_all}
-use Rattle.model_undo.specs.Wires.{number_of, IsSeries, IsOf, IsMade}
+use Rattle.model_undo.specs.Wires.{number_of, IsMade}
 use Rattle.model_bus.specs.Addresses.{Addresses}
 use Rattle.model_undo.specs.World.{States}
 use Rattle.model_ports.specs.Wires.{bus_of, bytes_of, reply_to}
@@ -46,6 +49,7 @@ use Rattle.model_lab.specs.Lab.{LabFrame}
 use Rattle.model_ports.proofs.Parts.{parts_are_cuts}
 use Rattle.model_headline.specs.Each.{Each}
 use Rattle.model_headline.proofs.Each.{each_map, each_by_place}
+use Rattle.model_headline.proofs.Series.{mapped, alone_is, IsOfAll, made_so}
 use Rattle.model_headline.specs.Tied.{L, smbus_bus, IsHeld, requests}
 
 -- ---- types of PLDM
@@ -76,16 +80,31 @@ from_type : (at : Bus → Addresses) (asked : Asked) → HasType asked → HasTy
 from_type at (Ipmi from net_fn lun command body) h = tt
 from_type at (Pldm from kind command body) h = h
 
-series_type : (at : Bus → Addresses) (series : Asked) → IsSeries (manager_words at) series → HasType series
-series_type at series (inl is) = subst HasType (sym is.1) (from_type at (get_asked is.0) (read_type (get_asked is.0) _ (gets_are_read is.0).is_read))
-series_type at series (inr is) = subst HasType (sym is.1) (from_type at (set_asked is.0) (read_type (set_asked is.0) _ (sets_are_read is.0).is_read))
+first_type : (asked : Asked) → HasType asked → HasType (first_request asked)
+first_type (Ipmi from net_fn lun command body) h = tt
+first_type (Pldm from kind command body) h = h
+
+later_type : (asked : Asked) (place : ℕ) (next : Asked) → HasType asked → request_at asked place ≡ Some next → HasType next
+later_type (Ipmi from net_fn lun command body) place next h e = subst HasType (alone_is (Ipmi from net_fn lun command body) place next e).1 tt
+later_type (Pldm from kind command body) place next h e = by (is_in_parts (Pldm from kind command body)) e
+  where
+    by : (t : Bool) → cond t (option_map (Pldm from kind command) (part_at body place)) (alone_at (Pldm from kind command body) place) ≡ Some next → HasType next
+    by true e = subst HasType (mapped (Pldm from kind command) (part_at body place) next e).2 h
+    by false e = subst HasType (alone_is (Pldm from kind command body) place next e).1 h
+
+whole_type : (o : Op) → HasType (set_whole o)
+whole_type o = read_type (set_whole o) _ (sets_are_read o).is_read
+
+all_types : IsOfAll HasType
+all_types = record {
+  gets = λ k. read_type (get_asked k) _ (gets_are_read k).is_read;
+  get_parts = λ handle transfer. lit< tt;
+  sets = λ o. first_type (set_whole o) (whole_type o);
+  set_parts = λ o place next e. later_type (set_whole o) place next (whole_type o) e;
+}
 
 pub made_type : (at : Bus → Addresses) (asked : Asked) → IsMade (manager_words at) asked → HasType asked
-made_type at asked made = by made.2
-  where
-    by : IsOf (manager_words at) made.0 asked → HasType asked
-    by (inl same) = subst HasType (sym same) (series_type at made.0 made.1)
-    by (inr another) = absurd (none-some asked another.1)
+made_type at asked made = made_so at HasType all_types (from_type at) asked made
 
 -- ---- packets
 

@@ -12,7 +12,7 @@ use Rattle.two_wire.specs.declared.Bus.TheVariants.{Ipmb, Smbus}
 use Rattle.ipmb_frame.specs.declared.message.Request.{Request}
 use Rattle.mctp_net.specs.declared.message.Message.{Message}
 use Rattle.bmc_board.specs.declared.activity.Activity.{Activity}
-use Rattle.bmc_board.specs.State.{state}
+use Rattle.bmc_board.specs.State.{on_bench}
 use Rattle.model_ports.specs.Values.{Asks}
 use Rattle.model_ports.specs.PortSteps.{hears, hears_all, idles}
 use Rattle.model_lab.specs.declared.way.Way.TheVariants.{ToOthers}
@@ -55,7 +55,7 @@ module _ (setup : BoardFile) (names : Names) where
   unfolding step
   idle_step x bus requester = refl
 
-  bench_step : (x : Lab (P setup names)) (activity : Activity) → record x { board = state x.board.records activity } ≡ step (P setup names) setup x (OnBench activity)
+  bench_step : (x : Lab (P setup names)) (activity : Activity) → record x { board = on_bench x.board activity } ≡ step (P setup names) setup x (OnBench activity)
   unfolding step
   bench_step x activity = refl
 

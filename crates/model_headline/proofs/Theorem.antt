@@ -18,14 +18,13 @@ use Rattle.model_bus.specs.PacketBus.{opening_ends}
 use Rattle.model_bus.specs.Answering.{AreWritten}
 use Rattle.model_bus.proofs.Cutting.{packets_cut}
 use Rattle.model_bus.specs.Answered.{Answered}
-use Rattle.model_undo.specs.Words.{AreSingle}
 use Rattle.model_undo.specs.declared.phase.Why.TheVariants.{Stop, Refused, NotRestorable, GetRefused}
 use Rattle.model_undo.specs.declared.phase.Phase.{Phase}
 use Rattle.model_undo.specs.declared.phase.Phase.TheVariants.{Fresh, Getting, Setting, Done, Halted, Unsettled, Undoing, Undone, UndoRefused}
 use Rattle.model_undo.specs.Plan.{IsAfter, Halts}
 use Rattle.model_undo.specs.Giving.{Giving, given_in, GaveIn as Gave, CausedIn}
 use Rattle.model_undo.proofs.Giving.{halts_by_answers}
-use Rattle.model_undo.proofs.Single.{one_of, one_answer}
+use Rattle.model_undo.proofs.Series.{all_answered_as}
 use Rattle.model_undo.specs.Machine.{count_of, phase_of}
 use Rattle.model_undo.specs.World as world
 use Rattle.model_undo.specs.World.{States, World, Happening}
@@ -33,8 +32,8 @@ use Rattle.model_undo.specs.Headline.{IsStart, ShowsSame}
 use Rattle.model_undo.proofs.World.{run_holds}
 use Rattle.model_undo.proofs.Headline.{opening_holds, stands_at, halts_at, undone_for_good}
 use Rattle.model_undo.proofs.TwoBuses.{packet_lines}
-use Rattle.model_family.proofs.IsFamily.{is_single, is_family}
-use Rattle.model_family.proofs.Board.{starts_valid}
+use Rattle.model_family.proofs.IsFamily.{is_family}
+use Rattle.model_family.proofs.Board.{starts_valid, starts_ready}
 use Rattle.undo_plans.specs.declared.names.Names.{Names}
 use Rattle.text_schedule.specs.declared.event.Call.TheVariants.{Stop as StopCall}
 use Rattle.model_lab.specs.ManagerSteps.{addresses}
@@ -228,7 +227,7 @@ module _ (setup : BoardFile) (names : Names) (plan : List Op) (retries : ℕ) wh
   starts Smbus = (nothing_yet, record { port = λ n e. refl; manager = λ n e. refl }, refl)
 
   is_start : IsStart (F setup names) (L setup names) (W setup names) quiet (first setup names plan retries).board
-  is_start = record { on_bus = starts; valid = (starts_valid setup (addresses names)).opened_valid; ready = λ series. tt }
+  is_start = record { on_bus = starts; valid = (starts_valid setup (addresses names)).opened_valid; ready = starts_ready setup (addresses names) }
 
   first_holds : Holds setup names plan (first setup names plan retries).board.records (world_of setup names (first setup names plan retries) quiet)
   first_holds = opening_holds (F setup names) (is_family setup (addresses names)) (L setup names) (packet_lines (addresses names) packets_of packets_cut) (W setup names) plan retries quiet (first setup names plan retries).board is_start
@@ -314,10 +313,6 @@ module _ (setup : BoardFile) (names : Names) (plan : List Op) (retries : ℕ) wh
         at = subst (λ (b : State). IsAfter (F setup names) plan x0.board.records k b.records) is.given.before g.at;
       }
 
-  -- each Get and each Set is one request
-  one_request : AreSingle (F setup names).words
-  one_request = (is_single setup (addresses names)).single
-
   caused : (events : List Event) (happenings : List (Happening (F setup names) (L setup names)))
       → Each (GivenIn setup names plan (first setup names plan retries).board.records events (first setup names plan retries)) (given_in (F setup names) (L setup names) (W setup names) happenings (world_of setup names (first setup names plan retries) quiet))
       → (phase : Phase) → ((k : ℕ) → phase ≡ Halted k Stop → In (Calls StopCall) events)
@@ -328,21 +323,18 @@ module _ (setup : BoardFile) (names : Names) (plan : List Op) (retries : ℕ) wh
       let op = c.2.op in
       let given = given_in (F setup names) (L setup names) (W setup names) hs (world_of setup names (first setup names plan retries) quiet) in
       let answered : Answered = record { code = code; body = c.1 } in
-      let asked_is = one_of (F setup names).words one_request ((F setup names).words.setting op) c.2.asked c.2.is_of in
-      (op, c.1, c.2.step, subst (λ (asked : Asked). GaveIn setup names plan retries events k asked answered) asked_is (gave_in events given all k c.2.asked answered c.2.gave), c.0)
+      (op, c.2.asked, c.1, c.2.step, c.2.is_of, gave_in events given all k c.2.asked answered c.2.gave, c.0)
   caused events hs all (Halted k (GetRefused code)) told c =
       let op = c.2.op in
       let given = given_in (F setup names) (L setup names) (W setup names) hs (world_of setup names (first setup names plan retries) quiet) in
       let answered : Answered = record { code = code; body = c.1 } in
-      let asked_is = one_of (F setup names).words one_request ((F setup names).words.getting ((F setup names).words.key_of op)) c.2.asked c.2.is_of in
-      (op, c.1, c.2.step, subst (λ (asked : Asked). GaveIn setup names plan retries events k asked answered) asked_is (gave_in events given all k c.2.asked answered c.2.gave), c.0)
+      (op, c.2.asked, c.1, c.2.step, c.2.is_of, gave_in events given all k c.2.asked answered c.2.gave, c.0)
   caused events hs all (Halted k NotRestorable) told c =
       let op = c.1.op in
       let given = given_in (F setup names) (L setup names) (W setup names) hs (world_of setup names (first setup names plan retries) quiet) in
       let get = (F setup names).words.getting ((F setup names).words.key_of op) in
-      let one = one_answer (F setup names).words one_request (Gave (F setup names) (L setup names) (W setup names) given plan (first setup names plan retries).board.records k) get c.0 c.1.gave in
-      let answered : Answered = record { code = 0; body = one.body } in
-      (op, one.body, c.1.step, gave_in events given all k get answered one.given, subst (λ (body : List ℕ). (F setup names).Restorable op body → ⊥) one.joined_is c.1.not_restorable)
+      let gave = Gave (F setup names) (L setup names) (W setup names) given plan (first setup names plan retries).board.records k in
+      (op, c.0, c.1.step, all_answered_as (F setup names).words get gave (GaveIn setup names plan retries events k) (gave_in events given all k) c.0 c.1.gave, c.1.not_restorable)
   caused events hs all Fresh told c = tt
   caused events hs all (Getting k) told c = tt
   caused events hs all (Setting k) told c = tt

@@ -7,7 +7,7 @@ use Rattle.record_base.specs.declared.op.Op.{Op}
 use Rattle.cfg_records.specs.declared.board_file.BoardFile.{BoardFile}
 use Rattle.model_bus.specs.Request.{Kept, Carried}
 use Rattle.model_bus.specs.Answered.{Answered}
-use Rattle.model_undo.specs.Words.{get_asked, set_asked}
+use Rattle.model_undo.specs.Words.{IsOf, AllAnswered}
 use Rattle.model_undo.specs.declared.phase.Why.TheVariants.{Stop, Refused, NotRestorable, GetRefused}
 use Rattle.model_undo.specs.declared.phase.Phase.{Phase}
 use Rattle.model_undo.specs.declared.phase.Phase.TheVariants.{Halted}
@@ -33,14 +33,17 @@ module _ (setup : BoardFile) (names : Names) where
     pub replies : kept.reply ≡ reply_to bus kept.request.bytes answered
     pub row : Board.Row lab.board asked answered next.board
 
-  -- Why a plan halted after `step` steps, in a run whose answers at the records after so many steps are `Gave step`: the answer that was given
-  -- to the Get or to the Set of that step, or a stop.
+  -- Why a plan halted after `step` steps, in a run whose answers at the records after so many steps are `Gave step`: an answer that was given to a
+  -- request of the Get or of the Set of that step, the answers to all requests of that Get, or a stop.
   abbrev pub CausedBy : (Gave : ℕ → Asked → Answered → Type 0) → (stopped : Type 0) → List Op → Phase → Type 0
   CausedBy Gave stopped plan (Halted step Stop) = stopped
   CausedBy Gave stopped plan (Halted step (Refused code)) =
-      (op : Op) × (body : List ℕ) × (slice_get plan step ≡ Some op) × Gave step (set_asked Board.words op) (record { code = code; body = body }) × (code ≢ success)
+      (op : Op) × (asked : Asked) × (body : List ℕ) × (slice_get plan step ≡ Some op) × IsOf Board.words (Board.words.setting op) asked
+      × Gave step asked (record { code = code; body = body }) × (code ≢ success)
   CausedBy Gave stopped plan (Halted step (GetRefused code)) =
-      (op : Op) × (body : List ℕ) × (slice_get plan step ≡ Some op) × Gave step (get_asked Board.words (Board.words.key_of op)) (record { code = code; body = body }) × (code ≢ success)
+      (op : Op) × (asked : Asked) × (body : List ℕ) × (slice_get plan step ≡ Some op) × IsOf Board.words (Board.words.getting (Board.words.key_of op)) asked
+      × Gave step asked (record { code = code; body = body }) × (code ≢ success)
   CausedBy Gave stopped plan (Halted step NotRestorable) =
-      (op : Op) × (body : List ℕ) × (slice_get plan step ≡ Some op) × Gave step (get_asked Board.words (Board.words.key_of op)) (record { code = success; body = body }) × (¬ Board.Restorable op body)
+      (op : Op) × (bodies : List (List ℕ)) × (slice_get plan step ≡ Some op) × AllAnswered Board.words (Gave step) (Board.words.getting (Board.words.key_of op)) bodies
+      × (¬ Board.Restorable op (Board.words.joined (Board.words.getting (Board.words.key_of op)) bodies))
   CausedBy Gave stopped plan _ = Unit {0}

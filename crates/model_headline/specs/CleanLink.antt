@@ -1,14 +1,18 @@
 -- What comes of a clean schedule: it delivers each frame that is sent once and in order, and nobody else sends a frame.
-use Rattle.std.specs.Prelude.{◌≡◌, ℕ, ◌+◌, ◌≤◌, List, ◌++◌, length, None}
+use Rattle.std.specs.Prelude.{◌≡◌, ℕ, ◌+◌, ◌≤◌, List, [], ◌∷◌, ◌++◌, length, None}
 use Rattle.two_wire.specs.declared.Bus.TheVariants.{Ipmb, Smbus}
 use Rattle.record_base.specs.declared.op.Op.{Op}
+use Rattle.record_base.specs.declared.op.Op.TheVariants as op
 use Rattle.cfg_records.specs.declared.board_file.BoardFile.{BoardFile}
+use Rattle.record_kinds.specs.Series.{Series}
 use Rattle.bmc_board.specs.State.{State}
 use Rattle.model_undo.specs.declared.phase.Phase.{Phase}
-use Rattle.model_undo.specs.declared.phase.Phase.TheVariants.{Undone}
+use Rattle.model_undo.specs.declared.phase.Why.TheVariants.{Refused}
+use Rattle.model_undo.specs.declared.phase.Phase.TheVariants.{Halted, Undone}
 use Rattle.model_undo.specs.Plan.{IsAfter}
 use Rattle.model_undo.specs.Machine.{open_bus}
-use Rattle.model_undo.specs.Clean.{GoAll, EndsIn}
+use Rattle.model_undo.specs.Undoable.{CanUndo}
+use Rattle.model_undo.specs.CleanSeries.{GoAll, EndsIn, AnswersEach}
 use Rattle.model_family.specs.Family.{answer}
 use Rattle.undo_plans.specs.declared.names.Names.{Names}
 use Rattle.undo_plans.specs.Steps.{most_steps}
@@ -16,7 +20,23 @@ use Rattle.model_lab.specs.Lab.{Event}
 use Rattle.model_lab.specs.Faults.{begun_on, AllTaken}
 use Rattle.model_lab.specs.Clean.{IsCleanRun, IsCleanUndo}
 use Rattle.model_headline.specs.Tied.{P, F}
+use Rattle.model_headline.specs.CleanParts.{step_parts, back_parts}
 use Rattle.model_headline.specs.Theorem.{first, after, phase_after}
+
+-- the operation's record is got by one request, and set by one
+abbrev pub IsOfOne : Op → Type 0
+IsOfOne (op.BiosAttribute own) = ⊥
+IsOfOne _ = Unit {0}
+
+abbrev pub AreOfOne : List Op → Type 0
+AreOfOne [] = Unit {0}
+AreOfOne (op ∷ ops) = IsOfOne op × AreOfOne ops
+
+-- how many requests such a step took at which a plan halted
+abbrev pub count_at : Phase → ℕ
+count_at (Halted step (Refused code)) = 2
+count_at (Halted step why) = 1
+count_at _ = 0
 
 module _ (setup : BoardFile) (names : Names) (plan : List Op) (retries : ℕ) where
   -- so many requests of the manager were begun, on both buses
@@ -29,26 +49,41 @@ module _ (setup : BoardFile) (names : Names) (plan : List Op) (retries : ℕ) wh
     pub begun : begun_after events ≡ requests
     pub closed : open_bus (F setup names).words (after setup names plan retries events).manager.machine ≡ None
 
-  -- A plan takes two requests for each of its first steps, which the board accepts and which can be undone. It is done after the last, or
-  -- halts at the first other step, as soon as the step's Get is refused or shows data that can't be restored, or its Set is refused. Then the
-  -- records are those after these steps. Its undo takes one request for each of them, and leaves the records of the start.
+  -- A plan takes as many requests as the Gets and Sets have of its first steps, which the board accepts and which can be undone. It is done after the
+  -- last, or halts at the first other step, as soon as a request of the step's Get is refused, all its Get shows can't be restored, or a request of
+  -- its Set is refused. Then the records are those after these steps. Its undo takes as many requests as the series have that undo them, one series
+  -- for each, and leaves the records of the start.
   pub record RunsOnCleanLink : Type 0 where
     pub steps : List Op
     pub rest : List Op
     pub whole : plan ≡ steps ++ rest
     pub at : State
-    pub go : GoAll (F setup names) (answer setup) steps (first setup names plan retries).board at
+    pub requests : ℕ
+    pub go : GoAll (F setup names) (answer setup) steps requests (first setup names plan retries).board at
     pub phase : Phase
     pub more : ℕ
     pub ends : EndsIn (F setup names) (answer setup) (length steps) rest at phase more
+    -- what the manager keeps, the board after the plan, and the board after the undo, which answers so many requests
+    pub undo : List Series
+    pub rested : State
+    pub leads_back : CanUndo (F setup names) plan (first setup names plan retries).board.records (length steps) undo rested.records
+    pub back : ℕ
+    pub left : State
+    pub goes_back : AnswersEach (F setup names) (answer setup) undo back rested left
+    -- a step takes a request for each part of the entry that it finds, and one for each part of its own; its undo one for each of the entry found
+    pub by_parts : (requests ≡ step_parts setup names steps requests (first setup names plan retries).board at go)
+        × (back ≡ back_parts setup names plan (first setup names plan retries).board.records (length steps) undo rested.records leads_back)
+    -- where each step is of one request for its Get and one for its Set, there are two for each step, and one for each that is undone
+    pub of_one : AreOfOne plan → (requests ≡ length steps + length steps) × (more ≡ count_at phase) × (back ≡ length steps)
     -- a clean schedule of a plan of at most `most_steps` exists, and a lab takes each event of any
     pub can_run : length plan ≤ most_steps → (events : List Event) × IsCleanRun (P setup names) setup events (first setup names plan retries)
     pub can_undo : length plan ≤ most_steps → (events : List Event) × IsCleanUndo (P setup names) setup events (first setup names plan retries)
     pub run_taken : length plan ≤ most_steps → (events : List Event) → IsCleanRun (P setup names) setup events (first setup names plan retries) → AllTaken (P setup names) setup events (first setup names plan retries)
     pub undo_taken : length plan ≤ most_steps → (events : List Event) → IsCleanUndo (P setup names) setup events (first setup names plan retries) → AllTaken (P setup names) setup events (first setup names plan retries)
     pub ran : (events : List Event) → IsCleanRun (P setup names) setup events (first setup names plan retries)
-        → HasEnded events phase (length steps + length steps + more)
+        → HasEnded events phase (requests + more)
         × IsAfter (F setup names) plan (first setup names plan retries).board.records (length steps) (after setup names plan retries events).board.records
+        × ((after setup names plan retries events).manager.machine.undo ≡ undo) × ((after setup names plan retries events).board ≡ rested)
     pub undone : (events : List Event) → IsCleanUndo (P setup names) setup events (first setup names plan retries)
-        → HasEnded events Undone (length steps + length steps + more + length steps)
-        × ((after setup names plan retries events).board.records ≡ (first setup names plan retries).board.records)
+        → HasEnded events Undone (requests + more + back)
+        × ((after setup names plan retries events).board.records ≡ (first setup names plan retries).board.records) × ((after setup names plan retries events).board ≡ left)

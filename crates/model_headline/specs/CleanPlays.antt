@@ -32,13 +32,13 @@ module _ (file : BoardFile) (plan : List Op) (retries : ℕ) where
   -- the play took all events, and tells the phase that the plan ends in on a clean link, and the records after the steps that were done
   abbrev pub TellsRun : RunsOnCleanLink file lab_names plan retries → List Event → Ending → Type 0
   TellsRun runs events ending =
-      (told : Told) × (ending ≡ Whole told) × (told.phase ≡ runs.phase) × (begun_by events ≡ length runs.steps + length runs.steps + runs.more)
+      (told : Told) × (ending ≡ Whole told) × (told.phase ≡ runs.phase) × (begun_by events ≡ runs.requests + runs.more)
       × IsAfter (F file lab_names) plan told.start (length runs.steps) told.records
 
   -- the play took all events, and tells that the plan is undone, and the records of the start
   abbrev pub TellsUndo : RunsOnCleanLink file lab_names plan retries → List Event → Ending → Type 0
   TellsUndo runs events ending =
-      (told : Told) × (ending ≡ Whole told) × (told.phase ≡ Undone) × (begun_by events ≡ length runs.steps + length runs.steps + runs.more + length runs.steps)
+      (told : Told) × (ending ≡ Whole told) × (told.phase ≡ Undone) × (begun_by events ≡ runs.requests + runs.more + runs.back)
       × (told.records ≡ told.start)
 
   -- the schedule starts the plan, or starts and undoes it, on a link that loses, repeats and delays nothing

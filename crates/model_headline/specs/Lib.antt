@@ -5,5 +5,6 @@ pub mod Tied
 pub mod Follows
 pub mod Theorem
 pub mod Plays
+pub mod CleanParts
 pub mod CleanLink
 pub mod CleanPlays

@@ -1,7 +1,7 @@
 -- The requests of a machine are those that a manager makes.
 use Rattle.std.specs.Prelude.{List, [], ◌∷◌}
 use Rattle.two_wire.specs.declared.Bus.{Bus}
-use Rattle.record_base.specs.declared.message.Asked.{Asked}
+use Rattle.record_kinds.specs.Series.{Series}
 use Rattle.model_undo.specs.Words.{Words}
 use Rattle.model_undo.specs.Wires.{IsSeries, IsMade}
 use Rattle.model_bus.specs.Addresses.{Addresses}
@@ -13,15 +13,15 @@ module _ (at : Bus → Addresses) where
   M = manager_words at
 
   -- a manager makes each of these series
-  abbrev pub AllSeries : List Asked → Type 0
+  abbrev pub AllSeries : List Series → Type 0
   AllSeries [] = Unit {0}
-  AllSeries (asked ∷ askeds) = IsSeries M asked × AllSeries askeds
+  AllSeries (series ∷ more) = IsSeries M series × AllSeries more
 
-  -- a manager makes the series that a task goes over later
+  -- a manager makes the series that a task goes over, now and later
   abbrev pub TaskMade : Task M → Type 0
   TaskMade (Gets step op) = Unit {0}
   TaskMade (Sets step op back) = Unit {0}
-  TaskMade (Undoes first rest) = AllSeries rest
+  TaskMade (Undoes first rest) = IsSeries M first × AllSeries rest
 
   -- a manager makes the request that is open
   abbrev pub StageMade : Stage M → Type 0

@@ -10,6 +10,7 @@ ghost use Rattle.model_headline.specs.Follows.{CallsAreFollowed, RepliesAreFollo
 ghost use Rattle.model_headline.specs.Theorem.{Headline, IsTrusted, IsTakenAndOwn, PremisesAgree};
 ghost use Rattle.model_headline.specs.Plays.{PlaysStand};
 ghost use Rattle.model_headline.specs.CleanLink.{RunsOnCleanLink};
+ghost use Rattle.model_headline.specs.CleanParts.{TakesParts};
 ghost use Rattle.model_headline.specs.CleanPlays.{PlaysRunClean};
 
 /// Where the manager is called, the model's world goes on to one that the lab shows then. So it is in each phase, also where the call is refused.
@@ -66,9 +67,10 @@ pub fn plays_stand()
     ensures { (file : BoardFile) (plan : List Op) (retries : ℕ) → PlaysStand file plan retries }
 {}
 
-/// Over a link that loses, repeats and delays nothing, and on which nobody else asks, a plan is done after two requests for each step, or
-/// halts at the first step that isn't accepted or can't be restored. Its undo takes one request for each step that was done. A plan of at
-/// most 256 steps has such schedules, and a lab takes each of their events.
+/// Over a link that loses, repeats and delays nothing, and on which nobody else asks, a plan is done after the requests of each step's Get
+/// and Set, or halts at the first step that isn't accepted or can't be restored. Its undo takes the requests of one series for each step
+/// that was done. A step takes a request for each part of the entry that it finds and of its own, its undo one for each part of the entry
+/// found: two and one where it isn't of an attribute. A plan of at most 256 steps has such schedules, and a lab takes each of their events.
 pub fn clean_links_run_plans()
     ensures { (setup : BoardFile) (names : Names) (plan : List Op) (retries : ℕ)
         → RunsOnCleanLink setup names plan retries }
@@ -78,4 +80,10 @@ pub fn clean_links_run_plans()
 pub fn clean_plays_run_plans()
     ensures { (file : BoardFile) (plan : List Op) (retries : ℕ) → length plan ≤ most_steps
         → PlaysRunClean file plan retries }
+{}
+
+/// A Get that is carried out is as many requests as the record's entry has parts, and a Set as many as its own entry has. A record that is no
+/// attribute's is got by one request, and set by one.
+pub fn series_take_parts()
+    ensures { (setup : BoardFile) (names : Names) → TakesParts setup names }
 {}
