@@ -17,7 +17,7 @@ use crate::side::{Controller, Driver, Phases, pair_over};
 use bmc_lab::{
     Console, Report, Status, Stream, TextFiles, Unread, Untold, end_run, refuse, text_of,
 };
-use cfg_records::{BoardFile, Key, Value};
+use cfg_records::{BoardFile, Key, StartValue};
 use changed_records::push_records;
 use net_run::{open_manager, push_phase};
 use net_serve::{Begun, Served, begin, controller_ports, tally_of};
@@ -69,7 +69,7 @@ fn open_sides<R: Net>(rt: &R, alloc: Global, plan: Plan) -> Result<(Controller, 
 }
 
 /// How many of these records changed on a board that was served, if it was.
-fn changed_of(start: &[(Key, Value)], served: &Option<Served>) -> Option<usize>
+fn changed_of(start: &[(Key, StartValue)], served: &Option<Served>) -> Option<usize>
     ensures { (file : AnyFile) → start.now ≡ pairs_of file
         → IfSome served.now (IsServed file (opened file) most_events) → IsChanged file result }
 {

@@ -7,14 +7,13 @@ use Rattle.std.proofs.lemmas.Simd.{map-map}
 use Rattle.text_lines.specs.Cuts.{ended}
 use Rattle.cfg_records.specs.Records.{Pair}
 use Rattle.record_base.specs.declared.message.Asked.{Asked}
-use Rattle.record_base.specs.declared.message.Asked.TheVariants.{Ipmi, Pldm}
+use Rattle.record_kinds.specs.Series.{Series, Reads, Sends}
 use Rattle.model_undo.specs.PhaseNames.{phase_name}
-use Rattle.undo_core.specs.Shown.{own, backs}
+use Rattle.undo_core.specs.Shown.{backs}
 use Rattle.text_undo.specs.UndoText.{line_of}
 use Rattle.lab_run.specs.declared.marks.Mark.{Mark}
 use Rattle.model_lab.specs.Lab.{LabFrame}
 use Rattle.lab_run.specs.declared.frames.SentFrame.{SentFrame}
-use Rattle.model_lab.specs.Meaning.{lab_names}
 use Rattle.model_lab.specs.Played.{Told, Ending, Whole, Stops}
 use Rattle.lab_run.specs.Shown.{IsSentFrame}
 use Rattle.model_headline.specs.Plays.{taken_by, TellsPremise}
@@ -60,20 +59,19 @@ same_frames frames others sent are also = sym (map-id frames) ∙ same_made (λ 
 
 -- ---- the requests that undo
 
--- a line doesn't say from whom a request is
-line_own : (asked : Asked) → line_of (own lab_names asked) ≡ line_of asked
-line_own (Ipmi from net_fn lun command body) = refl
-line_own (Pldm from kind command body) = refl
+-- the line of a series that undoes: that of the request that it carries out
+abbrev line_in : Series → List ℕ
+line_in (Sends asked) = line_of asked
+line_in (Reads key) = []
 
--- the lines of requests that go in this order
-abbrev lines_for : List Asked → List (List ℕ)
-lines_for requests = said (codes "undo") (decimal (length requests)) ∷ map line_of requests
+-- the lines of series that go in this order
+abbrev lines_for : List Series → List (List ℕ)
+lines_for series = said (codes "undo") (decimal (length series)) ∷ map line_in series
 
-undo_said : (requests : List Asked) → undo_lines requests ≡ lines_for (backs lab_names requests)
+undo_said : (requests : List Asked) → undo_lines requests ≡ lines_for (backs requests)
 undo_said requests =
-    let number : length requests ≡ length (backs lab_names requests) = sym (length-map (reverse requests) (own lab_names) ∙ length-reverse requests) in
-    let each : map line_of (reverse requests) ≡ map line_of (backs lab_names requests) =
-    sym (map-map line_of (own lab_names) (reverse requests) ∙ ap (λ (line : Asked → List ℕ). map line (reverse requests)) (λ i asked. line_own asked i)) in
+    let number : length requests ≡ length (backs requests) = sym (length-map (reverse requests) Sends ∙ length-reverse requests) in
+    let each : map line_of (reverse requests) ≡ map line_in (backs requests) = sym (map-map line_in Sends (reverse requests)) in
     λ i. said (codes "undo") (decimal (number i)) ∷ each i
 
 -- ---- the records

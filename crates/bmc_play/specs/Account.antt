@@ -3,7 +3,6 @@ use Rattle.std.specs.Prelude.{◌≡◌, ℕ, List, Option, Some, None}
 use Rattle.std.specs.List.{AllZip}
 use Rattle.cfg_records.specs.Records.{Pair, KeysDiffer, records_of}
 use Rattle.undo_core.specs.Shown.{backs}
-use Rattle.model_lab.specs.Meaning.{lab_names}
 use Rattle.model_lab.specs.Played.{Told, Ending, Whole, Stops}
 use Rattle.lab_run.specs.Shown.{IsSentFrame}
 use Rattle.changed_records.specs.Changed.{changed_in}
@@ -24,7 +23,7 @@ pub record AreChanged (number : ℕ) (told : Told) : Type 0 where
 pub record Accounts (account : Account) (told : Told) : Type 0 where
   pub phase : account.phase ≡ told.phase
   pub frames : AllZip IsSentFrame account.frames.now told.frames
-  pub undo : backs lab_names account.undo.now.members ≡ told.undo
+  pub undo : backs account.undo.now.members ≡ told.undo
   pub changed : AreChanged account.changed told
 
 -- it is the account of a play that ended so: of all events, or of those before the one that has the fault, which it names by its place

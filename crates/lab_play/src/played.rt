@@ -4,7 +4,6 @@ ghost use Rattle.std.specs.List.{AllZip};
 ghost use Rattle.two_wire.specs.declared.Bus.{Bus as AnyBus};
 ghost use Rattle.cfg_records.specs.Records.{records_of};
 ghost use Rattle.undo_core.specs.Shown.{backs};
-ghost use Rattle.model_lab.specs.Meaning.{lab_names};
 ghost use Rattle.model_lab.specs.Played.{Told};
 ghost use Rattle.lab_run.specs.Shown.{IsSentFrame, idles_in};
 ghost use Rattle.lab_play.specs.Noted.{NotesPlay};
@@ -15,7 +14,7 @@ use crate::noted::run_noted;
 use crate::run::{Stopped, run};
 use crate::watch::Watch;
 use bmc_board::Records;
-use cfg_records::{BoardFile, Key, Store, Value};
+use cfg_records::{BoardFile, Key, StartValue, Store};
 use changed_records::changed_count;
 use lab_run::{Fault, Lab, Note, SentFrame};
 use std::alloc::{AllocError, Global};
@@ -26,7 +25,7 @@ use undo_plans::{Plan, UndoList};
 /// What is told of a lab that was played.
 #[derive(Drop)]
 pub struct Played {
-    start: Vec<(Key, Value)>,
+    start: Vec<(Key, StartValue)>,
     lab: Lab,
     watch: Watch,
 }
@@ -49,7 +48,7 @@ impl Played {
     /// The requests that undo what was done.
     pub fn undo(&self) -> &UndoList
         ensures { (told : Told) → Tells self.now told
-            → backs lab_names result.now.requests.members ≡ told.undo }
+            → backs result.now.requests.members ≡ told.undo }
     {
         self.lab.undo_list()
     }
@@ -63,7 +62,7 @@ impl Played {
     }
 
     /// The records that the board began with.
-    pub fn start(&self) -> &[(Key, Value)]
+    pub fn start(&self) -> &[(Key, StartValue)]
         ensures { (told : Told) → Tells self.now told → records_of result.now ≡ told.start }
     {
         self.start.as_slice()

@@ -4,7 +4,6 @@ ghost use Rattle.std.specs.List.{AllZip};
 ghost use Rattle.model_undo.specs.Machine.{phase_of};
 ghost use Rattle.undo_core.specs.Shown.{backs};
 ghost use Rattle.model_lab.specs.Faults.{begun_on};
-ghost use Rattle.model_lab.specs.Meaning.{lab_names as the_names};
 ghost use Rattle.model_lab.specs.Played.{plans};
 ghost use Rattle.lab_run.specs.Shown.{ForShown, IsSentFrame};
 
@@ -41,7 +40,7 @@ impl Lab {
     /// The requests that undo what was done.
     pub fn undo_list(&self) -> &UndoList
         ensures { ForShown self.now (λ _ x.
-            backs the_names result.now.requests.members ≡ x.manager.machine.undo) }
+            backs result.now.requests.members ≡ x.manager.machine.undo) }
     {
         self.manager.undo_list()
     }

@@ -37,7 +37,7 @@ undo_retries = 3
 -- the manager that goes on from a list of requests that undo
 abbrev pub resumed_from : UndoList → State
 resumed_from list = record {
-  machine = resumed (words_of lab_names) undo_retries (record { series = backs lab_names list.requests.members; next = record { ipmb = list.next.ipmb; smbus = list.next.smbus } });
+  machine = resumed (words_of lab_names) undo_retries (record { series = backs list.requests.members; next = record { ipmb = list.next.ipmb; smbus = list.next.smbus } });
   names = lab_names;
   listed = list.names;
   joined = nothing;
@@ -114,7 +114,7 @@ pub record Undoes (list : UndoList) (turns : ℕ) (m : Manager) (phase : Phase) 
 
 -- the list is the manager's: what undoes the steps that were done, the numbers of its next requests, and its names
 pub record IsListOf (list : UndoList) (s : State) : Type 0 where
-  pub requests : backs lab_names list.requests.members ≡ s.machine.undo
+  pub requests : backs list.requests.members ≡ s.machine.undo
   pub sequence : list.next.ipmb ≡ number_of Ipmb s.machine.counts.ipmb
   pub instance : list.next.smbus ≡ number_of Smbus s.machine.counts.smbus
   pub names : list.names ≡ s.listed

@@ -11,14 +11,14 @@ ghost use Rattle.net_serve.specs.Served.{text_of};
 use crate::board::Served;
 use bmc_board::{Board, Records};
 use bmc_lab::{Report, Status, Stream};
-use cfg_records::{BoardFile, Key, Value};
+use cfg_records::{BoardFile, Key, StartValue};
 use changed_records::{changed_count, push_records};
 use std::alloc::{AllocError, Global};
 
 /// A board that is to be served, and the records that it begins with.
 #[derive(Drop)]
 pub struct Begun {
-    pub start: Vec<(Key, Value)>,
+    pub start: Vec<(Key, StartValue)>,
     pub board: Board<Records>,
 }
 
@@ -45,7 +45,7 @@ pub struct Tally {
 }
 
 /// What is counted of a board that was served so many events, by the records that it began with.
-pub(crate) fn count(start: &[(Key, Value)], board: &Board<Records>, events: usize) -> Tally
+pub(crate) fn count(start: &[(Key, StartValue)], board: &Board<Records>, events: usize) -> Tally
     ensures events { result.events ≡ events }
     ensures changed { result.changed ≡ changed_in (state_of own_records board.now).records start.now }
 {
@@ -56,7 +56,7 @@ pub(crate) fn count(start: &[(Key, Value)], board: &Board<Records>, events: usiz
 }
 
 /// What is counted of a board that was served with one history.
-pub fn tally_of(start: &[(Key, Value)], served: &Served) -> Tally
+pub fn tally_of(start: &[(Key, StartValue)], served: &Served) -> Tally
     ensures events { result.events ≡ length served.now.history }
     ensures changed { result.changed ≡ changed_in (state_of own_records served.now.board).records start.now }
 {

@@ -1,5 +1,5 @@
 -- What the lines of an undo text say, each in one way.
-use Rattle.std.proofs.Common.{◌≡◌, ◌≢◌, ◌<◌, ◌≤◌, ◌*◌, ◌%◌, ◌^◌, ◌==◌, inl, inr, ℕ, suc, zero, Bool, true, false, cond, List, [], ◌∷◌, ◌++◌, length, get_or, arith, refl, sym, ◌∙◌, ap, subst, Ok, Result, codes}
+use Rattle.std.proofs.Common.{◌≡◌, ◌≢◌, ◌<◌, ◌≤◌, ◌*◌, ◌%◌, ◌^◌, ◌==◌, inl, inr, ℕ, suc, zero, Bool, true, false, cond, List, [], ◌∷◌, ◌++◌, length, get_or, arith, refl, sym, ◌∙◌, ap, subst, append_assoc, Ok, Result, codes}
 use Rattle.std.specs.Fmt.{decimal}
 use Rattle.std.specs.Str.Parse.{AllDigits, digits_value}
 use Rattle.std.proofs.lemmas.Bool.Decides.{eqb_tells}
@@ -8,14 +8,15 @@ use Rattle.std.proofs.lemmas.Str.Parse.{IsNumeralModel, numerals_by_value, tells
 use Rattle.std.proofs.lemmas.Fmt.{digits_decimal, decimal_injective}
 use Rattle.std.specs.Result.{result_unwrap_or}
 use Rattle.hex.specs.declared.error.FromHexError.{FromHexError}
-use Rattle.hex.specs.Hex.{IsBytes, decode_of, encode_upper, is_hex_digit}
+use Rattle.hex.specs.Hex.{IsBytes, decode_of, encode_with, encode_upper, is_hex_digit}
 use Rattle.hex.proofs.HexLemmas.{decode_of-ok, decode_of-encode_upper}
-use Rattle.text_lines.specs.Cuts.{Lacks, CutsAt}
+use Rattle.text_lines.specs.Cuts.{Lacks, CutsAt, ended}
 use Rattle.text_lines.proofs.Cuts.{lacks_by_index, same_cut, not_lacking}
 use Rattle.record_base.specs.declared.message.Asked.{Asked}
 use Rattle.record_base.specs.declared.message.Asked.TheVariants.{Ipmi, Pldm}
 use Rattle.two_wire.specs.declared.Bus.{Bus}
 use Rattle.two_wire.specs.declared.Bus.TheVariants.{Ipmb, Smbus}
+use Rattle.undo_plans.specs.Fitting.{most_of}
 use Rattle.undo_plans.specs.declared.names.Names.{Names}
 use Rattle.undo_plans.specs.declared.undo_list.NextNumbers.{NextNumbers}
 use Rattle.text_undo.specs.declared.version.Version.{Version}
@@ -210,10 +211,10 @@ ipmb_written asked from net_fn lun command body n b is same whole low even short
     let all : asked ≡ Ipmi from n lun command b = is ∙ ap (λ (m : ℕ). Ipmi from m lun command body) (sym same) ∙ ap (λ (x : List ℕ). Ipmi from n lun command x) (sym whole) in
     subst (λ (x : Asked). IsPlain x → IsRequestLine (line_of x) x) (sym all) (λ plain. written_is (Ipmi from n lun command b) plain fits small)
 
-pub smbus_written : (asked : Asked) (from kind command : ℕ) (body : List ℕ) (n : ℕ) (b : List ℕ) → asked ≡ Pldm from kind command body → n ≡ kind → b ≡ body → n < 64 → length b ≤ 252
+pub smbus_written : (asked : Asked) (from kind command : ℕ) (body : List ℕ) (n : ℕ) (b : List ℕ) → asked ≡ Pldm from kind command body → n ≡ kind → b ≡ body → n < 64 → length body ≤ most_of (Pldm from kind command body)
     → IsBytes (n ∷ command ∷ b) → IsPlain asked → IsRequestLine (line_of asked) asked
 smbus_written asked from kind command body n b is same whole low short small =
-    let fits : Fits (Pldm from n command b) = (low, short) in
+    let fits : Fits (Pldm from n command b) = (low, subst (λ (x : ℕ × List ℕ). length x.1 ≤ most_of (Pldm from x.0 command x.1)) (λ i. (sym same i, sym whole i)) short) in
     let all : asked ≡ Pldm from n command b = is ∙ ap (λ (m : ℕ). Pldm from m command body) (sym same) ∙ ap (λ (x : List ℕ). Pldm from n command x) (sym whole) in
     subst (λ (x : Asked). IsPlain x → IsRequestLine (line_of x) x) (sym all) (λ plain. written_is (Pldm from n command b) plain fits small)
 
@@ -237,3 +238,12 @@ behind_same rest last other p q =
 -- numbers that end where they are said to end aren't without a space
 pub numbers_have_space : (numbers : List ℕ) (next : NextNumbers) → numbers ≡ decimal next.ipmb ++ (32 ∷ (codes "smbus " ++ decimal next.smbus)) → ¬ Lacks 32 numbers
 numbers_have_space numbers next e lacks = not_lacking 32 (decimal next.ipmb) (codes "smbus " ++ decimal next.smbus) (subst (Lacks 32) e lacks)
+
+-- the digits of the first two bytes stand in front of those of the others
+pub digits_behind : (first command : ℕ) (body : List ℕ) → encode_upper (first ∷ command ∷ body) ≡ encode_upper (first ∷ command ∷ []) ++ encode_upper body
+unfolding encode_with
+digits_behind first command body = refl
+
+-- what ends a line ends all that was written of it
+pub line_ended : (bus first rest : List ℕ) → bus ++ (first ++ (rest ++ 10 ∷ [])) ≡ ended (bus ++ (first ++ rest))
+line_ended bus first rest = sym (append_assoc bus (first ++ rest) (10 ∷ []) ∙ ap (λ (l : List ℕ). bus ++ l) (append_assoc first rest (10 ∷ [])))

@@ -8,8 +8,9 @@ use Rattle.record_base.specs.declared.message.Asked.{Asked}
 use Rattle.record_base.specs.declared.message.Asked.TheVariants.{Ipmi, Pldm}
 use Rattle.two_wire.specs.declared.Bus.{Bus}
 use Rattle.two_wire.specs.declared.Bus.TheVariants.{Ipmb, Smbus}
-use Rattle.two_wire.specs.Sizes.{most_ipmi_request_data, most_pldm_request_data}
+use Rattle.two_wire.specs.Sizes.{most_ipmi_request_data}
 use Rattle.model_bus.specs.Circle.{sequence_numbers, instances}
+use Rattle.undo_plans.specs.Fitting.{most_of}
 use Rattle.undo_plans.specs.Steps.{most_steps}
 use Rattle.undo_plans.specs.declared.names.Names.{Names}
 use Rattle.undo_plans.specs.declared.undo_list.NextNumbers.{NextNumbers}
@@ -87,10 +88,10 @@ abbrev pub IsPlain : Asked → Type 0
 IsPlain (Ipmi from net_fn lun command body) = (from ≡ 0) × (lun ≡ 0)
 IsPlain (Pldm from kind command body) = from ≡ 0
 
--- the request's network function or type is one, and its data fit a request
+-- the request's network function or type is one, and its data fit a request: those that set an attribute whose entry goes in parts may be more
 abbrev pub Fits : Asked → Type 0
 Fits (Ipmi from net_fn lun command body) = (net_fn < 64) × (net_fn % 2 ≡ 0) × (length body ≤ most_ipmi_request_data)
-Fits (Pldm from kind command body) = (kind < 64) × (length body ≤ most_pldm_request_data)
+Fits (Pldm from kind command body) = (kind < 64) × (length body ≤ most_of (Pldm from kind command body))
 
 -- the bytes are what a line of the bus of this name has of the request
 pub record IsOf (bus bytes : List ℕ) (asked : Asked) : Type 0 where

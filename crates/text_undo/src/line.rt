@@ -1,29 +1,26 @@
 //! The lines of an undo text.
-ghost use Rattle.std.specs.Prelude.{◌≡◌, ◌≢◌, ◌++◌, ◌∷◌, [], ◌<◌, ◌≤◌, ℕ, List, true, false, None, IfOk, IfSome, IfNone, OnOk, Ok, MatchOption, length, codes, string_bytes};
+ghost use Rattle.std.specs.Prelude.{◌≡◌, ◌≢◌, ◌++◌, ◌∷◌, [], ◌<◌, ℕ, List, true, false, None, IfOk, IfSome, IfNone, OnOk, Ok, MatchOption, length, codes, string_bytes};
 ghost use Rattle.std.specs.Fmt.{decimal};
 ghost use Rattle.hex.specs.Hex.{IsBytes, encode_upper};
 ghost use Rattle.text_lines.specs.Cuts.{ended};
 ghost use Rattle.record_base.specs.declared.message.Asked.{Asked as AnyAsked};
 ghost use Rattle.undo_plans.specs.declared.undo_list.NextNumbers.{NextNumbers as AnyNumbers};
 ghost use Rattle.two_wire.specs.declared.Bus.{Bus as AnyBus};
-ghost use Rattle.undo_plans.specs.Requests.{meant, most_undo_data};
+ghost use Rattle.undo_plans.specs.Requests.{meant};
 ghost use Rattle.undo_plans.specs.Steps.{most_steps};
 ghost use Rattle.text_undo.specs.UndoText.{IsPlain, IsNumbersLine, IsOf, IsRequestLine, BeginsWith, name_of, line_of};
 
 use std::alloc::{AllocError, Global};
 use text_lines::{behind, bytes, first_line, first_word, plain_number};
 use two_wire::size::MOST_IPMI_REQUEST_DATA;
-use two_wire::{Below, Bus, Bytes, Data, Lun, NetFn};
-use undo_plans::{MOST_UNDO_DATA, NextNumbers, Requests, UndoRequest};
+use two_wire::{Below, Bus, Data, Lun, NetFn};
+use undo_plans::{NextNumbers, PldmUndo, Requests, UndoRequest};
 
 /// The line of the numbers of the next requests, up to the first number.
 const NEXT_IPMB: &str = "next ipmb ";
 
 /// What stands between the two numbers, behind the first space.
 const NEXT_SMBUS: &str = "smbus ";
-
-/// The most bytes of a line.
-const MOST_BYTES: usize = 2 + MOST_UNDO_DATA;
 
 /// The number below `END` that the word is in decimal digits without leading zeros.
 fn below<const END: u8>(word: &str) -> Option<Below<END>>
@@ -105,14 +102,13 @@ fn pldm(bytes: &[u8]) -> Option<UndoRequest<'_>>
     let [kind, command, body @ ..] = bytes else {
         return None;
     };
-    if *kind >= 64 || body.len() > MOST_UNDO_DATA {
+    if *kind >= 64 {
         return None;
     }
-    Some(UndoRequest::Pldm {
-        kind: Below::new(*kind),
-        command: *command,
-        body: Data::new(body),
-    })
+    match PldmUndo::new(Below::new(*kind), *command, body) {
+        Some(request) => Some(UndoRequest::Pldm(request)),
+        None => None,
+    }
 }
 
 /// The request of the bus of these bytes.
@@ -195,17 +191,13 @@ fn push_line(
     command: u8,
     body: &[u8],
 ) -> Result<(), AllocError>
-    requires { length body.now ≤ most_undo_data }
     ensures text { OnOk result (string_bytes text.new
         ≡ string_bytes text.old ++ ended (bus.now ++ encode_upper (first ∷ command ∷ body.now))) }
     ensures bytes { IsBytes (first ∷ command ∷ body.now) }
 {
-    let mut bytes = Bytes::<MOST_BYTES>::new();
-    bytes.push(first);
-    bytes.push(command);
-    bytes.extend_from_slice(body);
-    let digits = hex::encode_upper(alloc, bytes.as_slice())?;
-    writeln!(text, "{bus}{digits}")
+    let named = hex::encode_upper(alloc, [first, command])?;
+    let digits = hex::encode_upper(alloc, body)?;
+    writeln!(text, "{bus}{named}{digits}")
 }
 
 /// Adds the line of a request.
@@ -233,17 +225,13 @@ pub fn push_request(
             *command,
             body.as_slice(),
         ),
-        UndoRequest::Pldm {
-            kind,
-            command,
-            body,
-        } => push_line(
+        UndoRequest::Pldm(request) => push_line(
             alloc,
             text,
             "smbus ",
-            kind.number(),
-            *command,
-            body.as_slice(),
+            request.kind.number(),
+            request.command,
+            request.body.as_slice(),
         ),
     }
 }

@@ -1,5 +1,5 @@
 -- The calls of a manager are the machine's.
-use Rattle.std.proofs.Common.{◌≡◌, ℕ, ◌+◌, Bool, true, false, nat_lt, List, Option, Some, None, Ok, Err, if◌then◌else◌, ◌⊎◌, inl, inr, refl, sym, ◌∙◌, ap, subst}
+use Rattle.std.proofs.Common.{◌≡◌, ℕ, ◌+◌, Bool, true, false, nat_lt, List, length, Option, Some, None, Ok, Err, if◌then◌else◌, ◌⊎◌, inl, inr, refl, sym, ◌∙◌, ap, subst}
 use Rattle.std.specs.Option.{option_map}
 use Rattle.std.specs.Prelude.{slice_get}
 use Rattle.record_base.specs.declared.op.Op.{Op}
@@ -15,32 +15,32 @@ use Rattle.undo_core.specs.declared.stage.Stage.TheVariants as stage
 use Rattle.undo_core.specs.declared.phase.WrongPhase.{WrongPhase}
 use Rattle.undo_core.specs.declared.sending.Sent.{Sent}
 use Rattle.undo_core.specs.declared.manager.Manager.{Manager}
-use Rattle.undo_core.specs.Shown.{words_of, own, IsTask, IsStage, Shows, IsSent, Does, IsCalled}
+use Rattle.undo_core.specs.Shown.{words_of, own, IsTask, IsGot, IsStage, Shows, IsSent, Does, IsCalled}
 use Rattle.undo_core.specs.Counted.{counts_of}
 use Rattle.model_undo.specs.declared.phase.Why.{Why}
 use Rattle.model_undo.specs.declared.phase.Phase.{Phase}
 use Rattle.model_undo.specs.declared.phase.Phase.TheVariants as phase
 
-module _ (names : Names) (plan : List Op) (requests : RequestList) where
+module _ (names : Names) (plan : List Op) (requests : RequestList) (replies : List ℕ) where
   -- which stage of a manager shows a stage of the machine
-  pub is_start : (r : Stage) → IsStage names plan requests r machine.AtStart → r ≡ stage.AtStart
+  pub is_start : (r : Stage) → IsStage names plan requests replies r machine.AtStart → r ≡ stage.AtStart
   is_start stage.AtStart is = refl
-  is_start (stage.Opened heeded task asked) is = absurd is
+  is_start (stage.Opened heeded task parts asked) is = absurd is
   is_start stage.AtEnd is = absurd is
   is_start (stage.AtHalt k why) is = absurd is
   is_start stage.AtUndone is = absurd is
   is_start (stage.AtRefused k code) is = absurd is
 
-  pub is_end : (r : Stage) → IsStage names plan requests r machine.AtEnd → r ≡ stage.AtEnd
+  pub is_end : (r : Stage) → IsStage names plan requests replies r machine.AtEnd → r ≡ stage.AtEnd
   is_end stage.AtStart is = absurd is
-  is_end (stage.Opened heeded task asked) is = absurd is
+  is_end (stage.Opened heeded task parts asked) is = absurd is
   is_end stage.AtEnd is = refl
   is_end (stage.AtHalt k why) is = absurd is
   is_end stage.AtUndone is = absurd is
   is_end (stage.AtRefused k code) is = absurd is
 
   -- which stage of the machine a stage of a manager shows
-  pub shows_start : (t : machine.Stage (words_of names)) → IsStage names plan requests stage.AtStart t → t ≡ machine.AtStart
+  pub shows_start : (t : machine.Stage (words_of names)) → IsStage names plan requests replies stage.AtStart t → t ≡ machine.AtStart
   shows_start machine.AtStart is = refl
   shows_start (machine.Opened heeded task part) is = absurd is
   shows_start machine.AtEnd is = absurd is
@@ -49,29 +49,30 @@ module _ (names : Names) (plan : List Op) (requests : RequestList) where
   shows_start (machine.AtRefused k code) is = absurd is
 
   -- the machine's task, and its part, where a request is open
-  pub record IsOpened (heeded : Bool) (task : Task) (asked : Asked) (t : machine.Stage (words_of names)) : Type 0 where
+  pub record IsOpened (heeded : Bool) (task : Task) (parts : ℕ) (asked : Asked) (t : machine.Stage (words_of names)) : Type 0 where
     pub of : machine.Task (words_of names)
     pub part : machine.Part (words_of names)
     pub is : t ≡ machine.Opened heeded of part
     pub task_is : IsTask names plan requests task of
-    pub part_is : part ≡ machine.first_part (words_of names) of
+    pub counted : length part.before ≡ parts
+    pub got : IsGot task replies part.before
     pub asked_is : own names asked ≡ part.asked
 
-  pub shows_opened : (heeded : Bool) (task : Task) (asked : Asked) (t : machine.Stage (words_of names)) → IsStage names plan requests (stage.Opened heeded task asked) t
-      → IsOpened heeded task asked t
-  shows_opened heeded task asked machine.AtStart is = absurd is
-  shows_opened heeded task asked (machine.Opened heeds of part) is =
-      record { of = of; part = part; is = ap (λ (h : Bool). machine.Opened h of part) is.0; task_is = is.1; part_is = is.2; asked_is = is.3 }
-  shows_opened heeded task asked machine.AtEnd is = absurd is
-  shows_opened heeded task asked (machine.AtHalt k why) is = absurd is
-  shows_opened heeded task asked machine.AtUndone is = absurd is
-  shows_opened heeded task asked (machine.AtRefused k code) is = absurd is
+  pub shows_opened : (heeded : Bool) (task : Task) (parts : ℕ) (asked : Asked) (t : machine.Stage (words_of names)) → IsStage names plan requests replies (stage.Opened heeded task parts asked) t
+      → IsOpened heeded task parts asked t
+  shows_opened heeded task parts asked machine.AtStart is = absurd is
+  shows_opened heeded task parts asked (machine.Opened heeds of part) is =
+      record { of = of; part = part; is = ap (λ (h : Bool). machine.Opened h of part) is.0; task_is = is.1; counted = is.2; got = is.3; asked_is = is.4 }
+  shows_opened heeded task parts asked machine.AtEnd is = absurd is
+  shows_opened heeded task parts asked (machine.AtHalt k why) is = absurd is
+  shows_opened heeded task parts asked machine.AtUndone is = absurd is
+  shows_opened heeded task parts asked (machine.AtRefused k code) is = absurd is
 
   -- a request is open at the manager where one is at the machine
-  pub is_opened : (r : Stage) (heeds : Bool) (of : machine.Task (words_of names)) (part : machine.Part (words_of names)) → IsStage names plan requests r (machine.Opened heeds of part)
-      → (task : Task) × (asked : Asked) × (r ≡ stage.Opened heeds task asked) × IsTask names plan requests task of
+  pub is_opened : (r : Stage) (heeds : Bool) (of : machine.Task (words_of names)) (part : machine.Part (words_of names)) → IsStage names plan requests replies r (machine.Opened heeds of part)
+      → (task : Task) × (parts : ℕ) × (asked : Asked) × (r ≡ stage.Opened heeds task parts asked) × IsTask names plan requests task of
   is_opened stage.AtStart heeds of part is = absurd is
-  is_opened (stage.Opened heeded task asked) heeds of part is = (task, asked, ap (λ (h : Bool). stage.Opened h task asked) (sym is.0), is.1)
+  is_opened (stage.Opened heeded task parts asked) heeds of part is = (task, parts, asked, ap (λ (h : Bool). stage.Opened h task parts asked) (sym is.0), is.1)
   is_opened stage.AtEnd heeds of part is = absurd is
   is_opened (stage.AtHalt k why) heeds of part is = absurd is
   is_opened stage.AtUndone heeds of part is = absurd is
@@ -118,8 +119,8 @@ made names call m s sent t turn does =
 
 pub no_start : (names : Names) (m : Manager) (s : ManagerState (board_plans names)) → Shows names m s → (m.stage ≡ stage.AtStart → ⊥) → machine.start_of (words_of names) s.machine ≡ None
 no_start names m s shows other = at s.machine.stage shows.stage where
-  at : (t : machine.Stage (words_of names)) → IsStage names m.steps m.undo.requests m.stage t → machine.starts (words_of names) t s.machine ≡ None
-  at machine.AtStart is = absurd (other (is_start names m.steps m.undo.requests m.stage is))
+  at : (t : machine.Stage (words_of names)) → IsStage names m.steps m.undo.requests m.replies m.stage t → machine.starts (words_of names) t s.machine ≡ None
+  at machine.AtStart is = absurd (other (is_start names m.steps m.undo.requests m.replies m.stage is))
   at (machine.Opened heeded task part) is = refl
   at machine.AtEnd is = refl
   at (machine.AtHalt k why) is = refl
@@ -136,14 +137,14 @@ start_turn names m is = ap (λ (t : machine.Stage (words_of names)). machine.sta
 
 -- ---- quiet
 
-pub no_quiet : (names : Names) (m : Manager) (s : ManagerState (board_plans names)) → Shows names m s → ((task : Task) (asked : Asked) → m.stage ≡ stage.Opened true task asked → ⊥)
+pub no_quiet : (names : Names) (m : Manager) (s : ManagerState (board_plans names)) → Shows names m s → ((task : Task) (parts : ℕ) (asked : Asked) → m.stage ≡ stage.Opened true task parts asked → ⊥)
     → machine.quiet_of (words_of names) s.machine ≡ None
 no_quiet names m s shows other = at s.machine.stage shows.stage where
-  at : (t : machine.Stage (words_of names)) → IsStage names m.steps m.undo.requests m.stage t → machine.quiets (words_of names) t s.machine ≡ None
+  at : (t : machine.Stage (words_of names)) → IsStage names m.steps m.undo.requests m.replies m.stage t → machine.quiets (words_of names) t s.machine ≡ None
   at machine.AtStart is = refl
   at (machine.Opened true task part) is =
-      let o = is_opened names m.steps m.undo.requests m.stage true task part is in
-      absurd (other o.0 o.1 o.2)
+      let o = is_opened names m.steps m.undo.requests m.replies m.stage true task part is in
+      absurd (other o.0 o.1 o.2 o.3)
   at (machine.Opened false task part) is = refl
   at machine.AtEnd is = refl
   at (machine.AtHalt k why) is = refl
@@ -171,15 +172,15 @@ quiet_unsettles names m of part is enough =
 
 -- ---- again
 
-pub no_again : (names : Names) (m : Manager) (s : ManagerState (board_plans names)) → Shows names m s → ((task : Task) (asked : Asked) → m.stage ≡ stage.Opened false task asked → ⊥)
+pub no_again : (names : Names) (m : Manager) (s : ManagerState (board_plans names)) → Shows names m s → ((task : Task) (parts : ℕ) (asked : Asked) → m.stage ≡ stage.Opened false task parts asked → ⊥)
     → machine.again_of (words_of names) s.machine ≡ None
 no_again names m s shows other = at s.machine.stage shows.stage where
-  at : (t : machine.Stage (words_of names)) → IsStage names m.steps m.undo.requests m.stage t → machine.agains (words_of names) t s.machine ≡ None
+  at : (t : machine.Stage (words_of names)) → IsStage names m.steps m.undo.requests m.replies m.stage t → machine.agains (words_of names) t s.machine ≡ None
   at machine.AtStart is = refl
   at (machine.Opened true task part) is = refl
   at (machine.Opened false task part) is =
-      let o = is_opened names m.steps m.undo.requests m.stage false task part is in
-      absurd (other o.0 o.1 o.2)
+      let o = is_opened names m.steps m.undo.requests m.replies m.stage false task part is in
+      absurd (other o.0 o.1 o.2 o.3)
   at machine.AtEnd is = refl
   at (machine.AtHalt k why) is = refl
   at machine.AtUndone is = refl
@@ -236,48 +237,48 @@ stop_turn names m p shown (inr w) = setting_stops names m w.0 m.stage (sym shown
 
 -- ---- undo
 
-is_halt : (names : Names) (plan : List Op) (requests : RequestList) (r : Stage) (k : ℕ) (why : Why) → IsStage names plan requests r (machine.AtHalt k why) → (j : ℕ) × (cause : Why) × (r ≡ stage.AtHalt j cause)
-is_halt names plan requests stage.AtStart k why is = absurd is
-is_halt names plan requests (stage.Opened heeded task asked) k why is = absurd is
-is_halt names plan requests stage.AtEnd k why is = absurd is
-is_halt names plan requests (stage.AtHalt j cause) k why is = (j, cause, refl)
-is_halt names plan requests stage.AtUndone k why is = absurd is
-is_halt names plan requests (stage.AtRefused j code) k why is = absurd is
+is_halt : (names : Names) (plan : List Op) (requests : RequestList) (replies : List ℕ) (r : Stage) (k : ℕ) (why : Why) → IsStage names plan requests replies r (machine.AtHalt k why) → (j : ℕ) × (cause : Why) × (r ≡ stage.AtHalt j cause)
+is_halt names plan requests replies stage.AtStart k why is = absurd is
+is_halt names plan requests replies (stage.Opened heeded task parts asked) k why is = absurd is
+is_halt names plan requests replies stage.AtEnd k why is = absurd is
+is_halt names plan requests replies (stage.AtHalt j cause) k why is = (j, cause, refl)
+is_halt names plan requests replies stage.AtUndone k why is = absurd is
+is_halt names plan requests replies (stage.AtRefused j code) k why is = absurd is
 
 pub no_undo : (names : Names) (m : Manager) (s : ManagerState (board_plans names)) → Shows names m s → (m.stage ≡ stage.AtEnd → ⊥) → ((k : ℕ) (why : Why) → m.stage ≡ stage.AtHalt k why → ⊥)
     → machine.undo_of (words_of names) s.machine ≡ None
 no_undo names m s shows no_end no_halt = at s.machine.stage shows.stage where
-  at : (t : machine.Stage (words_of names)) → IsStage names m.steps m.undo.requests m.stage t → machine.undoes (words_of names) t s.machine ≡ None
+  at : (t : machine.Stage (words_of names)) → IsStage names m.steps m.undo.requests m.replies m.stage t → machine.undoes (words_of names) t s.machine ≡ None
   at machine.AtStart is = refl
   at (machine.Opened heeded task part) is = refl
-  at machine.AtEnd is = absurd (no_end (is_end names m.steps m.undo.requests m.stage is))
+  at machine.AtEnd is = absurd (no_end (is_end names m.steps m.undo.requests m.replies m.stage is))
   at (machine.AtHalt k why) is =
-      let h = is_halt names m.steps m.undo.requests m.stage k why is in
+      let h = is_halt names m.steps m.undo.requests m.replies m.stage k why is in
       absurd (no_halt h.0 h.1 h.2)
   at machine.AtUndone is = refl
   at (machine.AtRefused k code) is = refl
 
-end_undoes : (names : Names) (plan : List Op) (requests : RequestList) (m : machine.Machine (words_of names)) (t : machine.Stage (words_of names)) → IsStage names plan requests stage.AtEnd t
+end_undoes : (names : Names) (plan : List Op) (requests : RequestList) (replies : List ℕ) (m : machine.Machine (words_of names)) (t : machine.Stage (words_of names)) → IsStage names plan requests replies stage.AtEnd t
     → machine.undoes (words_of names) t m ≡ Some (machine.enters (words_of names) (machine.undo_stage (words_of names) m.undo) m)
-end_undoes names plan requests m machine.AtStart is = absurd is
-end_undoes names plan requests m (machine.Opened heeded task part) is = absurd is
-end_undoes names plan requests m machine.AtEnd is = refl
-end_undoes names plan requests m (machine.AtHalt k why) is = absurd is
-end_undoes names plan requests m machine.AtUndone is = absurd is
-end_undoes names plan requests m (machine.AtRefused k code) is = absurd is
+end_undoes names plan requests replies m machine.AtStart is = absurd is
+end_undoes names plan requests replies m (machine.Opened heeded task part) is = absurd is
+end_undoes names plan requests replies m machine.AtEnd is = refl
+end_undoes names plan requests replies m (machine.AtHalt k why) is = absurd is
+end_undoes names plan requests replies m machine.AtUndone is = absurd is
+end_undoes names plan requests replies m (machine.AtRefused k code) is = absurd is
 
-halt_undoes : (names : Names) (plan : List Op) (requests : RequestList) (m : machine.Machine (words_of names)) (j : ℕ) (cause : Why) (t : machine.Stage (words_of names))
-    → IsStage names plan requests (stage.AtHalt j cause) t → machine.undoes (words_of names) t m ≡ Some (machine.enters (words_of names) (machine.undo_stage (words_of names) m.undo) m)
-halt_undoes names plan requests m j cause machine.AtStart is = absurd is
-halt_undoes names plan requests m j cause (machine.Opened heeded task part) is = absurd is
-halt_undoes names plan requests m j cause machine.AtEnd is = absurd is
-halt_undoes names plan requests m j cause (machine.AtHalt k why) is = refl
-halt_undoes names plan requests m j cause machine.AtUndone is = absurd is
-halt_undoes names plan requests m j cause (machine.AtRefused k code) is = absurd is
+halt_undoes : (names : Names) (plan : List Op) (requests : RequestList) (replies : List ℕ) (m : machine.Machine (words_of names)) (j : ℕ) (cause : Why) (t : machine.Stage (words_of names))
+    → IsStage names plan requests replies (stage.AtHalt j cause) t → machine.undoes (words_of names) t m ≡ Some (machine.enters (words_of names) (machine.undo_stage (words_of names) m.undo) m)
+halt_undoes names plan requests replies m j cause machine.AtStart is = absurd is
+halt_undoes names plan requests replies m j cause (machine.Opened heeded task part) is = absurd is
+halt_undoes names plan requests replies m j cause machine.AtEnd is = absurd is
+halt_undoes names plan requests replies m j cause (machine.AtHalt k why) is = refl
+halt_undoes names plan requests replies m j cause machine.AtUndone is = absurd is
+halt_undoes names plan requests replies m j cause (machine.AtRefused k code) is = absurd is
 
 pub undo_turn : (names : Names) (m : Manager) (s : ManagerState (board_plans names)) → Shows names m s → (m.stage ≡ stage.AtEnd) ⊎ ((k : ℕ) × (why : Why) × (m.stage ≡ stage.AtHalt k why))
     → machine.undo_of (words_of names) s.machine ≡ Some (machine.enters (words_of names) (machine.undo_stage (words_of names) s.machine.undo) s.machine)
 undo_turn names m s shows (inl ended) =
-    end_undoes names m.steps m.undo.requests s.machine s.machine.stage (subst (λ (r : Stage). IsStage names m.steps m.undo.requests r s.machine.stage) ended shows.stage)
+    end_undoes names m.steps m.undo.requests m.replies s.machine s.machine.stage (subst (λ (r : Stage). IsStage names m.steps m.undo.requests m.replies r s.machine.stage) ended shows.stage)
 undo_turn names m s shows (inr halted) =
-    halt_undoes names m.steps m.undo.requests s.machine halted.0 halted.1 s.machine.stage (subst (λ (r : Stage). IsStage names m.steps m.undo.requests r s.machine.stage) halted.2 shows.stage)
+    halt_undoes names m.steps m.undo.requests m.replies s.machine halted.0 halted.1 s.machine.stage (subst (λ (r : Stage). IsStage names m.steps m.undo.requests m.replies r s.machine.stage) halted.2 shows.stage)

@@ -73,19 +73,19 @@ same_is_true : (on : Bus) → machine.same_bus on on ≡ true
 same_is_true Ipmb = refl
 same_is_true Smbus = refl
 
-heeds_stage : (names : Names) (plan : List Op) (requests : RequestList) (on : Bus) (r : Task) (asked : Asked) (t : machine.Stage (words_of names))
-    → IsStage names plan requests (stage.Opened true r asked) t → bus_of asked ≡ on → Heeds names on asked t
-heeds_stage names plan requests on r asked machine.AtStart is goes = absurd is
-heeds_stage names plan requests on r asked (machine.Opened heeds of part) is goes =
-    let same : machine.same_bus on (bus_of part.asked) ≡ true = ap (machine.same_bus on) (ap bus_of (sym is.3) ∙ own_bus names asked ∙ goes) ∙ same_is_true on in (
+heeds_stage : (names : Names) (plan : List Op) (requests : RequestList) (replies : List ℕ) (on : Bus) (r : Task) (parts : ℕ) (asked : Asked) (t : machine.Stage (words_of names))
+    → IsStage names plan requests replies (stage.Opened true r parts asked) t → bus_of asked ≡ on → Heeds names on asked t
+heeds_stage names plan requests replies on r parts asked machine.AtStart is goes = absurd is
+heeds_stage names plan requests replies on r parts asked (machine.Opened heeds of part) is goes =
+    let same : machine.same_bus on (bus_of part.asked) ≡ true = ap (machine.same_bus on) (ap bus_of (sym is.4) ∙ own_bus names asked ∙ goes) ∙ same_is_true on in (
       part,
       ap (λ (h : Bool). heeded_on (board_plans names) on (machine.Opened h of part)) is.0 ∙ ap (λ (b : Bool). if b then Some part else None) same,
-      is.3,
+      is.4,
     )
-heeds_stage names plan requests on r asked machine.AtEnd is goes = absurd is
-heeds_stage names plan requests on r asked (machine.AtHalt k why) is goes = absurd is
-heeds_stage names plan requests on r asked machine.AtUndone is goes = absurd is
-heeds_stage names plan requests on r asked (machine.AtRefused k code) is goes = absurd is
+heeds_stage names plan requests replies on r parts asked machine.AtEnd is goes = absurd is
+heeds_stage names plan requests replies on r parts asked (machine.AtHalt k why) is goes = absurd is
+heeds_stage names plan requests replies on r parts asked machine.AtUndone is goes = absurd is
+heeds_stage names plan requests replies on r parts asked (machine.AtRefused k code) is goes = absurd is
 
 -- a busy controller's reply is none
 pub busy_is_none : (names : Names) (a : Answered) (t : machine.Stage (words_of names)) (m : machine.Machine (words_of names)) → is_busy a.code ≡ true → machine.replies (words_of names) a t m ≡ None
@@ -106,16 +106,16 @@ either false passes busy x r same = refl
 
 -- ---- a response
 
-pub heard_response : (names : Names) (m : Manager) (s : ManagerState (board_plans names)) (r : Response) (t : Task) (asked : Asked) (passes : Bool) → Shows names m s
-    → m.stage ≡ stage.Opened true t asked → bus_of asked ≡ Ipmb
+pub heard_response : (names : Names) (m : Manager) (s : ManagerState (board_plans names)) (r : Response) (t : Task) (parts : ℕ) (asked : Asked) (passes : Bool) → Shows names m s
+    → m.stage ≡ stage.Opened true t parts asked → bus_of asked ≡ Ipmb
     → ipmb_answers (bytes_of (m.counts.ipmb % 64) (own names asked)) (response_bytes r) ≡ (passes && not (is_busy_code r.code))
     → hears_response (board_plans names) r s ≡ taken_if names (is_answer m.names r && passes) (record { code = r.code; body = r.body }) s
 unfolding hears_response
-heard_response names m s r t asked passes shows was goes test =
+heard_response names m s r t parts asked passes shows was goes test =
     let P = board_plans names in
     let a : Answered = record { code = r.code; body = r.body } in
     let is : Heeds names Ipmb asked s.machine.stage =
-    heeds_stage names m.steps m.undo.requests Ipmb t asked s.machine.stage (subst (λ (x : Stage). IsStage names m.steps m.undo.requests x s.machine.stage) was shows.stage) goes in
+    heeds_stage names m.steps m.undo.requests m.replies Ipmb t parts asked s.machine.stage (subst (λ (x : Stage). IsStage names m.steps m.undo.requests m.replies x s.machine.stage) was shows.stage) goes in
     let taken = taken_or P s (machine.reply_of (words_of names) a s.machine) in
     let tests : answers Ipmb (bytes_of (number_of Ipmb s.machine.counts.ipmb) is.0.asked) (response_bytes r) ≡ (passes && not (is_busy_code r.code)) =
     (λ i. ipmb_answers (bytes_of ((shows.counts i).ipmb % 64) (sym is.2 i)) (response_bytes r)) ∙ test in
@@ -124,33 +124,33 @@ heard_response names m s r t asked passes shows was goes test =
     ∙ either (is_answer m.names r) passes (is_busy_code r.code) taken (rests P s) (λ busy. ap (taken_or P s) (busy_is_none names a s.machine.stage s.machine busy))
 
 -- no request is heeded on the bus
-none_stage : (names : Names) (plan : List Op) (requests : RequestList) (on : Bus) (r : Stage) (t : machine.Stage (words_of names)) → IsStage names plan requests r t
-    → ((k : Task) (asked : Asked) → r ≡ stage.Opened true k asked → bus_of asked ≡ on → ⊥) → heeded_on (board_plans names) on t ≡ None
-none_stage names plan requests on r machine.AtStart is other = refl
-none_stage names plan requests on (stage.Opened heeded k asked) (machine.Opened false of part) is other = refl
-none_stage names plan requests on (stage.Opened heeded k asked) (machine.Opened true of part) is other = at on (bus_of part.asked) (λ same.
-    other k asked (ap (λ (h : Bool). stage.Opened h k asked) (sym is.0)) (sym (own_bus names asked) ∙ ap bus_of is.3 ∙ same)) where
+none_stage : (names : Names) (plan : List Op) (requests : RequestList) (replies : List ℕ) (on : Bus) (r : Stage) (t : machine.Stage (words_of names)) → IsStage names plan requests replies r t
+    → ((k : Task) (parts : ℕ) (asked : Asked) → r ≡ stage.Opened true k parts asked → bus_of asked ≡ on → ⊥) → heeded_on (board_plans names) on t ≡ None
+none_stage names plan requests replies on r machine.AtStart is other = refl
+none_stage names plan requests replies on (stage.Opened heeded k parts asked) (machine.Opened false of part) is other = refl
+none_stage names plan requests replies on (stage.Opened heeded k parts asked) (machine.Opened true of part) is other = at on (bus_of part.asked) (λ same.
+    other k parts asked (ap (λ (h : Bool). stage.Opened h k parts asked) (sym is.0)) (sym (own_bus names asked) ∙ ap bus_of is.4 ∙ same)) where
       at : (on goes : Bus) → (goes ≡ on → ⊥) → (if machine.same_bus on goes then Some part else None) ≡ None
       at Ipmb Ipmb apart = absurd (apart refl)
       at Ipmb Smbus apart = refl
       at Smbus Ipmb apart = refl
       at Smbus Smbus apart = absurd (apart refl)
-none_stage names plan requests on stage.AtStart (machine.Opened heeds of part) is other = absurd is
-none_stage names plan requests on stage.AtEnd (machine.Opened heeds of part) is other = absurd is
-none_stage names plan requests on (stage.AtHalt k why) (machine.Opened heeds of part) is other = absurd is
-none_stage names plan requests on stage.AtUndone (machine.Opened heeds of part) is other = absurd is
-none_stage names plan requests on (stage.AtRefused k code) (machine.Opened heeds of part) is other = absurd is
-none_stage names plan requests on r machine.AtEnd is other = refl
-none_stage names plan requests on r (machine.AtHalt k why) is other = refl
-none_stage names plan requests on r machine.AtUndone is other = refl
-none_stage names plan requests on r (machine.AtRefused k code) is other = refl
+none_stage names plan requests replies on stage.AtStart (machine.Opened heeds of part) is other = absurd is
+none_stage names plan requests replies on stage.AtEnd (machine.Opened heeds of part) is other = absurd is
+none_stage names plan requests replies on (stage.AtHalt k why) (machine.Opened heeds of part) is other = absurd is
+none_stage names plan requests replies on stage.AtUndone (machine.Opened heeds of part) is other = absurd is
+none_stage names plan requests replies on (stage.AtRefused k code) (machine.Opened heeds of part) is other = absurd is
+none_stage names plan requests replies on r machine.AtEnd is other = refl
+none_stage names plan requests replies on r (machine.AtHalt k why) is other = refl
+none_stage names plan requests replies on r machine.AtUndone is other = refl
+none_stage names plan requests replies on r (machine.AtRefused k code) is other = refl
 
 pub no_response : (names : Names) (m : Manager) (s : ManagerState (board_plans names)) (r : Response) → Shows names m s
-    → ((k : Task) (asked : Asked) → m.stage ≡ stage.Opened true k asked → bus_of asked ≡ Ipmb → ⊥) → hears_response (board_plans names) r s ≡ rests (board_plans names) s
+    → ((k : Task) (parts : ℕ) (asked : Asked) → m.stage ≡ stage.Opened true k parts asked → bus_of asked ≡ Ipmb → ⊥) → hears_response (board_plans names) r s ≡ rests (board_plans names) s
 unfolding hears_response
 no_response names m s r shows other =
     ap (λ (o : Option (machine.Part (words_of names))). if is_answer s.names r then tested (board_plans names) Ipmb (response_bytes r) s o else rests (board_plans names) s)
-    (none_stage names m.steps m.undo.requests Ipmb m.stage s.machine.stage shows.stage other)
+    (none_stage names m.steps m.undo.requests m.replies Ipmb m.stage s.machine.stage shows.stage other)
     ∙ at (is_answer s.names r) where
       at : (b : Bool) → (if b then rests (board_plans names) s else rests (board_plans names) s) ≡ rests (board_plans names) s
       at true = refl
@@ -168,19 +168,19 @@ other_response names m s r shows other =
 
 -- no request is heeded
 pub no_message : (names : Names) (m : Manager) (s : ManagerState (board_plans names)) (bytes : List ℕ) → Shows names m s
-    → ((k : Task) (asked : Asked) → m.stage ≡ stage.Opened true k asked → bus_of asked ≡ Smbus → ⊥) → hears_reply (board_plans names) Smbus bytes s ≡ rests (board_plans names) s
+    → ((k : Task) (parts : ℕ) (asked : Asked) → m.stage ≡ stage.Opened true k parts asked → bus_of asked ≡ Smbus → ⊥) → hears_reply (board_plans names) Smbus bytes s ≡ rests (board_plans names) s
 no_message names m s bytes shows other =
-    ap (tested (board_plans names) Smbus bytes s) (none_stage names m.steps m.undo.requests Smbus m.stage s.machine.stage shows.stage other)
+    ap (tested (board_plans names) Smbus bytes s) (none_stage names m.steps m.undo.requests m.replies Smbus m.stage s.machine.stage shows.stage other)
 
 -- the open request is replied to, or not
-pub heard_message : (names : Names) (m : Manager) (s : ManagerState (board_plans names)) (bytes : List ℕ) (t : Task) (asked : Asked) (passes : Bool) (a : Answered) → Shows names m s
-    → m.stage ≡ stage.Opened true t asked → bus_of asked ≡ Smbus → answered_from Smbus bytes ≡ a
+pub heard_message : (names : Names) (m : Manager) (s : ManagerState (board_plans names)) (bytes : List ℕ) (t : Task) (parts : ℕ) (asked : Asked) (passes : Bool) (a : Answered) → Shows names m s
+    → m.stage ≡ stage.Opened true t parts asked → bus_of asked ≡ Smbus → answered_from Smbus bytes ≡ a
     → pldm_answers (bytes_of (m.counts.smbus % 32) (own names asked)) bytes ≡ (passes && not (is_busy_code a.code))
     → hears_reply (board_plans names) Smbus bytes s ≡ taken_if names passes a s
-heard_message names m s bytes t asked passes a shows was goes says test =
+heard_message names m s bytes t parts asked passes a shows was goes says test =
     let P = board_plans names in
     let is : Heeds names Smbus asked s.machine.stage =
-    heeds_stage names m.steps m.undo.requests Smbus t asked s.machine.stage (subst (λ (x : Stage). IsStage names m.steps m.undo.requests x s.machine.stage) was shows.stage) goes in
+    heeds_stage names m.steps m.undo.requests m.replies Smbus t parts asked s.machine.stage (subst (λ (x : Stage). IsStage names m.steps m.undo.requests m.replies x s.machine.stage) was shows.stage) goes in
     let taken = taken_or P s (machine.reply_of (words_of names) a s.machine) in
     let tests : answers Smbus (bytes_of (number_of Smbus s.machine.counts.smbus) is.0.asked) bytes ≡ (passes && not (is_busy_code a.code)) =
     (λ i. pldm_answers (bytes_of ((shows.counts i).smbus % 32) (sym is.2 i)) bytes) ∙ test in
@@ -192,20 +192,20 @@ heard_message names m s bytes t asked passes a shows was goes says test =
 
 -- no request is heeded
 pub no_packet : (names : Names) (m : Manager) (s : ManagerState (board_plans names)) (p : Packet) → Shows names m s
-    → ((k : Task) (asked : Asked) → m.stage ≡ stage.Opened true k asked → bus_of asked ≡ Smbus → ⊥) → hears_packet (board_plans names) p s ≡ rests (board_plans names) s
+    → ((k : Task) (parts : ℕ) (asked : Asked) → m.stage ≡ stage.Opened true k parts asked → bus_of asked ≡ Smbus → ⊥) → hears_packet (board_plans names) p s ≡ rests (board_plans names) s
 unfolding hears_packet
 no_packet names m s p shows other =
-    ap (joins_for (board_plans names) p s) (none_stage names m.steps m.undo.requests Smbus m.stage s.machine.stage shows.stage other)
+    ap (joins_for (board_plans names) p s) (none_stage names m.steps m.undo.requests m.replies Smbus m.stage s.machine.stage shows.stage other)
 
 -- one is heeded
-pub heard_packet : (names : Names) (m : Manager) (s : ManagerState (board_plans names)) (p : Packet) (t : Task) (asked : Asked) → Shows names m s
-    → m.stage ≡ stage.Opened true t asked → bus_of asked ≡ Smbus
+pub heard_packet : (names : Names) (m : Manager) (s : ManagerState (board_plans names)) (p : Packet) (t : Task) (parts : ℕ) (asked : Asked) → Shows names m s
+    → m.stage ≡ stage.Opened true t parts asked → bus_of asked ≡ Smbus
     → hears_packet (board_plans names) p s ≡ (if is_part m.names m.counts.smbus p then joins (board_plans names) p s else rests (board_plans names) s)
 unfolding hears_packet
-heard_packet names m s p t asked shows was goes =
+heard_packet names m s p t parts asked shows was goes =
     let P = board_plans names in
     let is : Heeds names Smbus asked s.machine.stage =
-    heeds_stage names m.steps m.undo.requests Smbus t asked s.machine.stage (subst (λ (x : Stage). IsStage names m.steps m.undo.requests x s.machine.stage) was shows.stage) goes in
+    heeds_stage names m.steps m.undo.requests m.replies Smbus t parts asked s.machine.stage (subst (λ (x : Stage). IsStage names m.steps m.undo.requests m.replies x s.machine.stage) was shows.stage) goes in
     ap (joins_for P p s) is.1
     ∙ (λ i. if is_part ((shows.is_named ∙ sym shows.named) i) (shows.counts i).smbus p then joins P p s else rests P s)
 

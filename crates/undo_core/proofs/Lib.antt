@@ -7,3 +7,6 @@ pub mod Heard
 pub mod Exchange
 pub mod Course
 pub mod Coming
+pub mod Going
+pub mod ShortValues
+pub mod JoinedBodies

@@ -6,27 +6,54 @@ use Rattle.std.proofs.lemmas.Option.{same_Some}
 use Rattle.record_base.specs.declared.op.Op.{Op}
 use Rattle.record_base.specs.declared.op.Op.TheVariants as op
 use Rattle.record_base.specs.declared.message.Asked.{Asked}
-use Rattle.record_base.specs.declared.message.Asked.TheVariants.{Ipmi, Pldm}
 use Rattle.record_base.specs.declared.field_changes.FieldChange.{FieldChange}
 use Rattle.record_base.specs.declared.numeric_effecter.NumericBytes.{NumericBytes}
 use Rattle.record_base.specs.declared.numeric_effecter.NumericBytes.TheVariants.{One, Two, Four, Other}
 use Rattle.effecter_recs.specs.FieldChanges.{change_bytes}
 use Rattle.effecter_recs.specs.Numeric.{value_bytes}
+use Rattle.bios_attr.specs.EntryParts.{first_request, request_at}
 use Rattle.record_kinds.specs.Limits.{set_asked, inverse}
-use Rattle.undo_plans.specs.declared.names.Names.{Names}
-use Rattle.undo_plans.specs.Requests.{RequestList, data_of, from_nobody, most_of}
-use Rattle.undo_core.specs.Shown.{own}
+use Rattle.record_kinds.specs.Series.{set_whole}
+use Rattle.undo_plans.specs.Fitting.{data_of, from_nobody, Fits}
+use Rattle.undo_plans.specs.Requests.{RequestList}
+use Rattle.undo_plans.proofs.FirstRequest.{goes_alone}
 use Rattle.undo_core.specs.Room.{most_data, data_for, HasRoom}
 
--- ---- a request from nobody
+-- ---- a request with all its data
 
-pub own_from_nobody : (names : Names) (asked : Asked) → own names (from_nobody asked) ≡ own names asked
-own_from_nobody names (Ipmi from net_fn lun command body) = refl
-own_from_nobody names (Pldm from kind command body) = refl
+-- it is from nobody
+pub whole_from_nobody : (any : Op) → from_nobody (set_whole any) ≡ set_whole any
+whole_from_nobody (op.Thresholds own) = refl
+whole_from_nobody (op.Hysteresis own) = refl
+whole_from_nobody (op.EventEnable own) = refl
+whole_from_nobody (op.PowerPolicy own) = refl
+whole_from_nobody (op.Watchdog own) = refl
+whole_from_nobody (op.GlobalEnables own) = refl
+whole_from_nobody (op.BootParam own) = refl
+whole_from_nobody (op.NumericEffecter own) = refl
+whole_from_nobody (op.StateEffecter own) = refl
+whole_from_nobody (op.UserName own) = refl
+whole_from_nobody (op.UserAccess own) = refl
+whole_from_nobody (op.ChannelAccess own) = refl
+whole_from_nobody (op.BiosAttribute own) = refl
+whole_from_nobody (op.LanParam own) = refl
 
-pub data_from_nobody : (asked : Asked) → data_of (from_nobody asked) ≡ data_of asked
-data_from_nobody (Ipmi from net_fn lun command body) = refl
-data_from_nobody (Pldm from kind command body) = refl
+-- it begins with the first request
+pub begins_with : (any : Op) → first_request (set_whole any) ≡ set_asked any
+begins_with (op.Thresholds own) = refl
+begins_with (op.Hysteresis own) = refl
+begins_with (op.EventEnable own) = refl
+begins_with (op.PowerPolicy own) = refl
+begins_with (op.Watchdog own) = refl
+begins_with (op.GlobalEnables own) = refl
+begins_with (op.BootParam own) = refl
+begins_with (op.NumericEffecter own) = refl
+begins_with (op.StateEffecter own) = refl
+begins_with (op.UserName own) = refl
+begins_with (op.UserAccess own) = refl
+begins_with (op.ChannelAccess own) = refl
+begins_with (op.BiosAttribute own) = refl
+begins_with (op.LanParam own) = refl
 
 -- ---- the data of a request that undoes
 
@@ -41,7 +68,7 @@ two_each [] = refl
 two_each (change ∷ changes) = omega (arith, two_each changes)
 
 -- they are few but for an attribute
-pub short : (any : Op) → length (data_of (set_asked any)) ≤ most_of (set_asked any) → length (data_of (set_asked any)) ≤ most_data any
+pub short : (any : Op) → Fits (set_whole any) → length (data_of (set_whole any)) ≤ most_data any
 short (op.Thresholds own) fits = fits
 short (op.Hysteresis own) fits = fits
 short (op.EventEnable own) fits = fits
@@ -54,7 +81,7 @@ short (op.StateEffecter own) fits = omega (arith, two_each own.changes, own.few)
 short (op.UserName own) fits = fits
 short (op.UserAccess own) fits = fits
 short (op.ChannelAccess own) fits = fits
-short (op.BiosAttribute own) fits = fits
+short (op.BiosAttribute own) fits = omega (arith, own.fits)
 short (op.LanParam own) fits = fits
 
 -- what undoes an operation is of its kind
@@ -75,16 +102,16 @@ same_kind (op.StateEffecter own) back reply is = of_kind op.StateEffecter 25 (λ
 same_kind (op.UserName own) back reply is = of_kind op.UserName 25 (λ o. refl) _ back is
 same_kind (op.UserAccess own) back reply is = of_kind op.UserAccess 25 (λ o. refl) _ back is
 same_kind (op.ChannelAccess own) back reply is = of_kind op.ChannelAccess 25 (λ o. refl) _ back is
-same_kind (op.BiosAttribute own) back reply is = of_kind op.BiosAttribute 252 (λ o. refl) _ back is
+same_kind (op.BiosAttribute own) back reply is = of_kind op.BiosAttribute 1040 (λ o. refl) _ back is
 same_kind (op.LanParam own) back reply is = of_kind op.LanParam 25 (λ o. refl) _ back is
 
+-- an operation that goes in one request is carried out by it
+pub alone_whole : (any : Op) → request_at (set_whole any) 1 ≡ None → set_asked any ≡ set_whole any
+alone_whole any alone = sym (begins_with any) ∙ goes_alone (set_whole any) alone
+
 -- so there is room for it
-pub written : (any back : Op) (reply : List ℕ) (asked meant : Asked) → inverse any reply ≡ Some back → asked ≡ set_asked back → meant ≡ from_nobody asked → length (data_of asked) ≤ most_of asked
-    → length (data_of meant) ≤ most_data any
-written any back reply asked meant made is from fits =
-    let set = short back (subst (λ (a : Asked). length (data_of a) ≤ most_of a) is fits) in
-    let same : length (data_of meant) ≡ length (data_of (set_asked back)) = ap (λ (a : Asked). length (data_of a)) from ∙ ap (λ (l : List ℕ). length l) (data_from_nobody asked) ∙ ap (λ (a : Asked). length (data_of a)) is in
-    omega (arith, set, same, same_kind any back reply made)
+pub alone_fits : (any : Op) (asked : Asked) → request_at (set_whole any) 1 ≡ None → asked ≡ set_asked any → Fits asked → length (data_of (set_whole any)) ≤ most_data any
+alone_fits any asked alone is fits = short any (subst Fits (is ∙ alone_whole any alone) fits)
 
 -- ---- the room for steps
 

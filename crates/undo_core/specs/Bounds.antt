@@ -1,26 +1,27 @@
 -- How far a manager's numbers go.
-use Rattle.std.specs.Prelude.{ℕ, suc, ◌+◌, ◌-◌, ◌*◌, ◌==◌, Bool, true, false, List, [], ◌++◌, drop}
-use Rattle.std.specs.Option.{option_to_list}
-use Rattle.two_wire.specs.Codes.{success}
-use Rattle.record_base.specs.declared.message.Asked.{Asked}
+use Rattle.std.specs.Prelude.{ℕ, suc, ◌+◌, ◌-◌, ◌*◌, List, [], drop}
 use Rattle.record_base.specs.declared.op.Op.{Op}
 use Rattle.undo_plans.specs.Steps.{most_steps}
-use Rattle.undo_plans.specs.Requests.{RequestList}
+use Rattle.undo_plans.specs.Fitting.{most_requests}
 use Rattle.undo_core.specs.declared.stage.Task.{Task}
 use Rattle.undo_core.specs.declared.stage.Task.TheVariants.{Gets, Sets, Undoes}
 use Rattle.undo_core.specs.declared.stage.Stage.{Stage}
 use Rattle.undo_core.specs.declared.stage.Stage.TheVariants.{AtStart, Opened, AtEnd, AtHalt, AtUndone, AtRefused}
+use Rattle.undo_core.specs.Joining.{most_joined}
 
--- an answer with this code to a request of the task says that a step was done
-abbrev pub done_by : Task → ℕ → Bool
-done_by (Gets step) code = false
-done_by (Sets step) code = code == success
-done_by (Undoes step) code = false
+-- how many requests of the stage's task were answered
+abbrev pub parts_at : Stage → ℕ
+parts_at (Opened heeded task parts asked) = parts
+parts_at _ = 0
 
--- the requests that count, with the one that waits where its step was done
-abbrev pub with_done : Bool → RequestList → List Asked
-with_done false requests = requests.members
-with_done true requests = requests.members ++ option_to_list requests.waiting
+-- how many bytes the replies to a Get show at most, while a task's request is open after so many others
+abbrev pub most_got : Task → ℕ → ℕ
+most_got (Gets step) parts = most_joined parts
+most_got _ parts = most_joined 0
+
+abbrev pub most_replied : Stage → ℕ
+most_replied (Opened heeded task parts asked) = most_got task parts
+most_replied _ = most_joined 0
 
 -- how many steps the plan has at least
 abbrev pub task_steps : Task → ℕ
@@ -29,7 +30,7 @@ task_steps (Sets step) = suc step
 task_steps (Undoes step) = 0
 
 abbrev pub steps_needed : Stage → ℕ
-steps_needed (Opened heeded task asked) = task_steps task
+steps_needed (Opened heeded task parts asked) = task_steps task
 steps_needed _ = 0
 
 -- how many requests that undo there are at least
@@ -39,7 +40,7 @@ task_undone (Sets step) = 0
 task_undone (Undoes step) = suc step
 
 abbrev pub undone_needed : Stage → ℕ
-undone_needed (Opened heeded task asked) = task_undone task
+undone_needed (Opened heeded task parts asked) = task_undone task
 undone_needed _ = 0
 
 -- how many there are at most
@@ -50,24 +51,28 @@ task_backs (Undoes step) = most_steps
 
 abbrev pub most_backs : Stage → ℕ
 most_backs AtStart = 0
-most_backs (Opened heeded task asked) = task_backs task
+most_backs (Opened heeded task parts asked) = task_backs task
 most_backs _ = most_steps
 
--- how many replies a manager takes at most: three for each step, and one for each request that undoes
+-- how many replies a manager takes for a step at most: to its Gets, to its Sets, and to the requests that undo it
+abbrev pub replies_of_step : ℕ
+replies_of_step = 3 * most_requests
+
+-- how many it takes at most: those for each step of a plan, and those to the requests that undo the steps of a list
 abbrev pub most_replies : ℕ
-most_replies = 3 * most_steps + most_steps
+most_replies = replies_of_step * most_steps + most_requests * most_steps
 
--- how many replies the manager may still take, of a plan of so many steps, with so many requests that undo
-abbrev pub task_left : ℕ → ℕ → Task → ℕ
-task_left steps backs (Gets step) = 3 * (steps - step) + backs
-task_left steps backs (Sets step) = 3 * (steps - step) - 1 + backs
-task_left steps backs (Undoes step) = suc step
+-- how many replies the manager may still take, of a plan of so many steps, with so many requests that undo, once it took so many of this task's
+abbrev pub task_left : (steps backs : ℕ) → Task → (parts : ℕ) → ℕ
+task_left steps backs (Gets step) parts = replies_of_step * (steps - step) - parts + most_requests * backs
+task_left steps backs (Sets step) parts = replies_of_step * (steps - step) - most_requests - parts + most_requests * backs
+task_left steps backs (Undoes step) parts = most_requests * suc step - parts
 
-abbrev pub replies_left : ℕ → ℕ → Stage → ℕ
-replies_left steps backs AtStart = 3 * steps
-replies_left steps backs (Opened heeded task asked) = task_left steps backs task
-replies_left steps backs AtEnd = backs
-replies_left steps backs (AtHalt step why) = backs
+abbrev pub replies_left : (steps backs : ℕ) → Stage → ℕ
+replies_left steps backs AtStart = replies_of_step * steps
+replies_left steps backs (Opened heeded task parts asked) = task_left steps backs task parts
+replies_left steps backs AtEnd = most_requests * backs
+replies_left steps backs (AtHalt step why) = most_requests * backs
 replies_left steps backs AtUndone = 0
 replies_left steps backs (AtRefused step code) = 0
 
@@ -79,5 +84,5 @@ task_ahead plan (Undoes step) = []
 
 abbrev pub steps_ahead : List Op → Stage → List Op
 steps_ahead plan AtStart = plan
-steps_ahead plan (Opened heeded task asked) = task_ahead plan task
+steps_ahead plan (Opened heeded task parts asked) = task_ahead plan task
 steps_ahead plan _ = []

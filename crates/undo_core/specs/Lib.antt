@@ -1,4 +1,5 @@
 pub mod Counted
+pub mod Joining
 pub mod Bounds
 pub mod Room
 pub mod Shown

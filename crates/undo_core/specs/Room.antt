@@ -1,6 +1,7 @@
 -- How much room the requests need that undo a plan.
 use Rattle.std.specs.Prelude.{ℕ, ◌+◌, ◌≤◌, List, [], ◌∷◌, length}
 use Rattle.two_wire.specs.Sizes.{most_ipmi_request_data}
+use Rattle.record_base.specs.AttributeSizes.{most_value}
 use Rattle.record_base.specs.declared.op.Op.{Op}
 use Rattle.record_base.specs.declared.op.Op.TheVariants.{BiosAttribute}
 use Rattle.undo_plans.specs.Requests.{RequestList, most_undo_data}
@@ -10,6 +11,11 @@ use Rattle.undo_plans.specs.Requests.{RequestList, most_undo_data}
 abbrev pub most_data : Op → ℕ
 most_data (BiosAttribute own) = most_undo_data
 most_data _ = most_ipmi_request_data
+
+-- the value that an operation gives to an attribute is as short as one that an attribute can have
+abbrev pub HasShortValue : Op → Type 0
+HasShortValue (BiosAttribute own) = length own.value ≤ most_value
+HasShortValue _ = Unit {0}
 
 -- of all requests that undo these steps
 abbrev pub data_for : List Op → ℕ

@@ -1,9 +1,10 @@
 -- The machine that a manager shows, and the packets that wait at it.
-use Rattle.std.specs.Prelude.{◌≡◌, ◌≢◌, Result, Ok, Err, suc, ◌<◌, Bool, List, ◌∷◌, length, map, take, reverse, Option, Some, None, option_map, slice_get, if◌then◌else◌}
+use Rattle.std.specs.Prelude.{◌≡◌, ◌≢◌, Result, Ok, Err, ℕ, suc, ◌<◌, Bool, List, ◌∷◌, length, map, take, reverse, Option, Some, None, slice_get, if◌then◌else◌}
 use Rattle.std.specs.List.{AllZip}
 use Rattle.two_wire.specs.declared.Bus.TheVariants.{Ipmb, Smbus}
 use Rattle.record_base.specs.declared.op.Op.{Op}
 use Rattle.record_base.specs.declared.message.Asked.{Asked}
+use Rattle.record_kinds.specs.Series.{Series, Sends, set_whole}
 use Rattle.undo_plans.specs.declared.names.Names.{Names}
 use Rattle.undo_plans.specs.Requests.{RequestList}
 use Rattle.mctp_net.specs.Places.{seen}
@@ -24,6 +25,7 @@ use Rattle.undo_core.specs.declared.stage.Stage.TheVariants as stage
 use Rattle.undo_core.specs.declared.sending.Sent.{Sent}
 use Rattle.undo_core.specs.declared.manager.Manager.{Manager}
 use Rattle.undo_core.specs.Counted.{counts_of}
+use Rattle.undo_core.specs.Joining.{AreJoined}
 
 -- the words of a manager with these names
 abbrev pub words_of : Names → Words
@@ -38,29 +40,33 @@ abbrev pub AreOthers : Names → Option Names → Type 0
 AreOthers names None = ⊥
 AreOthers names (Some listed) = listed ≢ names
 
--- requests that undo, the last first
-abbrev pub backs : Names → List Asked → List Asked
-backs names requests = map (own names) (reverse requests)
+-- the series that carry these requests out, the last first
+abbrev pub backs : List Asked → List Series
+backs requests = map Sends (reverse requests)
 
 -- A task of the manager is this task of the machine, of the plan, with these requests that undo. The request that undoes a step waits while the step
 -- is carried out.
 abbrev pub IsTask : (names : Names) → List Op → RequestList → Task → machine.Task (words_of names) → Type 0
 IsTask names plan requests (task.Gets step) (machine.Gets place op) = (place ≡ step) × (slice_get plan step ≡ Some op)
-IsTask names plan requests (task.Sets step) (machine.Sets place op undo) =
-    (place ≡ step) × (slice_get plan step ≡ Some op) × (option_map (own names) requests.waiting ≡ Some ((words_of names).setting undo))
-IsTask names plan requests (task.Undoes step) (machine.Undoes first rest) = (step < length requests.members) × (backs names (take (suc step) requests.members) ≡ first ∷ rest)
+IsTask names plan requests (task.Sets step) (machine.Sets place op undo) = (place ≡ step) × (slice_get plan step ≡ Some op) × (requests.waiting ≡ Some (set_whole undo))
+IsTask names plan requests (task.Undoes step) (machine.Undoes first rest) = (step < length requests.members) × (backs (take (suc step) requests.members) ≡ first ∷ rest)
 IsTask names plan requests _ _ = ⊥
 
+-- these replies came to a Get, and this is what they show together
+abbrev pub IsGot : Task → (replies : List ℕ) → (before : List (List ℕ)) → Type 0
+IsGot (task.Gets step) replies before = AreJoined replies before
+IsGot _ replies before = Unit {0}
+
 -- a stage of the manager is this stage of the machine
-abbrev pub IsStage : (names : Names) → List Op → RequestList → Stage → machine.Stage (words_of names) → Type 0
-IsStage names plan requests stage.AtStart machine.AtStart = Unit {0}
-IsStage names plan requests (stage.Opened heeded task asked) (machine.Opened heeds of part) =
-    (heeds ≡ heeded) × IsTask names plan requests task of × (part ≡ machine.first_part (words_of names) of) × (own names asked ≡ part.asked)
-IsStage names plan requests stage.AtEnd machine.AtEnd = Unit {0}
-IsStage names plan requests (stage.AtHalt step why) (machine.AtHalt place cause) = (place ≡ step) × (cause ≡ why)
-IsStage names plan requests stage.AtUndone machine.AtUndone = Unit {0}
-IsStage names plan requests (stage.AtRefused step code) (machine.AtRefused place number) = (place ≡ step) × (number ≡ code)
-IsStage names plan requests _ _ = ⊥
+abbrev pub IsStage : (names : Names) → List Op → RequestList → (replies : List ℕ) → Stage → machine.Stage (words_of names) → Type 0
+IsStage names plan requests replies stage.AtStart machine.AtStart = Unit {0}
+IsStage names plan requests replies (stage.Opened heeded task parts asked) (machine.Opened heeds of part) =
+    (heeds ≡ heeded) × IsTask names plan requests task of × (length part.before ≡ parts) × IsGot task replies part.before × (own names asked ≡ part.asked)
+IsStage names plan requests replies stage.AtEnd machine.AtEnd = Unit {0}
+IsStage names plan requests replies (stage.AtHalt step why) (machine.AtHalt place cause) = (place ≡ step) × (cause ≡ why)
+IsStage names plan requests replies stage.AtUndone machine.AtUndone = Unit {0}
+IsStage names plan requests replies (stage.AtRefused step code) (machine.AtRefused place number) = (place ≡ step) × (number ≡ code)
+IsStage names plan requests replies _ _ = ⊥
 
 -- this holds of each task of the machine that the task is
 abbrev pub ForTask : Task → ((names : Names) → machine.Task (words_of names) → Type 0) → Type 0
@@ -68,7 +74,7 @@ ForTask task Holds = (names : Names) (plan : List Op) (requests : RequestList) (
 
 -- this holds of each stage of the machine that the stage is
 abbrev pub ForStage : Stage → ((names : Names) → machine.Stage (words_of names) → Type 0) → Type 0
-ForStage stage Holds = (names : Names) (plan : List Op) (requests : RequestList) (at : machine.Stage (words_of names)) → IsStage names plan requests stage at → Holds names at
+ForStage stage Holds = (names : Names) (plan : List Op) (requests : RequestList) (replies : List ℕ) (at : machine.Stage (words_of names)) → IsStage names plan requests replies stage at → Holds names at
 
 -- the manager shows this machine, and these packets wait at it
 pub record Shows (names : Names) (manager : Manager) (state : ManagerState (board_plans names)) : Type 0 where
@@ -77,10 +83,10 @@ pub record Shows (names : Names) (manager : Manager) (state : ManagerState (boar
   pub listed : state.listed ≡ manager.undo.names
   pub plan : state.machine.plan ≡ manager.steps
   pub retries : state.machine.retries ≡ manager.retries
-  pub stage : IsStage names manager.steps manager.undo.requests manager.stage state.machine.stage
+  pub stage : IsStage names manager.steps manager.undo.requests manager.replies manager.stage state.machine.stage
   pub stopped : state.machine.stopped ≡ manager.stopped
   pub resent : state.machine.resent ≡ manager.resent
-  pub undo : state.machine.undo ≡ backs names manager.undo.requests.members
+  pub undo : state.machine.undo ≡ backs manager.undo.requests.members
   pub counts : state.machine.counts ≡ counts_of manager.counts
   pub sequence : manager.undo.next.ipmb ≡ number_of Ipmb manager.counts.ipmb
   pub instance : manager.undo.next.smbus ≡ number_of Smbus manager.counts.smbus

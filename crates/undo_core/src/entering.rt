@@ -1,23 +1,26 @@
 //! The stages that a manager enters, and what a reply does with the list of requests that undo.
-ghost use Rattle.std.specs.Prelude.{◌≡◌, ◌+◌, ◌-◌, ◌*◌, ◌≤◌, ◌<◌, ◌==◌, ℕ, suc, length, take, drop, slice_get, option_map, List, Some, if◌then◌else◌};
-ghost use Rattle.two_wire.specs.Codes.{success};
+ghost use Rattle.std.specs.Prelude.{◌≡◌, ◌+◌, ◌-◌, ◌*◌, ◌≤◌, ◌<◌, ℕ, Bool, suc, length, take, drop, slice_get, List, Some};
 ghost use Rattle.record_base.specs.declared.op.Op.{Op};
-ghost use Rattle.record_kinds.specs.Limits.{inverse};
+ghost use Rattle.record_kinds.specs.Series.{Series, set_whole};
 ghost use Rattle.undo_plans.specs.declared.names.Names.{Names};
+ghost use Rattle.undo_plans.specs.Fitting.{most_requests};
 ghost use Rattle.undo_plans.specs.Steps.{most_steps};
 ghost use Rattle.undo_plans.specs.Requests.{RequestList};
-ghost use Rattle.model_undo.specs.declared.phase.Why.TheVariants.{Refused, GetRefused};
 ghost use Rattle.model_undo.specs.Machine as machine;
-ghost use Rattle.undo_core.specs.Shown.{words_of, own, backs, IsTask, IsStage};
-ghost use Rattle.undo_core.specs.Bounds.{task_steps, steps_needed, task_undone, undone_needed, task_backs, most_backs, task_left, replies_left, task_ahead, steps_ahead, done_by, with_done};
+ghost use Rattle.undo_core.specs.declared.stage.Task.TheVariants.{Undoes as IsUndoes};
+ghost use Rattle.undo_core.specs.Joining.{most_joined};
+ghost use Rattle.undo_core.specs.Shown.{words_of, backs, IsTask, IsGot, IsStage};
+ghost use Rattle.undo_core.specs.Bounds.{replies_of_step, parts_at, most_got, most_replied, task_steps, steps_needed, task_undone, undone_needed, task_backs, most_backs, task_left, replies_left, task_ahead, steps_ahead};
 ghost use Rattle.undo_core.specs.Room.{HasRoom};
 
 use crate::Why;
+use crate::getting::after_get;
+use crate::joining::JoinedReplies;
 use crate::stage::{Stage, Task};
 use cfg_records::RecordKind;
 use record_kinds::Limits;
 use two_wire::Code;
-use undo_plans::{Requests, Steps, UndoRequest};
+use undo_plans::{Requests, Steps};
 
 /// A reply that passed the test against the open request.
 #[derive(Clone, Copy)]
@@ -29,16 +32,17 @@ pub(crate) struct Reply<'a> {
 /// The stage of a step: its Get, or the plan's end, or a halt before it.
 pub(crate) fn step_stage(steps: &Steps, stopped: bool, step: usize) -> Stage
     requires { step ≤ length steps.now }
-    ensures stage { (names : Names) (requests : RequestList)
-        → IsStage names steps.now requests result
+    ensures stage { (names : Names) (requests : RequestList) (replies : List ℕ)
+        → IsStage names steps.now requests replies result
         (machine.next_stage (words_of names) stopped step (slice_get steps.now step)) }
     ensures planned { steps_needed result ≤ length steps.now }
     ensures kept { undone_needed result ≡ 0 }
     ensures few { step ≤ most_backs result }
     ensures left { (undone : ℕ) → replies_left (length steps.now) undone result
-        ≤ 3 * (length steps.now - step) + undone }
+        ≤ replies_of_step * (length steps.now - step) + most_requests * undone }
     ensures room { (requests : RequestList) → HasRoom (drop step steps.now) requests
         → HasRoom (steps_ahead steps.now result) requests }
+    ensures first { parts_at result ≡ 0 }
 {
     let _steps = steps.len();
     match steps.get(step) {
@@ -50,6 +54,7 @@ pub(crate) fn step_stage(steps: &Steps, stopped: bool, step: usize) -> Stage
             Stage::Opened {
                 heeded: true,
                 task: Task::Gets(step),
+                parts: 0,
                 asked: Limits::get_asked(&Limits::key(&op)),
             }
         }
@@ -59,13 +64,16 @@ pub(crate) fn step_stage(steps: &Steps, stopped: bool, step: usize) -> Stage
 /// The stage in which this many steps are still to be undone.
 pub(crate) fn undo_stage(requests: &Requests, left: usize) -> Stage
     requires { left ≤ length requests.now.members }
-    ensures stage { (names : Names) (plan : List Op) → IsStage names plan requests.now result
-        (machine.undo_stage (words_of names) (backs names (take left requests.now.members))) }
+    ensures stage { (names : Names) (plan : List Op) (replies : List ℕ)
+        → IsStage names plan requests.now replies result
+        (machine.undo_stage (words_of names) (backs (take left requests.now.members))) }
     ensures planned { steps_needed result ≡ 0 }
     ensures kept { undone_needed result ≤ left }
     ensures few { most_backs result ≡ most_steps }
-    ensures left { (steps undone : ℕ) → replies_left steps undone result ≤ left }
+    ensures left { (steps undone : ℕ)
+        → replies_left steps undone result ≤ most_requests * left }
     ensures room { (plan : List Op) (any : RequestList) → HasRoom (steps_ahead plan result) any }
+    ensures first { parts_at result ≡ 0 }
 {
     if left == 0 {
         return Stage::AtUndone;
@@ -75,124 +83,106 @@ pub(crate) fn undo_stage(requests: &Requests, left: usize) -> Stage
         Some(request) => Stage::Opened {
             heeded: true,
             task: Task::Undoes(left - 1),
-            asked: request.asked(),
+            parts: 0,
+            asked: request.first(),
         },
     }
 }
 
-/// The stage after the reply to a task's request. The request that undoes a step is written where it will lie once a Get shows how, and
-/// counts once the step was done.
+/// The stage after the reply to a task's request, which came after so many others of the task. The request that undoes a step is written where it
+/// will lie once a Get shows how, and counts once the step was done.
 pub(crate) fn stage_after(
     steps: &Steps,
     stopped: bool,
     requests: &mut Requests,
+    replies: &mut JoinedReplies,
     task: Task,
+    parts: u8,
     reply: Reply<'_>,
 ) -> Stage
     requires steps { task_steps task ≤ length steps.now }
     requires undone { task_undone task ≤ length requests.old.members }
     requires few { length requests.old.members ≤ task_backs task }
     requires room { HasRoom (task_ahead steps.now task) requests.old }
+    requires parts { parts < most_requests }
+    requires filled { length replies.old ≤ most_got task parts }
     ensures stage { (names : Names) (of : machine.Task (words_of names))
-        → IsTask names steps.now requests.old task of
-        → IsStage names steps.now requests.new result
+        (part : machine.Part (words_of names)) → IsTask names steps.now requests.old task of
+        → length part.before ≡ parts → IsGot task replies.old part.before
+        → IsStage names steps.now requests.new replies.new result
         (machine.stage_after (words_of names) stopped steps.now
-        (record { code = reply.entry.code; body = reply.entry.body.now }) of
-        (machine.first_part (words_of names) of)) }
-    ensures members { requests.new.members
-        ≡ with_done (done_by task reply.entry.code) requests.old }
+        (record { code = reply.entry.code; body = reply.entry.body.now }) of part) }
+    ensures undo { (names : Names) (of : machine.Task (words_of names))
+        (part : machine.Part (words_of names)) → IsTask names steps.now requests.old task of
+        → length part.before ≡ parts → machine.undo_after (words_of names)
+        (record { code = reply.entry.code; body = reply.entry.body.now }) of part
+        (backs requests.old.members) ≡ backs requests.new.members }
     ensures planned { steps_needed result ≤ length steps.now }
     ensures kept { undone_needed result ≤ length requests.new.members }
     ensures few { length requests.new.members ≤ most_backs result }
     ensures left { suc (replies_left (length steps.now) (length requests.new.members) result)
-        ≤ task_left (length steps.now) (length requests.old.members) task }
+        ≤ task_left (length steps.now) (length requests.old.members) task parts }
     ensures room { HasRoom (steps_ahead steps.now result) requests.new }
+    ensures parted { parts_at result < most_requests }
+    ensures filled { length replies.new ≤ most_replied result }
 {
+    let _replies = replies.as_slice();
     match task {
-        Task::Gets(step) => after_get(steps, stopped, requests, step, reply),
-        Task::Sets(step) => after_set(steps, stopped, requests, step, reply.code),
-        Task::Undoes(step) => after_undo(requests, step, reply.code),
+        Task::Gets(step) => after_get(steps, stopped, requests, replies, step, parts, reply),
+        Task::Sets(step) => after_set(steps, stopped, requests, step, parts, reply),
+        Task::Undoes(step) => after_undo(requests, step, parts, reply),
     }
 }
 
-fn after_get(
+/// The stage after a reply to a Set.
+fn after_set(
     steps: &Steps,
     stopped: bool,
     requests: &mut Requests,
     step: usize,
+    parts: u8,
     reply: Reply<'_>,
 ) -> Stage
     requires step { step < length steps.now }
     requires few { length requests.old.members ≤ step }
-    requires room { HasRoom (drop step steps.now) requests.old }
-    ensures stage { (names : Names) (op : Op) → slice_get steps.now step ≡ Some op
-        → IsStage names steps.now requests.new result (if reply.entry.code == success
-        then machine.set_stage (words_of names) stopped step op (inverse op reply.entry.body.now)
-        else machine.AtHalt step (GetRefused reply.entry.code)) }
-    ensures members { requests.new.members ≡ requests.old.members }
-    ensures planned { steps_needed result ≤ length steps.now }
-    ensures kept { undone_needed result ≡ 0 }
-    ensures few { step ≤ most_backs result }
-    ensures left { (undone : ℕ) → suc (replies_left (length steps.now) undone result)
-        ≤ 3 * (length steps.now - step) + undone }
-    ensures room { HasRoom (steps_ahead steps.now result) requests.new }
-{
-    let _steps = steps.len();
-    let op = steps.get(step).unwrap();
-    if let Some(code) = Code::new(reply.code) {
-        return Stage::AtHalt(step, Why::GetRefused(code));
-    }
-    let Some(back) = Limits::inverse(&op, reply.body) else {
-        return Stage::AtHalt(step, Why::NotRestorable);
-    };
-    if stopped {
-        return Stage::AtHalt(step, Why::Stop);
-    }
-    let asked = Limits::set_asked(&back);
-    requests.prepare(&UndoRequest::of(&asked));
-    set_stage(steps, step)
-}
-
-/// The stage in which the step is carried out.
-fn set_stage(steps: &Steps, step: usize) -> Stage
-    requires { step < length steps.now }
-    ensures stage { (names : Names) (requests : RequestList) (op undo : Op)
-        → slice_get steps.now step ≡ Some op
-        → option_map (own names) requests.waiting ≡ Some ((words_of names).setting undo)
-        → IsStage names steps.now requests result
-        (machine.begun (words_of names) (machine.Sets step op undo)) }
-    ensures planned { steps_needed result ≡ suc step }
-    ensures kept { undone_needed result ≡ 0 }
-    ensures few { most_backs result ≡ step }
-    ensures left { (total undone : ℕ)
-        → replies_left total undone result ≡ 3 * (total - step) - 1 + undone }
-    ensures ahead { steps_ahead steps.now result ≡ drop (suc step) steps.now }
-{
-    Stage::Opened {
-        heeded: true,
-        task: Task::Sets(step),
-        asked: Limits::set_asked(&steps.get(step).unwrap()),
-    }
-}
-
-fn after_set(steps: &Steps, stopped: bool, requests: &mut Requests, step: usize, code: u8) -> Stage
-    requires step { step < length steps.now }
-    requires few { length requests.old.members ≤ step }
     requires room { HasRoom (drop (suc step) steps.now) requests.old }
-    ensures stage { (names : Names) → IsStage names steps.now requests.new result
-        (if code == success then machine.next_stage (words_of names) stopped (suc step)
-        (slice_get steps.now (suc step)) else machine.AtHalt step (Refused code)) }
-    ensures members { requests.new.members ≡ with_done (code == success) requests.old }
+    requires parts { parts < most_requests }
+    ensures stage { (names : Names) (op back : Op) (part : machine.Part (words_of names))
+        (replies : List ℕ) → slice_get steps.now step ≡ Some op
+        → requests.old.waiting ≡ Some (set_whole back) → length part.before ≡ parts
+        → IsStage names steps.now requests.new replies result
+        (machine.stage_after (words_of names) stopped steps.now
+        (record { code = reply.entry.code; body = reply.entry.body.now })
+        (machine.Sets step op back) part) }
+    ensures undo { (names : Names) (op back : Op) (part : machine.Part (words_of names))
+        → slice_get steps.now step ≡ Some op
+        → requests.old.waiting ≡ Some (set_whole back) → length part.before ≡ parts
+        → machine.undo_after (words_of names)
+        (record { code = reply.entry.code; body = reply.entry.body.now })
+        (machine.Sets step op back) part (backs requests.old.members)
+        ≡ backs requests.new.members }
     ensures planned { steps_needed result ≤ length steps.now }
     ensures kept { undone_needed result ≡ 0 }
     ensures few { length requests.new.members ≤ most_backs result }
     ensures left { suc (replies_left (length steps.now) (length requests.new.members) result)
-        ≤ 3 * (length steps.now - step) - 1 + length requests.old.members }
+        ≤ replies_of_step * (length steps.now - step) - most_requests - parts
+        + most_requests * length requests.old.members }
     ensures room { HasRoom (steps_ahead steps.now result) requests.new }
+    ensures parted { parts_at result < most_requests }
+    ensures free { most_replied result ≡ most_joined 0 }
 {
     let _steps = steps.len();
-    match Code::new(code) {
-        Some(code) => Stage::AtHalt(step, Why::Refused(code)),
+    let op = steps.get(step).unwrap();
+    if let Some(code) = Code::new(reply.code) {
+        return Stage::AtHalt(step, Why::Refused(code));
+    }
+    match Limits::set_next(&op, parts + 1) {
+        Some(asked) => Stage::Opened {
+            heeded: true,
+            task: Task::Sets(step),
+            parts: parts + 1,
+            asked,
+        },
         None => {
             requests.keep();
             step_stage(steps, stopped, step + 1)
@@ -200,21 +190,37 @@ fn after_set(steps: &Steps, stopped: bool, requests: &mut Requests, step: usize,
     }
 }
 
-fn after_undo(requests: &Requests, step: usize, code: u8) -> Stage
-    requires { step < length requests.now.members }
-    ensures stage { (names : Names) (plan : List Op)
-        → IsStage names plan requests.now result (if code == success
-        then machine.undo_stage (words_of names)
-        (backs names (take step requests.now.members))
-        else machine.AtRefused step code) }
+/// The stage after a reply to a request that undoes.
+fn after_undo(requests: &Requests, step: usize, parts: u8, reply: Reply<'_>) -> Stage
+    requires step { step < length requests.now.members }
+    requires parts { parts < most_requests }
+    ensures stage { (names : Names) (plan : List Op) (stopped : Bool) (first : Series)
+        (rest : List Series) (part : machine.Part (words_of names)) (replies : List ℕ)
+        → IsTask names plan requests.now (IsUndoes step) (machine.Undoes first rest)
+        → length part.before ≡ parts → IsStage names plan requests.now replies result
+        (machine.stage_after (words_of names) stopped plan
+        (record { code = reply.entry.code; body = reply.entry.body.now })
+        (machine.Undoes first rest) part) }
     ensures planned { steps_needed result ≡ 0 }
-    ensures kept { undone_needed result ≤ step }
+    ensures kept { undone_needed result ≤ suc step }
     ensures few { most_backs result ≡ most_steps }
-    ensures left { (steps undone : ℕ) → replies_left steps undone result ≤ step }
+    ensures left { (steps undone : ℕ) → suc (replies_left steps undone result)
+        ≤ most_requests * suc step - parts }
     ensures room { (plan : List Op) (any : RequestList) → HasRoom (steps_ahead plan result) any }
+    ensures parted { parts_at result < most_requests }
+    ensures free { most_replied result ≡ most_joined 0 }
 {
-    match Code::new(code) {
-        Some(code) => Stage::AtRefused(step, code),
+    let member = requests.get(step).unwrap();
+    if let Some(code) = Code::new(reply.code) {
+        return Stage::AtRefused(step, code);
+    }
+    match member.request(parts + 1) {
+        Some(asked) => Stage::Opened {
+            heeded: true,
+            task: Task::Undoes(step),
+            parts: parts + 1,
+            asked,
+        },
         None => undo_stage(requests, step),
     }
 }

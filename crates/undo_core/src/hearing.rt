@@ -157,18 +157,21 @@ impl Manager {
         let Stage::Opened {
             heeded: true,
             task,
+            parts,
             asked,
         } = &self.stage
         else {
             return None;
         };
         let counts = self.counts.after(bus_of(asked));
-        let task = *task;
+        let (task, parts) = (*task, *parts);
         self.stage = stage_after(
             &self.steps,
             self.stopped,
             &mut self.undo.requests,
+            &mut self.replies,
             task,
+            parts,
             reply,
         );
         self.resent = 0;

@@ -3,7 +3,10 @@
 
 mod calls;
 mod entering;
+mod getting;
 mod hearing;
+mod joining;
+mod keeping;
 pub mod laws;
 mod manager;
 mod opening;

@@ -1,8 +1,10 @@
 //! A manager.
-ghost use Rattle.std.specs.Prelude.{◌+◌, ◌≤◌, length};
-ghost use Rattle.undo_core.specs.Bounds.{steps_needed, undone_needed, most_backs, replies_left, most_replies, steps_ahead};
+ghost use Rattle.std.specs.Prelude.{◌+◌, ◌≤◌, ◌<◌, length};
+ghost use Rattle.undo_core.specs.Bounds.{steps_needed, undone_needed, most_backs, replies_left, most_replies, steps_ahead, parts_at, most_replied};
+ghost use Rattle.undo_plans.specs.Fitting.{most_requests};
 ghost use Rattle.undo_core.specs.Room.{HasRoom};
 
+use crate::joining::JoinedReplies;
 use crate::sending::Counts;
 use crate::stage::Stage;
 use mctp_net::Assembler;
@@ -44,10 +46,14 @@ pub struct Manager {
     pub(crate) counts: Counts,
     /// The packets that wait.
     pub(crate) joined: Assembler,
+    /// What the replies to the open Get show so far, where it goes in parts.
+    pub(crate) replies: JoinedReplies,
     ghost planned: { steps_needed stage ≤ length steps },
     ghost kept: { undone_needed stage ≤ length undo.requests.members },
     ghost few: { length undo.requests.members ≤ most_backs stage },
     ghost counted: { counts.ipmb + counts.smbus
         + replies_left (length steps) (length undo.requests.members) stage ≤ most_replies },
     ghost roomy: { HasRoom (steps_ahead steps stage) undo.requests },
+    ghost parted: { parts_at stage < most_requests },
+    ghost filled: { length replies ≤ most_replied stage },
 }

@@ -7,6 +7,7 @@ ghost use Rattle.model_undo.specs.Resume.{resumed};
 ghost use Rattle.undo_core.specs.Shown.{words_of, backs, AreOthers, Shows};
 
 use crate::Why;
+use crate::joining::JoinedReplies;
 use crate::manager::{Manager, OpenFault, ResumeFault};
 use crate::room::room_for;
 use crate::sending::Counts;
@@ -37,6 +38,9 @@ impl Manager {
         let Ok(joined) = Assembler::new(alloc) else {
             return Err(OpenFault::Memory);
         };
+        let Ok(replies) = JoinedReplies::open(alloc) else {
+            return Err(OpenFault::Memory);
+        };
         let Plan { steps, .. } = plan;
         let Ok(requests) = room_for(alloc, &steps) else {
             return Err(OpenFault::Memory);
@@ -55,6 +59,7 @@ impl Manager {
             },
             counts: Counts { ipmb: 0, smbus: 0 },
             joined,
+            replies,
         })
     }
 
@@ -70,7 +75,7 @@ impl Manager {
             ↔ ((retries ≤ most_retries) × AreOthers names undo.names) }
         ensures resumed { IfOk result (λ m. Shows names m (record {
           machine = resumed (words_of names) retries (record {
-            series = backs names undo.requests.members;
+            series = backs undo.requests.members;
             next = record { ipmb = undo.next.ipmb; smbus = undo.next.smbus };
           });
           names = names;
@@ -85,6 +90,9 @@ impl Manager {
             return Err(ResumeFault::OtherNames);
         }
         let Ok(joined) = Assembler::new(alloc) else {
+            return Err(ResumeFault::Memory);
+        };
+        let Ok(replies) = JoinedReplies::open(alloc) else {
             return Err(ResumeFault::Memory);
         };
         let UndoList {
@@ -111,6 +119,7 @@ impl Manager {
             },
             counts,
             joined,
+            replies,
         })
     }
 }

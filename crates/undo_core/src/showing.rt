@@ -1,5 +1,5 @@
 //! Where a manager is.
-ghost use Rattle.std.specs.Prelude.{◌≡◌, List, option_map};
+ghost use Rattle.std.specs.Prelude.{◌≡◌, ℕ, List, option_map};
 ghost use Rattle.record_base.specs.declared.op.Op.{Op};
 ghost use Rattle.undo_plans.specs.declared.names.Names.{Names as AnyNames};
 ghost use Rattle.undo_plans.specs.Requests.{RequestList};
@@ -63,7 +63,7 @@ impl Manager {
     /// went on from a list, those of that list.
     pub fn undo_list(&self) -> &UndoList
         ensures requests { ForShown self.now (λ names s.
-            backs names result.now.requests.members ≡ s.machine.undo) }
+            backs result.now.requests.members ≡ s.machine.undo) }
         ensures sequence { ForShown self.now (λ names s.
             result.now.next.ipmb ≡ number_of Ipmb s.machine.counts.ipmb) }
         ensures instance { ForShown self.now (λ names s.
@@ -75,9 +75,9 @@ impl Manager {
 
     /// The frames of the open request.
     pub(crate) fn open_frames(&self) -> Option<Sent>
-        ensures { (names : AnyNames) (plan : List Op) (requests : RequestList)
+        ensures { (names : AnyNames) (plan : List Op) (requests : RequestList) (replies : List ℕ)
             (at : machine.Stage (words_of names)) → self.now.names ≡ names
-            → IsStage names plan requests self.now.stage at
+            → IsStage names plan requests replies self.now.stage at
             → IsSent result (option_map (sent_of (board_plans names) names)
             (machine.sends_at (words_of names) at (counts_of self.now.counts))) }
     {

@@ -27,10 +27,11 @@ pub enum Task {
 #[derive(Debug, Drop)]
 pub enum Stage {
     AtStart,
-    /// A task's request is open. Where it isn't heeded, no reply to it is taken.
+    /// A task's request is open, after so many others of the task that were answered. Where it isn't heeded, no reply to it is taken.
     Opened {
         heeded: bool,
         task: Task,
+        parts: u8,
         asked: Asked,
     },
     AtEnd,
@@ -101,9 +102,10 @@ impl Stage {
     /// The open request.
     pub fn open(&self) -> Option<&Asked>
         ensures some { IfSome result (λ asked.
-            (heeded : Bool) × (task : Task) × (self.now ≡ IsOpened heeded task asked.now)) }
-        ensures none { (heeded : Bool) (task : Task) (asked : AnyAsked)
-            → self.now ≡ IsOpened heeded task asked → IsSome result }
+            (heeded : Bool) × (task : Task) × (parts : ℕ)
+            × (self.now ≡ IsOpened heeded task parts asked.now)) }
+        ensures none { (heeded : Bool) (task : Task) (parts : ℕ) (asked : AnyAsked)
+            → self.now ≡ IsOpened heeded task parts asked → IsSome result }
     {
         match self {
             Stage::Opened { asked, .. } => Some(asked),
@@ -113,9 +115,11 @@ impl Stage {
 
     /// The open request, where it is heeded and goes on this bus.
     pub fn heeded_on(&self, bus: Bus) -> Option<&Asked>
-        ensures some { IfSome result (λ asked. (task : Task)
-            × (self.now ≡ IsOpened true task asked.now) × (bus_of_request asked.now ≡ bus)) }
-        ensures none { (task : Task) (asked : AnyAsked) → self.now ≡ IsOpened true task asked
+        ensures some { IfSome result (λ asked. (task : Task) × (parts : ℕ)
+            × (self.now ≡ IsOpened true task parts asked.now)
+            × (bus_of_request asked.now ≡ bus)) }
+        ensures none { (task : Task) (parts : ℕ) (asked : AnyAsked)
+            → self.now ≡ IsOpened true task parts asked
             → bus_of_request asked ≡ bus → IsSome result }
     {
         match self {

@@ -4,12 +4,14 @@
 pub mod kept;
 mod names;
 mod plan;
+mod pldm_undo;
 mod requests;
 mod undo_list;
 mod undo_request;
 
 pub use names::Names;
 pub use plan::{MOST_STEPS, Plan, Steps};
+pub use pldm_undo::{MOST_UNDO_DATA, PldmUndo};
 pub use requests::Requests;
 pub use undo_list::{NextNumbers, UndoList};
-pub use undo_request::{MOST_UNDO_DATA, UndoRequest};
+pub use undo_request::UndoRequest;

@@ -37,7 +37,7 @@ impl Model for Requests {
       room = vec_capacity r.bytes - vec_len r.bytes;
     } };
 
-    ghost invariant = { λ r. AreLaid r.marks.items r.counted r.kept (length r.bytes.items) };
+    ghost invariant = { λ r. AreLaid r.marks.items r.counted r.kept r.bytes.items };
 }
 
 impl Requests {

@@ -1,13 +1,13 @@
 //! A request that undoes a step, where it lies.
-ghost use Rattle.std.specs.Prelude.{◌≡◌, ◌≤◌, length};
-ghost use Rattle.undo_plans.specs.Requests.{meant, data_of, from_nobody, most_of, most_data, request_of, request_at, Lies};
+ghost use Rattle.std.specs.Prelude.{◌≡◌, ◌≤◌, ◌<◌, length, IfSome};
+ghost use Rattle.bios_attr.specs.EntryParts.{first_request, with_body, request_at as request_of_place};
+ghost use Rattle.undo_plans.specs.Fitting.{data_of, from_nobody, most_of, Fits, most_requests};
+ghost use Rattle.undo_plans.specs.Requests.{meant, request_of, request_at, Lies};
 
+use crate::pldm_undo::PldmUndo;
 use record_base::Asked;
-use two_wire::size::{MOST_IPMI_REQUEST_DATA, MOST_PLDM_REQUEST_DATA};
+use two_wire::size::MOST_IPMI_REQUEST_DATA;
 use two_wire::{Below, Bytes, Data, Lun, NetFn};
-
-/// The most bytes of data of a request that undoes a step over SMBus.
-pub const MOST_UNDO_DATA: usize = MOST_PLDM_REQUEST_DATA;
 
 /// A request that undoes a step, without a sender. Its data lie where somebody else keeps them, as in `Requests`.
 #[derive(Debug, Drop)]
@@ -19,12 +19,8 @@ pub enum UndoRequest<'a> {
         command: u8,
         body: Data<'a, { MOST_IPMI_REQUEST_DATA }>,
     },
-    /// PLDM: type, command and data.
-    Pldm {
-        kind: Below<64>,
-        command: u8,
-        body: Data<'a, { MOST_UNDO_DATA }>,
-    },
+    /// PLDM.
+    Pldm(PldmUndo<'a>),
 }
 
 /// What a request is, beside its data.
@@ -56,28 +52,33 @@ impl<'a> UndoRequest<'a> {
         ensures fits { length (data_of asked.now) ≤ most_of asked.now }
     {
         match asked {
+            Asked::Ipmi { body, .. } => UndoRequest::with(asked, body.as_slice()),
+            Asked::Pldm { body, .. } => UndoRequest::with(asked, body.as_slice()),
+        }
+    }
+
+    /// The request with other data, without its sender.
+    pub fn with(asked: &Asked, body: &'a [u8]) -> Self
+        requires { Fits (with_body asked.now body.now) }
+        ensures { meant result ≡ from_nobody (with_body asked.now body.now) }
+    {
+        match asked {
             Asked::Ipmi {
                 net_fn,
                 lun,
                 command,
-                body,
                 ..
             } => UndoRequest::Ipmi {
                 net_fn: *net_fn,
                 lun: *lun,
                 command: *command,
-                body: Data::new(body.as_slice()),
+                body: Data::new(body),
             },
-            Asked::Pldm {
-                kind,
-                command,
-                body,
-                ..
-            } => UndoRequest::Pldm {
+            Asked::Pldm { kind, command, .. } => UndoRequest::Pldm(PldmUndo {
                 kind: *kind,
                 command: *command,
-                body: Data::new(body.as_slice()),
-            },
+                body: Data::new(body),
+            }),
         }
     }
 
@@ -87,13 +88,15 @@ impl<'a> UndoRequest<'a> {
     {
         match self {
             UndoRequest::Ipmi { body, .. } => body.as_slice(),
-            UndoRequest::Pldm { body, .. } => body.as_slice(),
+            UndoRequest::Pldm(request) => request.body.as_slice(),
         }
     }
 
-    /// The request as a value of its own.
-    pub fn asked(&self) -> Asked
-        ensures { result ≡ meant self.now }
+    /// The one of this place, counted from 0, among the requests that carry it out: itself alone, or one for each part of an attribute's entry.
+    /// There is none past the last.
+    pub fn request(&self, place: u8) -> Option<Asked>
+        ensures request { result ≡ request_of_place (meant self.now) place }
+        ensures few { IfSome result (λ _. place < most_requests) }
     {
         match self {
             UndoRequest::Ipmi {
@@ -101,31 +104,34 @@ impl<'a> UndoRequest<'a> {
                 lun,
                 command,
                 body,
-            } => Asked::Ipmi {
-                from: 0,
-                net_fn: *net_fn,
-                lun: *lun,
-                command: *command,
-                body: Bytes::from_slice(body.as_slice()),
-            },
-            UndoRequest::Pldm {
-                kind,
-                command,
-                body,
-            } => Asked::Pldm {
-                from: 0,
-                kind: *kind,
-                command: *command,
-                body: Bytes::from_slice(body.as_slice()),
-            },
+            } => {
+                if place != 0 {
+                    return None;
+                }
+                Some(Asked::Ipmi {
+                    from: 0,
+                    net_fn: *net_fn,
+                    lun: *lun,
+                    command: *command,
+                    body: Bytes::from_slice(body.as_slice()),
+                })
+            }
+            UndoRequest::Pldm(request) => request.request(place),
         }
+    }
+
+    /// The first of the requests that carry it out.
+    pub fn first(&self) -> Asked
+        ensures { result ≡ first_request (meant self.now) }
+    {
+        self.request(0).unwrap()
     }
 
     /// What it is beside its data, and these.
     pub(crate) fn parts(&self) -> (Head, &'a [u8])
         ensures parts { request_of result.0 result.1.now ≡ meant self.now }
         ensures body { result.1.now ≡ data_of (meant self.now) }
-        ensures fits { length result.1.now ≤ most_data result.0 }
+        ensures fits { Fits (request_of result.0 result.1.now) }
     {
         match self {
             UndoRequest::Ipmi {
@@ -141,16 +147,12 @@ impl<'a> UndoRequest<'a> {
                 };
                 (head, body.as_slice())
             }
-            UndoRequest::Pldm {
-                kind,
-                command,
-                body,
-            } => {
+            UndoRequest::Pldm(request) => {
                 let head = Head::PldmHead {
-                    kind: *kind,
-                    command: *command,
+                    kind: request.kind,
+                    command: request.command,
                 };
-                (head, body.as_slice())
+                (head, request.body.as_slice())
             }
         }
     }
@@ -159,7 +161,7 @@ impl<'a> UndoRequest<'a> {
 impl Head {
     /// The request of these data.
     fn request<'a>(self, body: &'a [u8]) -> UndoRequest<'a>
-        requires { length body.now ≤ most_data self }
+        requires { Fits (request_of self body.now) }
         ensures { meant result ≡ request_of self body.now }
     {
         match self {
@@ -173,11 +175,11 @@ impl Head {
                 command,
                 body: Data::new(body),
             },
-            Head::PldmHead { kind, command } => UndoRequest::Pldm {
+            Head::PldmHead { kind, command } => UndoRequest::Pldm(PldmUndo {
                 kind,
                 command,
                 body: Data::new(body),
-            },
+            }),
         }
     }
 }
@@ -185,7 +187,7 @@ impl Head {
 impl Mark {
     /// The request, whose data lie among these bytes.
     pub(crate) fn request<'a>(&self, bytes: &'a [u8]) -> UndoRequest<'a>
-        requires { Lies (length bytes.now) self.now }
+        requires { Lies bytes.now self.now }
         ensures { meant result ≡ request_at bytes.now self.now }
     {
         self.head.request(&bytes[self.start..self.end])

@@ -9,4 +9,4 @@ returns-in-Ipmi-clause-told c =
 
 pub returns-in-Pldm-clause-told : goal.returns-in-Pldm-clause-told
 returns-in-Pldm-clause-told c =
-    smbus_written (meant c.args.request.now) _ _ _ _ c.number-in-Pldm.result c.as_slice-in-Pldm.result.now (ap meant c.in-Pldm.is) c.number-in-Pldm.ensures.value c.as_slice-in-Pldm.ensures.value c.number-in-Pldm.ensures.below c.as_slice-in-Pldm.ensures.fits c.push_line-in-Pldm.ensures.bytes
+    smbus_written (meant c.args.request.now) _ _ _ _ c.number-in-Pldm.result c.as_slice-in-Pldm.result.now (ap meant c.in-Pldm.is) c.number-in-Pldm.ensures.value c.as_slice-in-Pldm.ensures.value c.number-in-Pldm.ensures.below c.in-Pldm.request.fits c.push_line-in-Pldm.ensures.bytes

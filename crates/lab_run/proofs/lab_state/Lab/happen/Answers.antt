@@ -1,11 +1,16 @@
 use Rattle.std.proofs.Common.{ℕ, List, sym, ◌∙◌, ap, subst}
 use Rattle.std.specs.Prelude.{OnOk}
+use Rattle.bmc_board.specs.declared.bench.Bench.{Bench}
+use Rattle.bmc_board.specs.declared.bench.Bench.TheVariants as bench
+use Rattle.bmc_board.specs.State.{State, on_bench}
+use Rattle.bmc_board.specs.Sensing.{bench_of}
+use Rattle.bmc_board.proofs.SensingFacts.{benched_so}
 use Rattle.model_lab.specs.Lab.{step}
 use Rattle.text_schedule.specs.declared.event.Event.{Event}
 use Rattle.model_lab.specs.Faults.{is_frame}
 use Rattle.model_lab.specs.Played.{fault_at, happens}
 use Rattle.lab_run.specs.declared.lab_state.Lab.{Lab}
-use Rattle.lab_run.specs.Shown.{Becomes}
+use Rattle.lab_run.specs.Shown.{Shows, Becomes}
 use Rattle.lab_run.specs.Hearing.{Ignores, Did}
 use Rattle.lab_run.proofs.Sent.{on_ok, on_any}
 use Rattle.lab_run.proofs.Silence.{is_no_frame}
@@ -14,6 +19,12 @@ use Rattle.lab_run.proofs.lab_state.Lab.happen.Goals as goal
 -- the lab becomes what it is after an event
 abbrev After : Lab → Lab → Event → Type 0
 After old new e = Becomes old new (λ file. happens file e)
+
+-- what happens on the bench leaves what is staged
+benched : (old new : Lab) (event : Bench) → Becomes old new (λ file x. record x { board = (bench_of file x.board event).1 })
+    → Becomes old new (λ file x. record x { board = on_bench x.board (bench_of file x.board event).1.activity })
+benched old new event becomes file x shows =
+    subst (λ (board : State). Shows file new (record x { board = board })) (sym (benched_so file x.board event)) (becomes file x shows)
 
 pub returns-in-Calls-clause-becomes : goal.returns-in-Calls-clause-becomes
 unfolding step
@@ -52,11 +63,12 @@ returns-in-Idle-clause-becomes c = subst (After c.args.self.now c.idle.new.self)
 
 pub returns-in-Scan-clause-becomes : goal.returns-in-Scan-clause-becomes
 unfolding step
-returns-in-Scan-clause-becomes c = subst (After c.args.self.now c.bench.new.self) (sym c.in-Scan.is) c.bench.ensures.becomes
+returns-in-Scan-clause-becomes c =
+    subst (After c.args.self.now c.bench.new.self) (sym c.in-Scan.is) (benched c.args.self.now c.bench.new.self (bench.Reading c.in-Scan.sensor c.in-Scan.reading) c.bench.ensures.becomes)
 
 pub returns-in-Tick-clause-becomes : goal.returns-in-Tick-clause-becomes
 unfolding step
-returns-in-Tick-clause-becomes c = subst (After c.args.self.now c.bench-in-Tick.new.self) (sym c.in-Tick.is) c.bench-in-Tick.ensures.becomes
+returns-in-Tick-clause-becomes c = subst (After c.args.self.now c.bench-in-Tick.new.self) (sym c.in-Tick.is) (benched c.args.self.now c.bench-in-Tick.new.self bench.Tick c.bench-in-Tick.ensures.becomes)
 
 -- ---- what the controller did
 

@@ -1,4 +1,4 @@
-use Rattle.std.proofs.Common.{rules, ◌≡◌, Bool, true, false, refl, ◌∙◌, ap, subst}
+use Rattle.std.proofs.Common.{rules, ◌≡◌, ℕ, Bool, true, false, refl, ◌∙◌, ap, subst}
 use Rattle.record_base.specs.declared.message.Asked.{Asked}
 use Rattle.text_schedule.specs.declared.event.Call.TheVariants.{Again}
 use Rattle.model_undo.specs.Machine as machine
@@ -31,7 +31,7 @@ returns-in_default c names s shows =
 
 pub returns-then-heeded : goal.returns-then-heeded
 returns-then-heeded c names s shows =
-    let stays = subst (λ (r : Stage). IsStage names c.args.self.now.steps c.args.self.now.undo.requests r s.machine.stage) c.in-Opened.is shows.stage in
+    let stays = subst (λ (r : Stage). IsStage names c.args.self.now.steps c.args.self.now.undo.requests c.args.self.now.replies r s.machine.stage) c.in-Opened.is shows.stage in
     let heeds : c.in-Opened.heeded ≡ true = search rules in
     let was = c.in-Opened.is in
     refused names Again _ s _
@@ -50,16 +50,16 @@ returns-then-heeded c names s shows =
       instance = shows.instance;
       joined = shows.joined;
     })
-    (no_again names c.args.self.now s shows (λ (task : Task) (asked : Asked) (is : c.args.self.now.stage ≡ stage.Opened false task asked). (cc)))
+    (no_again names c.args.self.now s shows (λ (task : Task) (parts : ℕ) (asked : Asked) (is : c.args.self.now.stage ≡ stage.Opened false task parts asked). (cc)))
 
 pub returns : goal.returns
 returns c names s shows =
     let unheeded : c.in-Opened.heeded ≡ false = search rules in
-    let o = shows_opened names c.args.self.now.steps c.args.self.now.undo.requests false c.in-Opened.task c.in-Opened.asked s.machine.stage
-    (subst (λ (r : Stage). IsStage names c.args.self.now.steps c.args.self.now.undo.requests r s.machine.stage)
-    (c.in-Opened.is ∙ ap (λ (h : Bool). stage.Opened h c.in-Opened.task c.in-Opened.asked) unheeded) shows.stage) in
-    let at : IsStage names c.args.self.now.steps c.args.self.now.undo.requests (stage.Opened true c.in-Opened.task c.in-Opened.asked) (machine.Opened true o.of o.part) =
-    (refl, o.task_is, o.part_is, o.asked_is) in
+    let o = shows_opened names c.args.self.now.steps c.args.self.now.undo.requests c.args.self.now.replies false c.in-Opened.task c.in-Opened.parts c.in-Opened.asked s.machine.stage
+    (subst (λ (r : Stage). IsStage names c.args.self.now.steps c.args.self.now.undo.requests c.args.self.now.replies r s.machine.stage)
+    (c.in-Opened.is ∙ ap (λ (h : Bool). stage.Opened h c.in-Opened.task c.in-Opened.parts c.in-Opened.asked) unheeded) shows.stage) in
+    let at : IsStage names c.args.self.now.steps c.args.self.now.undo.requests c.args.self.now.replies (stage.Opened true c.in-Opened.task c.in-Opened.parts c.in-Opened.asked) (machine.Opened true o.of o.part) =
+    (refl, o.task_is, o.counted, o.got, o.asked_is) in
     made names Again _ s _ _ (again_turn names s.machine o.of o.part o.is)
     (enters_does names _ s (machine.Opened true o.of o.part) _
     (record {
@@ -77,4 +77,4 @@ returns c names s shows =
       instance = shows.instance;
       joined = shows.joined;
     })
-    (c.open_frames.ensures names c.args.self.now.steps c.args.self.now.undo.requests (machine.Opened true o.of o.part) shows.named at))
+    (c.open_frames.ensures names c.args.self.now.steps c.args.self.now.undo.requests c.args.self.now.replies (machine.Opened true o.of o.part) shows.named at))

@@ -13,7 +13,7 @@ use Rattle.undo_core.proofs.manager.Manager.is_answered_by.Goals as goal
 
 pub returns-in_default : goal.returns-in_default
 returns-in_default c names s shows =
-    no_response names c.args.self.now s c.args.response.now shows (λ k asked was goes. true≢false (sym (subst IsSome c.in_default.is (c.heeded_on.ensures.none k asked was goes))))
+    no_response names c.args.self.now s c.args.response.now shows (λ k parts asked was goes. true≢false (sym (subst IsSome c.in_default.is (c.heeded_on.ensures.none k parts asked was goes))))
 
 pub returns-then-is_answer : goal.returns-then-is_answer
 returns-then-is_answer c names s shows =
@@ -22,9 +22,9 @@ returns-then-is_answer c names s shows =
     let a : Answered = record { code = r.code; body = r.body } in
     let is = c.in-Some.ensures.some in
     let test : ipmb_answers (bytes_of (m.counts.ipmb % 64) (own names c.in-Some.asked.now)) (response_bytes r) ≡ (c.is_answer_to.result && not (is_busy r.code)) =
-    (λ i. ipmb_answers (bytes_of (sym c.sequence.ensures i) (own names c.in-Some.asked.now)) (response_bytes r)) ∙ c.is_answer_to.ensures names is.2 in
+    (λ i. ipmb_answers (bytes_of (sym c.sequence.ensures i) (own names c.in-Some.asked.now)) (response_bytes r)) ∙ c.is_answer_to.ensures names is.3 in
     let ours : is_answer m.names r ≡ true = sym c.is_answer.ensures ∙ c.if-is_answer.true in
-    heard_response names m s r is.0 c.in-Some.asked.now c.is_answer_to.result shows is.1 is.2 test ∙ ap (λ (b : Bool). taken_if names (b && c.is_answer_to.result) a s) ours
+    heard_response names m s r is.0 is.1 c.in-Some.asked.now c.is_answer_to.result shows is.2 is.3 test ∙ ap (λ (b : Bool). taken_if names (b && c.is_answer_to.result) a s) ours
 
 pub returns-else-is_answer : goal.returns-else-is_answer
 returns-else-is_answer c names s shows = other_response names c.args.self.now s c.args.response.now shows (sym c.is_answer.ensures ∙ c.if-is_answer.false)

@@ -13,14 +13,15 @@ use Rattle.undo_core.proofs.manager.Manager.on_reply.Goals as goal
 pub returns : goal.returns
 returns c names s shows =
     let a : Answered = record { code = c.args.reply.code; body = c.args.reply.body.now } in
-    let task = c.in-Opened-true-default-default.task in
-    let asked = c.in-Opened-true-default-default.asked in
-    let heeds : c.in-Opened-true-default-default.heeded ≡ true = search rules in
-    let was : c.args.self.now.stage ≡ Opened true task asked = c.in-Opened-true-default-default.is ∙ ap (λ (h : Bool). Opened h task asked) heeds in
+    let task = c.in-Opened-true-default-default-default.task in
+    let parts = c.in-Opened-true-default-default-default.parts in
+    let asked = c.in-Opened-true-default-default-default.asked in
+    let heeds : c.in-Opened-true-default-default-default.heeded ≡ true = search rules in
+    let was : c.args.self.now.stage ≡ Opened true task parts asked = c.in-Opened-true-default-default-default.is ∙ ap (λ (h : Bool). Opened h task parts asked) heeds in
     let free : is_busy c.args.reply.code ≡ false = search rules in
     let counted : counts_of c.after-counts.result ≡ one_answered (bus_of asked) (counts_of c.args.self.now.counts) =
     c.after-counts.ensures.counts ∙ ap (λ (b : Bus). one_answered b (counts_of c.args.self.now.counts)) (search rules) in
-    took_reply names s a c.args.self.now _ c.open_frames.result task asked shows (record {
+    took_reply names s a c.args.self.now _ c.open_frames.result task parts asked shows (record {
       was = was;
       free = free;
       named = refl;
@@ -30,10 +31,10 @@ returns c names s shows =
       stopped = refl;
       resent = refl;
       joined = refl;
-      undo = c.stage_after-self.ensures.members;
+      undo = c.stage_after-self.ensures.undo names;
       counts = counted;
       sequence = c.sequence.ensures;
       instance = c.instance.ensures;
       stage = c.stage_after-self.ensures.stage names;
-      sends = λ at named shown. c.open_frames.ensures names c.args.self.now.steps c.stage_after-self.new.requests at named shown;
+      sends = λ at named shown. c.open_frames.ensures names c.args.self.now.steps c.stage_after-self.new.requests c.stage_after-self.new.replies at named shown;
     })

@@ -1,4 +1,4 @@
-use Rattle.std.proofs.Common.{◌≡◌, Bool, List, Some, sym, ◌∙◌, ap, subst, refl}
+use Rattle.std.proofs.Common.{◌≡◌, ℕ, Bool, List, Some, sym, ◌∙◌, ap, subst, refl}
 use Rattle.std.specs.Option.{option_map}
 use Rattle.record_base.specs.declared.op.Op.{Op}
 use Rattle.record_base.specs.declared.message.Asked.{Asked}
@@ -27,21 +27,21 @@ own_sent : (names : Names) (counts : Counts) (a : Asked) → sent_with names cou
 own_sent names counts (Ipmi from net_fn lun command body) = refl
 own_sent names counts (Pldm from kind command body) = refl
 
-open_sent : (names : Names) (plan : List Op) (requests : RequestList) (counts : Counts) (r : Sent) (heeded : Bool) (task : Task) (asked : Asked) (at : machine.Stage (words_of names))
-    → IsStage names plan requests (stage.Opened heeded task asked) at → IsSent (Some r) (Some (sent_with names counts asked))
+open_sent : (names : Names) (plan : List Op) (requests : RequestList) (replies : List ℕ) (counts : Counts) (r : Sent) (heeded : Bool) (task : Task) (parts : ℕ) (asked : Asked) (at : machine.Stage (words_of names))
+    → IsStage names plan requests replies (stage.Opened heeded task parts asked) at → IsSent (Some r) (Some (sent_with names counts asked))
     → IsSent (Some r) (option_map (sent_of (board_plans names) names) (machine.sends_at (words_of names) at counts))
-open_sent names plan requests counts r heeded task asked at is sent =
-    let o = shows_opened names plan requests heeded task asked at is in
+open_sent names plan requests replies counts r heeded task parts asked at is sent =
+    let o = shows_opened names plan requests replies heeded task parts asked at is in
     let same : sent_with names counts asked ≡ sent_with names counts o.part.asked = sym (own_sent names counts asked) ∙ ap (sent_with names counts) o.asked_is in
     subst (λ (t : machine.Stage (words_of names)). IsSent (Some r) (option_map (sent_of (board_plans names) names) (machine.sends_at (words_of names) t counts))) (sym o.is)
     (subst (λ (s : AllSent). IsSent (Some r) (Some s)) same sent)
 
 pub returns : goal.returns
-returns c names plan requests at named is =
+returns c names plan requests replies at named is =
     let asked = c.in_ok-asked.asked.now in
     let counts = counts_of c.args.self.now.counts in
     let opened = c.in_ok-asked.ensures.some in
     let sent = c.frames_of.ensures in
     let all : IsSent (Some c.frames_of.result) (Some (sent_with names counts asked)) =
     subst (λ (n : Names). IsSent (Some c.frames_of.result) (Some (sent_with n counts asked))) named (sent.bus, sent.request, sent.frames, sent.read) in
-    open_sent names plan requests counts c.frames_of.result opened.0 opened.1 asked at (subst (λ (r : Stage). IsStage names plan requests r at) opened.2 is) all
+    open_sent names plan requests replies counts c.frames_of.result opened.0 opened.1 opened.2 asked at (subst (λ (r : Stage). IsStage names plan requests replies r at) opened.3 is) all

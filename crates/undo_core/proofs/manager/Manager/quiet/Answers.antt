@@ -32,7 +32,7 @@ returns-in_default c names s shows =
 
 pub returns-then-not-heeded : goal.returns-then-not-heeded
 returns-then-not-heeded c names s shows =
-    let stays = subst (λ (r : Stage). IsStage names c.args.self.now.steps c.args.self.now.undo.requests r s.machine.stage) c.in-Opened.is shows.stage in
+    let stays = subst (λ (r : Stage). IsStage names c.args.self.now.steps c.args.self.now.undo.requests c.args.self.now.replies r s.machine.stage) c.in-Opened.is shows.stage in
     let unheeded : c.in-Opened.heeded ≡ false = search rules in
     let was = c.in-Opened.is in
     refused names Quiet _ s _
@@ -51,14 +51,14 @@ returns-then-not-heeded c names s shows =
       instance = shows.instance;
       joined = shows.joined;
     })
-    (no_quiet names c.args.self.now s shows (λ (task : Task) (asked : Asked) (is : c.args.self.now.stage ≡ stage.Opened true task asked). (cc)))
+    (no_quiet names c.args.self.now s shows (λ (task : Task) (parts : ℕ) (asked : Asked) (is : c.args.self.now.stage ≡ stage.Opened true task parts asked). (cc)))
 
 pub returns-then-self-number : goal.returns-then-self-number
 returns-then-self-number c names s shows =
     let heeds : c.in-Opened.heeded ≡ true = search rules in
-    let o = shows_opened names c.args.self.now.steps c.args.self.now.undo.requests true c.in-Opened.task c.in-Opened.asked s.machine.stage
-    (subst (λ (r : Stage). IsStage names c.args.self.now.steps c.args.self.now.undo.requests r s.machine.stage)
-    (c.in-Opened.is ∙ ap (λ (h : Bool). stage.Opened h c.in-Opened.task c.in-Opened.asked) heeds) shows.stage) in
+    let o = shows_opened names c.args.self.now.steps c.args.self.now.undo.requests c.args.self.now.replies true c.in-Opened.task c.in-Opened.parts c.in-Opened.asked s.machine.stage
+    (subst (λ (r : Stage). IsStage names c.args.self.now.steps c.args.self.now.undo.requests c.args.self.now.replies r s.machine.stage)
+    (c.in-Opened.is ∙ ap (λ (h : Bool). stage.Opened h c.in-Opened.task c.in-Opened.parts c.in-Opened.asked) heeds) shows.stage) in
     let enough : nat_lt s.machine.resent s.machine.retries ≡ false = le-ltb s.machine.resent s.machine.retries (omega (arith, shows.resent, shows.retries, c.number.ensures.value)) in
     made names Quiet _ s None _ (quiet_unsettles names s.machine o.of o.part o.is enough)
     (rests_does names _ s (record s.machine { stage = machine.Opened false o.of o.part })
@@ -68,7 +68,7 @@ returns-then-self-number c names s shows =
       listed = shows.listed;
       plan = shows.plan;
       retries = shows.retries;
-      stage = (refl, o.task_is, o.part_is, o.asked_is);
+      stage = (refl, o.task_is, o.counted, o.got, o.asked_is);
       stopped = shows.stopped;
       resent = shows.resent;
       undo = shows.undo;
@@ -80,10 +80,10 @@ returns-then-self-number c names s shows =
 
 pub returns : goal.returns
 returns c names s shows =
-    let stays = subst (λ (r : Stage). IsStage names c.args.self.now.steps c.args.self.now.undo.requests r s.machine.stage) c.in-Opened.is shows.stage in
+    let stays = subst (λ (r : Stage). IsStage names c.args.self.now.steps c.args.self.now.undo.requests c.args.self.now.replies r s.machine.stage) c.in-Opened.is shows.stage in
     let heeds : c.in-Opened.heeded ≡ true = search rules in
-    let o = shows_opened names c.args.self.now.steps c.args.self.now.undo.requests true c.in-Opened.task c.in-Opened.asked s.machine.stage
-    (subst (λ (h : Bool). IsStage names c.args.self.now.steps c.args.self.now.undo.requests (stage.Opened h c.in-Opened.task c.in-Opened.asked) s.machine.stage) heeds stays) in
+    let o = shows_opened names c.args.self.now.steps c.args.self.now.undo.requests c.args.self.now.replies true c.in-Opened.task c.in-Opened.parts c.in-Opened.asked s.machine.stage
+    (subst (λ (h : Bool). IsStage names c.args.self.now.steps c.args.self.now.undo.requests c.args.self.now.replies (stage.Opened h c.in-Opened.task c.in-Opened.parts c.in-Opened.asked) s.machine.stage) heeds stays) in
     let less : nat_lt s.machine.resent s.machine.retries ≡ true = lt-ltb s.machine.resent s.machine.retries (omega (arith, shows.resent, shows.retries, c.number.ensures.value)) in
     made names Quiet _ s _ _ (quiet_resends names s.machine o.of o.part o.is less)
     (resends_does names _ s (s.machine.resent + 1) _
@@ -102,4 +102,4 @@ returns c names s shows =
       instance = shows.instance;
       joined = shows.joined;
     })
-    (c.open_frames.ensures names c.args.self.now.steps c.args.self.now.undo.requests s.machine.stage shows.named stays))
+    (c.open_frames.ensures names c.args.self.now.steps c.args.self.now.undo.requests c.args.self.now.replies s.machine.stage shows.named stays))

@@ -14,11 +14,11 @@ returns-in_default c names s shows = refused names Start _ s _ shows (no_start n
 pub returns : goal.returns
 returns c names s shows =
     let t = machine.first_stage (words_of names) (slice_get s.machine.plan 0) in
-    let begins = shows_start names c.args.self.now.steps c.args.self.now.undo.requests s.machine.stage (subst (λ (r : Stage). IsStage names c.args.self.now.steps c.args.self.now.undo.requests r s.machine.stage) c.in-AtStart.is shows.stage) in
-    let at : IsStage names c.args.self.now.steps c.args.self.now.undo.requests c.step_stage-self.result t =
-    subst (IsStage names c.args.self.now.steps c.args.self.now.undo.requests c.step_stage-self.result)
+    let begins = shows_start names c.args.self.now.steps c.args.self.now.undo.requests c.args.self.now.replies s.machine.stage (subst (λ (r : Stage). IsStage names c.args.self.now.steps c.args.self.now.undo.requests c.args.self.now.replies r s.machine.stage) c.in-AtStart.is shows.stage) in
+    let at : IsStage names c.args.self.now.steps c.args.self.now.undo.requests c.args.self.now.replies c.step_stage-self.result t =
+    subst (IsStage names c.args.self.now.steps c.args.self.now.undo.requests c.args.self.now.replies c.step_stage-self.result)
     (first_is_next names (slice_get c.args.self.now.steps 0) ∙ ap (λ (plan : List Op). machine.first_stage (words_of names) (slice_get plan 0)) (sym shows.plan))
-    (c.step_stage-self.ensures.stage names c.args.self.now.undo.requests) in
+    (c.step_stage-self.ensures.stage names c.args.self.now.undo.requests c.args.self.now.replies) in
     made names Start _ s _ _ (start_turn names s.machine begins)
     (enters_does names _ s t _
     (record {
@@ -36,4 +36,4 @@ returns c names s shows =
       instance = shows.instance;
       joined = shows.joined;
     })
-    (c.open_frames.ensures names c.args.self.now.steps c.args.self.now.undo.requests t shows.named at))
+    (c.open_frames.ensures names c.args.self.now.steps c.args.self.now.undo.requests c.args.self.now.replies t shows.named at))

@@ -1,6 +1,6 @@
 use Rattle.std.proofs.Common.{rules, ◌≡◌, ℕ, List, take, refl, sym, ◌∙◌, ap, subst}
 use Rattle.std.proofs.Math.Seq.{take-length}
-use Rattle.record_base.specs.declared.message.Asked.{Asked}
+use Rattle.record_kinds.specs.Series.{Series}
 use Rattle.mctp_net.specs.Assembly.{nothing}
 use Rattle.text_schedule.specs.declared.event.Call.TheVariants.{Undo}
 use Rattle.model_undo.specs.Machine as machine
@@ -16,11 +16,11 @@ pub returns : goal.returns
 returns c names s shows =
     let requests = c.args.self.now.undo.requests in
     let t = machine.undo_stage (words_of names) s.machine.undo in
-    let all : backs names (take c.len.result requests.members) ≡ s.machine.undo =
-    ap (λ (n : ℕ). backs names (take n requests.members)) c.len.ensures.value ∙ ap (backs names) (take-length requests.members) ∙ sym shows.undo in
-    let at : IsStage names c.args.self.now.steps requests c.undo_stage-self.result t =
-    subst (λ (xs : List Asked). IsStage names c.args.self.now.steps requests c.undo_stage-self.result (machine.undo_stage (words_of names) xs)) all
-    (c.undo_stage-self.ensures.stage names c.args.self.now.steps) in
+    let all : backs (take c.len.result requests.members) ≡ s.machine.undo =
+    ap (λ (n : ℕ). backs (take n requests.members)) c.len.ensures.value ∙ ap backs (take-length requests.members) ∙ sym shows.undo in
+    let at : IsStage names c.args.self.now.steps requests c.args.self.now.replies c.undo_stage-self.result t =
+    subst (λ (xs : List Series). IsStage names c.args.self.now.steps requests c.args.self.now.replies c.undo_stage-self.result (machine.undo_stage (words_of names) xs)) all
+    (c.undo_stage-self.ensures.stage names c.args.self.now.steps c.args.self.now.replies) in
     made names Undo _ s _ _ (undo_turn names c.args.self.now s shows (c.is_over.ensures.over (search rules)))
     (enters_does names _ (record s { joined = nothing }) t _
     (record {
@@ -38,4 +38,4 @@ returns c names s shows =
       instance = shows.instance;
       joined = sym c.clear.ensures;
     })
-    (c.open_frames.ensures names c.args.self.now.steps requests t shows.named at))
+    (c.open_frames.ensures names c.args.self.now.steps requests c.args.self.now.replies t shows.named at))

@@ -1,0 +1,56 @@
+use Rattle.std.proofs.Common.{rules, ◌≡◌, ◌+◌, ◌++◌, ◌∷◌, [], Bool, true, false, if◌then◌else◌, List, ℕ, Some, None, refl, sym, ◌∙◌, ap, subst}
+use Rattle.std.proofs.lemmas.Option.{same_Some}
+use Rattle.bios_attr.specs.EntryParts.{joined}
+use Rattle.record_kinds.specs.Limits.{key_of, inverse}
+use Rattle.model_bus.specs.Answered.{Answered}
+use Rattle.model_undo.specs.Machine as machine
+use Rattle.undo_core.specs.Joining.{get_after_reply}
+use Rattle.undo_core.specs.Shown.{words_of, own, IsStage}
+use Rattle.model_undo.specs.declared.phase.Why.TheVariants.{Stop}
+use Rattle.undo_core.specs.declared.stage.Stage.TheVariants.{Opened, AtHalt}
+use Rattle.undo_core.specs.declared.stage.Task.TheVariants.{Gets}
+use Rattle.undo_core.proofs.JoinedBodies.{are_joined}
+use Rattle.undo_core.proofs.Going.{one_more, next_got, more_stage, last_stage}
+use Rattle.undo_core.proofs.getting.after_get.Goals as goal
+
+pub returns-clause-stage : goal.returns-clause-stage
+returns-clause-stage c names op part there many got =
+    let a : Answered = record { code = c.args.reply.code; body = c.args.reply.body.now } in
+    let is_op : c.unwrap-op.result ≡ op = same_Some c.unwrap-op.result op (sym c.unwrap-op.ensures ∙ c.get.ensures ∙ there) in
+    let done : c.args.reply.code ≡ 0 = search rules in
+    let last : get_after_reply (key_of op) (c.args.parts + 1) a.body ≡ None =
+    (λ i. get_after_reply ((ap key_of (sym is_op) ∙ sym c.key.ensures) i) (c.args.parts + 1) a.body) ∙ sym c.next_part.ensures ∙ c.in_default-next_part.is in
+    let shown : c.as_slice.result.now ≡ joined (part.before ++ a.body ∷ []) = c.as_slice.ensures.value ∙ c.end.ensures part.before many got in
+    subst (IsStage names c.args.steps.now c.got_stage-2.new.requests c.end.new.self c.got_stage-2.result)
+    (ap (λ (l : List ℕ). machine.set_stage (words_of names) c.args.stopped c.args.step op (inverse op l)) shown
+    ∙ sym (last_stage names c.args.stopped c.args.steps.now a (machine.Gets c.args.step op) part _ done (next_got names (key_of op) part.before a.body c.args.parts many) last))
+    (c.got_stage-2.ensures.stage names op c.end.new.self there)
+
+pub returns-then-stopped-clause-stage : goal.returns-then-stopped-clause-stage
+returns-then-stopped-clause-stage c names op part there many got =
+    let a : Answered = record { code = c.args.reply.code; body = c.args.reply.body.now } in
+    let is_op : c.unwrap-op.result ≡ op = same_Some c.unwrap-op.result op (sym c.unwrap-op.ensures ∙ c.get.ensures ∙ there) in
+    let done : c.args.reply.code ≡ 0 = search rules in
+    let stops : c.args.stopped ≡ true = search rules in
+    let asked = c.in-Some-next_part.asked in
+    let made : get_after_reply (key_of op) (c.args.parts + 1) a.body ≡ Some asked =
+    (λ i. get_after_reply ((ap key_of (sym is_op) ∙ sym c.key.ensures) i) (c.args.parts + 1) a.body) ∙ sym c.next_part.ensures ∙ c.in-Some-next_part.is in
+    let next : machine.Part (words_of names) = record { asked = own names asked; before = machine.bodies_with (words_of names) a part } in
+    subst (IsStage names c.args.steps.now c.args.requests.now c.args.replies.now (AtHalt c.args.step Stop))
+    (sym (more_stage names c.args.stopped c.args.steps.now a (machine.Gets c.args.step op) part asked _ done (next_got names (key_of op) part.before a.body c.args.parts many) made
+    ∙ ap (λ (b : Bool). if b then machine.AtHalt c.args.step Stop else machine.Opened true (machine.Gets c.args.step op) next) stops)) (refl, refl)
+
+pub returns-in-Some-next_part-clause-stage : goal.returns-in-Some-next_part-clause-stage
+returns-in-Some-next_part-clause-stage c names op part there many got =
+    let a : Answered = record { code = c.args.reply.code; body = c.args.reply.body.now } in
+    let is_op : c.unwrap-op.result ≡ op = same_Some c.unwrap-op.result op (sym c.unwrap-op.ensures ∙ c.get.ensures ∙ there) in
+    let done : c.args.reply.code ≡ 0 = search rules in
+    let goes : c.args.stopped ≡ false = search rules in
+    let asked = c.in-Some-next_part.asked in
+    let made : get_after_reply (key_of op) (c.args.parts + 1) a.body ≡ Some asked =
+    (λ i. get_after_reply ((ap key_of (sym is_op) ∙ sym c.key.ensures) i) (c.args.parts + 1) a.body) ∙ sym c.next_part.ensures ∙ c.in-Some-next_part.is in
+    let next : machine.Part (words_of names) = record { asked = own names asked; before = machine.bodies_with (words_of names) a part } in
+    subst (IsStage names c.args.steps.now c.args.requests.now c.take.new.self (Opened true (Gets c.args.step) (c.args.parts + 1) asked))
+    (sym (more_stage names c.args.stopped c.args.steps.now a (machine.Gets c.args.step op) part asked _ done (next_got names (key_of op) part.before a.body c.args.parts many) made
+    ∙ ap (λ (b : Bool). if b then machine.AtHalt c.args.step Stop else machine.Opened true (machine.Gets c.args.step op) next) goes))
+    (refl, (refl, there), one_more part.before a.body c.args.parts many, are_joined c.take.new.self part.before a.body (c.take.ensures.joined part.before many got), refl)
