@@ -1,6 +1,7 @@
 //! A manager against the frames of a controller.
 mod calls;
 mod packets;
+mod parts;
 mod replies;
 mod scene;
 mod wrong;

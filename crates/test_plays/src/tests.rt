@@ -8,6 +8,7 @@ mod faults;
 mod frames;
 mod host_files;
 mod lines;
+mod long_texts;
 mod parts;
 mod parts_text;
 mod player;

@@ -8,6 +8,7 @@ mod commands;
 mod effecters;
 mod lan;
 mod log;
+mod long_strings;
 mod parts;
 mod records;
 mod sel;

@@ -3,7 +3,7 @@ use super::steps::Step;
 use bmc_board::Records;
 use cfg_records::{
     EventChange, EventMasks, Key, NumericBytes, SetEventEnable, SetNumericEffecter,
-    SetThresholds, Store, Value, byte_at,
+    SetThresholds, StartValue, Store, Value, byte_at,
 };
 use std::alloc::Global;
 use std::test::Fail;
@@ -182,15 +182,16 @@ fn outcome(step: &Step, old: Option<&[u8]>) -> Result<Value, Why> {
         Step::Events(set) => of_events(set, old),
         Step::Numeric(set) => of_numeric(set),
         Step::Setting(setting) => setting.outcome(old),
+        Step::Text(text) if text.is_too_long() => Err(Why::Refused(code::PLDM_INVALID_DATA)),
         Step::Text(text) => Ok(text.value()),
         Step::Delay(number) => of_delay(*number),
     }
 }
 
-/// The last value of this key in a list.
-fn last_value<'a>(pairs: &'a [(Key, Value)], key: &Key) -> Option<&'a [u8]> {
+/// The last value of this key in a list of changes.
+fn last_value<'a>(changes: &'a [(Key, Value)], key: &Key) -> Option<&'a [u8]> {
     let mut found = None;
-    for (at, value) in pairs {
+    for (at, value) in changes {
         if at == key {
             found = Some(value.as_slice());
         }
@@ -198,22 +199,28 @@ fn last_value<'a>(pairs: &'a [(Key, Value)], key: &Key) -> Option<&'a [u8]> {
     found
 }
 
+/// The value that this record begins with.
+fn first_value<'a>(start: &'a [(Key, StartValue)], key: &Key) -> Option<&'a [u8]> {
+    let (_, value) = start.iter().find(|(at, _)| at == key)?;
+    Some(value.as_slice())
+}
+
 /// The value of this key after changes of what there was at the start.
 fn value_after<'a>(
-    start: &'a [(Key, Value)],
+    start: &'a [(Key, StartValue)],
     changes: &'a [(Key, Value)],
     key: &Key,
 ) -> Option<&'a [u8]> {
     match last_value(changes, key) {
         Some(value) => Some(value),
-        None => last_value(start, key),
+        None => first_value(start, key),
     }
 }
 
 /// Whether the records are those of the start after these changes.
 pub(super) fn are_after(
     records: &Records,
-    start: &[(Key, Value)],
+    start: &[(Key, StartValue)],
     changes: &[(Key, Value)],
 ) -> bool {
     for (key, _) in start {
@@ -226,7 +233,7 @@ pub(super) fn are_after(
 }
 
 /// How many records have another value than at the start after these changes.
-pub(super) fn changed_by(start: &[(Key, Value)], changes: &[(Key, Value)]) -> usize {
+pub(super) fn changed_by(start: &[(Key, StartValue)], changes: &[(Key, Value)]) -> usize {
     start
         .iter()
         .filter(|(key, value)| value_after(start, changes, key) != Some(value.as_slice()))
@@ -236,7 +243,7 @@ pub(super) fn changed_by(start: &[(Key, Value)], changes: &[(Key, Value)]) -> us
 /// The course of a plan on a board with these records.
 pub(super) fn course_of(
     alloc: Global,
-    start: &[(Key, Value)],
+    start: &[(Key, StartValue)],
     steps: &[Step],
 ) -> Result<Course, Fail> {
     let mut changes = Vec::new(alloc);

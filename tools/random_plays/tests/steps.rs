@@ -3,9 +3,10 @@ use super::dice::Dice;
 use super::lan::lans;
 use super::settings::{STATES, Setting, any_setting};
 use cfg_records::{
-    BoardFile, Distinct, EventChange, EventMasks, Key, NumericBytes, NumericEffecter, NumericRange,
+    Attribute, AttributeKind, Attributes, BoardFile, Distinct, EventChange, EventMasks, Key, NumericBytes, NumericEffecter, NumericRange,
     NumericSize, Op, SetBiosAttribute, SetEventEnable, SetHysteresis, SetNumericEffecter,
-    Items, SetThresholds, StateEffecter, StateField, Value, sample_board,
+    Items, SetThresholds, StateEffecter, StateField, StringAttribute, Text, TextLengths, Value,
+    sample_board,
 };
 use std::alloc::Global;
 use std::test::Fail;
@@ -18,20 +19,22 @@ pub(super) const DELAY: u16 = 2;
 const STRING_TYPE: u8 = 0x01;
 const INTEGER_TYPE: u8 = 0x03;
 
-/// The greatest length of the text.
-const MOST_TEXT: u64 = 200;
+/// The greatest length of the sample board's text, that on the board with more, and that of any text of a plan.
+const SAMPLE_TEXT: u64 = 200;
+const MOST_TEXT: u16 = 1000;
+const PLAN_TEXT: u64 = 1024;
 
 /// A text of one letter, so often.
 #[derive(Clone, Copy, Debug)]
 pub(super) struct Repeated {
     pub letter: u8,
-    pub length: u8,
+    pub length: u16,
 }
 
 impl Repeated {
     /// The value of the attribute that has this text: its length in two bytes, and the text.
     pub fn value(&self) -> Value {
-        let mut value = Value::from_slice(&u16::from(self.length).to_le_bytes());
+        let mut value = Value::from_slice(&self.length.to_le_bytes());
         for _ in 0..self.length {
             value.extend_from_slice(&[self.letter]);
         }
@@ -49,6 +52,13 @@ pub(super) enum Step {
     Hysteresis(SetHysteresis),
     Events(SetEventEnable),
     Numeric(SetNumericEffecter),
+}
+
+impl Repeated {
+    /// Whether the text is longer than an attribute of the board with more can have.
+    pub fn is_too_long(&self) -> bool {
+        self.length > MOST_TEXT
+    }
 }
 
 impl Step {
@@ -98,7 +108,33 @@ fn states(alloc: Global) -> Result<StateEffecter, Fail> {
     Ok(StateEffecter::new(STATES, true, fields).ok_or("states")?)
 }
 
-/// The sample board, with LAN parameters of channel 1, a state effecter, 9 of two fields, and four numeric effecters: 4 of u16 from 0 to 1000, 5
+/// The sample board's text, with room for `MOST_TEXT` bytes.
+fn asset(alloc: Global) -> Result<Attribute, Fail> {
+    let lengths = TextLengths::new(0, MOST_TEXT).ok_or("lengths")?;
+    let current = Vec::from_slice(alloc, &[0x72, 0x61, 0x63, 0x6B, 0x2D, 0x31])?;
+    let kind = StringAttribute::new(1, lengths, Vec::new(alloc), current).ok_or("a string")?;
+    Ok(Attribute {
+        handle: ASSET,
+        name: Text::from_slice(&[0x41, 0x73, 0x73, 0x65, 0x74]),
+        read_only: false,
+        kind: AttributeKind::Text(kind),
+    })
+}
+
+/// These attributes, with that text in its place.
+fn with_long_asset(alloc: Global, attributes: Attributes) -> Result<Attributes, Fail> {
+    let mut items = Vec::new(alloc);
+    for attribute in attributes.items.into_vec() {
+        if attribute.handle == ASSET {
+            items.push(asset(alloc)?)?;
+        } else {
+            items.push(attribute)?;
+        }
+    }
+    Ok(Attributes::new(items).ok_or("attributes")?)
+}
+
+/// The sample board, with a longer text, LAN parameters of channel 1, a state effecter, 9 of two fields, and four numeric effecters: 4 of u16 from 0 to 1000, 5
 /// of s8 from -2 to 1, 6 of u32, which is disabled, and 261 of s32 from -70,000 to -1.
 pub(super) fn board_with_more(alloc: Global) -> Result<BoardFile, Fail> {
     let mut effecters = Vec::new(alloc);
@@ -125,6 +161,7 @@ pub(super) fn board_with_more(alloc: Global) -> Result<BoardFile, Fail> {
     file.state_effecters = Distinct::new(state_effecters).ok_or("state effecters")?;
     file.numeric_effecters = Distinct::new(effecters).ok_or("effecters")?;
     file.lans = lans(alloc)?;
+    file.attributes = with_long_asset(alloc, file.attributes)?;
     Ok(file)
 }
 
@@ -254,10 +291,19 @@ fn any_numeric(dice: &mut Dice) -> Step {
 /// A text whose Set is of so many packets at least, where that is 1 to 4: 11 bytes of the message stand before the text.
 pub(super) fn text_of_packets(dice: &mut Dice, packets: u64) -> Step {
     let least = (64 * packets.saturating_sub(1)).saturating_sub(10);
-    let length = least + dice.below(1 + MOST_TEXT.saturating_sub(least));
+    let length = least + dice.below(1 + SAMPLE_TEXT.saturating_sub(least));
     Step::Text(Repeated {
         letter: 0x61 + dice.byte() % 26,
-        length: length.min(MOST_TEXT) as u8,
+        length: length.min(SAMPLE_TEXT) as u16,
+    })
+}
+
+/// A text whose Set goes in parts, of two to six requests, or seldom a too long one.
+pub(super) fn text_in_parts(dice: &mut Dice) -> Step {
+    let more = PLAN_TEXT - SAMPLE_TEXT;
+    Step::Text(Repeated {
+        letter: 0x61 + dice.byte() % 26,
+        length: (SAMPLE_TEXT + 1 + dice.below(more)) as u16,
     })
 }
 
@@ -270,7 +316,7 @@ fn any_delay(dice: &mut Dice) -> Step {
 }
 
 /// Any step.
-pub(super) fn any_step(dice: &mut Dice) -> Step {
+pub(super) fn any_step(dice: &mut Dice, has_more: bool) -> Step {
     match dice.below(15) {
         0 | 1 => any_thresholds(dice),
         2 => any_hysteresis(dice),
@@ -278,6 +324,7 @@ pub(super) fn any_step(dice: &mut Dice) -> Step {
         5 | 6 => any_numeric(dice),
         7 => any_delay(dice),
         8..=12 => Step::Setting(any_setting(dice)),
+        _ if has_more && dice.happens(50) => text_in_parts(dice),
         _ => {
             let packets = 1 + dice.below(4);
             text_of_packets(dice, packets)

@@ -8,7 +8,7 @@ use super::steps::{Step, any_step, board_with_more, text_of_packets};
 use super::tally::{Tally, may_be_offered, one_more};
 use super::told::{push_events_of, push_step};
 use bmc_board::Records;
-use cfg_records::{BoardFile, Key, Value, sample_board};
+use cfg_records::{BoardFile, Key, StartValue, Value, sample_board};
 use lab_run::{Lab, SentFrame, Way};
 use lab_play::{LabFault, Played, play};
 use lab_schedule::make_schedule;
@@ -48,10 +48,10 @@ fn long_texts(alloc: Global, dice: &mut Dice) -> Result<Vec<Step>, Fail> {
 }
 
 /// Any steps.
-fn any_steps(alloc: Global, dice: &mut Dice) -> Result<Vec<Step>, Fail> {
+fn any_steps(alloc: Global, dice: &mut Dice, has_more: bool) -> Result<Vec<Step>, Fail> {
     let mut steps = Vec::new(alloc);
     for _ in 0..dice.below(6) {
-        steps.push(any_step(dice))?;
+        steps.push(any_step(dice, has_more))?;
     }
     Ok(steps)
 }
@@ -59,16 +59,17 @@ fn any_steps(alloc: Global, dice: &mut Dice) -> Result<Vec<Step>, Fail> {
 /// Any scene.
 fn any_scene(alloc: Global, dice: &mut Dice) -> Result<Scene, Fail> {
     let is_late = dice.happens(20);
+    let has_more = dice.happens(90);
     let steps = if is_late {
         long_texts(alloc, dice)?
     } else {
-        any_steps(alloc, dice)?
+        any_steps(alloc, dice, has_more)?
     };
     Ok(Scene {
         steps,
         is_late,
         retries: Retries::new(dice.byte() % 4),
-        has_more: dice.happens(90),
+        has_more,
         is_crowded: dice.happens(20),
     })
 }
@@ -310,7 +311,7 @@ fn steps_done(phase: &Phase, steps: usize) -> Option<(usize, usize)> {
 /// Whether the records are those after so many steps of the course.
 fn are_after_steps(
     records: &Records,
-    start: &[(Key, Value)],
+    start: &[(Key, StartValue)],
     course: &Course,
     steps: usize,
 ) -> bool {
@@ -337,7 +338,7 @@ fn is_caused(phase: &Phase, course: &Course, told_to_stop: bool) -> bool {
 struct Made {
     events: Vec<Event>,
     /// The records that the board began with.
-    start: Vec<(Key, Value)>,
+    start: Vec<(Key, StartValue)>,
     lab: Lab,
     /// How many events were offered since the plan was undone.
     later: u64,
@@ -606,7 +607,7 @@ fn push_end(text: &mut String, whole: &Whole, phase: &Phase) -> Result<(), Fail>
 fn push_scene(text: &mut String, seed: u64, scene: &Scene) -> Result<(), Fail> {
     writeln!(text, "story schedule {seed}")?;
     text.push_str(if scene.has_more {
-        "board sample effecters lan\n"
+        "board sample effecters lan\nswap most = 200 => most = 1000\n"
     } else {
         "board sample\n"
     })?;

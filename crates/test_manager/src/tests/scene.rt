@@ -1,10 +1,10 @@
 //! A manager, and the lines of what comes to it.
-use record_base::{Op, SetThresholds};
+use record_base::{Asked, Op, SetBiosAttribute, SetThresholds};
 use std::alloc::{AllocError, Global};
 use std::fmt::Debug;
 use std::process::Abort;
 use story_lines::{NoOutcome, NoScene, Scene, report_of};
-use two_wire::{Address, Below, Bus, Data, Retries};
+use two_wire::{Address, Below, Bus, Retries};
 use undo_core::{Manager, OpenFault, ResumeFault, Sent, WrongPhase};
 use undo_plans::{Names, NextNumbers, Plan, Requests, Steps, UndoList, UndoRequest};
 
@@ -48,6 +48,40 @@ pub fn plan(alloc: Global) -> Result<Plan, AllocError> {
     })
 }
 
+/// A plan of one step, which sets attribute 1, a string, to `b`.
+fn short_text(alloc: Global) -> Result<Plan, AllocError> {
+    let mut steps = Steps::none(alloc);
+    let step = SetBiosAttribute::of(1, 1, &[1, 0, 0x62]);
+    steps.push(&Op::BiosAttribute(step))?;
+    Ok(Plan {
+        steps,
+        retries: Retries::new(3),
+    })
+}
+
+/// A plan of two steps: the first sets that attribute to 400 bytes `a`, and the second to `b`.
+fn long_text(alloc: Global) -> Result<Plan, AllocError> {
+    let mut value = [0x61; 402];
+    value[..2].copy_from_slice(&[0x90, 0x01]);
+    let mut steps = Steps::none(alloc);
+    steps.push(&Op::BiosAttribute(SetBiosAttribute::of(1, 1, &value)))?;
+    let step = SetBiosAttribute::of(1, 1, &[1, 0, 0x62]);
+    steps.push(&Op::BiosAttribute(step))?;
+    Ok(Plan {
+        steps,
+        retries: Retries::new(3),
+    })
+}
+
+/// The plan that is called so.
+fn plan_called(alloc: Global, kind: &str) -> Result<Plan, AllocError> {
+    match kind {
+        "long" => short_text(alloc),
+        "longer" => long_text(alloc),
+        _ => plan(alloc),
+    }
+}
+
 /// The data of request 31: the bytes from 10h to 55h.
 fn content() -> [u8; 70] {
     let mut bytes = [0x10; 70];
@@ -60,16 +94,10 @@ fn content() -> [u8; 70] {
 /// A list of two requests over SMBus, of which the last, and so the next, is request 31.
 pub fn list(alloc: Global) -> Result<UndoList, AllocError> {
     let mut requests = Requests::open(alloc, 0, 0)?;
-    requests.add(&UndoRequest::Pldm {
-        kind: Below::new(2),
-        command: 0x39,
-        body: Data::new(&[5, 0, 1, 1, 2]),
-    })?;
-    requests.add(&UndoRequest::Pldm {
-        kind: Below::new(3),
-        command: 0x07,
-        body: Data::new(&content()),
-    })?;
+    let state = Asked::pldm(Below::new(2), 0x39, &[5, 0, 1, 1, 2]);
+    requests.add(&UndoRequest::of(&state))?;
+    let attribute = Asked::pldm(Below::new(3), 0x07, &content());
+    requests.add(&UndoRequest::of(&attribute))?;
     let next = NextNumbers {
         ipmb: Below::new(4),
         smbus: Below::new(31),
@@ -176,10 +204,10 @@ fn begin<F: Debug + Drop>(
     }
 }
 
-/// A manager of the plan with so many retries, or why there is none.
-fn open(alloc: Global, word: &str) -> Result<Result<Manager, OpenFault>, NoOutcome> {
+/// A manager of the plan that is called so, with so many retries, or why there is none.
+fn open(alloc: Global, kind: &str, word: &str) -> Result<Result<Manager, OpenFault>, NoOutcome> {
     let retries = word.parse::<u8>()?;
-    let plan = plan(alloc)?;
+    let plan = plan_called(alloc, kind)?;
     Ok(Manager::open(alloc, plan, names(), retries))
 }
 
@@ -223,7 +251,8 @@ impl Scene for Managed {
 
     /// Appends what comes of the words. They are those of one of these lines:
     ///
-    /// - `plan 3 -> Fresh`: a manager of the plan of two steps with so many retries, and its phase, or the fault;
+    /// - `plan 3 -> Fresh`: a manager of the plan of two steps with so many retries, and its phase, or the fault; `long 3 ..`, of a plan that sets an
+    ///   attribute to a short text; `longer 3 ..`, to a long one and then to that;
     /// - `list 1 -> Halted 2 Stop`: one that goes on from the list of two requests; `named 1 ..`, from that list with the manager's names;
     ///   `others 1 -> OtherNames`, with other names;
     /// - `start -> 2010D02C002705A8 Getting 0`, `quiet ..`, `stop ..`, `again ..`, `undo ..`: a call, the frames that the manager sends, and its
@@ -234,7 +263,9 @@ impl Scene for Managed {
     fn come(&mut self, alloc: Global, words: &str, text: &mut String) -> Result<(), NoOutcome> {
         let (kind, word) = words.split_once(' ').unwrap_or((words, ""));
         match kind {
-            "plan" => begin(&mut self.manager, open(alloc, word)?, text)?,
+            "plan" | "long" | "longer" => {
+                begin(&mut self.manager, open(alloc, kind, word)?, text)?
+            }
             "list" | "named" | "others" => {
                 begin(&mut self.manager, resume(alloc, kind, word)?, text)?
             }

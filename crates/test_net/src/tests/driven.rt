@@ -2,7 +2,7 @@
 use super::wired::{Wired, open_sample, port_on};
 use bmc_drive::drive;
 use bmc_links::{Link, MemLink};
-use cfg_records::{Key, Value, sample_board};
+use cfg_records::{Key, StartValue, sample_board};
 use changed_records::changed_count;
 use record_base::{Op, SetBiosAttribute, SetThresholds};
 use std::alloc::Global;
@@ -76,7 +76,7 @@ fn manager_on(rt: &impl Abort, alloc: Global, bus: Bus) -> Manager {
 }
 
 /// The records of the sample board.
-fn sample_records(rt: &impl Abort, alloc: Global) -> Vec<(Key, Value)> {
+fn sample_records(rt: &impl Abort, alloc: Global) -> Vec<(Key, StartValue)> {
     let file = sample_board(alloc).expect(rt, "memory");
     file.records(alloc).expect(rt, "memory")
 }
@@ -102,7 +102,7 @@ fn expect_back(
     manager: &mut Manager,
     link: &mut Wired,
     other: &mut MemLink,
-    records: &[(Key, Value)],
+    records: &[(Key, StartValue)],
 ) {
     let sent = manager.start().ok().expect(rt, "a plan to be run");
     assert!(rt; drive_on(bus, manager, sent, link, other) == Phase::Done);
@@ -118,7 +118,7 @@ fn failures_at(
     alloc: Global,
     bus: Bus,
     failing_call: u32,
-    records: &[(Key, Value)],
+    records: &[(Key, StartValue)],
 ) -> u64 {
     let mut manager = manager_on(rt, alloc, bus);
     let mut other = MemLink::new(alloc, &[]).ok().expect(rt, "memory");

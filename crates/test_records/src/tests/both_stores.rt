@@ -1,7 +1,7 @@
 //! The same requests to a board over each of the two stores.
 use super::{expect, expect_bytes, expect_text};
 use bmc_board::Board;
-use cfg_records::{BoardFile, Key, PlainStore, Store, Value};
+use cfg_records::{BoardFile, Key, PlainStore, StartValue, Store};
 use packed_store::PackedStore;
 use std::alloc::Global;
 use std::process::Abort;
@@ -96,7 +96,7 @@ fn expect_replies<S: Store>(rt: &impl Abort, alloc: Global, board: &mut Board<S>
 }
 
 /// Whether the store has another value at the key of this record.
-fn is_changed(store: &PlainStore, first: &(Key, Value)) -> bool {
+fn is_changed(store: &PlainStore, first: &(Key, StartValue)) -> bool {
     match store.get(&first.0) {
         Some(value) => value != first.1.as_slice(),
         None => true,
@@ -108,7 +108,7 @@ fn changed(
     rt: &impl Abort,
     plain: &PlainStore,
     packed: &PackedStore,
-    start: &[(Key, Value)],
+    start: &[(Key, StartValue)],
 ) -> usize {
     for (key, _) in start {
         let value = plain.get(key).expect(rt, "a record");
@@ -123,7 +123,7 @@ fn expect_alike(
     alloc: Global,
     plain: &mut Board<PlainStore>,
     packed: &mut Board<PackedStore>,
-    start: &[(Key, Value)],
+    start: &[(Key, StartValue)],
     lines: &str,
     differ: usize,
 ) {
@@ -134,7 +134,7 @@ fn expect_alike(
 }
 
 /// The records of the sample board with effecters.
-fn records(rt: &impl Abort, alloc: Global) -> Vec<(Key, Value)> {
+fn records(rt: &impl Abort, alloc: Global) -> Vec<(Key, StartValue)> {
     file(rt, alloc).records(alloc).expect(rt, "memory")
 }
 

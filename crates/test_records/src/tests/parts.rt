@@ -27,7 +27,7 @@ fn users_have_access_to_channels(rt: HostRuntime) {
     let access = UserAccess::new(on, 0x71).expect(&rt, "a user's access");
     let (key, value) = access.pair();
     expect(&rt, key == Key::UserAccess(on), "the key");
-    expect(&rt, value.is(&[0x71]), "the value");
+    expect_bytes(&rt, value.as_slice(), &[0x71]);
     expect(&rt, UserAccess::new(on, 0x76).is_none(), "no limit");
 }
 
@@ -38,7 +38,7 @@ fn a_numeric_effecter_has_a_number(rt: HostRuntime) {
     let effecter = NumericEffecter::new(5, true, range, 0xFF).expect(&rt, "an effecter");
     let (key, value) = effecter.pair();
     expect(&rt, key == Key::NumericEffecter(5), "the key");
-    expect(&rt, value.is(&[0xFF]), "the value");
+    expect_bytes(&rt, value.as_slice(), &[0xFF]);
 }
 
 /// An effecter of one field, of two states.
@@ -53,7 +53,7 @@ fn state_effecter(rt: &impl Abort, alloc: Global) -> StateEffecter {
 fn a_state_effecter_has_states(rt: HostRuntime) {
     let (key, value) = state_effecter(&rt, rt.alloc()).pair();
     expect(&rt, key == Key::StateEffecter(9), "the key");
-    expect(&rt, value.is(&[2]), "the value");
+    expect_bytes(&rt, value.as_slice(), &[2]);
 }
 
 /// An attribute that is off or on.
@@ -72,9 +72,10 @@ fn an_enumeration_has_the_range_of_its_values(rt: HostRuntime) {
 }
 
 /// A text of at most 200 bytes.
-fn asset(rt: &impl Abort) -> Attribute {
+fn asset(rt: &impl Abort, alloc: Global) -> Attribute {
     let lengths = TextLengths::new(0, 200).expect(rt, "lengths");
-    let text = StringAttribute::new(1, lengths, Text::new(), Text::from_slice(b"ab"));
+    let current = Vec::from_slice(alloc, b"ab").expect(rt, "memory");
+    let text = StringAttribute::new(1, lengths, Vec::new(alloc), current);
     Attribute {
         handle: 1,
         name: Text::from_slice(b"Asset"),
@@ -85,9 +86,10 @@ fn asset(rt: &impl Abort) -> Attribute {
 
 #[test]
 fn an_attribute_has_its_record(rt: HostRuntime) {
-    let (key, value) = asset(&rt).pair();
+    let record = asset(&rt, rt.alloc()).pair(rt.alloc());
+    let (key, value) = record.expect(&rt, "memory");
     expect(&rt, key == Key::BiosAttribute(1), "the key");
-    expect(&rt, value.is(&[2, 0, 0x61, 0x62]), "the value");
+    expect_bytes(&rt, value.as_slice(), &[2, 0, 0x61, 0x62]);
 }
 
 #[test]

@@ -5,8 +5,8 @@ ghost use Rattle.record_base.specs.Keys.{is_length};
 use super::{expect, expect_bytes, expect_text};
 use cfg_records::{
     Answered, Asked, BootFlags, BootOptions, BootParameter, EventEnable, EventMasks, Hysteresis,
-    Key, Live, NoKey, PlainStore, Sensor, Sensors, Store, StoreFault, ThresholdMasks, Thresholds,
-    Value, sample_board,
+    Key, Live, NoKey, PlainStore, Sensor, Sensors, StartValue, Store, StoreFault, ThresholdMasks,
+    Thresholds, sample_board,
 };
 use packed_store::PackedStore;
 use std::alloc::{AllocError, Global};
@@ -42,7 +42,7 @@ fn push_record(
     alloc: Global,
     text: &mut String,
     key: &Key,
-    value: &Value,
+    value: &StartValue,
 ) -> Result<(), AllocError> {
     write!(text, "{key:?} ")?;
     let digits = hex::encode_upper(alloc, value.as_slice())?;
@@ -51,7 +51,7 @@ fn push_record(
 }
 
 /// The records, a line for each.
-fn spelt(alloc: Global, pairs: &[(Key, Value)]) -> Result<String, AllocError> {
+fn spelt(alloc: Global, pairs: &[(Key, StartValue)]) -> Result<String, AllocError> {
     let mut text = String::new(alloc);
     for (key, value) in pairs {
         push_record(alloc, &mut text, key, value)?;
@@ -131,7 +131,7 @@ fn nothing_is_put_where_there_is_no_record(rt: HostRuntime) {
 }
 
 /// Why neither store is made of the pairs.
-fn faults_of(alloc: Global, pairs: &[(Key, Value)]) -> Option<(StoreFault, StoreFault)> {
+fn faults_of(alloc: Global, pairs: &[(Key, StartValue)]) -> Option<(StoreFault, StoreFault)> {
     let plain = PlainStore::new(alloc, pairs).err()?;
     let packed = PackedStore::new(alloc, pairs).err()?;
     Some((plain, packed))
@@ -139,7 +139,7 @@ fn faults_of(alloc: Global, pairs: &[(Key, Value)]) -> Option<(StoreFault, Store
 
 #[test]
 fn a_store_refuses_a_key_twice_before_a_bad_value(rt: HostRuntime) {
-    let pair = || (Key::Hysteresis(5), Value::from_slice(&[1]));
+    let pair = || (Key::Hysteresis(5), StartValue::few(&[1]));
     let bad = vec![in rt.alloc(); pair()].expect(&rt, "memory");
     let faults = faults_of(rt.alloc(), bad.as_slice());
     expect(
@@ -155,8 +155,8 @@ fn a_store_refuses_a_key_twice_before_a_bad_value(rt: HostRuntime) {
 
 /// A packed store of a delay and a policy.
 fn packed(rt: &impl Abort, alloc: Global) -> PackedStore {
-    let delay = Value::from_slice(&[3, 1, 4, 1, 5, 9, 2, 6]);
-    let policy = (Key::PowerPolicy, Value::from_slice(&[2]));
+    let delay = StartValue::few(&[3, 1, 4, 1, 5, 9, 2, 6]);
+    let policy = (Key::PowerPolicy, StartValue::few(&[2]));
     let pairs = vec![in alloc; (Key::BiosAttribute(2), delay), policy].expect(rt, "memory");
     let store = PackedStore::new(alloc, pairs.as_slice());
     store.ok().expect(rt, "two keys, with a value each")
@@ -239,7 +239,7 @@ fn boot_parameter_3_has_five_bits(rt: HostRuntime) {
     let boot = BootOptions::new(0x1F, 0xFF, flags).expect(&rt, "boot options");
     let (key, value) = boot.pair(BootParameter::Flags);
     expect(&rt, key == Key::BootParam(BootParameter::Flags), "the key");
-    expect(&rt, value.is(&[0, 1, 2, 3, 4, 5]), "the value");
+    expect_bytes(&rt, value.as_slice(), &[0, 1, 2, 3, 4, 5]);
     expect(&rt, BootOptions::new(0x20, 0, flags).is_none(), "six bits");
 }
 

@@ -1,5 +1,5 @@
 //! Values that a board's records can have.
-use super::expect;
+use super::{expect, expect_bytes};
 use cfg_records::{
     Bcd, EventEnable, EventMasks, GlobalEnables, ManufacturerId, PowerPolicy, ThresholdMasks,
     Thresholds, Watchdog,
@@ -46,7 +46,7 @@ fn events_are_two_for_each_threshold_and_enabled_ones_are_supported(rt: HostRunt
     };
     let events = EventEnable::new(0xFFF, true, false, two).expect(&rt, "events");
     let (_, value) = events.pair(5);
-    expect(&rt, value.is(&[0x80, 0x00, 0x02, 0x01, 0x00]), "the record");
+    expect_bytes(&rt, value.as_slice(), &[0x80, 0x00, 0x02, 0x01, 0x00]);
     let both = EventEnable::new(0x201, false, true, two);
     expect(&rt, both.is_some(), "both are supported");
     let one = EventEnable::new(0x200, true, true, two);

@@ -34,7 +34,7 @@ with bare
 
 # Names and texts are shown by their bytes: `Boot`, `disk` and `net`, `Owner`, `abcd` and `rack-2`, `Wait`.
 => holds 1 attributes: Attributes { items: Items { items: [Attribute { handle: 0, name: Bytes { items: [66, 111, 111, 116] }, read_only: false, kind: Enumeration(EnumerationAttribute { values: Items { items: [Bytes { items: [100, 105, 115, 107] }, Bytes { items: [110, 101, 116] }] }, default: Bytes { items: [0] }, current: Bytes { items: [1] } }) }, Attribute { handle: 1,
-=> holds 1 }, Attribute { handle: 1, name: Bytes { items: [79, 119, 110, 101, 114] }, read_only: true, kind: Text(StringAttribute { string_type: 1, lengths: TextLengths { least: 2, most: 8 }, default: Bytes { items: [97, 98, 99, 100] }, current: Bytes { items: [114, 97, 99, 107, 45, 50] } }) }, Attribute { handle: 2,
+=> holds 1 }, Attribute { handle: 1, name: Bytes { items: [79, 119, 110, 101, 114] }, read_only: true, kind: Text(StringAttribute { string_type: 1, lengths: TextLengths { least: 2, most: 8 }, default: Items { items: [97, 98, 99, 100] }, current: Items { items: [114, 97, 99, 107, 45, 50] } }) }, Attribute { handle: 2,
 => holds 1 }, Attribute { handle: 2, name: Bytes { items: [87, 97, 105, 116] }, read_only: false, kind: Integer(IntegerAttribute { steps: IntegerSteps { lower: 20, upper: 300, increment: 10 }, default: 30, current: 40 }) }] } }
 
 # Each field left out, of another type, just beyond its range and just inside, and more.
@@ -62,13 +62,13 @@ string_type = 0 | string_type = 255 => reads
 at least = 2
 => Missing attribute 1 least
 least = 2.0 => WrongType attribute 1 least
-least = -1 | least = 201 => Range attribute 1 least
+least = -1 | least = 1025 => Range attribute 1 least
 least = 0 | least = 4 => reads
 at most = 8
 => Missing attribute 1 most
 most = "8" => WrongType attribute 1 most
-most = 201 | most = 1 => Range attribute 1 most
-most = 200 | most = 6 => reads
+most = 1025 | most = 1 => Range attribute 1 most
+most = 1024 | most = 6 => reads
 at default = "abcd"
 => Missing attribute 1 default
 default = 4 => WrongType attribute 1 default
@@ -180,16 +180,16 @@ behind
 <64:[[attribute]]\nname = "a"\nkind = "integer"\nlower = #\nupper = #\nincrement = 0\ndefault = #\ncurrent = #\nreadonly = false\n> => holds 1 [<63:Attribute { handle: #, name: Bytes { items: [97] }, read_only: false, kind: Integer(IntegerAttribute { steps: IntegerSteps { lower: #, upper: #, increment: 0 }, default: #, current: # }) }, >Attribute { handle: 63, name: Bytes { items: [97] }, read_only: false, kind: Integer(IntegerAttribute { steps: IntegerSteps { lower: 63, upper: 63, increment: 0 }, default: 63, current: 63 }) }]
 <65:[[attribute]]\nname = "a"\nkind = "integer"\nlower = #\nupper = #\nincrement = 0\ndefault = #\ncurrent = #\nreadonly = false\n> => Range top attribute
 
-# Texts have at most 200 bytes.
+# Names and possible values have at most 200 bytes, and the texts of a string 1,024.
 behind [[attribute]]\nreadonly = false\n
 name = "<200:n>"\nkind = "enumeration"\nvalues = ["a"]\ndefault = [0]\ncurrent = [0] => reads
 name = "<201:n>"\nkind = "enumeration"\nvalues = ["a"]\ndefault = [0]\ncurrent = [0] => Range attribute 0 name
 name = "a"\nkind = "enumeration"\nvalues = ["", "<200:n>"]\ndefault = [0]\ncurrent = [1] => reads
 name = "a"\nkind = "enumeration"\nvalues = ["", "<201:n>"]\ndefault = [0]\ncurrent = [1] => Range attribute 0 values
-name = "a"\nkind = "string"\nstring_type = 0\nleast = 0\nmost = 200\ndefault = "<200:n>"\ncurrent = "" => reads
-name = "a"\nkind = "string"\nstring_type = 0\nleast = 0\nmost = 200\ndefault = "<201:n>"\ncurrent = "" => Range attribute 0 default
-name = "a"\nkind = "string"\nstring_type = 0\nleast = 0\nmost = 200\ndefault = ""\ncurrent = "<200:n>" => reads
-name = "a"\nkind = "string"\nstring_type = 0\nleast = 0\nmost = 200\ndefault = ""\ncurrent = "<201:n>" => Range attribute 0 current
+name = "a"\nkind = "string"\nstring_type = 0\nleast = 0\nmost = 1024\ndefault = "<1024:n>"\ncurrent = "" => reads
+name = "a"\nkind = "string"\nstring_type = 0\nleast = 0\nmost = 1024\ndefault = "<1025:n>"\ncurrent = "" => Range attribute 0 default
+name = "a"\nkind = "string"\nstring_type = 0\nleast = 0\nmost = 1024\ndefault = ""\ncurrent = "<1024:n>" => reads
+name = "a"\nkind = "string"\nstring_type = 0\nleast = 0\nmost = 1024\ndefault = ""\ncurrent = "<1025:n>" => Range attribute 0 current
 
 # An enumeration can be all of its 16 values. The name and both lists of indexes are bytes, as each value is.
 behind
@@ -264,11 +264,11 @@ behind [[step]]\nkind = "bios-attribute"\nhandle = 1\n
 indexes = [] => 0 Range indexes
 indexes = [<1:255, >] | indexes = [<16:255, >] => reads
 indexes = [<17:255, >] => 0 Range indexes
-# A text has at most 200 bytes: 101 letters can be 202.
-text = "<199:a>" | text = "<200:a>" => reads
-text = "<201:a>" => 0 Range text
-text = "<100:é>" => reads
-text = "<101:é>" => 0 Range text
+# A text has at most 1,024 bytes: 513 letters can be 1,026.
+text = "<1023:a>" | text = "<1024:a>" => reads
+text = "<1025:a>" => 0 Range text
+text = "<512:é>" => reads
+text = "<513:é>" => 0 Range text
 
 # What is sent has, behind four bytes of a handle, 05h, the attribute and its type, the value: how many indexes there are, and these;
 behind [[step]]\nkind = "bios-attribute"\nhandle = 261\n

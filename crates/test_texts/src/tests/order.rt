@@ -188,14 +188,14 @@ until # attribute 1 readonly -> readonly = 2 => Missing attribute 1 readonly
 until name = 2 -> name = "<202:n>" => WrongType attribute 1 name
 until string_type = "1" -> string_type = 256 => WrongType attribute 1 string_type
 until least = "2" -> least = 65536 => WrongType attribute 1 least
-until most = "8" -> most = 201 => WrongType attribute 1 most
+until most = "8" -> most = 1025 => WrongType attribute 1 most
 until default = 4 -> default = "a" => WrongType attribute 1 default
 until current = 5 -> current = "b" => WrongType attribute 1 current
 until readonly = 2 -> readonly = true => WrongType attribute 1 readonly
 until name = "<202:n>" -> name = "Owner" => Range attribute 1 name
 until string_type = 256 -> string_type = 1 => Range attribute 1 string_type
 until least = 65536 -> least = 2 => Range attribute 1 least
-until most = 201 -> most = 8 => Range attribute 1 most
+until most = 1025 -> most = 8 => Range attribute 1 most
 until default = "a" -> default = "abcd" => Range attribute 1 default
 until current = "b" -> current = "rack-2" => Range attribute 1 current
 

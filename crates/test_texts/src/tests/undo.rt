@@ -110,17 +110,25 @@ behind undo 1\nnext ipmb 0 smbus 0\n
 ipmb F8<26:00>\n | smbus 3F<253:00>\n => reads
 ipmb F8<27:00>\n | smbus 3F<254:00>\n => Line 3
 
+# One that sets an attribute to a whole entry of over 205 bytes goes in parts, and has up to 1,036 bytes.
+smbus 0307<4:00>05<248:61>\n | smbus 0307<4:00>05<1029:61>\n | smbus 0307<4:FF>05<1029:61>\n => reads
+smbus 0307<4:00>05<1030:61>\n | smbus 0307<4:00>04<248:61>\n | smbus 0307<4:00>01<248:61>\n => Line 3
+smbus 0308<4:00>05<248:61>\n | smbus 0207<4:00>05<248:61>\n | smbus 0306<4:00>05<1029:61>\n => Line 3
+
 # There are at most 256 requests.
 <256:ipmb 1026\n> => holds 256 ipmb 1026
 <257:ipmb 1026\n> => Line 259
 behind undo 2\nnext ipmb 0 smbus 0\nnames ipmb 2C 20 smbus 30 20 eid 08 0A\n
 <256:ipmb 1026\n> => holds 256 ipmb 1026
 <257:ipmb 1026\n> => Line 260
+smbus 0307<4:00>05<1029:61>\n => reads
+smbus 0307<4:00>05<1030:61>\n => Line 4
 
 # An empty list and requests of both buses are read, and written as they were.
 behind
 undo 1\nnext ipmb 0 smbus 0\n => undo 1\nnext ipmb 0 smbus 0\n
 undo 1\nnext ipmb 63 smbus 31\nsmbus 0307000000000501000106007261636B2D31\n => undo 1\nnext ipmb 63 smbus 31\nsmbus 0307000000000501000106007261636B2D31\n
+undo 1\nnext ipmb 0 smbus 3\nsmbus 0307<4:00>050100019001<400:61>\n => undo 1\nnext ipmb 0 smbus 3\nsmbus 0307<4:00>050100019001<400:61>\n
 undo 1\nnext ipmb 63 smbus 31\nsmbus 3FFF\nipmb F8FF\n => undo 1\nnext ipmb 63 smbus 31\nsmbus 3FFF\nipmb F8FF\n
 # The undo of a step on thresholds of sensor 5, and of one on numeric effecter 4 before it.
 undo 1\nnext ipmb 2 smbus 2\nipmb 10260510000000005F00\nsmbus 0231040002F401\n => undo 1\nnext ipmb 2 smbus 2\nipmb 10260510000000005F00\nsmbus 0231040002F401\n

@@ -1,0 +1,144 @@
+//! Strings of up to 1,024 bytes, over PLDM.
+use super::expect_told;
+
+/// An entry of over 205 bytes is shown in parts of 192 bytes, and one of over 247 can be set in parts alone.
+const LONG: &str = "story a long string is set in parts and shown in parts
+board attribute = [
+board { name = \"Quiet\", kind = \"enumeration\", values = [\"off\", \"on\"], default = [0], current = [0], readonly = false },
+board { name = \"Asset\", kind = \"string\", string_type = 1, least = 0, most = 1024, default = \"\", current = \"rack-1\", readonly = false },
+board ]
+from 0B
+pldm 03 07 0000000001 010001 9001 61*187 -> 00 C0000000
+from 0C
+pldm 03 07 C000000002 61*192 -> 02
+from 0B
+pldm 03 07 C000000002 61*192 -> 00 80010000
+pldm 03 08 00000000010100 -> 00 0000000005 010001 0600 7261636B2D31
+pldm 03 07 8001000004 61*21 -> 00 00000000
+pldm 03 08 00000000010100 -> 00 C000000001 010001 9001 61*187
+pldm 03 08 C0000000000100 -> 00 8001000002 61*192
+pldm 03 08 80010000000100 -> 00 0000000004 61*21
+# Its staging is gone.
+pldm 03 07 8001000004 61*21 -> 02
+# A later part begins where one ends, and another requester sees the same.
+pldm 03 08 00000000000100 -> 02
+pldm 03 08 BF000000000100 -> 02
+pldm 03 08 40020000000100 -> 02
+pldm 03 08 00010000000100 -> 02
+pldm 03 08 C0010000000100 -> 02
+from 0C
+pldm 03 08 12345678010100 -> 00 C000000001 010001 9001 61*187
+pldm 03 08 80010000000100 -> 00 0000000004 61*21
+pldm 03 08 80010000000000 -> 02
+pldm 03 08 80010000000900 -> 88
+
+story an entry of 205 bytes is shown whole, and one of 206 in parts
+board attribute = [{ name = \"Asset\", kind = \"string\", string_type = 1, least = 0, most = 1024, default = \"\", current = \"rack-1\", readonly = false }]
+pldm 03 07 0000000005 000001 C800 61*200 -> 00 00000000
+pldm 03 08 00000000010000 -> 00 0000000005 000001 C800 61*200
+pldm 03 08 C0000000000000 -> 02
+pldm 03 07 0000000005 000001 C900 61*201 -> 00 00000000
+pldm 03 08 00000000010000 -> 00 C000000001 000001 C900 61*187
+pldm 03 08 C0000000000000 -> 00 0000000004 61*14
+# An entry of 384 bytes has two parts.
+pldm 03 07 0000000001 000001 7B01 62*187 -> 00 C0000000
+pldm 03 07 C000000004 63*192 -> 00 00000000
+pldm 03 08 00000000010000 -> 00 C000000001 000001 7B01 62*187
+pldm 03 08 C0000000000000 -> 00 0000000004 63*192
+pldm 03 08 80010000000000 -> 02
+
+story a text of 1024 bytes fits, and one of 1025 does not
+board attribute = [{ name = \"Asset\", kind = \"string\", string_type = 1, least = 0, most = 1024, default = \"\", current = \"rack-1\", readonly = false }]
+pldm 03 07 0000000001 000001 0104 61*187 -> 02
+pldm 03 07 0000000001 000001 0004 61*187 -> 00 C0000000
+pldm 03 07 C000000002 62*192 -> 00 80010000
+# A part that was taken isn't taken again, and no part may be left out.
+pldm 03 07 C000000002 62*192 -> 02
+pldm 03 07 4002000002 62*192 -> 02
+pldm 03 07 8001000002 63*192 -> 00 40020000
+pldm 03 07 4002000002 64*192 -> 00 00030000
+pldm 03 07 0003000002 65*192 -> 00 C0030000
+# The sixth part is the last one.
+pldm 03 07 C003000002 66*192 -> 03
+pldm 03 07 C003000002 66*69 -> 03
+pldm 03 07 C003000004 66*68 -> 03
+pldm 03 07 C003000004 66*70 -> 03
+pldm 03 08 00000000010000 -> 00 0000000005 000001 0600 7261636B2D31
+pldm 03 07 C003000004 66*69 -> 00 00000000
+pldm 03 08 00000000010000 -> 00 C000000001 000001 0004 61*187
+pldm 03 08 C0000000000000 -> 00 8001000002 62*192
+pldm 03 08 80010000000000 -> 00 4002000002 63*192
+pldm 03 08 40020000000000 -> 00 0003000002 64*192
+pldm 03 08 00030000000000 -> 00 C003000002 65*192
+pldm 03 08 C0030000000000 -> 00 0000000004 66*69
+pldm 03 08 80040000000000 -> 02
+
+story a middle part of a long text refuses in order
+board attribute = [{ name = \"Asset\", kind = \"string\", string_type = 1, least = 0, most = 1024, default = \"\", current = \"rack-1\", readonly = false }]
+pldm 03 07 0000000001 000001 9001 61*187 -> 00 C0000000
+pldm 03 07 C100000002 61*191 -> 02
+pldm 03 07 C000000002 61*191 -> 03
+pldm 03 07 C000000002 61*193 -> 03
+pldm 03 07 C000000002 61*192 -> 00 80010000
+# It would reach the whole length of 405 bytes.
+pldm 03 07 8001000002 61*192 -> 03
+pldm 03 07 8001000002 61*21 -> 03
+pldm 03 07 8001000004 61*20 -> 03
+pldm 03 07 8001000004 61*22 -> 03
+pldm 03 07 8001000004 61*21 -> 00 00000000
+
+story eight others stage, and a manager's undo in parts is refused
+board attribute = [{ name = \"Asset\", kind = \"string\", string_type = 1, least = 0, most = 1024, default = \"\", current = \"rack-1\", readonly = false }]
+# The manager sets a long text, and then a short one.
+from 08
+pldm 03 07 0000000001 000001 9001 61*187 -> 00 C0000000
+pldm 03 07 C000000002 61*192 -> 00 80010000
+pldm 03 07 8001000004 61*21 -> 00 00000000
+pldm 03 07 0000000005 000001 0100 62 -> 00 00000000
+from 11
+pldm 03 07 0000000001 000001 C900 61*187 -> 00 C0000000
+from 12
+pldm 03 07 0000000001 000001 C900 61*187 -> 00 C0000000
+from 13
+pldm 03 07 0000000001 000001 C900 61*187 -> 00 C0000000
+from 14
+pldm 03 07 0000000001 000001 C900 61*187 -> 00 C0000000
+from 15
+pldm 03 07 0000000001 000001 C900 61*187 -> 00 C0000000
+from 16
+pldm 03 07 0000000001 000001 C900 61*187 -> 00 C0000000
+from 17
+pldm 03 07 0000000001 000001 C900 61*187 -> 00 C0000000
+# With seven others there is room.
+from 08
+pldm 03 07 0000000001 000001 9001 61*187 -> 00 C0000000
+pldm 03 07 C000000002 61*192 -> 00 80010000
+pldm 03 07 8001000004 61*21 -> 00 00000000
+pldm 03 07 0000000005 000001 0100 62 -> 00 00000000
+from 18
+pldm 03 07 0000000001 000001 C900 61*187 -> 00 C0000000
+from 08
+pldm 03 07 0000000001 000001 9001 61*187 -> 01
+pldm 03 08 00000000010000 -> 00 0000000005 000001 0100 62
+
+story a long value is in the table of values
+board attribute = [{ name = \"Asset\", kind = \"string\", string_type = 1, least = 0, most = 1024, default = \"\", current = \"rack-1\", readonly = false }]
+pldm 03 07 0000000001 000001 9001 61*187 -> 00 C0000000
+pldm 03 07 C000000002 61*192 -> 00 80010000
+pldm 03 07 8001000004 61*21 -> 00 00000000
+pldm 03 01 000000000102 -> 00 C000000001 000001 9001 61*187
+pldm 03 01 C00000000002 -> 00 8001000002 61*192
+pldm 03 01 800100000002 -> 00 0000000004 61*21 000000 BB18DD7A
+
+story a change of a long string is undone
+board attribute = [{ name = \"Asset\", kind = \"string\", string_type = 1, least = 0, most = 1024, default = \"\", current = \"rack-1\", readonly = false }]
+undo pldm 03 07 0000000005 000001 0100 62 : 0000000005 000001 9001 61*400 -> 0000000005 000001 9001 61*400
+undo pldm 03 07 0000000005 000001 0100 62 : 0000000005 000001 0004 61*1024 -> 0000000005 000001 0004 61*1024
+undo pldm 03 07 0000000005 000001 0100 62 : 0000000005 000001 0104 61*1025 -> none
+undo pldm 03 07 0000000005 000001 0100 62 : C000000001 000001 9001 61*187 -> none
+";
+
+#[test]
+fn long_strings_are_set_and_shown_in_parts(rt: HostRuntime) {
+    expect_told(&rt, rt.alloc(), LONG);
+}
