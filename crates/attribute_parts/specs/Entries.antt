@@ -3,7 +3,6 @@
 use Rattle.std.specs.Prelude.{ℕ, ◌+◌, nat_le, nat_lt, List, length, drop, Bool, false, not, ◌==◌, ◌&&◌, if◌then◌else◌, Option, Some, None}
 use Rattle.two_wire.specs.Codes.{pldm_invalid_data, pldm_invalid_length}
 use Rattle.record_base.specs.Requests.{byte_at}
-use Rattle.record_base.specs.AttributeSizes.{most_value}
 use Rattle.record_base.specs.AttributeValue.{string_type, number_of}
 use Rattle.record_base.specs.BiosAttribute.{setting}
 use Rattle.record_base.specs.declared.attribute_range.AttributeRange.{AttributeRange}
@@ -12,10 +11,7 @@ use Rattle.record_base.specs.declared.bios_attribute.SetBiosAttribute.{SetBiosAt
 use Rattle.pldm_base.specs.Parts.{part_length}
 use Rattle.bios_attr.specs.declared.bios_attribute.AttributeLimits.{AttributeLimits}
 use Rattle.bios_attr.specs.BiosAttribute.{is_settable}
-
--- how many bytes an attribute's entry has at most: the attribute, its type, and the value
-abbrev pub most_entry : ℕ
-most_entry = 3 + most_value
+use Rattle.bios_attr.specs.EntryParts.{before_entry_value}
 
 -- the length field of a string's entry
 abbrev pub text_length : List ℕ → ℕ
@@ -27,7 +23,7 @@ whole_length entry = 5 + text_length entry
 
 -- the operation of a whole entry: it sets its attribute, by its type, to the rest
 abbrev pub op_of : List ℕ → SetBiosAttribute
-op_of entry = setting (number_of (byte_at entry 0) (byte_at entry 1)) (byte_at entry 2) (drop 3 entry)
+op_of entry = setting (number_of (byte_at entry 0) (byte_at entry 1)) (byte_at entry 2) (drop before_entry_value entry)
 
 -- ---- the first code that refuses a part
 

@@ -3,14 +3,11 @@ use Rattle.std.specs.Prelude.{ℕ, nat_lt, List, length, drop, ◌==◌, if◌th
 use Rattle.two_wire.specs.Codes.{pldm_invalid_data, pldm_invalid_length}
 use Rattle.record_base.specs.Requests.{byte_at}
 use Rattle.bios_attr.specs.BiosAttribute.{transfer_handle}
+use Rattle.bios_attr.specs.EntryParts.{before_part}
 use Rattle.pldm_base.specs.Parts.{flag_byte}
 use Rattle.pldm_base.specs.declared.table.TransferFlag.TheVariants as transfer
 use Rattle.attribute_parts.specs.declared.set_part.SetPart.{SetPart}
 use Rattle.attribute_parts.specs.declared.set_part.SetPart.TheVariants.{Start, Middle, End}
-
--- how many bytes stand before a part's own: the transfer handle and the flag
-abbrev pub before_part : ℕ
-before_part = 5
 
 -- how many bytes the data of a part have at least, and those of a first part, whose entry has an attribute and a type
 abbrev pub least_part : ℕ

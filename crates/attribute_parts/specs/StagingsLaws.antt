@@ -1,6 +1,7 @@
 -- What holds of all stagings.
 use Rattle.std.specs.Prelude.{ℕ, ◌<◌, ◌≤◌, List, length, All}
-use Rattle.attribute_parts.specs.Entries.{whole_length, most_entry}
+use Rattle.bios_attr.specs.EntryParts.{most_entry}
+use Rattle.attribute_parts.specs.Entries.{whole_length}
 use Rattle.attribute_parts.specs.Stagings.{Staged, most_stagings}
 
 -- the bytes begin an entry, and more are behind them

@@ -1,24 +1,19 @@
 //! Entries of strings, as they come in parts: an attribute, its type, the text's length, and the text.
 ghost use Rattle.std.specs.Prelude.{◌≡◌, ◌==◌, drop};
+ghost use Rattle.bios_attr.specs.EntryParts.{before_entry_value};
 ghost use Rattle.attribute_parts.specs.Entries.{text_length, whole_length, op_of, begins_string, allows_length, first_fault, middle_fault, last_fault};
 ghost use Rattle.attribute_parts.specs.Stagings.{unless};
 
 use bios_attr::AttributeLimits;
+use bios_attr::entry_parts::MOST_ENTRY;
 use pldm_base::PART_LENGTH;
-use record_base::attribute_sizes::MOST_VALUE;
 use record_base::attribute_value::STRING_TYPE;
 use record_base::{AttributeRange, SetBiosAttribute, byte_at};
 use two_wire::code::{PLDM_INVALID_DATA, PLDM_INVALID_LENGTH};
 use two_wire::{Bytes, Code};
 
-/// How many bytes an entry has before its value: the attribute, and its type.
-const BEFORE_VALUE: usize = 3;
-
 /// How many bytes a string's entry has before its text.
 const BEFORE_TEXT: usize = 5;
-
-/// How many bytes an attribute's entry has at most.
-pub const MOST_ENTRY: usize = BEFORE_VALUE + MOST_VALUE;
 
 /// The bytes of an entry, or of what came of it so far.
 pub type Entry = Bytes<{ MOST_ENTRY }>;
@@ -39,7 +34,7 @@ fn whole_length(entry: &[u8]) -> usize
 
 /// What stands behind an entry's attribute and type.
 fn value_in(entry: &[u8]) -> &[u8]
-    ensures { result.now ≡ drop 3 entry.now }
+    ensures { result.now ≡ drop before_entry_value entry.now }
 {
     match entry {
         [_, _, _, value @ ..] => value,

@@ -6,6 +6,6 @@ pub mod laws;
 pub mod set_part;
 pub mod stagings;
 
-pub use entry::{Entry, MOST_ENTRY};
+pub use entry::Entry;
 pub use set_part::{SetPart, part_in};
 pub use stagings::{MOST_STAGINGS, Staging, Stagings};

@@ -4,12 +4,10 @@ ghost use Rattle.attribute_parts.specs.SetParts.{part_in};
 
 use bios_attr::Rest;
 use bios_attr::bios_attribute::transfer_handle;
+use bios_attr::entry_parts::BEFORE_PART;
 use pldm_base::TransferFlag;
 use two_wire::Code;
 use two_wire::code::{PLDM_INVALID_DATA, PLDM_INVALID_LENGTH};
-
-/// How many bytes stand before a part's own: the transfer handle and the flag.
-const BEFORE_PART: usize = 5;
 
 /// How many bytes the data of a part have at least.
 const LEAST_PART: usize = 6;

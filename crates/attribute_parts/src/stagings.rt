@@ -2,7 +2,7 @@
 ghost use Rattle.std.specs.Prelude.{◌≡◌, ◌<◌, ◌≤◌, ◌+◌, ◌++◌, Err, MatchOption, IfOk, IfSome, IsOkAnd, [], length, find};
 ghost use Rattle.std.specs.Option.{option_copied};
 ghost use Rattle.two_wire.specs.Codes.{pldm_invalid_data};
-ghost use Rattle.attribute_parts.specs.Entries.{most_entry};
+ghost use Rattle.bios_attr.specs.EntryParts.{most_entry};
 ghost use Rattle.attribute_parts.specs.Stagings.{most_stagings, is_by, staged_by, without, with_staged};
 ghost use Rattle.attribute_parts.specs.StagingsLaws.{IsBegun};
 

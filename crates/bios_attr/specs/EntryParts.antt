@@ -41,9 +41,13 @@ no_handle = 0 ∷ 0 ∷ 0 ∷ 0 ∷ []
 abbrev pub transfer_handle : List ℕ → ℕ
 transfer_handle body = from_le_bytes w32 (byte_at body 0 ∷ byte_at body 1 ∷ byte_at body 2 ∷ byte_at body 3 ∷ [])
 
--- how many bytes an attribute's entry has at most: the attribute, its type, and the value
+-- how many bytes an attribute's entry has before its value: the attribute, and its type
+abbrev pub before_entry_value : ℕ
+before_entry_value = 3
+
+-- how many bytes it has at most
 abbrev pub most_entry : ℕ
-most_entry = 3 + most_value
+most_entry = before_entry_value + most_value
 
 -- how many bytes stand before an entry or its part in the data: the transfer handle and the flag
 abbrev pub before_part : ℕ

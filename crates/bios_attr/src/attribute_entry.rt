@@ -78,7 +78,8 @@ impl KindFields<'_> {
 
 /// Appends what an entry says of an enumeration.
 fn write_enumeration<B: Buffer>(fields: &EnumerationFields<'_>, out: &mut B)
-    requires { length (B.bytes out.old) + length (fields_bytes (Enumeration fields.now)) ≤ B.capacity }
+    requires { length (B.bytes out.old) + length (fields_bytes (Enumeration fields.now))
+        ≤ B.capacity }
     ensures { B.bytes out.new ≡ B.bytes out.old ++ fields_bytes (Enumeration fields.now) }
 {
     let values = fields.values.as_slice();

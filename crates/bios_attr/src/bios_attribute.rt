@@ -5,7 +5,7 @@ ghost use Rattle.record_base.specs.AttributeValue.{two_bytes};
 ghost use Rattle.bios_attr.specs.EntryParts.{first_part};
 ghost use Rattle.bios_attr.specs.BiosAttribute.{no_handle, get_first_part, attribute_body, transfer_handle, attribute_in, attribute_shown_in, attribute_view, is_within, is_attribute_reply};
 
-use crate::entry_parts::{BEFORE_PART, goes_in_parts, part_at};
+use crate::entry_parts::{BEFORE_ENTRY_VALUE, BEFORE_PART, goes_in_parts, part_at};
 use crate::value_entry::{entry_in, shown_type};
 use pldm_base::{GET_FIRST_PART, GET_NEXT_PART, MOST_WHOLE, PART_LENGTH, TransferFlag};
 use record_base::attribute_sizes::{BEFORE_VALUE, MOST_INDEXES, MOST_TEXT};
@@ -32,9 +32,6 @@ pub const START_AND_END: u8 = 0x05;
 
 /// How many bytes the data of a Set have at least, of whatever flag.
 const LEAST_SET: usize = 6;
-
-/// How many bytes an entry has before its value.
-const BEFORE_ENTRY_VALUE: usize = BEFORE_VALUE - BEFORE_PART;
 
 /// A transfer handle that stands for nothing.
 const NO_HANDLE: [u8; 4] = [0; 4];
@@ -163,7 +160,11 @@ impl AttributeLimits {
 
     /// The limits that an attribute gives to the record of this handle.
     pub fn of(handle: u16, attribute: &Attribute) -> Self
-        ensures { result ≡ record { handle = handle; read_only = attribute.now.read_only; range = range_of attribute.now.kind } }
+        ensures { result ≡ record {
+          handle = handle;
+          read_only = attribute.now.read_only;
+          range = range_of attribute.now.kind;
+        } }
     {
         AttributeLimits {
             handle,
@@ -174,7 +175,8 @@ impl AttributeLimits {
 
     /// Appends the data of the Get reply, which show this value.
     pub fn show<B: Buffer>(&self, value: &[u8], reply: &mut B)
-        requires { length (B.bytes reply.old) + length (attribute_view self.now value.now) ≤ B.capacity }
+        requires { length (B.bytes reply.old) + length (attribute_view self.now value.now)
+            ≤ B.capacity }
         ensures { B.bytes reply.new ≡ B.bytes reply.old ++ attribute_view self.now value.now }
     {
         reply.extend_from_slice(&NO_HANDLE);
@@ -185,8 +187,10 @@ impl AttributeLimits {
 
     /// Appends the data of the first Get reply, which show this value: all of it, or the first part of an entry that goes in parts.
     pub fn show_first<B: Buffer>(&self, value: &[u8], reply: &mut B)
-        requires { length (B.bytes reply.old) + length (first_part (attribute_view self.now value.now)) ≤ B.capacity }
-        ensures { B.bytes reply.new ≡ B.bytes reply.old ++ first_part (attribute_view self.now value.now) }
+        requires { length (B.bytes reply.old)
+            + length (first_part (attribute_view self.now value.now)) ≤ B.capacity }
+        ensures { B.bytes reply.new
+            ≡ B.bytes reply.old ++ first_part (attribute_view self.now value.now) }
     {
         if BEFORE_ENTRY_VALUE + value.len() <= MOST_WHOLE {
             self.show(value, reply);

@@ -42,7 +42,8 @@ fn head_of(attribute: &Attribute) -> EntryHead
 /// Appends a value entry.
 fn push_value(table: &mut Vec<u8>, head: EntryHead, value: &[u8])
     requires { vec_len table.old + 3 + length value.now ≤ vec_capacity table.old }
-    ensures bytes { table.new.items ≡ table.old.items ++ (two_bytes head.attribute ++ head.code ∷ value.now) }
+    ensures bytes { table.new.items
+        ≡ table.old.items ++ (two_bytes head.attribute ++ head.code ∷ value.now) }
     ensures small { AreBytes value.now }
     ensures len { vec_len table.new ≡ vec_len table.old + 3 + length value.now }
     ensures capacity { vec_capacity table.old ≤ vec_capacity table.new }

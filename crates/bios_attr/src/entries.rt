@@ -156,7 +156,8 @@ pub(crate) fn push_attributes(
     attributes: &[Attribute],
 ) -> Result<(), AllocError>
     requires { length strings.now ≤ 65535 }
-    ensures bytes { OnOk result (table.new.items ≡ table.old.items ++ attribute_entries strings.now attributes.now) }
+    ensures bytes { OnOk result (table.new.items
+        ≡ table.old.items ++ attribute_entries strings.now attributes.now) }
     ensures whole { OnOk result (AreOf Attributes (attribute_contents strings.now attributes.now)) }
 {
     for attribute in attributes {

@@ -9,10 +9,10 @@ use record_base::{Asked, byte_at};
 use two_wire::{Below, Bytes};
 
 /// How many bytes an attribute's entry has before its value: the attribute, and its type.
-const BEFORE_VALUE: usize = 3;
+pub const BEFORE_ENTRY_VALUE: usize = 3;
 
 /// How many bytes an attribute's entry has at most.
-pub const MOST_ENTRY: usize = BEFORE_VALUE + MOST_VALUE;
+pub const MOST_ENTRY: usize = BEFORE_ENTRY_VALUE + MOST_VALUE;
 
 /// How many bytes stand before an entry or its part in data: the transfer handle and the flag.
 pub const BEFORE_PART: usize = 5;

@@ -60,7 +60,8 @@ fn push_texts(strings: &mut Vec<Text>, texts: &[Text]) -> Result<(), AllocError>
 
 /// Puts the texts that an attribute uses behind the strings.
 fn push_attribute(strings: &mut Vec<Text>, attribute: &Attribute) -> Result<(), AllocError>
-    ensures { OnOk result (strings.new.items ≡ with_texts strings.old.items (texts_of attribute.now)) }
+    ensures { OnOk result (strings.new.items
+        ≡ with_texts strings.old.items (texts_of attribute.now)) }
 {
     push_text(strings, &attribute.name)?;
     match &attribute.kind {

@@ -63,8 +63,10 @@ fn attribute_table(
     attributes: &[Attribute],
 ) -> Result<Vec<u8>, AllocError>
     requires { length strings.now ≤ 65535 }
-    ensures table { IfOk result (λ table. IsTable (attribute_entries strings.now attributes.now) table.items) }
-    ensures contents { IfOk result (λ table. IsTableOf table_name.Attributes (attribute_contents strings.now attributes.now) table.items) }
+    ensures table { IfOk result (λ table.
+        IsTable (attribute_entries strings.now attributes.now) table.items) }
+    ensures contents { IfOk result (λ table. IsTableOf table_name.Attributes
+        (attribute_contents strings.now attributes.now) table.items) }
 {
     let mut table = Vec::new(alloc);
     push_attributes(&mut table, strings, attributes)?;

@@ -36,7 +36,8 @@ fn is_padding(bytes: &[u8]) -> bool
 /// How many entries stand before the padding, or why that isn't so.
 fn count_entries(table: BiosTable, bytes: &[u8]) -> Result<usize, TableError>
     requires { length bytes.now % 4 ≡ 0 }
-    ensures { MatchResult result (HasBody table bytes.now) (λ error. IsNoBody table bytes.now × IsBodyFault table bytes.now error) }
+    ensures { MatchResult result (HasBody table bytes.now)
+        (λ error. IsNoBody table bytes.now × IsBodyFault table bytes.now error) }
 {
     let mut rest = bytes;
     let mut count = 0;
@@ -57,7 +58,8 @@ fn count_entries(table: BiosTable, bytes: &[u8]) -> Result<usize, TableError>
 /// How many entries the bytes are the table of, or why they are none. It takes no memory: the entries lie where they are, and
 /// `entry_at` shows them one by one.
 pub fn count_table(table: BiosTable, bytes: &[u8]) -> Result<usize, TableError>
-    ensures { MatchResult result (HasEntries table bytes.now) (λ error. IsNoTable table bytes.now × IsFault table bytes.now error) }
+    ensures { MatchResult result (HasEntries table bytes.now)
+        (λ error. IsNoTable table bytes.now × IsFault table bytes.now error) }
 {
     if bytes.len() < CHECK_LENGTH || bytes.len() % 4 != 0 {
         return Err(TableError::WrongLength);

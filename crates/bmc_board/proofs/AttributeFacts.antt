@@ -12,7 +12,8 @@ use Rattle.bios_attr.specs.declared.bios_attribute.AskedPart.{AskedPart}
 use Rattle.bios_attr.specs.declared.bios_attribute.AskedPart.TheVariants.{First, Later}
 use Rattle.attribute_parts.specs.declared.set_part.SetPart.{SetPart}
 use Rattle.attribute_parts.specs.declared.set_part.SetPart.TheVariants.{Start, Middle, End}
-use Rattle.attribute_parts.specs.SetParts.{part_in, before_part, least_part, least_start}
+use Rattle.bios_attr.specs.EntryParts.{before_part}
+use Rattle.attribute_parts.specs.SetParts.{part_in, least_part, least_start}
 use Rattle.bmc_board.specs.AttributeCommands.{whole_set, part_set, attribute_set, attribute_shown, attribute_get}
 use Rattle.bmc_board.proofs.Rightly.{is_right}
 

@@ -12,7 +12,7 @@ use Rattle.record_base.specs.declared.message.Answered.{Answered}
 use Rattle.cfg_records.specs.declared.board_file.BoardFile.{BoardFile}
 use Rattle.bios_attr.specs.BiosAttribute.{get_next_part}
 use Rattle.bios_attr.specs.declared.bios_attribute.AttributeLimits.{AttributeLimits}
-use Rattle.attribute_parts.specs.SetParts.{before_part}
+use Rattle.bios_attr.specs.EntryParts.{before_part}
 use Rattle.attribute_parts.specs.Stagings.{Staged, without}
 use Rattle.record_kinds.specs.declared.limits.Limits.{Limits}
 use Rattle.record_kinds.specs.Boards.{attribute_at}

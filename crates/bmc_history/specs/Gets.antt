@@ -12,7 +12,7 @@ use Rattle.cfg_records.specs.declared.board_file.BoardFile.{BoardFile}
 use Rattle.record_kinds.specs.declared.limits.Limits.{Limits}
 use Rattle.record_kinds.specs.Limits.{key_of, limits_at, sets, view}
 use Rattle.record_kinds.specs.Series.{first_shown}
-use Rattle.attribute_parts.specs.SetParts.{before_part}
+use Rattle.bios_attr.specs.EntryParts.{before_part}
 use Rattle.attribute_parts.specs.declared.set_part.SetPart.TheVariants.{End}
 use Rattle.attribute_parts.specs.Stagings.{end_outcome}
 use Rattle.bmc_board.specs.Request.{Request}

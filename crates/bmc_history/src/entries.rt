@@ -35,7 +35,8 @@ impl Model for Events {
 
     ghost Value = { EventList };
 
-    ghost view = { λ e. record { items = map (event_of e.bytes.items) e.marks.items; room = e.room } };
+    ghost view = { λ e.
+        record { items = map (event_of e.bytes.items) e.marks.items; room = e.room } };
 
     ghost invariant = { λ e. All (Lies (length e.bytes.items)) e.marks.items
         × HasRoom e.room (vec_len e.marks) (vec_capacity e.marks)

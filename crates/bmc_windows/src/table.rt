@@ -43,7 +43,8 @@ impl<const NUMBERS: u8, const CAP: usize> Model for Windows<NUMBERS, CAP> {
 
     ghost view = { λ w. record { slots = w.slots; owners = w.owners; rooms = w.windows.items } };
 
-    ghost invariant = { λ w. AreSound NUMBERS CAP (record { slots = w.slots; owners = w.owners; rooms = w.windows.items }) };
+    ghost invariant = { λ w. AreSound NUMBERS CAP
+        (record { slots = w.slots; owners = w.owners; rooms = w.windows.items }) };
 }
 
 impl<const NUMBERS: u8, const CAP: usize> Windows<NUMBERS, CAP> {

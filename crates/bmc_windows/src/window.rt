@@ -74,7 +74,8 @@ impl<const NUMBERS: u8, const CAP: usize> Model for Window<NUMBERS, CAP> {
 
     ghost view = { λ w. record { used = w.used; places = w.places.items } };
 
-    ghost invariant = { λ w. (length w.places.items ≡ NUMBERS) × IsTrue (is_circle NUMBERS) × (CAP ≤ 65535) };
+    ghost invariant = { λ w. (length w.places.items ≡ NUMBERS) × IsTrue (is_circle NUMBERS)
+        × (CAP ≤ 65535) };
 }
 
 impl<const NUMBERS: u8, const CAP: usize> Window<NUMBERS, CAP> {

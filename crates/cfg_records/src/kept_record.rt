@@ -22,7 +22,8 @@ impl Model for KeptRecord {
 
     ghost view = { λ kept. (kept.key, kept.value.items) };
 
-    ghost invariant = { λ kept. (n : ℕ) → IsTrue (is_length kept.key n) → n ≤ vec_capacity kept.value };
+    ghost invariant = { λ kept. (n : ℕ) → IsTrue (is_length kept.key n)
+        → n ≤ vec_capacity kept.value };
 }
 
 impl KeptRecord {

@@ -29,6 +29,8 @@ pub fn same_bytes_same_frame()
 
 /// Bytes have a fault or are a message, and never both.
 pub fn fault_or_message()
-    ensures either { (bytes : List ℕ) → All (λ b. b < 256) bytes → HasFault bytes ⊎ ((m : Msg) × IsMessage m bytes) }
-    ensures not_both { (m : Msg) (bytes : List ℕ) → IsMessage m bytes → find (has_fault bytes) faults ≡ None }
+    ensures either { (bytes : List ℕ) → All (λ b. b < 256) bytes
+        → HasFault bytes ⊎ ((m : Msg) × IsMessage m bytes) }
+    ensures not_both { (m : Msg) (bytes : List ℕ) → IsMessage m bytes
+        → find (has_fault bytes) faults ≡ None }
 {}

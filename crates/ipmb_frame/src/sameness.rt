@@ -28,7 +28,8 @@ fn same_unit(a: Party, b: Party) -> bool
 
 /// Whether both have the same numbers.
 fn same_numbers(a: Header, b: Header) -> bool
-    ensures { IsTrue result ↔ ((a.net_fn ≡ b.net_fn) × (a.sequence ≡ b.sequence) × (a.command ≡ b.command)) }
+    ensures { IsTrue result
+        ↔ ((a.net_fn ≡ b.net_fn) × (a.sequence ≡ b.sequence) × (a.command ≡ b.command)) }
 {
     a.net_fn == b.net_fn && a.sequence == b.sequence && a.command == b.command
 }

@@ -89,7 +89,8 @@ pub fn begin_response(frame: &mut Frame, header: &Header, code: u8)
 pub fn end_response(frame: &mut Frame)
     requires started { 3 ≤ length frame.old }
     requires room { length frame.old < most_frame_bytes }
-    ensures response { (header : TheHeader) (code : ℕ) (body : List ℕ) → IsHeader header → length body ≤ most_ipmi_reply_data
+    ensures response { (header : TheHeader) (code : ℕ) (body : List ℕ) → IsHeader header
+        → length body ≤ most_ipmi_reply_data
         → frame.old ≡ response_start header code ++ body
         → IsResponse (record { header = header; code = code; body = body }) frame.new }
     ensures checksum { frame.new ≡ frame.old ++ check_byte (drop 3 frame.old) ∷ [] }

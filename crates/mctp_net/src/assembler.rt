@@ -47,7 +47,9 @@ impl Assembler {
         // It's dropped for the first cause that holds.
         ensures dropped { dropped_for result ≡ drop_cause own (seen self.old) packet.now }
         // It's whole exactly where the packet ends a cut of a message, which is then shown.
-        ensures whole { (m : AnyMessage) → ((result ≡ IsWhole) × (m ≡ message_of (seen self.new) packet.now)) ↔ MakesWhole own (seen self.old) packet.now m }
+        ensures whole { (m : AnyMessage) →
+            ((result ≡ IsWhole) × (m ≡ message_of (seen self.new) packet.now))
+            ↔ MakesWhole own (seen self.old) packet.now m }
         ensures some { result ≡ IsWhole → 0 < length (message_of (seen self.new) packet.now).body }
         // It's waiting exactly where it's taken and is no end.
         ensures waiting { (result ≡ IsWaiting) ↔ IsTaken own (seen self.old) packet.now }

@@ -87,7 +87,8 @@ impl Endpoint {
     pub fn control(&mut self, body: &[u8]) -> Option<ControlReply>
         ensures reply { result ≡ option_map (reply_to self.old) (request_of body.now) }
         ensures after { self.new
-            ≡ option_map_or (λ r. eid_after self.old r.command r.content) (request_of body.now) self.old }
+            ≡ option_map_or (λ r. eid_after self.old r.command r.content)
+            (request_of body.now) self.old }
     {
         let [kind, numbers, command, content @ ..] = body else {
             return None;

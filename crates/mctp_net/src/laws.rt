@@ -17,13 +17,16 @@ pub fn one_packet()
 
 /// Bytes have a fault or are a packet, and never both.
 pub fn fault_or_packet()
-    ensures either { (bytes : List ℕ) → All (λ b. b < 256) bytes → HasFault bytes ⊎ ((p : Packet) × IsPacket p bytes) }
-    ensures not_both { (p : Packet) (bytes : List ℕ) → IsPacket p bytes → find (has_fault bytes) faults ≡ None }
+    ensures either { (bytes : List ℕ) → All (λ b. b < 256) bytes
+        → HasFault bytes ⊎ ((p : Packet) × IsPacket p bytes) }
+    ensures not_both { (p : Packet) (bytes : List ℕ) → IsPacket p bytes
+        → find (has_fault bytes) faults ≡ None }
 {}
 
 /// A message of 1 to 256 bytes has a cut.
 pub fn has_cut()
-    ensures { (m : Message) → 0 < length m.body → length m.body ≤ most_message_bytes → (ps : List Packet) × IsCutOf m ps }
+    ensures { (m : Message) → 0 < length m.body → length m.body ≤ most_message_bytes
+        → (ps : List Packet) × IsCutOf m ps }
 {}
 
 /// A message is cut in one way.
@@ -35,7 +38,9 @@ pub fn one_cut()
 /// other names are open if they are more than one.
 pub fn comes_back()
     ensures { (own : ℕ) (a : Assemblies) (m : Message) (ps : List Packet) → IsCutOf m ps
-        → All (λ p. is_ours own p ≡ true) ps → (1 < length ps → open_beside (name_of m.envelope) a < most_assemblies) → ComesBack own a ps m }
+        → All (λ p. is_ours own p ≡ true) ps
+        → (1 < length ps → open_beside (name_of m.envelope) a < most_assemblies)
+        → ComesBack own a ps m }
 {}
 
 /// Whatever packets come, under each name those that wait are the first of a cut, and at most eight assemblies are open.
@@ -49,6 +54,7 @@ pub fn stays_sound()
 pub fn each_name_alone()
     ensures same { (own : ℕ) (a : Assemblies) (p : Packet)
         → (after own a p).under (name_of p.envelope) ≡ named_where (drop_cause own a p) p a }
-    ensures other { (own : ℕ) (a : Assemblies) (p : Packet) (n : Name) → is_name n (name_of p.envelope) ≡ false
+    ensures other { (own : ℕ) (a : Assemblies) (p : Packet) (n : Name)
+        → is_name n (name_of p.envelope) ≡ false
         → (after own a p).under n ≡ a.under n }
 {}

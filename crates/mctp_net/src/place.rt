@@ -51,7 +51,8 @@ impl Place {
     /// Appends what a packet carries.
     pub(crate) fn append(&mut self, payload: &[u8])
         requires { length self.old.bytes + length payload.now ≤ most_message_bytes }
-        ensures { self.new ≡ record { name = self.old.name; bytes = self.old.bytes ++ payload.now } }
+        ensures { self.new
+            ≡ record { name = self.old.name; bytes = self.old.bytes ++ payload.now } }
     {
         self.bytes.extend_from_slice(payload);
     }

@@ -83,7 +83,8 @@ pub(crate) fn let_go(places: &mut Vec<Place>, place: Option<usize>, packet: &Pac
     requires sound { AreSound places.old.items }
     requires place { IsPlaceOf (Some (name_of packet.now.envelope)) places.old.items place }
     ensures sound { AreSound places.new.items }
-    ensures after { assemblies_in places.new.items None ≡ closed packet.now (assemblies_in places.old.items None) }
+    ensures after { assemblies_in places.new.items None
+        ≡ closed packet.now (assemblies_in places.old.items None) }
 {
     match place {
         Some(place) => places[place].close(),
@@ -98,7 +99,8 @@ pub(crate) fn keep(places: &mut Vec<Place>, place: Option<usize>, packet: &Packe
     requires fits { Fits (assemblies_in places.old.items None) packet.now }
     requires more { packet.now.end ≡ false }
     ensures sound { AreSound places.new.items }
-    ensures after { assemblies_in places.new.items None ≡ kept_with packet.now (assemblies_in places.old.items None) }
+    ensures after { assemblies_in places.new.items None
+        ≡ kept_with packet.now (assemblies_in places.old.items None) }
 {
     if packet.start {
         begin(places, place, packet);
@@ -115,7 +117,8 @@ fn begin(places: &mut Vec<Place>, place: Option<usize>, packet: &Packet<'_>)
     requires more { packet.now.end ≡ false }
     requires start { packet.now.start ≡ true }
     ensures sound { AreSound places.new.items }
-    ensures after { assemblies_in places.new.items None ≡ kept_with packet.now (assemblies_in places.old.items None) }
+    ensures after { assemblies_in places.new.items None
+        ≡ kept_with packet.now (assemblies_in places.old.items None) }
 {
     let place = room_for(places.as_slice(), place, packet);
     places[place].begin(packet.envelope.name(), packet.payload.as_slice());
@@ -125,7 +128,8 @@ fn begin(places: &mut Vec<Place>, place: Option<usize>, packet: &Packet<'_>)
 fn room_for(places: &[Place], place: Option<usize>, packet: &Packet<'_>) -> usize
     requires sound { AreSound places.now }
     requires place { IsPlaceOf (Some (name_of packet.now.envelope)) places.now place }
-    requires room { open_beside (name_of packet.now.envelope) (assemblies_in places.now None) < most_assemblies }
+    requires room { open_beside (name_of packet.now.envelope) (assemblies_in places.now None)
+        < most_assemblies }
     ensures { IsRoomFor (name_of packet.now.envelope) places.now result }
 {
     match place {
@@ -142,7 +146,8 @@ fn append(places: &mut Vec<Place>, place: Option<usize>, packet: &Packet<'_>)
     requires more { packet.now.end ≡ false }
     requires start { packet.now.start ≡ false }
     ensures sound { AreSound places.new.items }
-    ensures after { assemblies_in places.new.items None ≡ kept_with packet.now (assemblies_in places.old.items None) }
+    ensures after { assemblies_in places.new.items None
+        ≡ kept_with packet.now (assemblies_in places.old.items None) }
 {
     let place = place.unwrap();
     places[place].append(packet.payload.as_slice());
@@ -159,7 +164,8 @@ pub(crate) fn end(
     requires place { IsPlaceOf (Some (name_of packet.now.envelope)) places.old.items place }
     requires fits { Fits (assemblies_in places.old.items None) packet.now }
     ensures sound { AreSound places.new.items }
-    ensures after { assemblies_in places.new.items result ≡ ended packet.now (assemblies_in places.old.items None) }
+    ensures after { assemblies_in places.new.items result
+        ≡ ended packet.now (assemblies_in places.old.items None) }
     ensures made { IfSome result (λ i. i < most_assemblies) }
     ensures some { 0 < length packet.now.payload }
     ensures most { length packet.now.payload ≤ unit_size }

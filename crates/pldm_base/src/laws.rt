@@ -21,7 +21,8 @@ pub fn one_reply()
 /// Bytes have a fault or are a request, and never both.
 pub fn fault_or_request(bytes: &PldmBytes<'_>)
     ensures either { HasFault bytes.now ⊎ ((r : PldmRequest) × IsRequest r bytes.now) }
-    ensures not_both { (r : PldmRequest) → IsRequest r bytes.now → find (has_fault bytes.now) faults ≡ None }
+    ensures not_both { (r : PldmRequest) → IsRequest r bytes.now
+        → find (has_fault bytes.now) faults ≡ None }
 {
     let _ = read_pldm(bytes);
 }
@@ -29,20 +30,23 @@ pub fn fault_or_request(bytes: &PldmBytes<'_>)
 /// Bytes have a fault or are a reply, and never both.
 pub fn fault_or_reply(bytes: &PldmBytes<'_>)
     ensures either { HasReplyFault bytes.now ⊎ ((r : PldmReply) × IsReply r bytes.now) }
-    ensures not_both { (r : PldmReply) → IsReply r bytes.now → find (has_reply_fault bytes.now) reply_faults ≡ None }
+    ensures not_both { (r : PldmReply) → IsReply r bytes.now
+        → find (has_reply_fault bytes.now) reply_faults ≡ None }
 {
     let _ = read_pldm_reply(bytes);
 }
 
 /// The request in bytes is the one that they are, and so with the reply.
 pub fn in_bytes_is_the_grammar()
-    ensures request { (r : PldmRequest) (bytes : List ℕ) → (request_in bytes ≡ Some r) ↔ IsRequest r bytes }
+    ensures request { (r : PldmRequest) (bytes : List ℕ)
+        → (request_in bytes ≡ Some r) ↔ IsRequest r bytes }
     ensures reply { (r : PldmReply) (bytes : List ℕ) → (reply_in bytes ≡ Some r) ↔ IsReply r bytes }
 {}
 
 /// No bytes are a request and a reply.
 pub fn no_request_is_a_reply()
-    ensures { (r : PldmRequest) (s : PldmReply) (bytes : List ℕ) → IsRequest r bytes → IsReply s bytes → ⊥ }
+    ensures { (r : PldmRequest) (s : PldmReply) (bytes : List ℕ) → IsRequest r bytes
+        → IsReply s bytes → ⊥ }
 {}
 
 /// Every table has parts.
@@ -52,7 +56,8 @@ pub fn every_table_has_parts()
 
 /// A table has no two lists of parts.
 pub fn one_list_of_parts()
-    ensures { (table : List ℕ) (parts pieces : List (List ℕ)) → AreParts table parts → AreParts table pieces
+    ensures { (table : List ℕ) (parts pieces : List (List ℕ)) → AreParts table parts
+        → AreParts table pieces
         → parts ≡ pieces }
 {}
 
@@ -61,7 +66,8 @@ pub fn parts_stand_at_their_offsets()
     ensures begins { (table : List ℕ) (parts : List (List ℕ)) → AreParts table parts
         → (k : ℕ) → begins_part table (part_length * k) ≡ nat_lt k (length parts) }
     ensures bytes { (table : List ℕ) (parts : List (List ℕ)) → AreParts table parts
-        → (k : ℕ) → k < length parts → slice_get parts k ≡ Some (part_bytes table (part_length * k)) }
+        → (k : ℕ) → k < length parts
+        → slice_get parts k ≡ Some (part_bytes table (part_length * k)) }
     ensures last { (table : List ℕ) (parts : List (List ℕ)) → AreParts table parts
         → (k : ℕ) → k < length parts → is_last table (part_length * k) ≡ (k + 1 == length parts) }
 {}
@@ -73,7 +79,8 @@ pub fn all_bytes_have_a_crc32()
 
 /// No bytes have two of them.
 pub fn one_crc32()
-    ensures { (bytes : List ℕ) (crc check : ℕ) → IsCrc32 bytes crc → IsCrc32 bytes check → crc ≡ check }
+    ensures { (bytes : List ℕ) (crc check : ℕ) → IsCrc32 bytes crc → IsCrc32 bytes check
+        → crc ≡ check }
 {}
 
 /// The one that bytes have is that of long division.

@@ -47,7 +47,8 @@ impl SdrRecord {
 
     /// The record with these bytes, or nothing where they are no record.
     pub fn new(bytes: &[u8]) -> Option<SdrRecord>
-        ensures made { IsSome result ↔ (IsSdrRecord bytes.now × (length bytes.now ≤ most_sdr_bytes)) }
+        ensures made { IsSome result
+            ↔ (IsSdrRecord bytes.now × (length bytes.now ≤ most_sdr_bytes)) }
         ensures bytes { IfSome result (λ made. made ≡ bytes.now) }
     {
         if bytes.len() < HEADER_SIZE || bytes.len() > MOST_SDR_BYTES {

@@ -9,19 +9,16 @@ ghost use Rattle.record_kinds.specs.Series.{set_whole, get_next};
 
 use crate::limits::Limits;
 use bios_attr::bios_attribute::{BIOS, SET_CURRENT_VALUE};
-use bios_attr::entry_parts::{get_part, part_at};
+use bios_attr::entry_parts::{BEFORE_ENTRY_VALUE, get_part, part_at};
 use cfg_records::{Asked, Key, Op, RecordKind, SetBiosAttribute};
 use pldm_base::MOST_WHOLE;
 use two_wire::Below;
-
-/// How many bytes an attribute's entry has before its value: the attribute, and its type.
-const BEFORE_VALUE: usize = 3;
 
 /// Whether the entry that sets an attribute goes in parts.
 fn is_long(set: &SetBiosAttribute<'_>) -> bool
     ensures { result ≡ nat_lt most_whole (length (op_entry set.now)) }
 {
-    BEFORE_VALUE + set.value.as_slice().len() > MOST_WHOLE
+    BEFORE_ENTRY_VALUE + set.value.as_slice().len() > MOST_WHOLE
 }
 
 /// The request of this place among those that set an attribute in parts.

@@ -135,7 +135,8 @@ impl Sel {
     /// Gives the next reservation.
     pub fn reserve(&mut self) -> u16
         ensures number { result ≡ next_number self.old.reservations.last }
-        ensures after { self.new ≡ record self.old { reservations = record { present = result; last = result } } }
+        ensures after { self.new
+            ≡ record self.old { reservations = record { present = result; last = result } } }
     {
         self.reservations.reserve()
     }
@@ -215,7 +216,8 @@ fn id_behind(records: &[LogRecord], place: usize) -> u16
     requires counted { CountFrom 1 records.now }
     requires few { length records.now ≤ 1024 }
     requires within { place < length records.now }
-    ensures { (r : List ℕ) → slice_get records.now place ≡ Some r → result ≡ id_behind records.now (id_of r) }
+    ensures { (r : List ℕ) → slice_get records.now place ≡ Some r
+        → result ≡ id_behind records.now (id_of r) }
 {
     if place + 1 == records.len() {
         LAST_RECORD

@@ -91,7 +91,10 @@ pub const PLDM_INVALID_ATTRIBUTE: Code = Code { value: 0x88 };
 
 /// The codes of IPMI, from the lowest, each by its constant. The clause ties a constant to the name that contracts have for it.
 pub fn of_ipmi() -> [Code; 11]
-    ensures { result ≡ codes.uninitialized_watchdog ∷ codes.node_busy ∷ codes.invalid_command ∷ codes.invalid_for_lun ∷ codes.out_of_space ∷ codes.reservation_canceled ∷ codes.invalid_length ∷ codes.out_of_range ∷ codes.too_many_bytes ∷ codes.not_present ∷ codes.invalid_data_field ∷ [] }
+    ensures { result ≡ codes.uninitialized_watchdog ∷ codes.node_busy ∷ codes.invalid_command
+        ∷ codes.invalid_for_lun ∷ codes.out_of_space ∷ codes.reservation_canceled
+        ∷ codes.invalid_length ∷ codes.out_of_range ∷ codes.too_many_bytes ∷ codes.not_present
+        ∷ codes.invalid_data_field ∷ [] }
 {
     [
         UNINITIALIZED_WATCHDOG,
@@ -110,7 +113,10 @@ pub fn of_ipmi() -> [Code; 11]
 
 /// The codes of PLDM, from the lowest, each by its constant.
 pub fn of_pldm() -> [Code; 11]
-    ensures { result ≡ codes.pldm_error ∷ codes.pldm_invalid_data ∷ codes.pldm_invalid_length ∷ codes.pldm_not_ready ∷ codes.pldm_unsupported_command ∷ codes.pldm_invalid_type ∷ codes.pldm_invalid_effecter ∷ codes.pldm_invalid_state ∷ codes.pldm_no_table ∷ codes.pldm_invalid_table ∷ codes.pldm_invalid_attribute ∷ [] }
+    ensures { result ≡ codes.pldm_error ∷ codes.pldm_invalid_data ∷ codes.pldm_invalid_length
+        ∷ codes.pldm_not_ready ∷ codes.pldm_unsupported_command ∷ codes.pldm_invalid_type
+        ∷ codes.pldm_invalid_effecter ∷ codes.pldm_invalid_state ∷ codes.pldm_no_table
+        ∷ codes.pldm_invalid_table ∷ codes.pldm_invalid_attribute ∷ [] }
 {
     [
         PLDM_ERROR,

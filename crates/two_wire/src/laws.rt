@@ -9,5 +9,6 @@ pub fn all_bytes_have_a_pec()
 
 /// No bytes have two of them.
 pub fn one_pec()
-    ensures { (bytes : List ℕ) (code check : ℕ) → IsPec bytes code → IsPec bytes check → code ≡ check }
+    ensures { (bytes : List ℕ) (code check : ℕ) → IsPec bytes code → IsPec bytes check
+        → code ≡ check }
 {}

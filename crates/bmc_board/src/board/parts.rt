@@ -1,7 +1,7 @@
 //! The commands of attributes, with values that are whole or come in parts.
 ghost use Rattle.std.specs.Prelude.{◌≡◌, ◌+◌, ◌≤◌, drop, length, Ok};
 ghost use Rattle.two_wire.specs.Sizes.{most_pldm_reply_data};
-ghost use Rattle.attribute_parts.specs.SetParts.{before_part};
+ghost use Rattle.bios_attr.specs.EntryParts.{before_part};
 ghost use Rattle.attribute_parts.specs.declared.set_part.SetPart.TheVariants as set_part;
 ghost use Rattle.bmc_board.specs.Gives.{Gives};
 ghost use Rattle.bmc_board.specs.BiosTables.{longest_part};
