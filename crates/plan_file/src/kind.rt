@@ -2,7 +2,7 @@
 //! what each means.
 ghost use Rattle.std.specs.Prelude.{◌≡◌};
 ghost use Rattle.toml.specs.View.{table_view};
-ghost use Rattle.plan_file.specs.Kinds.{of_kind, kind_in};
+ghost use Rattle.plan_file.specs.Kinds.{of_kind, kind_of, kind_in};
 
 mod bios_attribute;
 mod boot_param;
@@ -111,6 +111,15 @@ macro_rules! change {
     };
 }
 
+/// The kind that makes the change.
+macro_rules! kind_of {
+    (($op:expr) $($kind:ident $module:ident $word:literal)*) => {
+        match $op {
+            $(Op::$kind(_) => Kind::$kind,)*
+        }
+    };
+}
+
 /// All kinds of step.
 pub const KINDS: [Kind; 14] = of_each_kind!(kinds());
 
@@ -118,6 +127,13 @@ pub const KINDS: [Kind; 14] = of_each_kind!(kinds());
 pub const KIND: [Row; 1] = [Row(Field::Kind, Shape::Text, Need::Always)];
 
 impl Kind {
+    /// The kind of the steps that make such a change.
+    pub fn of(op: &Op<'_>) -> Kind
+        ensures { result ≡ kind_of op.now }
+    {
+        of_each_kind!(kind_of(op))
+    }
+
     /// What a step's `kind` calls it.
     pub fn word(&self) -> &'static str
         ensures { result.now ≡ (of_kind self.now).word }
