@@ -38,19 +38,7 @@ pub next_got : (names : Names) (of : Key) (before : List (List ℕ)) (body : Lis
     → (words_of names).next (Reads of) (before ++ body ∷ []) ≡ option_map (own names) (get_after_reply of (parts + 1) body)
 next_got names (key.BiosAttribute handle) before body parts many =
     λ i. option_map (own names) (if goes_on (one_more before body parts many i) (last_is before body i) then Some (get_part handle (part_length * one_more before body parts many i)) else None)
-next_got names (key.Thresholds sensor) before body parts many = refl
-next_got names (key.Hysteresis sensor) before body parts many = refl
-next_got names (key.EventEnable sensor) before body parts many = refl
-next_got names key.PowerPolicy before body parts many = refl
-next_got names key.Watchdog before body parts many = refl
-next_got names key.GlobalEnables before body parts many = refl
-next_got names (key.BootParam parameter) before body parts many = refl
-next_got names (key.NumericEffecter id) before body parts many = refl
-next_got names (key.StateEffecter id) before body parts many = refl
-next_got names (key.UserName user) before body parts many = refl
-next_got names (key.UserAccess on) before body parts many = refl
-next_got names (key.ChannelAccess at) before body parts many = refl
-next_got names (key.LanParam on) before body parts many = refl
+next_got names _ before body parts many = refl
 
 -- ---- the stage after a reply
 

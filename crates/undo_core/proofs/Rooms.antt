@@ -23,37 +23,13 @@ use Rattle.undo_core.specs.Room.{most_data, data_for, HasRoom}
 
 -- it is from nobody
 pub whole_from_nobody : (any : Op) → from_nobody (set_whole any) ≡ set_whole any
-whole_from_nobody (op.Thresholds own) = refl
-whole_from_nobody (op.Hysteresis own) = refl
-whole_from_nobody (op.EventEnable own) = refl
-whole_from_nobody (op.PowerPolicy own) = refl
-whole_from_nobody (op.Watchdog own) = refl
-whole_from_nobody (op.GlobalEnables own) = refl
-whole_from_nobody (op.BootParam own) = refl
-whole_from_nobody (op.NumericEffecter own) = refl
-whole_from_nobody (op.StateEffecter own) = refl
-whole_from_nobody (op.UserName own) = refl
-whole_from_nobody (op.UserAccess own) = refl
-whole_from_nobody (op.ChannelAccess own) = refl
 whole_from_nobody (op.BiosAttribute own) = refl
-whole_from_nobody (op.LanParam own) = refl
+whole_from_nobody _ = refl
 
 -- it begins with the first request
 pub begins_with : (any : Op) → first_request (set_whole any) ≡ set_asked any
-begins_with (op.Thresholds own) = refl
-begins_with (op.Hysteresis own) = refl
-begins_with (op.EventEnable own) = refl
-begins_with (op.PowerPolicy own) = refl
-begins_with (op.Watchdog own) = refl
-begins_with (op.GlobalEnables own) = refl
-begins_with (op.BootParam own) = refl
-begins_with (op.NumericEffecter own) = refl
-begins_with (op.StateEffecter own) = refl
-begins_with (op.UserName own) = refl
-begins_with (op.UserAccess own) = refl
-begins_with (op.ChannelAccess own) = refl
 begins_with (op.BiosAttribute own) = refl
-begins_with (op.LanParam own) = refl
+begins_with _ = refl
 
 -- ---- the data of a request that undoes
 
@@ -69,41 +45,19 @@ two_each (change ∷ changes) = omega (arith, two_each changes)
 
 -- they are few but for an attribute
 pub short : (any : Op) → Fits (set_whole any) → length (data_of (set_whole any)) ≤ most_data any
-short (op.Thresholds own) fits = fits
-short (op.Hysteresis own) fits = fits
-short (op.EventEnable own) fits = fits
-short (op.PowerPolicy own) fits = fits
-short (op.Watchdog own) fits = fits
-short (op.GlobalEnables own) fits = fits
-short (op.BootParam own) fits = fits
 short (op.NumericEffecter own) fits = omega (arith, few_numbers own.value)
 short (op.StateEffecter own) fits = omega (arith, two_each own.changes, own.few)
-short (op.UserName own) fits = fits
-short (op.UserAccess own) fits = fits
-short (op.ChannelAccess own) fits = fits
 short (op.BiosAttribute own) fits = omega (arith, own.fits)
-short (op.LanParam own) fits = fits
+short _ fits = fits
 
 -- what undoes an operation is of its kind
-of_kind : {O : Type 0} (as_op : O → Op) (most : ℕ) → ((own : O) → most_data (as_op own) ≡ most) → (made : Option O) (back : Op) → option_map as_op made ≡ Some back → most_data back ≡ most
-of_kind as_op most same None back is = let both : None ≡ Some back = is in cc both
-of_kind as_op most same (Some own) back is = ap most_data (sym (same_Some (as_op own) back is)) ∙ same own
+of_kind : {O : Type 0} (as_op : O → Op) (most : ℕ) (made : Option O) (back : Op) → option_map as_op made ≡ Some back → ((own : O) → most_data (as_op own) ≡ most) → most_data back ≡ most
+of_kind as_op most None back is same = let both : None ≡ Some back = is in cc both
+of_kind as_op most (Some own) back is same = ap most_data (sym (same_Some (as_op own) back is)) ∙ same own
 
 pub same_kind : (any back : Op) (reply : List ℕ) → inverse any reply ≡ Some back → most_data back ≡ most_data any
-same_kind (op.Thresholds own) back reply is = of_kind op.Thresholds 25 (λ o. refl) _ back is
-same_kind (op.Hysteresis own) back reply is = of_kind op.Hysteresis 25 (λ o. refl) _ back is
-same_kind (op.EventEnable own) back reply is = of_kind op.EventEnable 25 (λ o. refl) _ back is
-same_kind (op.PowerPolicy own) back reply is = of_kind op.PowerPolicy 25 (λ o. refl) _ back is
-same_kind (op.Watchdog own) back reply is = of_kind op.Watchdog 25 (λ o. refl) _ back is
-same_kind (op.GlobalEnables own) back reply is = of_kind op.GlobalEnables 25 (λ o. refl) _ back is
-same_kind (op.BootParam own) back reply is = of_kind op.BootParam 25 (λ o. refl) _ back is
-same_kind (op.NumericEffecter own) back reply is = of_kind op.NumericEffecter 25 (λ o. refl) _ back is
-same_kind (op.StateEffecter own) back reply is = of_kind op.StateEffecter 25 (λ o. refl) _ back is
-same_kind (op.UserName own) back reply is = of_kind op.UserName 25 (λ o. refl) _ back is
-same_kind (op.UserAccess own) back reply is = of_kind op.UserAccess 25 (λ o. refl) _ back is
-same_kind (op.ChannelAccess own) back reply is = of_kind op.ChannelAccess 25 (λ o. refl) _ back is
-same_kind (op.BiosAttribute own) back reply is = of_kind op.BiosAttribute 1040 (λ o. refl) _ back is
-same_kind (op.LanParam own) back reply is = of_kind op.LanParam 25 (λ o. refl) _ back is
+same_kind (op.BiosAttribute own) back reply is = of_kind op.BiosAttribute 1040 _ back is (λ o. refl)
+same_kind _ back reply is = of_kind _ 25 _ back is (λ o. refl)
 
 -- an operation that goes in one request is carried out by it
 pub alone_whole : (any : Op) → request_at (set_whole any) 1 ≡ None → set_asked any ≡ set_whole any

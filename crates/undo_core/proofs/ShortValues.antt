@@ -88,22 +88,10 @@ few_undone : (reply : List ℕ) (tested : Bool) → is_attribute_reply reply ≡
 few_undone reply true is back made = subst HasShortValue (same_Some (op.BiosAttribute (undo_attribute reply)) back made) (few_shown reply is)
 few_undone reply false is back made = let both : None ≡ Some back = made in cc both
 
-of_short : {O : Type 0} (as_op : O → Op) → ((own : O) → HasShortValue (as_op own)) → (made : Option O) (back : Op) → option_map as_op made ≡ Some back → HasShortValue back
-of_short as_op all None back is = let both : None ≡ Some back = is in cc both
-of_short as_op all (Some own) back is = subst HasShortValue (same_Some (as_op own) back is) (all own)
+of_short : {O : Type 0} (as_op : O → Op) (made : Option O) (back : Op) → option_map as_op made ≡ Some back → ((own : O) → HasShortValue (as_op own)) → HasShortValue back
+of_short as_op None back is all = let both : None ≡ Some back = is in cc both
+of_short as_op (Some own) back is all = subst HasShortValue (same_Some (as_op own) back is) (all own)
 
 pub short_undo : (any back : Op) (reply : List ℕ) → inverse any reply ≡ Some back → HasShortValue back
-short_undo (op.Thresholds own) back reply is = of_short op.Thresholds (λ o. tt) _ back is
-short_undo (op.Hysteresis own) back reply is = of_short op.Hysteresis (λ o. tt) _ back is
-short_undo (op.EventEnable own) back reply is = of_short op.EventEnable (λ o. tt) _ back is
-short_undo (op.PowerPolicy own) back reply is = of_short op.PowerPolicy (λ o. tt) _ back is
-short_undo (op.Watchdog own) back reply is = of_short op.Watchdog (λ o. tt) _ back is
-short_undo (op.GlobalEnables own) back reply is = of_short op.GlobalEnables (λ o. tt) _ back is
-short_undo (op.BootParam own) back reply is = of_short op.BootParam (λ o. tt) _ back is
-short_undo (op.NumericEffecter own) back reply is = of_short op.NumericEffecter (λ o. tt) _ back is
-short_undo (op.StateEffecter own) back reply is = of_short op.StateEffecter (λ o. tt) _ back is
-short_undo (op.UserName own) back reply is = of_short op.UserName (λ o. tt) _ back is
-short_undo (op.UserAccess own) back reply is = of_short op.UserAccess (λ o. tt) _ back is
-short_undo (op.ChannelAccess own) back reply is = of_short op.ChannelAccess (λ o. tt) _ back is
 short_undo (op.BiosAttribute own) back reply is = few_undone reply (is_attribute_reply reply) refl back is
-short_undo (op.LanParam own) back reply is = of_short op.LanParam (λ o. tt) _ back is
+short_undo _ back reply is = of_short _ _ back is (λ o. tt)
