@@ -72,20 +72,12 @@ by_some : (setup : BoardFile) (key : Key) (given : Limits) → ((bodies : List (
 by_some setup key given none whole is = record { none_next = none; all_shown = λ l body at. some_shown given l body (whole body) (sym is ∙ at) }
 
 one_or_attribute : (setup : BoardFile) (k : Key) → IsOne setup k ⊎ ((handle : ℕ) × (k ≡ key.BiosAttribute handle))
-one_or_attribute setup (key.Thresholds n) = inl (by_found setup (key.Thresholds n) _ _ (λ bodies. refl) (λ x body. refl) refl)
-one_or_attribute setup (key.Hysteresis n) = inl (by_found setup (key.Hysteresis n) _ _ (λ bodies. refl) (λ x body. refl) refl)
-one_or_attribute setup (key.EventEnable n) = inl (by_found setup (key.EventEnable n) _ _ (λ bodies. refl) (λ x body. refl) refl)
 one_or_attribute setup key.PowerPolicy = inl (by_some setup key.PowerPolicy _ (λ bodies. refl) (λ body. refl) refl)
 one_or_attribute setup key.Watchdog = inl (by_some setup key.Watchdog _ (λ bodies. refl) (λ body. refl) refl)
 one_or_attribute setup key.GlobalEnables = inl (by_some setup key.GlobalEnables _ (λ bodies. refl) (λ body. refl) refl)
 one_or_attribute setup (key.BootParam parameter) = inl (by_some setup (key.BootParam parameter) _ (λ bodies. refl) (λ body. refl) refl)
-one_or_attribute setup (key.NumericEffecter id) = inl (by_found setup (key.NumericEffecter id) _ _ (λ bodies. refl) (λ x body. refl) refl)
-one_or_attribute setup (key.StateEffecter id) = inl (by_found setup (key.StateEffecter id) _ _ (λ bodies. refl) (λ x body. refl) refl)
-one_or_attribute setup (key.UserName user) = inl (by_found setup (key.UserName user) _ _ (λ bodies. refl) (λ x body. refl) refl)
-one_or_attribute setup (key.UserAccess on) = inl (by_found setup (key.UserAccess on) _ _ (λ bodies. refl) (λ x body. refl) refl)
-one_or_attribute setup (key.ChannelAccess store) = inl (by_found setup (key.ChannelAccess store) _ _ (λ bodies. refl) (λ x body. refl) refl)
 one_or_attribute setup (key.BiosAttribute handle) = inr (handle, refl)
-one_or_attribute setup (key.LanParam on) = inl (by_found setup (key.LanParam on) _ _ (λ bodies. refl) (λ x body. refl) refl)
+one_or_attribute setup _ = inl (by_found setup _ _ _ (λ bodies. refl) (λ x body. refl) refl)
 
 -- ---- the first reply
 
