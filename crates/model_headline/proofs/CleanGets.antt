@@ -185,20 +185,12 @@ alone_by : {X : Type 0} (setup : BoardFile) (k : Key) (given : X → Limits) (fo
 alone_by setup k given found none one is = (none, λ v. ap (λ (l : Option Limits). get_count l v) is ∙ found_alone given found v (λ x. one x v))
 
 pub got_alone : (setup : BoardFile) (k : Key) → IsGotAlone setup k ⊎ ((handle : ℕ) × (k ≡ key.BiosAttribute handle))
-got_alone setup (key.Thresholds n) = inl (alone_by setup (key.Thresholds n) _ _ (λ b bs. refl) (λ x v. refl) refl)
-got_alone setup (key.Hysteresis n) = inl (alone_by setup (key.Hysteresis n) _ _ (λ b bs. refl) (λ x v. refl) refl)
-got_alone setup (key.EventEnable n) = inl (alone_by setup (key.EventEnable n) _ _ (λ b bs. refl) (λ x v. refl) refl)
 got_alone setup key.PowerPolicy = inl (λ b bs. refl, λ v. refl)
 got_alone setup key.Watchdog = inl (λ b bs. refl, λ v. refl)
 got_alone setup key.GlobalEnables = inl (λ b bs. refl, λ v. refl)
 got_alone setup (key.BootParam parameter) = inl (λ b bs. refl, λ v. refl)
-got_alone setup (key.NumericEffecter id) = inl (alone_by setup (key.NumericEffecter id) _ _ (λ b bs. refl) (λ x v. refl) refl)
-got_alone setup (key.StateEffecter id) = inl (alone_by setup (key.StateEffecter id) _ _ (λ b bs. refl) (λ x v. refl) refl)
-got_alone setup (key.UserName user) = inl (alone_by setup (key.UserName user) _ _ (λ b bs. refl) (λ x v. refl) refl)
-got_alone setup (key.UserAccess on) = inl (alone_by setup (key.UserAccess on) _ _ (λ b bs. refl) (λ x v. refl) refl)
-got_alone setup (key.ChannelAccess store) = inl (alone_by setup (key.ChannelAccess store) _ _ (λ b bs. refl) (λ x v. refl) refl)
 got_alone setup (key.BiosAttribute handle) = inr (handle, refl)
-got_alone setup (key.LanParam on) = inl (alone_by setup (key.LanParam on) _ _ (λ b bs. refl) (λ x v. refl) refl)
+got_alone setup k = inl (alone_by setup k _ _ (λ b bs. refl) (λ x v. refl) refl)
 
 -- what a Get of an attribute shows
 record ShowsEntry (limits_are : Option Limits) (value body : List ℕ) : Type 0 where
