@@ -2,32 +2,12 @@
 use Rattle.std.specs.Prelude.{◌≡◌, ◌≢◌, ◌⊎◌, ℕ, zero, suc, Bool, true, false, List, [], ◌∷◌, ◌++◌, Option, Some, None, IsSome, codes, slice_get}
 use Rattle.std.specs.Fmt.{decimal}
 use Rattle.std.specs.Io.KnownBytes.{Appends}
-use Rattle.record_base.specs.declared.op.Op.{Op}
-use Rattle.record_base.specs.declared.op.Op.TheVariants as op
 use Rattle.plan_file.specs.declared.kind.Kind.{Kind}
-use Rattle.plan_file.specs.declared.kind.Kind.TheVariants as kind
 use Rattle.plan_file.specs.Kinds.{of_kind}
 use Rattle.model_undo.specs.declared.phase.Phase.{Phase}
 use Rattle.model_undo.specs.declared.phase.Phase.TheVariants.{Getting, Setting, Undoing, Unsettled}
 use Rattle.net_run.specs.declared.progress.Moment.{Moment}
 use Rattle.net_run.specs.declared.progress.Progress.{Progress}
-
--- the kind of step that makes such a change
-abbrev pub kind_of : Op → Kind
-kind_of (op.Thresholds set) = kind.Thresholds
-kind_of (op.Hysteresis set) = kind.Hysteresis
-kind_of (op.EventEnable set) = kind.EventEnable
-kind_of (op.PowerPolicy set) = kind.PowerPolicy
-kind_of (op.Watchdog set) = kind.Watchdog
-kind_of (op.GlobalEnables set) = kind.GlobalEnables
-kind_of (op.BootParam set) = kind.BootParam
-kind_of (op.NumericEffecter set) = kind.NumericEffecter
-kind_of (op.StateEffecter set) = kind.StateEffecter
-kind_of (op.UserName set) = kind.UserName
-kind_of (op.UserAccess set) = kind.UserAccess
-kind_of (op.ChannelAccess set) = kind.ChannelAccess
-kind_of (op.BiosAttribute set) = kind.BiosAttribute
-kind_of (op.LanParam set) = kind.LanParam
 
 -- ---- the line
 

@@ -3,6 +3,7 @@ use Rattle.std.specs.Prelude.{◌≡◌, ◌⊎◌, ℕ, List, [], ◌∷◌, Op
 use Rattle.undo_plans.specs.declared.plan.Plan.{Plan}
 use Rattle.undo_plans.specs.declared.undo_list.UndoList.{UndoList}
 use Rattle.plan_file.specs.declared.kind.Kind.{Kind}
+use Rattle.plan_file.specs.Kinds.{kind_of}
 use Rattle.plan_file.specs.PlanHolds.{ReadsPlan}
 use Rattle.text_undo.specs.UndoText.{Stands}
 use Rattle.text_schedule.specs.declared.event.Call.TheVariants.{Undo}
@@ -16,7 +17,7 @@ use Rattle.net_run.specs.declared.progress.Moment.{Moment}
 use Rattle.net_run.specs.declared.progress.Progress.{Progress}
 use Rattle.net_run.specs.Driven.{State, fresh_links, opened_with, resumed_from}
 use Rattle.net_run.specs.Moments.{PassesTo, Sees, Takes}
-use Rattle.net_run.specs.Progress.{EndsLine, MayTell, kind_of}
+use Rattle.net_run.specs.Progress.{EndsLine, MayTell}
 
 -- the manager is there
 pub record IsAt (m : Manager) (now : Moment) : Type 0 where

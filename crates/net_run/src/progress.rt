@@ -1,10 +1,10 @@
 //! The line on a terminal that tells how far a manager is.
 ghost use Rattle.std.specs.Prelude.{◌≡◌, ◌≢◌, ◌++◌, true, IfOk, OnOk, None, Some, map, string_bytes};
-ghost use Rattle.net_run.specs.Progress.{EndsLine, MayTell, Writes, has_line, kind_of, line_of};
+ghost use Rattle.plan_file.specs.Kinds.{kind_of};
+ghost use Rattle.net_run.specs.Progress.{EndsLine, MayTell, Writes, has_line, line_of};
 ghost use Rattle.net_run.specs.Progress.{retry_of, step_of, what_of, word_at};
 
 use plan_file::Kind;
-use record_base::Op;
 use std::alloc::{AllocError, Global};
 use std::io;
 use undo_core::Phase;
@@ -37,28 +37,6 @@ pub struct Progress<P> {
     pub(crate) said: Option<Moment>,
 }
 
-/// The kind of step that makes such a change.
-fn kind_of(op: &Op<'_>) -> Kind
-    ensures { result ≡ kind_of op.now }
-{
-    match op {
-        Op::Thresholds(_) => Kind::Thresholds,
-        Op::Hysteresis(_) => Kind::Hysteresis,
-        Op::EventEnable(_) => Kind::EventEnable,
-        Op::PowerPolicy(_) => Kind::PowerPolicy,
-        Op::Watchdog(_) => Kind::Watchdog,
-        Op::GlobalEnables(_) => Kind::GlobalEnables,
-        Op::BootParam(_) => Kind::BootParam,
-        Op::NumericEffecter(_) => Kind::NumericEffecter,
-        Op::StateEffecter(_) => Kind::StateEffecter,
-        Op::UserName(_) => Kind::UserName,
-        Op::UserAccess(_) => Kind::UserAccess,
-        Op::ChannelAccess(_) => Kind::ChannelAccess,
-        Op::BiosAttribute(_) => Kind::BiosAttribute,
-        Op::LanParam(_) => Kind::LanParam,
-    }
-}
-
 /// The kinds of a plan's steps, in their order.
 pub(crate) fn kinds_of(alloc: Global, steps: &Steps) -> Result<Vec<Kind>, AllocError>
     ensures { IfOk result (λ kinds. kinds.items ≡ map kind_of steps.now) }
@@ -66,7 +44,7 @@ pub(crate) fn kinds_of(alloc: Global, steps: &Steps) -> Result<Vec<Kind>, AllocE
     let mut kinds = Vec::new(alloc);
     for place in 0..steps.len() {
         let op = steps.get(place).unwrap();
-        kinds.push(kind_of(&op))?;
+        kinds.push(Kind::of(&op))?;
     }
     Ok(kinds)
 }

@@ -1,5 +1,6 @@
 //! `bmcnet run`: a plan on a controller over UDP.
 ghost use Rattle.std.specs.Prelude.{◌≡◌, ◌⊎◌, ℕ, List, true, false, IfOk, IfSome, OnErr, Ok, Err, map, string_bytes};
+ghost use Rattle.plan_file.specs.Kinds.{kind_of};
 ghost use Rattle.plan_file.specs.PlanHolds.{ReadsPlan};
 ghost use Rattle.model_lab.specs.Meaning.{lab_names};
 ghost use Rattle.undo_core.specs.Shown.{Shows};
@@ -11,7 +12,6 @@ ghost use Rattle.net_run.specs.declared.running.Outcome.TheVariants.{Ran as HasR
 ghost use Rattle.net_run.specs.Driven.{is_over, opened_with};
 ghost use Rattle.net_run.specs.Ends.{Nothing, SaysFile, SaysPhase, TellsBoth};
 ghost use Rattle.net_run.specs.Outcome.{Comes, ComesBeside, KeepsBeside, RunsBeside};
-ghost use Rattle.net_run.specs.Progress.{kind_of};
 ghost use Rattle.net_run.specs.Told.{MayTellWay, TellsBeside, TellsFile, TellsPlan, TellsText};
 ghost use Rattle.net_run.specs.Run.{EndsBy, EndsUnkept, RunEndsOf, RunEndsOn, RunEndsOver, SaysFault};
 

@@ -3,7 +3,7 @@ use Rattle.std.specs.List.{slice_get}
 use Rattle.std.proofs.lemmas.List.{take_more, map-append}
 use Rattle.std.proofs.lemmas.Option.{slice_get_within, get_or_from_slice_get}
 use Rattle.record_base.specs.declared.op.Op.{Op}
-use Rattle.net_run.specs.Progress.{kind_of}
+use Rattle.plan_file.specs.Kinds.{kind_of}
 use Rattle.net_run.proofs.progress.kinds_of.Goals as goal
 
 -- the kinds of one step more
@@ -13,4 +13,4 @@ one_more steps place op at = rw (take_more steps place op (slice_get_within step
 pub loop-place-preserved : goal.loop-place-preserved
 loop-place-preserved c =
     let at : slice_get c.args.steps.now c.loop-place.place ≡ Some c.unwrap-op.result = sym c.get.ensures ∙ c.unwrap-op.ensures in
-    record { seen = rw (one_more c.args.steps.now c.loop-place.place c.unwrap-op.result at, c.in_ok-push.ensures.items, c.kind_of.ensures, c.loop-place.invariant.seen) }
+    record { seen = rw (one_more c.args.steps.now c.loop-place.place c.unwrap-op.result at, c.in_ok-push.ensures.items, c.of.ensures, c.loop-place.invariant.seen) }

@@ -1,5 +1,5 @@
 use Rattle.std.proofs.Common.{◌≡◌, map, take}
-use Rattle.net_run.specs.Progress.{kind_of}
+use Rattle.plan_file.specs.Kinds.{kind_of}
 use Rattle.net_run.proofs.progress.kinds_of.Given as goal
 
 abbrev pub invariant-loop-place : goal.invariant-loop-place
