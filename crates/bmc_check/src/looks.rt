@@ -99,7 +99,8 @@ fn first_said<'a>(lines: &[&'a str]) -> Option<&'a str>
 
 /// The first of the lines that says something.
 fn first_line<'a>(lines: &[&'a str]) -> Option<&'a str>
-    ensures { option_map (λ line. line.now) result ≡ find (λ line. not (is_silent line)) (map (λ line. line.now) lines.now) }
+    ensures { option_map (λ line. line.now) result
+        ≡ find (λ line. not (is_silent line)) (map (λ line. line.now) lines.now) }
 {
     first_said(lines)
 }

@@ -68,7 +68,8 @@ fn check_each<F: TextFiles + TellsCause>(
     text: &mut String,
 ) -> Result<Vec<Outcome>, AllocError>
     ensures { IfOk result
-        (λ outcomes. AllZip (ComesOf (F.gives files.now)) (map string_bytes words.now) outcomes.items) }
+        (λ outcomes. AllZip (ComesOf (F.gives files.now))
+        (map string_bytes words.now) outcomes.items) }
 {
     let mut outcomes = Vec::new(alloc);
     for word in words {

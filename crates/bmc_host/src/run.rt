@@ -20,7 +20,9 @@ fn send<F: TextFiles, W: io::Write, E: io::Write>(
     words: &FrameWords,
     console: &mut Console<W, E>,
 ) -> u8
-    ensures { RunEnds W.contents E.contents (SaysOfWords (F.gives files.now) (Words.Frame words.now)) console.old console.new result }
+    ensures { RunEnds W.contents E.contents
+        (SaysOfWords (F.gives files.now) (Words.Frame words.now))
+        console.old console.new result }
 {
     let frame = &words.frame;
     frame_of_file(
@@ -40,7 +42,9 @@ fn play<F: TextFiles, W: io::Write, E: io::Write>(
     words: &PlayWords,
     console: &mut Console<W, E>,
 ) -> u8
-    ensures { RunEnds W.contents E.contents (SaysOfWords (F.gives files.now) (Words.Play words.now)) console.old console.new result }
+    ensures { RunEnds W.contents E.contents
+        (SaysOfWords (F.gives files.now) (Words.Play words.now))
+        console.old console.new result }
 {
     let named = PlayFiles {
         board: words.board.as_str(),
@@ -57,7 +61,9 @@ fn write<F: TextFiles, W: io::Write, E: io::Write>(
     words: &ScheduleWords,
     console: &mut Console<W, E>,
 ) -> u8
-    ensures { RunEnds W.contents E.contents (SaysOfWords (F.gives files.now) (Words.Schedule words.now)) console.old console.new result }
+    ensures { RunEnds W.contents E.contents
+        (SaysOfWords (F.gives files.now) (Words.Schedule words.now))
+        console.old console.new result }
 {
     let named = ScheduleFiles {
         board: words.board.as_str(),
@@ -73,7 +79,9 @@ fn check<F: TextFiles + TellsCause, W: io::Write, E: io::Write>(
     words: &CheckWords,
     console: &mut Console<W, E>,
 ) -> u8
-    ensures { RunEnds W.contents E.contents (SaysOfWords (F.gives files.now) (Words.Check words.now)) console.old console.new result }
+    ensures { RunEnds W.contents E.contents
+        (SaysOfWords (F.gives files.now) (Words.Check words.now))
+        console.old console.new result }
 {
     check_files(alloc, files, words.files.as_slice(), console)
 }
@@ -85,7 +93,8 @@ fn carry_out<F: TextFiles + TellsCause, W: io::Write, E: io::Write>(
     words: &Words,
     console: &mut Console<W, E>,
 ) -> u8
-    ensures { RunEnds W.contents E.contents (SaysOfWords (F.gives files.now) words.now) console.old console.new result }
+    ensures { RunEnds W.contents E.contents (SaysOfWords (F.gives files.now) words.now)
+        console.old console.new result }
 {
     match words {
         Words::Frame(words) => send(alloc, files, words, console),
@@ -104,7 +113,9 @@ pub fn run_line<F: TextFiles + TellsCause, W: io::Write, E: io::Write>(
     words: &[String],
     console: &mut Console<W, E>,
 ) -> u8
-    ensures { RunEnds W.contents E.contents (SaysOfLine (F.gives files.now) (map string_bytes words.now)) console.old console.new result }
+    ensures { RunEnds W.contents E.contents
+        (SaysOfLine (F.gives files.now) (map string_bytes words.now))
+        console.old console.new result }
 {
     match read(alloc, words) {
         Ok(asked) => carry_out(alloc, files, &asked, console),

@@ -89,7 +89,8 @@ fn number_refusal(alloc: Global, name: &str, value: &str, word: &str, most: u64)
 /// How many of a hundred the option of this name says, where it is given.
 fn percent(alloc: Global, matches: &ArgMatches, name: &str) -> Result<Option<Percent>, Refusal>
     ensures percent { IfOk result (NamesPercent (rows_of (found_of matches.now)) name.now) }
-    ensures refused { IfErr result (Refuses (NamesPercent (rows_of (found_of matches.now)) name.now)) }
+    ensures refused { IfErr result
+        (Refuses (NamesPercent (rows_of (found_of matches.now)) name.now)) }
 {
     let Some(word) = matches.get_str(name) else {
         return Ok(None);

@@ -31,9 +31,12 @@ fn bus_of(word: Option<&str>) -> Result<Bus, Status>
 
 /// The frame that the words BUS and HEX name, or `RefusedWords` where they name none. `word` is `None` where BUS is left out.
 pub fn asked_frame(alloc: Global, word: Option<&str>, digits: &str) -> Result<AskedFrame, Status>
-    ensures asked { IfOk result (λ frame. Asks (option_copied word.entry) digits.now frame.bus frame.bytes.items) }
-    ensures refused { result ≡ Err Status.RefusedWords → (b : AnyBus) (bytes : List ℕ) → ¬ Asks (option_copied word.entry) digits.now b bytes }
-    ensures faults { IfErr result (λ status. (status ≡ Status.RefusedWords) ⊎ (status ≡ Status.Memory)) }
+    ensures asked { IfOk result
+        (λ frame. Asks (option_copied word.entry) digits.now frame.bus frame.bytes.items) }
+    ensures refused { result ≡ Err Status.RefusedWords → (b : AnyBus) (bytes : List ℕ)
+        → ¬ Asks (option_copied word.entry) digits.now b bytes }
+    ensures faults { IfErr result
+        (λ status. (status ≡ Status.RefusedWords) ⊎ (status ≡ Status.Memory)) }
 {
     let bus = bus_of(word)?;
     match hex::decode(alloc, digits) {

@@ -68,7 +68,9 @@ impl<'a> Ending<'a> {
     pub fn write<W: io::Write, E: io::Write>(&self, console: &mut Console<W, E>) -> Status
         ensures { ((result ≡ Status.Output) × HasFailed console.new)
             ⊎ ((result ≡ self.now.status)
-            × Written self.now.stream self.now.text.now (W.contents console.old.out) (W.contents console.new.out) (E.contents console.old.err) (E.contents console.new.err)) }
+            × Written self.now.stream self.now.text.now
+            (W.contents console.old.out) (W.contents console.new.out)
+            (E.contents console.old.err) (E.contents console.new.err)) }
     {
         match console.write(self.stream, self.text) {
             Ok(()) if !console.has_failed() => self.status,

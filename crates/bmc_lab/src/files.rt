@@ -62,7 +62,8 @@ pub fn refuse<W: io::Write, E: io::Write>(
     unread: &Unread,
     console: &mut Console<W, E>,
 ) -> u8
-    ensures { RunEnds W.contents E.contents (Refuses unread.now.why unread.now.word.now) console.old console.new result }
+    ensures { RunEnds W.contents E.contents (Refuses unread.now.why unread.now.word.now)
+        console.old console.new result }
 {
     match unread.why {
         Unreadable::NoText => {
@@ -83,7 +84,9 @@ pub fn frame_of_file<F: TextFiles, W: io::Write, E: io::Write>(
     bytes: &[u8],
     console: &mut Console<W, E>,
 ) -> u8
-    ensures { RunEnds W.contents E.contents (SaysOfFile (F.gives files.now) (option_copied board.entry) bus bytes.now) console.old console.new result }
+    ensures { RunEnds W.contents E.contents
+        (SaysOfFile (F.gives files.now) (option_copied board.entry) bus bytes.now)
+        console.old console.new result }
 {
     let Some(word) = board else {
         return frame_run(alloc, bus, None, bytes, console);

@@ -30,7 +30,8 @@ pub fn controller_place() -> At
 /// The board of the file's text, or the sample board where no file is given.
 fn board_or_sample(alloc: Global, board: Option<&str>) -> Result<BoardFile, FileFault>
     ensures file { IfOk result (IsBoardOf (option_copied board.entry)) }
-    ensures fault { IfErr result (λ why. (why ≡ FileFault.Memory) ⊎ IsFaultOf (option_copied board.entry) why) }
+    ensures fault { IfErr result
+        (λ why. (why ≡ FileFault.Memory) ⊎ IsFaultOf (option_copied board.entry) why) }
 {
     match board {
         Some(text) => read_board(alloc, text),
@@ -49,7 +50,9 @@ fn heard_report(
     bytes: &[u8],
 ) -> Result<Report, AllocError>
     ensures stream { IfOk result (λ report. report.stream ≡ Output) }
-    ensures told { (board : Option (List ℕ)) → IsBoardOf board file → IfOk result (λ report. Tells board bus bytes.now (string_bytes report.text) report.status) }
+    ensures told { (board : Option (List ℕ)) → IsBoardOf board file
+        → IfOk result
+        (λ report. Tells board bus bytes.now (string_bytes report.text) report.status) }
 {
     let mut board = Board::of_file(alloc, file)?;
     let mut port = Port::new(alloc, bus, controller_place())?;
@@ -65,7 +68,9 @@ fn frame_report(
     board: Option<&str>,
     bytes: &[u8],
 ) -> Result<Report, AllocError>
-    ensures { IfOk result (λ report. Says (option_copied board.entry) bus bytes.now report.stream (string_bytes report.text) report.status) }
+    ensures { IfOk result
+        (λ report. Says (option_copied board.entry) bus bytes.now
+        report.stream (string_bytes report.text) report.status) }
 {
     match board_or_sample(alloc, board) {
         Ok(file) => heard_report(alloc, file, bus, bytes),
@@ -85,7 +90,8 @@ pub fn frame_run<W: io::Write, E: io::Write>(
     bytes: &[u8],
     console: &mut Console<W, E>,
 ) -> u8
-    ensures { RunEnds W.contents E.contents (Says (option_copied board.entry) bus bytes.now) console.old console.new result }
+    ensures { RunEnds W.contents E.contents (Says (option_copied board.entry) bus bytes.now)
+        console.old console.new result }
 {
     let report = frame_report(alloc, bus, board, bytes);
     u8::from(Ending::of(&report).write(console))

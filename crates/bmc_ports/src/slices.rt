@@ -63,7 +63,8 @@ fn make_turn<J: Opening, S: Store + Drop, L: Link, G: Gate, R: Wait>(
     desk: &mut Desk<'_, G>,
 ) -> End
     requires { 1 ≤ lane.old.turns }
-    ensures turn { SomeTurn L.counts_of result seat.old.calls.items seat.new.calls.items lane.old lane.new }
+    ensures turn { SomeTurn L.counts_of result
+        seat.old.calls.items seat.new.calls.items lane.old lane.new }
     ensures marked { result ≡ Full → seat.new.refused ≡ true }
     ensures mark { result ≡ Turns → seat.new.refused ≡ seat.old.refused }
     ensures number { seat.new.number ≡ seat.old.number }
@@ -93,7 +94,8 @@ fn serve_slices<J: Opening, S: Store + Drop, L: Link, G: Gate, R: Wait>(
     gate: &G,
     rope: &Rope<'_>,
 ) -> End
-    ensures goes { GoesOn L.counts_of result seat.old.calls.items seat.new.calls.items lane.old lane.new }
+    ensures goes { GoesOn L.counts_of result
+        seat.old.calls.items seat.new.calls.items lane.old lane.new }
     ensures marked { result ≡ Full → seat.new.refused ≡ true }
     ensures mark { result ≡ Turns → seat.new.refused ≡ seat.old.refused }
     ensures number { seat.new.number ≡ seat.old.number }

@@ -7,7 +7,8 @@ use std::alloc::AllocError;
 
 /// Adds the line that says whether records are changed, and how many.
 pub fn push_records(text: &mut String, changed: usize) -> Result<(), AllocError>
-    ensures { OnOk result (string_bytes text.new ≡ string_bytes text.old ++ ended (records_line changed)) }
+    ensures { OnOk result (string_bytes text.new
+        ≡ string_bytes text.old ++ ended (records_line changed)) }
 {
     match changed {
         0 => text.push_str("records same\n"),

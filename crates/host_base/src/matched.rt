@@ -25,8 +25,10 @@ pub fn lacking(alloc: Global) -> Refusal {
 
 /// The word that has this name.
 pub fn named(alloc: Global, matches: &ArgMatches, name: &str) -> Result<String, Refusal>
-    ensures word { IfOk result (λ word. first_value (found_of matches.now) name.now ≡ Some (string_bytes word)) }
-    ensures refused { IfErr result (Refuses (λ word. first_value (found_of matches.now) name.now ≡ Some word)) }
+    ensures word { IfOk result
+        (λ word. first_value (found_of matches.now) name.now ≡ Some (string_bytes word)) }
+    ensures refused { IfErr result
+        (Refuses (λ word. first_value (found_of matches.now) name.now ≡ Some word)) }
 {
     match matches.get_str(name) {
         Some(word) => kept(alloc, word),
@@ -36,7 +38,8 @@ pub fn named(alloc: Global, matches: &ArgMatches, name: &str) -> Result<String, 
 
 /// The word that has this name, where one is given.
 pub fn given(alloc: Global, matches: &ArgMatches, name: &str) -> Result<Option<String>, Refusal>
-    ensures word { IfOk result (λ word. option_map string_bytes word ≡ first_value (found_of matches.now) name.now) }
+    ensures word { IfOk result
+        (λ word. option_map string_bytes word ≡ first_value (found_of matches.now) name.now) }
     ensures memory { IfErr result (λ refusal. refusal ≡ Refusal.Memory) }
 {
     match matches.get_str(name) {
@@ -47,7 +50,8 @@ pub fn given(alloc: Global, matches: &ArgMatches, name: &str) -> Result<Option<S
 
 /// These words, kept.
 fn all_kept(alloc: Global, words: &[&str]) -> Result<Vec<String>, Refusal>
-    ensures words { IfOk result (λ kept. map string_bytes kept.items ≡ map (λ word. word.now) words.now) }
+    ensures words { IfOk result
+        (λ kept. map string_bytes kept.items ≡ map (λ word. word.now) words.now) }
     ensures memory { IfErr result (λ refusal. refusal ≡ Refusal.Memory) }
 {
     let mut all = Vec::new(alloc);
@@ -63,7 +67,8 @@ fn all_kept(alloc: Global, words: &[&str]) -> Result<Vec<String>, Refusal>
 /// The words that have this name.
 pub fn all_named(alloc: Global, matches: &ArgMatches, name: &str) -> Result<Vec<String>, Refusal>
     ensures words { IfOk result
-        (λ words. all_of name.now (rows_of (found_of matches.now)) ≡ Some (map string_bytes words.items)) }
+        (λ words. all_of name.now (rows_of (found_of matches.now))
+        ≡ Some (map string_bytes words.items)) }
     ensures refused { IfErr result
         (Refuses (λ words. all_of name.now (rows_of (found_of matches.now)) ≡ Some words)) }
 {

@@ -22,7 +22,8 @@ impl Drawing {
         requires short { length self.old.events.items < 1000000 }
         ensures delivers { OnOk result (DeliversAll first self.old self.new) }
         ensures few { OnOk result (HasFew self.new) }
-        ensures short { OnOk result (length self.new.events.items ≤ length self.old.events.items + most_frames) }
+        ensures short { OnOk result (length self.new.events.items
+            ≤ length self.old.events.items + most_frames) }
     {
         for number in first..MOST_NUMBER {
             let Some(event) = delivery(self.lab.frames(), number) else {
@@ -44,7 +45,8 @@ impl Drawing {
         requires short { length self.old.events.items < 100000 }
         ensures carries { OnOk result (Carries call self.old self.new) }
         ensures few { OnOk result (HasFew self.new) }
-        ensures short { OnOk result (length self.new.events.items ≤ length self.old.events.items + most_frames + 1) }
+        ensures short { OnOk result (length self.new.events.items
+            ≤ length self.old.events.items + most_frames + 1) }
     {
         // No lab sends so many frames.
         let Ok(first) = u32::try_from(self.lab.frames().len()) else {
@@ -66,7 +68,9 @@ pub(crate) fn clean_events(
     plan: Plan,
     undo: bool,
 ) -> Result<Vec<Event>, AllocError>
-    ensures { IfOk result (λ events. IsMade file plan.steps plan.retries (record { links = links.Clean; undo = undo }) events.items) }
+    ensures { IfOk result
+        (λ events. IsMade file plan.steps plan.retries
+        (record { links = links.Clean; undo = undo }) events.items) }
 {
     let _steps = plan.steps.len();
     let mut drawing = Drawing::open(alloc, file, plan, true)?;

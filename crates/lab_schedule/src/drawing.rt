@@ -53,7 +53,8 @@ pub(crate) struct Drawing {
 
 /// Whether the event may bring a packet that joins one which waits too long.
 fn may_join_late(lab: &Lab, watch: &Watch, event: &Event) -> bool
-    ensures { result ≡ false → (file : AnyFile) (x : LabModel plans) → Shows file lab.now x → Watches watch.now x → KeepsPremise file x event.now }
+    ensures { result ≡ false → (file : AnyFile) (x : LabModel plans)
+        → Shows file lab.now x → Watches watch.now x → KeepsPremise file x event.now }
 {
     let Some(part) = lab.part(event) else {
         return false;
@@ -71,7 +72,8 @@ impl Drawing {
         plan: Plan,
         late: bool,
     ) -> Result<Drawing, AllocError>
-        ensures drawn { IfOk result (λ drawing. Drawn file (opening plans file the_names plan.steps plan.retries) drawing) }
+        ensures drawn { IfOk result
+            (λ drawing. Drawn file (opening plans file the_names plan.steps plan.retries) drawing) }
         ensures late { IfOk result (λ drawing. drawing.late ≡ late) }
         ensures empty { IfOk result (λ drawing. drawing.events.items ≡ []) }
         ensures few { IfOk result HasFew }
@@ -90,7 +92,8 @@ impl Drawing {
         requires short { length self.old.events.items < 10000000 }
         ensures offered { IfOk result (λ offer. Offered event self.old offer self.new) }
         ensures few { OnOk result (HasFew self.new) }
-        ensures short { OnOk result (length self.new.events.items ≤ suc (length self.old.events.items)) }
+        ensures short { OnOk result (length self.new.events.items
+            ≤ suc (length self.old.events.items)) }
     {
         if !has_line(&event) {
             return Ok(Offer::LeftOut);

@@ -64,7 +64,9 @@ fn drawn_events(
     undo: bool,
     chances: Chances,
 ) -> Result<Vec<Event>, AllocError>
-    ensures { IfOk result (λ events. IsMade file plan.steps plan.retries (record { links = Links.Drawn chances; undo = undo }) events.items) }
+    ensures { IfOk result
+        (λ events. IsMade file plan.steps plan.retries
+        (record { links = Links.Drawn chances; undo = undo }) events.items) }
 {
     let mut drawing = Drawing::open(alloc, file, plan, chances.late_joins)?;
     let mut traffic = Traffic::new(alloc, undo, chances);

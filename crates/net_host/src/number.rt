@@ -7,7 +7,8 @@ use host_base::has_plus;
 
 /// The port that the word is in decimal digits.
 pub fn port_of(word: &str) -> Option<u16>
-    ensures { SomeIff result (IsNumeral 10 word.now × (digits_value 10 word.now < 2 ^ 16)) (digits_value 10 word.now) }
+    ensures { SomeIff result
+        (IsNumeral 10 word.now × (digits_value 10 word.now < 2 ^ 16)) (digits_value 10 word.now) }
 {
     if has_plus(word) {
         return None;
@@ -17,7 +18,8 @@ pub fn port_of(word: &str) -> Option<u16>
 
 /// The number of 32 bits that the word is in decimal digits.
 pub fn number_of(word: &str) -> Option<u32>
-    ensures { SomeIff result (IsNumeral 10 word.now × (digits_value 10 word.now < 2 ^ 32)) (digits_value 10 word.now) }
+    ensures { SomeIff result
+        (IsNumeral 10 word.now × (digits_value 10 word.now < 2 ^ 32)) (digits_value 10 word.now) }
 {
     if has_plus(word) {
         return None;
@@ -27,7 +29,10 @@ pub fn number_of(word: &str) -> Option<u32>
 
 /// The same, from the least one on.
 pub fn number_from(least: u32, word: &str) -> Option<u32>
-    ensures { SomeIff result (IsNumeral 10 word.now × (digits_value 10 word.now < 2 ^ 32) × (least ≤ digits_value 10 word.now)) (digits_value 10 word.now) }
+    ensures { SomeIff result
+        (IsNumeral 10 word.now × (digits_value 10 word.now < 2 ^ 32)
+        × (least ≤ digits_value 10 word.now))
+        (digits_value 10 word.now) }
 {
     let Some(number) = number_of(word) else {
         return None;

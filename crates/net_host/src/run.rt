@@ -30,7 +30,8 @@ fn carry_out<
 ) -> u8
     ensures ends { EndsAsAsked W.contents E.contents (F.gives files.old) F.takes F.renames words.now
         files.old files.new console.old console.new result }
-    ensures told { MayTellAsAsked P.contents (F.gives files.old) words.now progress.old progress.new }
+    ensures told { MayTellAsAsked P.contents (F.gives files.old) words.now
+        progress.old progress.new }
 {
     match words {
         Words::Serve(words) => serve(rt, alloc, &*files, words, console),

@@ -98,7 +98,8 @@ fn number_given(
     least: u32,
 ) -> Result<Option<u32>, Refusal>
     ensures number { IfOk result (NamesOption least (rows_of (found_of matches.now)) name.now) }
-    ensures refused { IfErr result (Refuses (NamesOption least (rows_of (found_of matches.now)) name.now)) }
+    ensures refused { IfErr result
+        (Refuses (NamesOption least (rows_of (found_of matches.now)) name.now)) }
 {
     let Some(word) = matches.get_str(name) else {
         return Ok(None);
@@ -120,7 +121,8 @@ fn number_or(
     usual: u32,
 ) -> Result<u32, Refusal>
     ensures number { IfOk result (NamesOr least usual (rows_of (found_of matches.now)) name.now) }
-    ensures refused { IfErr result (Refuses (NamesOr least usual (rows_of (found_of matches.now)) name.now)) }
+    ensures refused { IfErr result
+        (Refuses (NamesOr least usual (rows_of (found_of matches.now)) name.now)) }
 {
     match number_given(alloc, matches, task, name, value, least) {
         Ok(Some(number)) => Ok(number),

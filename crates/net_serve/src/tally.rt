@@ -47,7 +47,8 @@ pub struct Tally {
 /// What is counted of a board that was served so many events, by the records that it began with.
 pub(crate) fn count(start: &[(Key, StartValue)], board: &Board<Records>, events: usize) -> Tally
     ensures events { result.events ≡ events }
-    ensures changed { result.changed ≡ changed_in (state_of own_records board.now).records start.now }
+    ensures changed { result.changed
+        ≡ changed_in (state_of own_records board.now).records start.now }
 {
     Tally {
         events,
@@ -58,7 +59,8 @@ pub(crate) fn count(start: &[(Key, StartValue)], board: &Board<Records>, events:
 /// What is counted of a board that was served with one history.
 pub fn tally_of(start: &[(Key, StartValue)], served: &Served) -> Tally
     ensures events { result.events ≡ length served.now.history }
-    ensures changed { result.changed ≡ changed_in (state_of own_records served.now.board).records start.now }
+    ensures changed { result.changed
+        ≡ changed_in (state_of own_records served.now.board).records start.now }
 {
     count(start, &served.board, served.history.len())
 }
@@ -66,7 +68,8 @@ pub fn tally_of(start: &[(Key, StartValue)], served: &Served) -> Tally
 /// The lines that tell of it.
 pub(crate) fn report(alloc: Global, tally: Tally) -> Result<Report, AllocError>
     ensures stream { IfOk result (λ report. report.stream ≡ Output) }
-    ensures text { IfOk result (λ report. string_bytes report.text ≡ text_of tally.events tally.changed) }
+    ensures text { IfOk result
+        (λ report. string_bytes report.text ≡ text_of tally.events tally.changed) }
     ensures status { IfOk result (λ report. report.status ≡ Success) }
 {
     let mut text = String::new(alloc);

@@ -6,5 +6,6 @@ ghost use Rattle.plan_file.specs.PlanHolds.{ReadsPlan};
 
 /// A text is read in one way: as one plan, or with one fault.
 pub fn one_plan()
-    ensures { (text : List ℕ) (a b : Result AnyPlan AnyFault) → ReadsPlan text a → ReadsPlan text b → a ≡ b }
+    ensures { (text : List ℕ) (a b : Result AnyPlan AnyFault)
+        → ReadsPlan text a → ReadsPlan text b → a ≡ b }
 {}

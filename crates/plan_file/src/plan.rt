@@ -53,7 +53,9 @@ fn step_at<'v>(
     requires { is_table (view value.now) ≡ true }
     ensures sound { IfOk result (λ _. step_faults (table_of (view value.now)) ≡ []) }
     ensures held { IfOk result (IsStepIn (view value.now)) }
-    ensures err { IfErr result (λ why. first (map (PlanFault.Step place) (step_faults (table_of (view value.now)))) ≡ Some why) }
+    ensures err { IfErr result
+        (λ why. first (map (PlanFault.Step place) (step_faults (table_of (view value.now))))
+        ≡ Some why) }
 {
     match read_step(value.as_table().unwrap(), room) {
         Ok(op) => Ok(op),
@@ -67,7 +69,9 @@ fn steps_of(alloc: Global, values: &[Value]) -> Result<Steps, PlanFault>
     requires few { length values.now ≤ most_steps }
     ensures sound { IfOk result (λ _. steps_faults 0 (map view values.now) ≡ []) }
     ensures held { IfOk result (λ steps. AllZip IsStepIn (map view values.now) steps) }
-    ensures err { IfErr result (λ why. (why ≡ PlanFault.Memory) ⊎ (first (steps_faults 0 (map view values.now)) ≡ Some why)) }
+    ensures err { IfErr result
+        (λ why. (why ≡ PlanFault.Memory)
+        ⊎ (first (steps_faults 0 (map view values.now)) ≡ Some why)) }
 {
     let mut steps = Steps::none(alloc);
     for (place, value) in values.iter().enumerate() {

@@ -28,8 +28,12 @@ struct Texts {
 
 /// The texts of the files, or the first that isn't read.
 fn texts_of<'a, F: TextFiles>(files: &F, words: ScheduleFiles<'a>) -> Result<Texts, Unread<'a>>
-    ensures texts { IfOk result (λ texts. AreTexts (F.gives files.now) (words_of words.entry) (string_bytes texts.board) (string_bytes texts.plan)) }
-    ensures unread { IfErr result (λ unread. FirstUnread (F.gives files.now) (words_of words.entry) unread.word.now unread.why) }
+    ensures texts { IfOk result
+        (λ texts. AreTexts (F.gives files.now) (words_of words.entry)
+        (string_bytes texts.board) (string_bytes texts.plan)) }
+    ensures unread { IfErr result
+        (λ unread. FirstUnread (F.gives files.now) (words_of words.entry)
+        unread.word.now unread.why) }
 {
     let board = text_of(files, words.board)?;
     let plan = text_of(files, words.plan)?;
@@ -45,7 +49,9 @@ pub fn schedule_of_files<F: TextFiles, W: io::Write, E: io::Write>(
     words: ScheduleFiles,
     console: &mut Console<W, E>,
 ) -> u8
-    ensures { RunEnds W.contents E.contents (SaysOfFiles (F.gives files.now) wanted (words_of words.entry)) console.old console.new result }
+    ensures { RunEnds W.contents E.contents
+        (SaysOfFiles (F.gives files.now) wanted (words_of words.entry))
+        console.old console.new result }
 {
     match texts_of(files, words) {
         Ok(Texts { board, plan }) => {

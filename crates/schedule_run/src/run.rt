@@ -45,7 +45,8 @@ fn refusal_report(alloc: Global, why: InputFault) -> Result<Report, AllocError>
 /// The schedule of the plan on the board, written.
 fn written_report(alloc: Global, wanted: Wanted, inputs: Inputs) -> Result<Report, AllocError>
     ensures stream { IfOk result (λ report. report.stream ≡ Output) }
-    ensures written { IfOk result (λ report. Writes wanted inputs (string_bytes report.text) report.status) }
+    ensures written { IfOk result
+        (λ report. Writes wanted inputs (string_bytes report.text) report.status) }
 {
     let Inputs { file, plan, .. } = inputs;
     let events = make_schedule(alloc, file, plan, wanted)?;
@@ -65,7 +66,8 @@ fn schedule_report(
     plan: &str,
 ) -> Result<Report, AllocError>
     ensures { IfOk result
-        (λ report. Says (Writes wanted) board.now plan.now [] report.stream (string_bytes report.text) report.status) }
+        (λ report. Says (Writes wanted) board.now plan.now []
+        report.stream (string_bytes report.text) report.status) }
 {
     // Nothing happens yet.
     match read_inputs(alloc, board, plan, "") {
@@ -85,7 +87,8 @@ pub fn schedule_run<W: io::Write, E: io::Write>(
     plan: &str,
     console: &mut Console<W, E>,
 ) -> u8
-    ensures { RunEnds W.contents E.contents (Says (Writes wanted) board.now plan.now []) console.old console.new result }
+    ensures { RunEnds W.contents E.contents (Says (Writes wanted) board.now plan.now [])
+        console.old console.new result }
 {
     let report = schedule_report(alloc, wanted, board, plan);
     u8::from(Ending::of(&report).write(console))

@@ -57,7 +57,9 @@ impl Arrivals {
 
     /// The frame of this number came.
     fn mark(&mut self, number: u32) -> Result<(), AllocError>
-        ensures { OnOk result ((n : ℕ) → get_or self.new.came.items n false ≡ ((number == n) || get_or self.old.came.items n false)) }
+        ensures { OnOk result
+            ((n : ℕ) → get_or self.new.came.items n false
+            ≡ ((number == n) || get_or self.old.came.items n false)) }
     {
         let place = number as usize;
         if self.came.len() <= place {
@@ -69,7 +71,9 @@ impl Arrivals {
 
     /// The event happens.
     pub(crate) fn add(&mut self, event: &Event) -> Result<(), AllocError>
-        ensures { OnOk result ((n : ℕ) → get_or self.new.came.items n false ≡ (delivers n event.now || get_or self.old.came.items n false)) }
+        ensures { OnOk result
+            ((n : ℕ) → get_or self.new.came.items n false
+            ≡ (delivers n event.now || get_or self.old.came.items n false)) }
     {
         match delivered(event) {
             Some(number) => self.mark(number),
@@ -79,7 +83,8 @@ impl Arrivals {
 
     /// How many frames, from this number on up to before that one, didn't come.
     pub(crate) fn lost(&self, from: usize, to: usize) -> usize
-        ensures { (notes : List AnyNote) → Holds self.now notes → result ≡ lost_from notes from (to - from) }
+        ensures { (notes : List AnyNote) → Holds self.now notes
+            → result ≡ lost_from notes from (to - from) }
     {
         (from..to).filter(|number| !self.has(*number)).count()
     }

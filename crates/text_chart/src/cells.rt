@@ -87,7 +87,9 @@ pub(crate) fn comes_cell(
     earlier: &Arrivals,
     note: &Note,
 ) -> Result<String, AllocError>
-    ensures { (notes : List AnyNote) → Holds earlier.now notes → IfOk result (λ cell. string_bytes cell ≡ comes_cell notes note.now.came note.now.event.now) }
+    ensures { (notes : List AnyNote) → Holds earlier.now notes
+        → IfOk result
+        (λ cell. string_bytes cell ≡ comes_cell notes note.now.came note.now.event.now) }
 {
     let word = match note.event {
         Event::ToBmc(number) => {
@@ -132,7 +134,9 @@ fn push_lost(cell: &mut String, more: usize, lost: usize) -> Result<(), AllocErr
 
 /// The frames that an event sent to this end, and how many of them are lost.
 fn sent_cell(alloc: Global, to: Side, note: &Note, lost: usize) -> Result<String, AllocError>
-    ensures { IfOk result (λ cell. string_bytes cell ≡ sent_cell to note.now.sends note.now.before (note.now.after - note.now.before) lost) }
+    ensures { IfOk result
+        (λ cell. string_bytes cell
+        ≡ sent_cell to note.now.sends note.now.before (note.now.after - note.now.before) lost) }
 {
     let mut cell = String::new(alloc);
     let count = note.after.saturating_sub(note.before);
@@ -153,7 +157,8 @@ fn sent_cell(alloc: Global, to: Side, note: &Note, lost: usize) -> Result<String
 
 /// What is sent, where these frames came at all events.
 pub(crate) fn sends_cell(alloc: Global, all: &Arrivals, note: &Note) -> Result<String, AllocError>
-    ensures { (notes : List AnyNote) → Holds all.now notes → IfOk result (λ cell. string_bytes cell ≡ sends_cell notes note.now note.now.event.now) }
+    ensures { (notes : List AnyNote) → Holds all.now notes
+        → IfOk result (λ cell. string_bytes cell ≡ sends_cell notes note.now note.now.event.now) }
 {
     let lost = all.lost(note.before, note.after);
     match note.event {

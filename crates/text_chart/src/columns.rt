@@ -26,7 +26,8 @@ fn push_stars(text: &mut String, count: usize) -> Result<(), AllocError>
 
 /// Adds what a column holds, or stars where that is too long.
 pub(crate) fn push_at_most(text: &mut String, width: usize, cell: &str) -> Result<(), AllocError>
-    ensures { OnOk result (string_bytes text.new ≡ string_bytes text.old ++ at_most width cell.now) }
+    ensures { OnOk result (string_bytes text.new
+        ≡ string_bytes text.old ++ at_most width cell.now) }
 {
     if cell.len() <= width {
         text.push_str(cell)
@@ -37,7 +38,8 @@ pub(crate) fn push_at_most(text: &mut String, width: usize, cell: &str) -> Resul
 
 /// Adds what a column holds, and spaces up to its end.
 pub(crate) fn push_column(text: &mut String, width: usize, cell: &str) -> Result<(), AllocError>
-    ensures { OnOk result (string_bytes text.new ≡ string_bytes text.old ++ in_column width cell.now) }
+    ensures { OnOk result (string_bytes text.new
+        ≡ string_bytes text.old ++ in_column width cell.now) }
 {
     if cell.len() > width {
         return push_stars(text, width);

@@ -20,8 +20,10 @@ fn push_event(
     earlier: &Arrivals,
     all: &Arrivals,
 ) -> Result<(), AllocError>
-    ensures { (notes : List AnyNote) (n : ℕ) → place ≡ n + 1 → Holds earlier.now (take n notes) → Holds all.now notes
-        → OnOk result (string_bytes text.new ≡ string_bytes text.old ++ ended (event_line notes n note.now)) }
+    ensures { (notes : List AnyNote) (n : ℕ) → place ≡ n + 1
+        → Holds earlier.now (take n notes) → Holds all.now notes
+        → OnOk result (string_bytes text.new
+        ≡ string_bytes text.old ++ ended (event_line notes n note.now)) }
 {
     let number = format!(in alloc; "{place}")?;
     let comes = comes_cell(alloc, earlier, note)?;

@@ -49,7 +49,8 @@ pub fn push_requests(
     ensures text { OnOk result (string_bytes text.new
         ≡ string_bytes text.old ++ flat_map ended (map line_of (reverse requests.now.members))) }
     ensures told { OnOk result (All IsPlain requests.now.members
-        → AllZip IsRequestLine (map line_of (reverse requests.now.members)) (reverse requests.now.members)) }
+        → AllZip IsRequestLine
+        (map line_of (reverse requests.now.members)) (reverse requests.now.members)) }
     ensures few { length requests.now.members ≤ most_steps }
 {
     let mut place = requests.len();

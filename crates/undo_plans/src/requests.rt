@@ -126,7 +126,8 @@ impl Requests {
     pub fn add(&mut self, request: &UndoRequest<'_>) -> Result<(), AllocError>
         requires few { length self.old.members < most_steps }
         requires none { self.old.waiting ≡ None }
-        ensures members { OnOk result (self.new.members ≡ self.old.members ++ meant request.now ∷ []) }
+        ensures members { OnOk result (self.new.members
+            ≡ self.old.members ++ meant request.now ∷ []) }
         ensures waiting { self.new.waiting ≡ None }
     {
         self.reserve(request.body().len())?;

@@ -24,7 +24,8 @@ pub const FIELDS: [Row; 6] = [
 /// The mask, with the event besides whose offset the value is.
 fn with_event(mask: u16, offset: &Value) -> u16
     requires { is_offset (view offset.now) ≡ true }
-    ensures { (other : ℕ) → has result other ≡ (has mask other || is_number other (view offset.now)) }
+    ensures { (other : ℕ)
+        → has result other ≡ (has mask other || is_number other (view offset.now)) }
 {
     mask | 1 << natural(offset).unwrap()
 }
@@ -32,7 +33,8 @@ fn with_event(mask: u16, offset: &Value) -> u16
 /// The mask of these events.
 fn mask_of(offsets: &[Value]) -> u16
     requires { list_all (λ value. is_offset (view value)) offsets.now ≡ true }
-    ensures { (offset : ℕ) → has result offset ≡ list_any (λ value. is_number offset (view value)) offsets.now }
+    ensures { (offset : ℕ)
+        → has result offset ≡ list_any (λ value. is_number offset (view value)) offsets.now }
 {
     let mut mask = 0;
     for offset in offsets {

@@ -69,7 +69,8 @@ fn limit(step: &Table, field: Field) -> u8
 /// The thresholds that the step gives, each at its place.
 fn limits(step: &Checked<'_>) -> [u8; 6]
     requires { step.now.rows.now ≡ FIELDS }
-    ensures { result ≡ map (λ field. or_zero (number_in field (table_view step.now.table.now))) LIMITS }
+    ensures { result
+        ≡ map (λ field. or_zero (number_in field (table_view step.now.table.now))) LIMITS }
 {
     [
         limit(step.table, Field::LowerNonCritical),
