@@ -1,7 +1,7 @@
 //! The channels of a board file.
 ghost use Rattle.std.specs.Prelude.{◌≡◌, ◌<◌, ◌≤◌, [], true, Some, IfOk, IfErr, OnOk, map, length};
 ghost use Rattle.std.specs.List.{list_all, AllZip};
-ghost use Rattle.record_base.specs.BoardSizes.{most_channels};
+ghost use Rattle.record_base.specs.BoardSizes.{most_channels, most_users};
 ghost use Rattle.record_base.specs.Distinct.{NamesDiffer};
 ghost use Rattle.cfg_records.specs.BoardChannels.{channel_numbers};
 ghost use Rattle.toml.specs.View.{view, table_view};
@@ -180,7 +180,7 @@ fn accesses_on(
     channel: ChannelNumber,
     values: &[Value],
 ) -> Result<Vec<UserAccess>, FileFault>
-    requires few { length values.now ≤ 16 }
+    requires few { length values.now ≤ most_users }
     requires bytes { list_all (λ value. may_do (view value)) values.now ≡ true }
     ensures held { IfOk result (λ accesses.
         map parts_of accesses.items ≡ on_channel channel.number 1 (map view values.now)) }
@@ -200,7 +200,7 @@ fn accesses_on(
 fn accesses_of(alloc: Global, users: usize, values: &[Value]) -> Result<Vec<UserAccess>, FileFault>
     requires tables { list_all (λ value. is_table (view value)) values.now ≡ true }
     requires sound { channel_faults users (map view values.now) ≡ [] }
-    requires few { users ≤ 16 }
+    requires few { users ≤ most_users }
     ensures held { IfOk result (λ accesses.
         map parts_of accesses.items ≡ accesses_in (with_sessions (map view values.now))) }
     ensures err { IfErr result (λ why. why ≡ FileFault.Memory) }
@@ -236,7 +236,7 @@ pub struct FileChannels {
 fn split(alloc: Global, users: usize, values: &[Value]) -> Result<FileChannels, FileFault>
     requires tables { list_all (λ value. is_table (view value)) values.now ≡ true }
     requires sound { channel_faults users (map view values.now) ≡ [] }
-    requires few { users ≤ 16 }
+    requires few { users ≤ most_users }
     requires most { length values.now ≤ most_channels }
     requires differ { NamesDiffer channel_of (map view values.now) }
     ensures held { IfOk result (λ file. HoldChannels (map view values.now)
@@ -256,7 +256,7 @@ fn split(alloc: Global, users: usize, values: &[Value]) -> Result<FileChannels, 
 /// The channels that these tables are, or their first fault.
 fn channels_in(alloc: Global, users: usize, values: &[Value]) -> Result<FileChannels, FileFault>
     requires tables { list_all (λ value. is_table (view value)) values.now ≡ true }
-    requires few { users ≤ 16 }
+    requires few { users ≤ most_users }
     requires most { length values.now ≤ most_channels }
     ensures sound { IfOk result (λ _. channel_faults users (map view values.now) ≡ []) }
     ensures held { IfOk result (λ file. HoldChannels (map view values.now)

@@ -10,7 +10,7 @@ use crate::fault::{FileFault, Item, Place};
 use crate::items::{ArrayReader, distinct_items};
 use crate::tables::TOP;
 use record_base::lan::{LanAddress, LanParameter};
-use record_base::lan_item::{Lan, Lans};
+use record_base::lan_item::{Lan, Lans, MOST_SOURCE};
 use std::alloc::Global;
 use text_fields::channels::channel_in;
 use text_fields::lan::{address, vlan};
@@ -34,7 +34,7 @@ pub const LAN: [Row; 6] = [
     Row(Field::Lan(LanField::Ip), ADDRESS, Need::Always),
     Row(
         Field::Lan(LanField::Source),
-        Shape::Number(0, 4),
+        Shape::Number(0, MOST_SOURCE as u32),
         Need::Always,
     ),
     Row(Field::Lan(LanField::Mask), ADDRESS, Need::Always),

@@ -3,7 +3,7 @@
 ghost use Rattle.std.specs.Prelude.{◌≡◌};
 ghost use Rattle.text_board.specs.Faults.{session_rows};
 
-use record_base::attribute_sizes::MOST_ATTRIBUTES;
+use record_base::attribute_sizes::{MOST_ATTRIBUTES, MOST_TEXT};
 use record_base::board_sizes::{MOST_CHANNELS, MOST_EFFECTERS, MOST_SDRS, MOST_SENSORS};
 use text_fields::{BYTE, Field, LanField, Need, Row, Shape};
 
@@ -111,7 +111,11 @@ pub const STRING: [Row; 8] = [
     Row(Field::NameText, Shape::ShortText, Need::Always),
     Row(Field::Kind, Shape::AttributeKind, Need::Always),
     Row(Field::StringType, BYTE, Need::Always),
-    Row(Field::Least, Shape::Number(0, 1024), Need::Always),
+    Row(
+        Field::Least,
+        Shape::Number(0, MOST_TEXT as u32),
+        Need::Always,
+    ),
     Row(Field::Most, Shape::MostLength, Need::Always),
     Row(Field::Default, Shape::SizedText, Need::Always),
     Row(Field::Current, Shape::SizedText, Need::Always),

@@ -2,6 +2,7 @@
 ghost use Rattle.std.specs.Prelude.{◌≡◌, ◌<◌, ◌≤◌, ◌+◌, true, map, length, is_some, IfOk, IfErr};
 ghost use Rattle.std.specs.List.{list_all, AllZip};
 ghost use Rattle.record_base.specs.InOrder.{AreNumbered};
+ghost use Rattle.record_base.specs.BoardSizes.{most_users};
 ghost use Rattle.toml.specs.View.{view, table_view};
 ghost use Rattle.text_fields.specs.Trees.{members_in};
 ghost use Rattle.text_fields.specs.Users.{name_of};
@@ -18,7 +19,7 @@ use toml::Value;
 
 /// The user behind those before, whose name the value is.
 fn next_user(before: &[User], value: &Value) -> User
-    requires few { length before.now < 16 }
+    requires few { length before.now < most_users }
     requires named { is_some (name_of (view value.now)) ≡ true }
     ensures numbered { result.number.number ≡ 1 + length before.now }
     ensures named { IsNameIn (view value.now) result }
@@ -31,7 +32,7 @@ fn next_user(before: &[User], value: &Value) -> User
 
 /// The users whose names these values are, in their order.
 fn users_of(alloc: Global, values: &[Value]) -> Result<Vec<User>, FileFault>
-    requires few { length values.now ≤ 16 }
+    requires few { length values.now ≤ most_users }
     requires named { list_all (λ d. is_some (name_of d)) (map view values.now) ≡ true }
     ensures names { IfOk result (λ users. AllZip IsNameIn (map view values.now) users.items) }
     ensures numbers { IfOk result (λ users.
