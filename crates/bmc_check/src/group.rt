@@ -1,16 +1,13 @@
 //! The tables of files, and the fields that each can have.
 ghost use Rattle.std.specs.Prelude.{◌≡◌, IfOk};
 ghost use Rattle.toml.specs.View.{table_view};
-ghost use Rattle.text_board.specs.Faults.{attribute_rows, has_sessions, session_rows};
+ghost use Rattle.text_board.specs.Faults.{session_rows};
 ghost use Rattle.plan_file.specs.Kinds.{kind_in};
 ghost use Rattle.bmc_check.specs.Known.{step_rows, known};
 
 use plan_file::{KIND, PLAN, kind_in};
 use std::alloc::{AllocError, Global};
-use text_board::{
-    ATTRIBUTE, DEVICE, ENUMERATION, INTEGER, LAN, NUMERIC, SENSOR, SESSIONS, STATE, STRING, TOP,
-};
-use text_fields::tree::{has_text, in_field};
+use text_board::{DEVICE, LAN, NUMERIC, SENSOR, SESSIONS, STATE, TOP, attribute_rows};
 use text_fields::{Field, Need, Row, Shape};
 use toml::Table;
 
@@ -42,19 +39,6 @@ pub enum Group {
 /// The last field of a channel with sessions, whatever the number of users.
 const USERS: [Row; 1] = [Row(Field::Users, Shape::UserBytes(0), Need::Always)];
 
-/// Whether the channel that the table is has sessions.
-pub(crate) fn has_sessions(table: &Table) -> bool
-    ensures { result ≡ has_sessions (table_view table.now) }
-{
-    match in_field(table, Field::Sessions) {
-        Some(value) => match value.as_bool() {
-            Some(sessions) => sessions,
-            None => false,
-        },
-        None => false,
-    }
-}
-
 /// The fields of a channel with sessions.
 fn session_rows(alloc: Global) -> Result<Vec<Row>, AllocError>
     ensures { IfOk result (λ rows. rows.items ≡ session_rows 0) }
@@ -62,22 +46,6 @@ fn session_rows(alloc: Global) -> Result<Vec<Row>, AllocError>
     let mut rows = Vec::from_slice(alloc, &SESSIONS)?;
     rows.extend_from_slice(&USERS)?;
     Ok(rows)
-}
-
-/// The fields of an attribute: those of the kind that it names.
-fn attribute_rows(table: &Table) -> &'static [Row]
-    ensures { result.now ≡ attribute_rows (table_view table.now) }
-{
-    if has_text(table, Field::Kind, "enumeration") {
-        return &ENUMERATION;
-    }
-    if has_text(table, Field::Kind, "string") {
-        return &STRING;
-    }
-    if has_text(table, Field::Kind, "integer") {
-        return &INTEGER;
-    }
-    &ATTRIBUTE
 }
 
 /// The fields of a step: `kind`, and those of the kind that it names.

@@ -3,8 +3,9 @@ ghost use Rattle.std.specs.Prelude.{◌≡◌};
 ghost use Rattle.toml.specs.View.{table_view};
 ghost use Rattle.bmc_check.specs.Known.{is_known, leaves_events, unused};
 
-use crate::group::{Group, has_sessions};
+use crate::group::Group;
 use std::alloc::AllocError;
+use text_board::has_sessions;
 use text_fields::tree::has_text;
 use text_fields::{Field, Row};
 use toml::Table;

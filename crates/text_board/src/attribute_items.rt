@@ -15,7 +15,7 @@ ghost use Rattle.text_board.specs.Faults.{IsFirstFault, attribute_rows, attribut
 
 use crate::check::checked;
 use crate::fault::{FileFault, Item};
-use crate::tables::{ATTRIBUTE, ENUMERATION, INTEGER, STRING, TOP};
+use crate::tables::{ENUMERATION, INTEGER, STRING, TOP, attribute_rows};
 use cfg_records::{
     Attribute, AttributeKind, Attributes, EnumerationAttribute, Indexes, IntegerAttribute,
     IntegerSteps, StringAttribute, Text, TextLengths,
@@ -23,24 +23,8 @@ use cfg_records::{
 use std::alloc::Global;
 use text_fields::attributes::{indexes_of, string_in, text};
 use text_fields::tree::{has_text, members_of};
-use text_fields::{Checked, Field, Row};
-use toml::{Table, Value};
-
-/// The fields of the attribute that the table is: those of the kind that it names.
-fn rows(table: &Table) -> &'static [Row]
-    ensures { result.now ≡ attribute_rows (table_view table.now) }
-{
-    if has_text(table, Field::Kind, "enumeration") {
-        return &ENUMERATION;
-    }
-    if has_text(table, Field::Kind, "string") {
-        return &STRING;
-    }
-    if has_text(table, Field::Kind, "integer") {
-        return &INTEGER;
-    }
-    &ATTRIBUTE
-}
+use text_fields::{Checked, Field};
+use toml::Value;
 
 /// The texts that these values are.
 fn texts_of(alloc: Global, values: &[Value]) -> Result<Vec<Text>, FileFault>
@@ -175,7 +159,7 @@ fn attribute_at(alloc: Global, place: usize, value: &Value) -> Result<Attribute,
         (IsFirstFault (attribute_faults_at place (table_of (view value.now)))) }
 {
     let table = value.as_table().unwrap();
-    let item = checked(Item::Attribute(place), rows(table), table)?;
+    let item = checked(Item::Attribute(place), attribute_rows(table), table)?;
     attribute(alloc, place as u16, &item)
 }
 

@@ -26,7 +26,7 @@ use text_fields::{Checked, Field};
 use toml::{Table, Value};
 
 /// Whether the channel that the table is has sessions.
-fn has_sessions(table: &Table) -> bool
+pub fn has_sessions(table: &Table) -> bool
     ensures { result ≡ has_sessions (table_view table.now) }
 {
     match in_field(table, Field::Sessions) {

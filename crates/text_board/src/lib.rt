@@ -16,9 +16,8 @@ mod tables;
 mod users;
 
 pub use board::read_board;
+pub use channel_items::has_sessions;
 pub use fault::{FileFault, Item, Place};
 pub use lan_items::LAN;
 pub use laws::one_board;
-pub use tables::{
-    ATTRIBUTE, CHANNEL, DEVICE, ENUMERATION, INTEGER, NUMERIC, SENSOR, SESSIONS, STATE, STRING, TOP,
-};
+pub use tables::{DEVICE, NUMERIC, SENSOR, SESSIONS, STATE, TOP, attribute_rows};

@@ -1,11 +1,14 @@
 //! The fields of each item of a board file: their names, types and ranges, and when they are needed.
 //! `docs/BOARD_FILES.md` says what each means.
 ghost use Rattle.std.specs.Prelude.{◌≡◌};
-ghost use Rattle.text_board.specs.Faults.{session_rows};
+ghost use Rattle.toml.specs.View.{table_view};
+ghost use Rattle.text_board.specs.Faults.{attribute_rows, session_rows};
 
 use record_base::attribute_sizes::{MOST_ATTRIBUTES, MOST_TEXT};
 use record_base::board_sizes::{MOST_CHANNELS, MOST_EFFECTERS, MOST_SDRS, MOST_SENSORS};
+use text_fields::tree::has_text;
 use text_fields::{BYTE, Field, LanField, Need, Row, Shape};
+use toml::Table;
 
 /// A board file's own fields.
 pub const TOP: [Row; 18] = [
@@ -137,6 +140,22 @@ pub const INTEGER: [Row; 8] = [
     Row(Field::Current, Shape::Stepped, Need::Always),
     Row(Field::ReadOnly, Shape::Flag, Need::Always),
 ];
+
+/// The fields of the attribute that the table is: those of the kind that it names.
+pub fn attribute_rows(table: &Table) -> &'static [Row]
+    ensures { result.now ≡ attribute_rows (table_view table.now) }
+{
+    if has_text(table, Field::Kind, "enumeration") {
+        return &ENUMERATION;
+    }
+    if has_text(table, Field::Kind, "string") {
+        return &STRING;
+    }
+    if has_text(table, Field::Kind, "integer") {
+        return &INTEGER;
+    }
+    &ATTRIBUTE
+}
 
 /// The fields of a `[[state]]`.
 pub const STATE: [Row; 4] = [
