@@ -17,4 +17,4 @@ pub use files::{PlayFiles, play_of_files};
 pub use inputs::{InputFault, Inputs, read_inputs};
 pub use lab_play::Stopped;
 pub use lines::push_stopped;
-pub use run::{Shown, chart_run, play_run, show};
+pub use run::{Shown, chart_run, is_memory, play_run, refusal_report, show};

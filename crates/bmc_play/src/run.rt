@@ -28,7 +28,7 @@ pub enum Shown {
 }
 
 /// Whether a text wasn't read for want of memory.
-fn is_memory(why: &InputFault) -> bool
+pub fn is_memory(why: &InputFault) -> bool
     ensures { result ≡ is_memory why.now }
 {
     match why {
@@ -39,7 +39,7 @@ fn is_memory(why: &InputFault) -> bool
 }
 
 /// What is said of a text that is refused.
-fn refusal_report(alloc: Global, why: InputFault) -> Result<Report, AllocError>
+pub fn refusal_report(alloc: Global, why: InputFault) -> Result<Report, AllocError>
     ensures stream { IfOk result (λ report. report.stream ≡ Error) }
     ensures text { IfOk result (λ report. string_bytes report.text ≡ refusal_line why) }
     ensures status { IfOk result (λ report. report.status ≡ RefusedFile) }

@@ -1,46 +1,16 @@
 //! A schedule of a plan on a board: what is said of two texts.
 ghost use Rattle.std.specs.Prelude.{◌≡◌, [], IfOk, string_bytes};
-ghost use Rattle.bmc_lab.specs.declared.console.Stream.TheVariants.{Output, Error};
-ghost use Rattle.bmc_lab.specs.declared.status.Status.TheVariants.{RefusedFile};
+ghost use Rattle.bmc_lab.specs.declared.console.Stream.TheVariants.{Output};
 ghost use Rattle.bmc_lab.specs.Ending.{RunEnds};
-ghost use Rattle.bmc_play.specs.Run.{is_memory, refusal_line, Says};
+ghost use Rattle.bmc_play.specs.Run.{Says};
 ghost use Rattle.schedule_run.specs.Writes.{Writes};
 
 use bmc_lab::{Console, Ending, Report, Status, Stream};
-use bmc_play::{InputFault, Inputs, read_inputs};
+use bmc_play::{Inputs, is_memory, read_inputs, refusal_report};
 use lab_schedule::{Wanted, make_schedule};
-use plan_file::PlanFault;
 use schedule_writer::write_schedule;
 use std::alloc::{AllocError, Global};
 use std::io;
-use text_board::FileFault;
-use text_schedule::ScheduleFault;
-
-/// Whether a text wasn't read for want of memory.
-fn is_memory(why: &InputFault) -> bool
-    ensures { result ≡ is_memory why.now }
-{
-    match why {
-        InputFault::Board(why) => matches!(why, FileFault::Memory),
-        InputFault::Plan(why) => matches!(why, PlanFault::Memory),
-        InputFault::Schedule(why) => matches!(why, ScheduleFault::Memory),
-    }
-}
-
-/// What is said of a text that is refused.
-fn refusal_report(alloc: Global, why: InputFault) -> Result<Report, AllocError>
-    ensures stream { IfOk result (λ report. report.stream ≡ Error) }
-    ensures text { IfOk result (λ report. string_bytes report.text ≡ refusal_line why) }
-    ensures status { IfOk result (λ report. report.status ≡ RefusedFile) }
-{
-    let mut text = String::new(alloc);
-    writeln!(text, "{why}")?;
-    Ok(Report {
-        stream: Stream::Error,
-        text,
-        status: Status::RefusedFile,
-    })
-}
 
 /// The schedule of the plan on the board, written.
 fn written_report(alloc: Global, wanted: Wanted, inputs: Inputs) -> Result<Report, AllocError>
