@@ -27,19 +27,7 @@ same_bytes values more from count within =
 same_op : (values more : List ℕ) (any : Kept) → IsAmong values any → kept_op (values ++ more) any ≡ kept_op values any
 same_op values more (kept.BiosAttribute set) within =
     ap (λ (bytes : List ℕ). op.BiosAttribute (setting set.attribute set.attribute_type bytes)) (same_bytes values more set.from set.count within)
-same_op values more (kept.Thresholds set) within = refl
-same_op values more (kept.Hysteresis set) within = refl
-same_op values more (kept.EventEnable set) within = refl
-same_op values more (kept.PowerPolicy set) within = refl
-same_op values more (kept.Watchdog set) within = refl
-same_op values more (kept.GlobalEnables set) within = refl
-same_op values more (kept.BootParam set) within = refl
-same_op values more (kept.NumericEffecter set) within = refl
-same_op values more (kept.StateEffecter set) within = refl
-same_op values more (kept.UserName set) within = refl
-same_op values more (kept.UserAccess set) within = refl
-same_op values more (kept.ChannelAccess set) within = refl
-same_op values more (kept.LanParam set) within = refl
+same_op values more _ within = refl
 
 first_of : (values : List ℕ) (any : Kept) (others : List Kept) → All (IsAmong values) (any ∷ others) → IsAmong values any
 first_of values any others all = all 0 any (omega arith)
@@ -61,19 +49,7 @@ put_together values (op.BiosAttribute set) =
     ap (take (length set.value)) (drop-append_seam values set.value) ∙ take-length set.value in
     ap (λ (bytes : List ℕ). op.BiosAttribute (setting set.attribute set.attribute_type bytes)) there
     ∙ ap op.BiosAttribute (same_setting set.attribute set.attribute_type _ set.value (few_sent set.value) set.fits (sent_whole set.value set.fits))
-put_together values (op.Thresholds set) = refl
-put_together values (op.Hysteresis set) = refl
-put_together values (op.EventEnable set) = refl
-put_together values (op.PowerPolicy set) = refl
-put_together values (op.Watchdog set) = refl
-put_together values (op.GlobalEnables set) = refl
-put_together values (op.BootParam set) = refl
-put_together values (op.NumericEffecter set) = refl
-put_together values (op.StateEffecter set) = refl
-put_together values (op.UserName set) = refl
-put_together values (op.UserAccess set) = refl
-put_together values (op.ChannelAccess set) = refl
-put_together values (op.LanParam set) = refl
+put_together values _ = refl
 
 -- an operation is added
 pub one_more : (values : List ℕ) (ops : List Kept) (any : Op) → All (IsAmong values) ops
