@@ -5,7 +5,7 @@ ghost use Rattle.record_base.specs.AttributeValue.{two_bytes};
 ghost use Rattle.bios_attr.specs.EntryParts.{first_part};
 ghost use Rattle.bios_attr.specs.BiosAttribute.{no_handle, get_first_part, attribute_body, transfer_handle, attribute_in, attribute_shown_in, attribute_view, is_within, is_attribute_reply};
 
-use crate::entry_parts::{BEFORE_ENTRY_VALUE, BEFORE_PART, goes_in_parts, part_at};
+use crate::entry_parts::{BEFORE_ENTRY_VALUE, goes_in_parts, part_at};
 use crate::value_entry::{entry_in, shown_type};
 use pldm_base::{GET_FIRST_PART, GET_NEXT_PART, MOST_WHOLE, PART_LENGTH, TransferFlag};
 use record_base::attribute_sizes::{BEFORE_VALUE, MOST_INDEXES, MOST_TEXT};
