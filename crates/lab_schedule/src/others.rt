@@ -42,7 +42,7 @@ fn told(place: u32) -> &'static [u8] {
     }
 }
 
-/// A request of somebody else on IPMB: one of four.
+/// A request to the controller on IPMB, from one of four others.
 fn other_request(dice: &mut Dice) -> Option<OtherRequest> {
     let Query {
         net_fn,
@@ -72,7 +72,7 @@ fn other_request(dice: &mut Dice) -> Option<OtherRequest> {
     })
 }
 
-/// A message of somebody else on the System Management Bus: one of four.
+/// A message to the controller on the System Management Bus, from one of four others.
 fn other_message(alloc: Global, dice: &mut Dice) -> Result<Option<OtherMessage>, AllocError> {
     let mut bytes = Vec::new(alloc);
     bytes.extend_from_slice(told(dice.below(5)))?;

@@ -37,7 +37,7 @@ const SERVE_ABOUT: &str =
     "Serves a board's two ports over UDP, and prints how many requests it carried out and which records differ";
 
 const PERIODS_HELP: &str =
-    "Goes on where the room for 4096 requests is full, with a new room, as in --periods";
+    "Goes on where the room for 4096 events is full, with a new room, as in --periods";
 
 const QUIET_HELP: &str =
     "Ends once both ports heard nothing for so many turns in a row, as in --quiet 50: \
