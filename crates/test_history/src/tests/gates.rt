@@ -1,6 +1,6 @@
 //! Gates that hold workers.
 use bmc_ports::Gate;
-use std::sync::atomic::{AtomicBool, Ordering};
+use std::sync::atomic::{AtomicBool, AtomicU64, Ordering};
 use std::thread;
 
 /// The most often that a worker looks for another.
@@ -82,5 +82,39 @@ impl Gate for Mixed {
         for _ in 0..(mixed >> 58) {
             thread::yield_now();
         }
+    }
+}
+
+/// A gate that counts how often one worker passes it.
+#[derive(Drop)]
+pub(crate) struct Counted {
+    passed: AtomicU64,
+    is_out_of_order: AtomicBool,
+}
+
+impl Counted {
+    pub fn new() -> Counted {
+        Counted {
+            passed: AtomicU64::new(0),
+            is_out_of_order: AtomicBool::new(false),
+        }
+    }
+
+    /// How often it was passed, where the worker's numbers came one after another, from 0 on.
+    pub fn passed(&self) -> Option<u64> {
+        if self.is_out_of_order.load(Ordering::SeqCst) {
+            None
+        } else {
+            Some(self.passed.load(Ordering::SeqCst))
+        }
+    }
+}
+
+impl Gate for Counted {
+    fn pass(&self, _port: u8, n: u64) {
+        if self.passed.load(Ordering::SeqCst) != n {
+            self.is_out_of_order.store(true, Ordering::SeqCst);
+        }
+        self.passed.store(n.wrapping_add(1), Ordering::SeqCst);
     }
 }

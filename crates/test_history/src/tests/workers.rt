@@ -3,7 +3,7 @@ ghost use Rattle.std.specs.Prelude.{◌≡◌};
 ghost use Rattle.bmc_board.specs.State.{state_of};
 ghost use Rattle.bmc_board.specs.OwnStore.{own_records};
 
-use super::gates::{Crossed, Mixed, Open};
+use super::gates::{Counted, Crossed, Mixed, Open};
 use super::links::link_of;
 use super::seats::code_at;
 use super::{history_of, open_sample};
@@ -260,15 +260,32 @@ fn whoever_goes_first_a_second_board_answers_the_history_so(rt: HostRuntime) {
     }
 }
 
-/// Has one worker alone serve port 0 of a board.
-fn serve_first<J: Opening, R: Wait + Abort>(
+/// What one worker alone is to do: its port's bus, its script, and how many turns it makes.
+#[derive(Clone, Copy)]
+struct Alone<'a> {
+    bus: Bus,
+    heard: &'a [&'a [u8]],
+    turns: u32,
+}
+
+/// What it sent, why it ended, and the history.
+#[derive(Drop)]
+struct ToldAlone {
+    link: MemLink,
+    end: End,
+    history: History,
+}
+
+/// Has one worker alone serve a port of a board.
+fn serve_alone<J: Opening, G: Gate, R: Wait + Abort>(
     rt: &R,
     alloc: Global,
     blank: Blank,
     board: Board<Records>,
     room: usize,
-    link: &mut MemLink,
-) -> (End, History)
+    alone: Alone<'_>,
+    gate: &G,
+) -> ToldAlone
     requires name { blank.name ≡ J.name }
     requires parts { blank.parts ≡ J.parts }
     requires three { blank.parts ≡ 3 }
@@ -278,30 +295,95 @@ fn serve_first<J: Opening, R: Wait + Abort>(
 {
     let opened = Shared::<J, Records>::open(alloc, blank, board, room);
     let (shared, mut seats) = opened.ok().expect(rt, "a board that is shared");
-    let mut port = port_on(rt, alloc, Bus::Ipmb);
-    let end = serve_port(rt, &shared, &mut seats.first, &mut port, link, &Open, 3);
-    (end, history_of(rt, shared, seats))
+    let mut port = port_on(rt, alloc, alone.bus);
+    let mut link = link_of(rt, alloc, alone.heard);
+    let seat = &mut seats.first;
+    let end = serve_port(rt, &shared, seat, &mut port, &mut link, gate, alone.turns);
+    ToldAlone {
+        link,
+        end,
+        history: history_of(rt, shared, seats),
+    }
 }
 
 /// The same, with a ledger of its own.
-fn serve_first_at<R: Wait + Abort>(
+fn serve_alone_at<G: Gate, R: Wait + Abort>(
     rt: &R,
     alloc: Global,
     board: Board<Records>,
     room: usize,
-    link: &mut MemLink,
-) -> (End, History) {
-    serve_first::<Brand, R>(rt, alloc, Blank::new(3), board, room, link)
+    alone: Alone<'_>,
+    gate: &G,
+) -> ToldAlone {
+    serve_alone::<Brand, G, R>(rt, alloc, Blank::new(3), board, room, alone, gate)
+}
+
+/// The same, of the sample board.
+fn serve_sample<G: Gate, R: Wait + Abort>(
+    rt: &R,
+    alloc: Global,
+    room: usize,
+    alone: Alone<'_>,
+    gate: &G,
+) -> ToldAlone {
+    let board = open_sample(rt, alloc);
+    serve_alone_at::<G, R>(rt, alloc, board, room, alone, gate)
 }
 
 #[test]
 fn a_worker_ends_at_the_request_that_finds_no_room(rt: HostRuntime) {
-    let board = open_sample(&rt, rt.alloc());
-    let mut link = link_of(&rt, rt.alloc(), &BOOT);
-    let (end, history) = serve_first_at(&rt, rt.alloc(), board, 1, &mut link);
-    assert!(rt; end == End::Full && history.len() == 1);
-    assert_eq!(rt; code_at(&history, 0), Some(0x00));
-    assert!(rt; are_sent(link.sent(), &BOOTED[..1]));
-    let counts = link.counts();
+    let alone = Alone {
+        bus: Bus::Ipmb,
+        heard: &BOOT,
+        turns: 3,
+    };
+    let told = serve_sample(&rt, rt.alloc(), 1, alone, &Open);
+    assert!(rt; told.end == End::Full && told.history.len() == 1);
+    assert_eq!(rt; code_at(&told.history, 0), Some(0x00));
+    assert!(rt; are_sent(told.link.sent(), &BOOTED[..1]));
+    let counts = told.link.counts();
     assert_eq!(rt; (counts.calls, counts.heard), (2, 2));
+}
+
+/// The worker makes all its turns, sends so many frames, and passes the gate twice for each of so many exchanges.
+fn expect_passed<R: Wait + Abort>(
+    rt: &R,
+    alloc: Global,
+    alone: Alone<'_>,
+    sent: usize,
+    exchanges: usize,
+) {
+    let gate = Counted::new();
+    let told = serve_sample(rt, alloc, 8, alone, &gate);
+    assert!(rt; told.end == End::Turns && told.link.sent().len() == sent);
+    assert_eq!(rt; told.history.len(), exchanges);
+    assert_eq!(rt; gate.passed(), Some(2 * exchanges as u64));
+}
+
+/// A Get of boot parameter 5 whose last check byte is wrong.
+const DAMAGED: &[u8] = &[0x20, 0x00, 0xE0, 0x2C, 0x04, 0x09, 0x05, 0x00, 0x00, 0xC3];
+
+/// The control message Get Endpoint ID.
+const ENDPOINT: &[u8] = &[
+    0x20, 0x0F, 0x08, 0x31, 0x01, 0x0A, 0x08, 0xC8, 0x00, 0x80, 0x02, 0x4D,
+];
+
+#[test]
+fn a_repeat_and_what_is_ignored_pass_no_gate(rt: HostRuntime) {
+    let alone = Alone {
+        bus: Bus::Ipmb,
+        heard: &[BOOT[0], BOOT[0], DAMAGED, BOOT[1]],
+        turns: 5,
+    };
+    expect_passed(&rt, rt.alloc(), alone, 3, 2);
+}
+
+#[test]
+fn a_control_message_passes_no_gate(rt: HostRuntime) {
+    let alone = Alone {
+        bus: Bus::Smbus,
+        heard: &[ASKED[0], ENDPOINT, ASKED[0], ASKED[2]],
+        turns: 4,
+    };
+    expect_passed(&rt, rt.alloc(), alone, 4, 2);
 }
