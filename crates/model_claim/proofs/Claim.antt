@@ -35,7 +35,7 @@ use Rattle.model_claim.proofs.Series.{board_of, all_given}
 use Rattle.model_claim.proofs.Labs.{none_orderly, Steps, step_so}
 use Rattle.model_claim.proofs.Honesty.{Runs, runs_so, first_honest, later_honest}
 use Rattle.model_claim.proofs.Grows.{step_grows}
-use Rattle.model_claim.proofs.Meaning.{after_so, stands_so, shows_so}
+use Rattle.model_claim.proofs.Meaning.{after_so, stands_so, shows_so, shows_parts}
 use Rattle.model_claim.specs.Seen.{bare, seen_entry, seen_log, words_of, P, W, spell, seen_call, seen_event, seen_why, seen_lab, stage_of, Made}
 use Rattle.model_claim.proofs.Holds.{Reads as EntryReads, Holds}
 use Rattle.text_schedule.specs.declared.event.Call.TheVariants as lab_call
@@ -306,6 +306,7 @@ module _ (setup : BoardFile) (names : Names) (plan : List Op) (retries : ℕ) wh
     stands = λ events all. stands_so setup names plan start.board.records (after setup (ours setup) names plan retries events).manager.phase (after setup (ours setup) names plan retries events).board.records (stands events all);
     undone = λ events later all at_undone.
         let same = undone events later all at_undone in
-        (same.records, shows_so setup names start.board (after setup (ours setup) names plan retries (events ++ later)).board same.shows);
+        let now = (after setup (ours setup) names plan retries (events ++ later)).board in
+        (same.records, shows_so setup names start.board now same.shows, shows_parts setup names start.board now same.records);
     halts = halts;
   }

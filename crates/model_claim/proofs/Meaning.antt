@@ -1,13 +1,23 @@
 -- What the model says of records is what the statement says.
-use Rattle.std.proofs.Common.{◌≡◌, ℕ, zero, suc, true, false, List, length, Option, Some, None, refl, subst, ◌⊎◌, inl, inr}
+use Rattle.std.proofs.Common.{◌≡◌, ℕ, zero, suc, true, false, List, length, Option, Some, None, refl, sym, ◌∙◌, ap, subst, ◌⊎◌, inl, inr}
+use Rattle.std.specs.Option.{option_map}
 use Rattle.std.proofs.lemmas.List.{length-map}
+use Rattle.record_base.specs.declared.attribute.Attribute.{Attribute}
+use Rattle.record_base.specs.declared.key.Key.TheVariants as of_key
+use Rattle.record_base.specs.declared.live.Live.{Live}
 use Rattle.record_base.specs.declared.op.Op.{Op}
+use Rattle.record_base.specs.Attribute.{range_of}
 use Rattle.cfg_records.specs.declared.board_file.BoardFile.{BoardFile}
 use Rattle.cfg_records.specs.Records.{Records}
 use Rattle.record_kinds.specs.declared.limits.Limits.{Limits}
+use Rattle.record_kinds.specs.declared.limits.Limits.TheVariants as limits
+use Rattle.record_kinds.specs.Boards.{attribute_at}
 use Rattle.record_kinds.specs.Limits.{key_of, limits_at}
+use Rattle.bmc_board.specs.AttributeParts.{later_answer}
+use Rattle.bmc_board.specs.Request.{LaterPart}
+use Rattle.bmc_board.specs.Replies.{unknown_code}
 use Rattle.bmc_board.specs.State.{State}
-use Rattle.bmc_board.specs.Answer.{answer_of}
+use Rattle.bmc_board.specs.Answer.{answer_of, reply, serve}
 use Rattle.bmc_board.proofs.OneAnswer.{has_answer}
 use Rattle.undo_plans.specs.declared.names.Names.{Names}
 use Rattle.model_undo.specs.Family.{Family}
@@ -18,7 +28,7 @@ use Rattle.model_undo.specs.Headline as undo_headline
 use Rattle.model_family.specs.Family.{SetsWithin, conf_within}
 use Rattle.model_headline.specs.Tied.{F}
 use Rattle.model_claim.specs.Manager.{Gets, Sets, Undoes, Phase, Fresh, Open, Done, Halted, Undone, UndoRefused, sends}
-use Rattle.model_claim.specs.Claim.{ours, SetsTo, IsAfter, Stands, ShowsSame}
+use Rattle.model_claim.specs.Claim.{ours, SetsTo, IsAfter, Stands, ShowsSame, ShowsSameParts}
 use Rattle.model_claim.specs.Seen.{words_of, W, stage_of}
 
 module _ (setup : BoardFile) (names : Names) where
@@ -66,3 +76,22 @@ module _ (setup : BoardFile) (names : Names) where
       let again = answer_of setup c other in
       let told = same key one other gets again_gets (words_of shown.0) (words_of again.0) shown.1 again.1 (has_answer setup b one) (has_answer setup c other) in
       (told.0, λ ok limits e. subst (λ (o : Option Limits). conf_within o again.0.body ≡ conf_within o shown.0.body) e (told.1 ok))
+
+  -- what shows an attribute is its record's value alone
+  later_alike : (handle transfer unknown : ℕ) (a : Option Attribute) (value : Option (List ℕ)) (one other : Live)
+      → let at = option_map (λ a. limits.BiosAttribute (record { handle = handle; read_only = a.read_only; range = range_of a.kind })) a in
+      later_answer at value other unknown transfer ≡ later_answer at value one unknown transfer
+  later_alike handle transfer unknown (Some a) (Some value) one other = refl
+  later_alike handle transfer unknown (Some a) None one other = refl
+  later_alike handle transfer unknown None (Some value) one other = refl
+  later_alike handle transfer unknown None None one other = refl
+
+  later_same : (b c : State) → c.records ≡ b.records → (handle transfer : ℕ) → (serve setup c (LaterPart handle transfer)).0 ≡ (serve setup b (LaterPart handle transfer)).0
+  later_same b c same handle transfer =
+      let key = of_key.BiosAttribute handle in
+      ap (λ (r : Records). later_answer (limits_at setup key) (r key) c.activity.live (unknown_code setup key) transfer) same
+      ∙ later_alike handle transfer (unknown_code setup key) (attribute_at setup.attributes.items handle) (b.records key) b.activity.live c.activity.live
+
+  pub shows_parts : (b c : State) → c.records ≡ b.records → ShowsSameParts setup (ours setup) b c
+  shows_parts b c same handle transfer one other asks_one asks_other =
+      (λ i. (reply setup c (asks_other i)).0) ∙ later_same b c same handle transfer ∙ sym (λ i. (reply setup b (asks_one i)).0)

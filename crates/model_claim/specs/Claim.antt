@@ -1,7 +1,6 @@
 -- The claim: after every honest schedule the manager's phase says what the records are, and undone means that each is what it was.
 use Rattle.std.specs.Prelude.{◌≡◌, ◌≢◌, ◌⊎◌, ℕ, zero, suc, ◌+◌, ◌<◌, ◌≤◌, true, false, List, [], ◌∷◌, ◌++◌, length, All, Option, Some, None, Result, Ok, slice_get}
 use Rattle.std.specs.Option.{option_map}
-use Rattle.two_wire.specs.Codes.{success}
 use Rattle.ipmb_frame.specs.declared.message.Msg.{Msg}
 use Rattle.ipmb_frame.specs.Grammar.{IsMessage}
 use Rattle.mctp_net.specs.Grammar.{IsPacket}
@@ -13,13 +12,12 @@ use Rattle.cfg_records.specs.Boards.{pairs_of}
 use Rattle.cfg_records.specs.Records.{Records, records_of, with_record}
 use Rattle.record_kinds.specs.declared.limits.Limits.{Limits}
 use Rattle.record_kinds.specs.Limits.{key_of, restorable, limits_at, sets, view, conf}
-use Rattle.record_kinds.specs.Series.{first_shown}
 use Rattle.bmc_board.specs.State.{State, opened}
-use Rattle.bmc_board.specs.Request.{Request, Get, Set, SetStores, PartOfSet, asked_by}
+use Rattle.bmc_board.specs.Request.{Request, Get, Set, SetStores, PartOfSet, LaterPart, asked_by}
 use Rattle.bmc_board.specs.Table.{is_changing}
 use Rattle.bmc_board.specs.Answer.{answer_of}
 use Rattle.model_claim.specs.Frames.{Bus, Ipmb, Smbus, Packet, Value, Part, span, is_taken}
-use Rattle.model_claim.specs.Manager.{Op, Asked, Ipmi, Pldm, Answered, Names, Stop, Why, Stopped, GetRefused, SetRefused, NotRestorable, Gets, Sets, Undoes, Phase, Fresh, Open, Done, Halted, Undone, UndoRefused, own_on, by_manager, Series, Reads, sends, first_of, next_after, request_after, joined, open_in}
+use Rattle.model_claim.specs.Manager.{success, Op, Asked, Ipmi, Pldm, Answered, Names, Stop, Why, Stopped, GetRefused, SetRefused, NotRestorable, Gets, Sets, Undoes, Phase, Fresh, Open, Done, Halted, Undone, UndoRefused, own_on, by_manager, Series, Reads, sends, first_of, next_after, request_after, first_shown, joined, open_in}
 use Rattle.model_claim.specs.Lab.{PldmRequest, Controller, Heard, Carried, heard_in, pldm_heard, Way, ToPort, ToManager, Frame, Event, Calls, ToBmc, ToMgr, OtherIpmb, OtherSmbus, Noise, Idles, OnBench, Lab, port_on, idles_on, step, run, opening}
 
 -- ---- what commands do to records
@@ -40,9 +38,8 @@ module _ (setup : BoardFile) where
   Shows (Some limits) (Some value) before a = a ≡ record { code = success; body = first_shown limits (view limits value before.activity.live) }
   Shows limits value before a = a.code ≢ success
 
-  -- What is asked for is answered so, and leaves such a board. A Set changes its own record alone, or is refused since it can't be accepted. A part of
-  -- a Set leaves every record, or is carried out as such a Set. No honest event has a request that sets two. Any other, as that of a live command or
-  -- of a later part of a Get, leaves every record, whatever it is answered.
+  -- What is asked for is answered so, and leaves such a board. A Set changes its own record alone, or can't be accepted and is refused. A part of a Set
+  -- leaves every record, or is carried out as such a Set. No honest event has a request that sets two. Any other leaves every record, whatever its answer.
   abbrev pub IsServed : Result Request ℕ → (before : State) → Answered → (after : State) → Type 0
   IsServed (Ok (Get key)) before a after = (after.records ≡ before.records) × Shows (limits_at setup key) (before.records key) before a
   IsServed (Ok (Set op)) before a after = ((a.code ≡ success) × SetsTo op before.records after.records)
@@ -80,11 +77,16 @@ module _ (setup : BoardFile) where
   Stands plan start (UndoRefused k code) r = ⊥
 
   -- Any two Gets of a record, whoever asks them, one of the first board and one of the second, are answered with the same code, and where
-  -- that is 00h they show the same configuration.
+  -- that is 00h they show the same configuration (of a long attribute, in its first part).
   abbrev pub ShowsSame : Controller → (first second : State) → Type 0
   ShowsSame c first second = (key : Key) (one other : Asked) → asked_by one ≡ Ok (Get key) → asked_by other ≡ Ok (Get key)
       → let shown = (c.answer first one).0 in let again = (c.answer second other).0 in
       (again.code ≡ shown.code) × (shown.code ≡ success → (limits : Limits) → limits_at setup key ≡ Some limits → conf limits again.body ≡ conf limits shown.body)
+
+  -- Any two requests for the same later part of a long attribute, whoever asks them, one of the first board and one of the second, get the same answer.
+  abbrev pub ShowsSameParts : Controller → (first second : State) → Type 0
+  ShowsSameParts c first second = (handle transfer : ℕ) (one other : Asked) → asked_by one ≡ Ok (LaterPart handle transfer)
+      → asked_by other ≡ Ok (LaterPart handle transfer) → (c.answer second other).0 ≡ (c.answer first one).0
 
 -- ---- honest events
 
@@ -187,10 +189,10 @@ module _ (setup : BoardFile) (c : Controller) (names : Names) (plan : List Op) (
       × AreGiven (GaveIn events k) (Reads (key_of op)) [] (Some (first_of (Reads (key_of op)))) bodies × (¬ restorable op (joined bodies))
 
   -- After every honest schedule, and so at each of its events, the phase says what the records are. Once the plan is undone, and after all
-  -- that comes then, every record is what it was, and each Get is answered with the same code and shows the same configuration. A plan that
-  -- halted has its cause in the schedule.
+  -- that comes then, every record is what it was, and each Get, also one in parts, is answered with the same code and shows the same configuration.
+  -- A plan that halted has its cause in the schedule.
   pub record Claim : Type 0 where
     pub stands : (events : List Event) → AllHonest c names events first → Stands setup plan first.board.records (after events).manager.phase (after events).board.records
     pub undone : (events later : List Event) → AllHonest c names (events ++ later) first → (after events).manager.phase ≡ Undone
-        → ((after (events ++ later)).board.records ≡ first.board.records) × ShowsSame setup c first.board (after (events ++ later)).board
+        → let now = (after (events ++ later)).board in (now.records ≡ first.board.records) × ShowsSame setup c first.board now × ShowsSameParts setup c first.board now
     pub halts : (events : List Event) (k : ℕ) (why : Why) → AllHonest c names events first → (after events).manager.phase ≡ Halted k why → IsCause events k why

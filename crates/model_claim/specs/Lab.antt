@@ -2,7 +2,6 @@
 use Rattle.std.specs.Prelude.{ℕ, ◌+◌, ◌-◌, ◌/◌, ◌%◌, ◌==◌, ◌&&◌, not, nat_lt, nat_le, Bool, true, false, List, [], ◌∷◌, ◌++◌, length, map, filter, Option, Some, None, if◌then◌else◌, slice_get}
 use Rattle.std.specs.List.{list_all, list_any}
 use Rattle.std.specs.Str.{bytes_eq}
-use Rattle.two_wire.specs.Codes.{node_busy, pldm_not_ready}
 use Rattle.ipmb_frame.specs.Grammar.{request_bytes}
 use Rattle.mctp_net.specs.declared.message.Message.{Message}
 pub use Rattle.pldm_base.specs.declared.message.PldmRequest.{PldmRequest}
@@ -10,7 +9,7 @@ use Rattle.pldm_base.specs.Message.{request_in as pldm_in, request_bytes as pldm
 use Rattle.bmc_board.specs.declared.activity.Activity.{Activity}
 use Rattle.bmc_board.specs.State.{State, on_bench}
 use Rattle.model_claim.specs.Frames.{Bus, Ipmb, Smbus, Request, Envelope, Packet, Value, Asks, Tells, Part, circle, envelope, packets_of, is_meant, is_taken, whole, waits_after}
-use Rattle.model_claim.specs.Manager.{Op, Asked, Ipmi, Pldm, Answered, Names, Call, Fresh, Manager, Turn, called, hears as manager_hears, own_on, bus_of, open_in, frames_of}
+use Rattle.model_claim.specs.Manager.{node_busy, pldm_not_ready, Op, Asked, Ipmi, Pldm, Answered, Names, Call, Fresh, Manager, Turn, called, hears as manager_hears, own_on, bus_of, open_in, frames_of}
 
 -- A controller, but for its ports: its board as it begins, the board's answer to each request with the state that it leaves, and its endpoint's
 -- identifier after each control message with the reply, if it replies.

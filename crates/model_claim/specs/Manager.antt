@@ -1,6 +1,6 @@
 -- A manager: what each call and each frame makes of it, and when it sends the frames of its open request.
 use Rattle.std.specs.Prelude.{ℕ, suc, ◌+◌, ◌==◌, ◌&&◌, ◌||◌, not, ◌/◌, ◌%◌, nat_lt, Bool, true, false, List, [], ◌∷◌, ◌++◌, length, map, Option, Some, None, if◌then◌else◌, slice_get}
-use Rattle.two_wire.specs.Codes.{success, node_busy, pldm_not_ready}
+pub use Rattle.two_wire.specs.Codes.{success, node_busy, pldm_not_ready}
 use Rattle.pldm_base.specs.Message.{request_bytes}
 pub use Rattle.record_base.specs.declared.op.Op.{Op}
 pub use Rattle.record_base.specs.declared.message.Asked.{Asked}
@@ -8,7 +8,7 @@ pub use Rattle.record_base.specs.declared.message.Asked.TheVariants.{Ipmi, Pldm}
 pub use Rattle.record_base.specs.declared.message.Answered.{Answered}
 pub use Rattle.bios_attr.specs.EntryParts.{joined}
 use Rattle.record_kinds.specs.Limits.{key_of, inverse}
-pub use Rattle.record_kinds.specs.Series.{Series, Reads, sends, first_of, next_after, request_after}
+pub use Rattle.record_kinds.specs.Series.{Series, Reads, sends, first_of, next_after, request_after, first_shown}
 use Rattle.bmc_board.specs.Decode.{sent_by}
 pub use Rattle.undo_plans.specs.declared.names.Names.{Names}
 use Rattle.model_claim.specs.Frames.{Bus, Ipmb, Smbus, Response, Packet, Value, Asks, Tells, Part, circle, envelope, packets_of, is_taken, whole, waits_after}

@@ -9,8 +9,8 @@ ghost use Rattle.model_claim.specs.Keeps.{KeepsPromise};
 ghost use Rattle.model_claim.specs.Refines.{Refines};
 
 /// The headline. After every honest schedule, and so at each of its events, the manager's phase says what the records are. Once the plan is undone,
-/// and after all that comes then, every record is what it was at the start, and each Get is answered with the same code and shows the same
-/// configuration. A plan that halted has its cause in the schedule.
+/// and after all that comes then, every record is what it was at the start, and each Get, also one in parts, is answered with the same code and shows
+/// the same configuration. A plan that halted has its cause in the schedule.
 pub fn undone_means_unchanged()
     ensures controller { (setup : BoardFile) → IsController setup (ours setup) }
     ensures claim { (setup : BoardFile) (names : Names) (plan : List Op) (retries : ℕ)

@@ -14,7 +14,7 @@ use Rattle.model_undo.specs.declared.phase.Phase.{Phase}
 use Rattle.model_undo.specs.declared.phase.Phase.TheVariants.{Fresh, Getting, Setting, Done, Halted, Unsettled, Undoing, Undone, UndoRefused}
 use Rattle.model_undo.specs.Plan.{IsAfter, Stands}
 use Rattle.model_undo.specs.Machine.{phase_of}
-use Rattle.model_undo.specs.Headline.{ShowsSame}
+use Rattle.model_undo.specs.Headline.{ShowsSame, PartsShowSame}
 use Rattle.model_lab.specs.Lab as lab
 use Rattle.model_lab.specs.Lab.{Lab, step, run, opening}
 use Rattle.model_lab.specs.Faults.{AllTaken}
@@ -117,9 +117,12 @@ module _ (file : BoardFile) where
         let whole : Good (events_from es first ++ later) = subst Good split good in
         (first_honest file lab_names plan retries (events_from es first) later first whole.0, first_own file lab_names plan retries (events_from es first) later first whole.1)
 
+    -- the board has the records of the start, and shows what it showed then
+    abbrev IsSame : State → Type 0
+    IsSame now = (now.records ≡ first.board.records) × ShowsSame (F file lab_names) first.board now × PartsShowSame (F file lab_names) first.board now
+
     -- once undone, for good
-    for_good : (es later : List Event) → Good (events_from (es ++ later) first) → phase_of plans.words (after file es first).manager.machine ≡ Undone
-        → ((after file (es ++ later) first).board.records ≡ first.board.records) × ShowsSame (F file lab_names) first.board (after file (es ++ later) first).board
+    for_good : (es later : List Event) → Good (events_from (es ++ later) first) → phase_of plans.words (after file es first).manager.machine ≡ Undone → IsSame (after file (es ++ later) first).board
     for_good es later good at =
         let one = events_from es first in
         let two = events_from later (after file es first) in
@@ -127,7 +130,7 @@ module _ (file : BoardFile) where
         let undone : phase_of plans.words (run plans file one first).manager.machine ≡ Undone = ap (λ (y : Lab plans). phase_of plans.words y.manager.machine) (runs_so es first) ∙ at in
         let there = (headline_of file lab_names plan retries Good (λ events is. is)).undone one two (subst Good split good) undone in
         let reaches : run plans file (one ++ two) first ≡ after file (es ++ later) first = ap (λ (events : List lab.Event). run plans file events first) (sym split) ∙ runs_so (es ++ later) first in
-        subst (λ (y : Lab plans). (y.board.records ≡ first.board.records) × ShowsSame (F file lab_names) first.board y.board) reaches there
+        subst (λ (y : Lab plans). IsSame y.board) reaches there
 
     -- an answer that was given in a run was given in the play
     gave_so : (es : List Event) (k : ℕ) (asked : Asked) (a : Answered) → law.GaveIn file lab_names plan retries (events_from es first) k asked a → GaveIn file plan retries es k asked a

@@ -28,7 +28,7 @@ use Rattle.model_undo.proofs.Series.{all_answered_as}
 use Rattle.model_undo.specs.Machine.{count_of, phase_of}
 use Rattle.model_undo.specs.World as world
 use Rattle.model_undo.specs.World.{States, World, Happening}
-use Rattle.model_undo.specs.Headline.{IsStart, ShowsSame}
+use Rattle.model_undo.specs.Headline.{IsStart, ShowsSame, PartsShowSame}
 use Rattle.model_undo.proofs.World.{run_holds}
 use Rattle.model_undo.proofs.Headline.{opening_holds, stands_at, halts_at, undone_for_good}
 use Rattle.model_undo.proofs.TwoBuses.{packet_lines}
@@ -269,6 +269,12 @@ module _ (setup : BoardFile) (names : Names) (plan : List Op) (retries : ℕ) wh
   both_run [] later x = refl
   both_run (e ∷ es) later x = both_run es later (step (P setup names) setup x e)
 
+  -- the board has the records of the start, and shows what it showed then
+  abbrev IsSame : State → Type 0
+  IsSame now =
+      let board = (first setup names plan retries).board in
+      (now.records ≡ board.records) × ShowsSame (F setup names) board now × PartsShowSame (F setup names) board now
+
   undone_stays : UndoneForGood setup names plan retries (IsHonestAndOwn setup names plan retries)
   undone_stays events later good undone =
       let x0 = first setup names plan retries in
@@ -280,8 +286,8 @@ module _ (setup : BoardFile) (names : Names) (plan : List Op) (retries : ℕ) wh
       let at : phase_of (F setup names).words (world.run (F setup names) (L setup names) (W setup names) g.happenings (world_of setup names x0 quiet)).machine ≡ Undone =
       ap (λ (w : World (F setup names) (L setup names)). phase_of (F setup names).words w.machine) g.reaches ∙ undone in
       let told = undone_for_good (F setup names) (is_family setup (addresses names)) (L setup names) (packet_lines (addresses names) packets_of packets_cut) (W setup names) plan retries quiet x0.board is_start g.happenings more.happenings (goes_may setup names x0 y z quiet g more) at in
-      subst (λ (l : Lab (P setup names)). (l.board.records ≡ x0.board.records) × ShowsSame (F setup names) x0.board l.board) (both_run events later x0)
-      (subst (λ (w : World (F setup names) (L setup names)). (w.board.records ≡ x0.board.records) × ShowsSame (F setup names) x0.board w.board) (goes_reach setup names x0 y z quiet g more) (told.0, told.1))
+      subst (λ (l : Lab (P setup names)). IsSame l.board) (both_run events later x0)
+      (subst (λ (w : World (F setup names) (L setup names)). IsSame w.board) (goes_reach setup names x0 y z quiet g more) told)
 
   -- ---- causes of a halt
 

@@ -9,7 +9,7 @@ use Rattle.model_undo.specs.declared.phase.Phase.{Phase}
 use Rattle.model_undo.specs.declared.phase.Phase.TheVariants.{Undone}
 use Rattle.model_undo.specs.Plan.{IsAfter, Stands}
 use Rattle.model_undo.specs.Machine.{phase_of}
-use Rattle.model_undo.specs.Headline.{ShowsSame}
+use Rattle.model_undo.specs.Headline.{ShowsSame, PartsShowSame}
 use Rattle.model_lab.specs.Lab.{Lab, opening}
 use Rattle.model_lab.specs.Own.{IsOwn}
 use Rattle.model_lab.specs.Joins.{IsJoinLive}
@@ -61,11 +61,12 @@ module _ (file : BoardFile) (plan : List Op) (retries : ℕ) where
   abbrev pub phase_after : List Event → Phase
   phase_after events = phase_of plans.words (lab_after events).manager.machine
 
-  -- Once the plan is undone, and after all that comes then, every record is what it was at the start, and each Get, whoever asks it, is
-  -- answered with the same code and shows the same configuration.
+  -- Once the plan is undone, and after all that comes then, every record is what it was at the start. Each Get, whoever asks it, is
+  -- answered with the same code and shows the same configuration. So does a Get of the manager in several requests, each answered with 00h.
   abbrev pub UndoneForGood : List Event → Type 0
   UndoneForGood taken = (events later rest : List Event) → taken ≡ (events ++ later) ++ rest → phase_after events ≡ Undone
-      → ((lab_after (events ++ later)).board.records ≡ (lab_after []).board.records) × ShowsSame (F file lab_names) (lab_after []).board (lab_after (events ++ later)).board
+      → let now = (lab_after (events ++ later)).board in
+      (now.records ≡ (lab_after []).board.records) × ShowsSame (F file lab_names) (lab_after []).board now × PartsShowSame (F file lab_names) (lab_after []).board now
 
   -- at an event that was taken the board answered the manager so, at the records after the plan's first `step` steps
   pub record GaveIn (taken : List Event) (step : ℕ) (asked : Asked) (answered : Answered) : Type 0 where

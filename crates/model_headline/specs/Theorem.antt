@@ -9,7 +9,7 @@ use Rattle.model_undo.specs.declared.phase.Phase.{Phase}
 use Rattle.model_undo.specs.declared.phase.Phase.TheVariants.{Undone}
 use Rattle.model_undo.specs.Plan.{IsAfter, Stands}
 use Rattle.model_undo.specs.Machine.{phase_of}
-use Rattle.model_undo.specs.Headline.{ShowsSame}
+use Rattle.model_undo.specs.Headline.{ShowsSame, PartsShowSame}
 use Rattle.undo_plans.specs.declared.names.Names.{Names}
 use Rattle.text_schedule.specs.declared.event.Call.TheVariants.{Stop}
 use Rattle.model_lab.specs.Lab.{Event, Calls, Lab, step, run, opening}
@@ -65,11 +65,12 @@ module _ (setup : BoardFile) (names : Names) (plan : List Op) (retries : ℕ) wh
     abbrev pub AlwaysStands : Type 0
     AlwaysStands = (events : List Event) → Good events → StandsAfter events
 
-    -- once the plan is undone, and after all that comes then, every record is what it was at the start, and each Get, whoever asks it, is
-    -- answered with the same code and shows the same configuration
+    -- Once the plan is undone, and after all that comes then, every record is what it was at the start. Each Get, whoever asks it, is
+    -- answered with the same code and shows the same configuration. So does a Get of the manager in several requests, each answered with 00h.
     abbrev pub UndoneForGood : Type 0
     UndoneForGood = (events later : List Event) → Good (events ++ later) → phase_after events ≡ Undone
-        → ((after (events ++ later)).board.records ≡ first.board.records) × ShowsSame (F setup names) first.board (after (events ++ later)).board
+        → let now = (after (events ++ later)).board in
+        (now.records ≡ first.board.records) × ShowsSame (F setup names) first.board now × PartsShowSame (F setup names) first.board now
 
     -- a plan that halted has its cause in its own schedule: an answer that was given in it, or a call of `stop`
     abbrev pub HaltsByAnswers : Type 0

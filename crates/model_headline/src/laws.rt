@@ -42,7 +42,7 @@ pub fn others_are_followed()
 /// The headline, over a lab. After every honest schedule in which no packet joins one that waited while eight or more newer requests were
 /// begun, so at each of its events, the manager's phase says what the records are, and a plan that halted has its cause. Once the plan is
 /// undone, and after all that comes then, every record is what it was at the start, and each Get is answered with the same code and shows
-/// the same configuration.
+/// the same configuration. So does a Get of the manager in several requests, each answered with 00h.
 pub fn undo_takes_everything_back()
     ensures { (setup : BoardFile) (names : Names) (plan : List Op) (retries : ℕ)
         → Headline setup names plan retries (IsTrusted setup names plan retries) }
