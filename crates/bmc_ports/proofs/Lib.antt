@@ -1,4 +1,3 @@
-pub mod Turning
 pub mod Scanning
 pub mod Since
 pub mod Senders
@@ -6,4 +5,3 @@ pub mod Silent
 pub mod Slicing
 pub mod Rounds
 pub mod Timing
-pub mod Calling

@@ -1,4 +1,3 @@
-pub mod Serving
 pub mod Scanning
 pub mod Seated
 pub mod Since
@@ -6,4 +5,3 @@ pub mod Senders
 pub mod Silence
 pub mod Slices
 pub mod Timing
-pub mod Calling

@@ -6,13 +6,13 @@ use Rattle.bmc_links.specs.declared.link.Counts.{Counts}
 use Rattle.bmc_links.specs.Counted.{counted_on}
 use Rattle.bmc_history.specs.declared.event.Call.{Call}
 use Rattle.bmc_history.specs.declared.seat.Seat.{Seat}
+use Rattle.bmc_worker.specs.declared.worker.End.{End}
+use Rattle.bmc_worker.specs.declared.worker.End.TheVariants.{Turns, Full}
+use Rattle.bmc_worker.specs.Serving.{MakesTurn}
 use Rattle.bmc_ports.specs.declared.lane.Lane.{Lane}
 use Rattle.bmc_ports.specs.declared.lane.Lanes.{Lanes}
-use Rattle.bmc_ports.specs.declared.worker.End.{End}
-use Rattle.bmc_ports.specs.declared.worker.End.TheVariants.{Turns, Full}
 use Rattle.bmc_ports.specs.declared.timed.TimedEnd.{TimedEnd}
 use Rattle.bmc_ports.specs.declared.timed.TimedEnd.TheVariants as timed
-use Rattle.bmc_ports.specs.Serving.{MakesTurn}
 use Rattle.bmc_ports.specs.Since.{CountsOn, Hearing}
 use Rattle.bmc_ports.specs.Silence.{AreCounted, Forgets}
 

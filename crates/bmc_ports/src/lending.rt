@@ -4,16 +4,15 @@ ghost use Rattle.bmc_ports.specs.Slices.{IsBack, IsDone, NoRoom};
 ghost use Rattle.bmc_ports.specs.Timing.{IsPlayed};
 
 use crate::bell::Bell;
-use crate::gate::Gate;
 use crate::lane::Lanes;
 use crate::run::NoThread;
 use crate::scanned::{Played, Script, run_beside};
 use crate::slices::{Both, Lent};
 use crate::timed::{TimedEnd, Timetable};
-use crate::worker::End;
 use bmc_board::Records;
 use bmc_history::{Opening, Seats, Shared};
 use bmc_links::Link;
+use bmc_worker::{End, Gate};
 use std::sync::Wait;
 use std::thread::Threads;
 use std::time::Clock;

@@ -2,13 +2,12 @@
 ghost use Rattle.std.specs.Prelude.{◌≡◌, IfOk};
 ghost use Rattle.bmc_ports.specs.Seated.{ComesBack, AllComeBack};
 
-use crate::gate::Gate;
 use crate::scanner::scan;
-use crate::worker::{End, serve_port};
 use bmc_board::{Bench, Records};
 use bmc_core::Port;
 use bmc_history::{Opening, Seat, Seats, Shared};
 use bmc_links::Link;
+use bmc_worker::{End, Gate, serve_port};
 use std::snapshot::Snapshot;
 use std::sync::Wait;
 use std::thread;

@@ -4,13 +4,13 @@ ghost use Rattle.bmc_ports.specs.Slices.{IsBack};
 ghost use Rattle.bmc_ports.specs.Timing.{IsPlayed};
 
 use crate::bell::Bell;
-use crate::gate::Gate;
 use crate::run::NoThread;
 use crate::slices::{Both, Lent, run_lent};
 use crate::timed::{TimedEnd, Timetable, happen_in_time};
 use bmc_board::Records;
 use bmc_history::{Opening, Seat, Shared};
 use bmc_links::Link;
+use bmc_worker::Gate;
 use std::snapshot::Snapshot;
 use std::sync::Wait;
 use std::thread;

@@ -1,11 +1,11 @@
 //! The scanner: what happens on a board beside requests.
 ghost use Rattle.std.specs.Prelude.{◌≡◌, true};
+ghost use Rattle.bmc_worker.specs.declared.worker.End.TheVariants.{Turns, Full};
 ghost use Rattle.bmc_ports.specs.Scanning.{Scanned};
-ghost use Rattle.bmc_ports.specs.declared.worker.End.TheVariants.{Turns, Full};
 
-use crate::worker::End;
 use bmc_board::Bench;
 use bmc_history::{Opening, PeriodFull, Seat, Shared};
+use bmc_worker::End;
 use cfg_records::Store;
 use std::sync::Wait;
 

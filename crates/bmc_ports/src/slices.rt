@@ -1,17 +1,16 @@
 //! Two port workers that are lent ports and links, and give them back after some of their turns.
 ghost use Rattle.std.specs.Prelude.{◌≡◌, ◌≤◌, true, [], ◌∷◌, IfOk};
+ghost use Rattle.bmc_worker.specs.declared.worker.End.TheVariants.{Turns, Full};
 ghost use Rattle.bmc_ports.specs.Slices.{IsQuiet, SomeTurn, GoesOn, IsBack};
-ghost use Rattle.bmc_ports.specs.declared.worker.End.TheVariants.{Turns, Full};
 
 use crate::bell::{Bell, Rope};
-use crate::gate::Gate;
 use crate::lane::Lane;
 use crate::run::NoThread;
 use crate::silence::forget_silent;
-use crate::worker::{Desk, End, turn};
 use bmc_board::Records;
 use bmc_history::{Opening, Seat, Shared};
 use bmc_links::Link;
+use bmc_worker::{Desk, End, Gate, turn};
 use cfg_records::Store;
 use std::snapshot::Snapshot;
 use std::sync::Wait;

@@ -12,10 +12,10 @@ use Rattle.bmc_history.specs.declared.event.Event.{Event}
 use Rattle.bmc_history.specs.declared.seat.Seats.{Seats}
 use Rattle.bmc_history.specs.Replay.{calls_of}
 use Rattle.bmc_history.specs.Seated.{IsFresh}
+use Rattle.bmc_worker.specs.declared.worker.End.{End}
+use Rattle.bmc_worker.specs.declared.worker.End.TheVariants.{Full}
 use Rattle.bmc_ports.specs.declared.lane.Lane.{Lane}
 use Rattle.bmc_ports.specs.declared.lane.Lanes.{Lanes}
-use Rattle.bmc_ports.specs.declared.worker.End.{End}
-use Rattle.bmc_ports.specs.declared.worker.End.TheVariants.{Full}
 use Rattle.bmc_ports.specs.declared.timed.Timed.{Timed}
 use Rattle.bmc_ports.specs.declared.timed.TimedEnd.{TimedEnd}
 use Rattle.bmc_ports.specs.declared.timed.TimedEnd.TheVariants as timed

@@ -9,8 +9,8 @@ use Rattle.bmc_history.specs.declared.event.Event.{Event}
 use Rattle.bmc_history.specs.declared.seat.Seats.{Seats}
 use Rattle.bmc_history.specs.Seated.{SeatMatches}
 use Rattle.bmc_history.specs.Replay.{Replays, calls_of}
+use Rattle.bmc_worker.specs.declared.worker.End.{End}
 use Rattle.bmc_ports.specs.declared.lane.Lanes.{Lanes}
-use Rattle.bmc_ports.specs.declared.worker.End.{End}
 use Rattle.bmc_ports.specs.declared.timed.Timed.{Timed}
 use Rattle.bmc_ports.specs.declared.timed.TimedEnd.{TimedEnd}
 use Rattle.bmc_ports.specs.declared.timed.TimedEnd.TheVariants.{Over}

@@ -1,8 +1,8 @@
 //! A worker of one port: it hears frames over a link, has the board answer what they ask, and sends the replies.
 ghost use Rattle.std.specs.Prelude.{◌≡◌, true, [], ◌∷◌, OnOk, OnErr};
 ghost use Rattle.bmc_core.specs.Port.{bus_of};
-ghost use Rattle.bmc_ports.specs.Serving.{CallsNext, frames_in, Takes, MakesTurn, Worked, end_of};
-ghost use Rattle.bmc_ports.specs.declared.worker.End.TheVariants.{Turns, Full};
+ghost use Rattle.bmc_worker.specs.Serving.{CallsNext, frames_in, Takes, MakesTurn, Worked, end_of};
+ghost use Rattle.bmc_worker.specs.declared.worker.End.TheVariants.{Turns, Full};
 
 use crate::caller::Caller;
 use crate::gate::Gate;
@@ -44,7 +44,7 @@ fn send_all<L: Link>(link: &mut L, frames: &[Frame])
 
 /// What a worker keeps from turn to turn: the gate, how often it passed it, and the place for what its port sends.
 #[derive(Drop)]
-pub(crate) struct Desk<'a, G: Gate> {
+pub struct Desk<'a, G: Gate> {
     gate: &'a G,
     passed: u64,
     out: Out,
@@ -101,13 +101,13 @@ fn take_frame<J: Opening, S: Store + Drop, L: Link, G: Gate, R: Wait>(
 
 /// What one turn came to: the frame that the link's `next` heard, if one, and how its worker ends by it, or would.
 #[derive(Drop)]
-pub(crate) struct Turned {
+pub struct Turned {
     pub heard: Option<Frame>,
     pub end: End,
 }
 
 /// One turn: one call of the link's `next`, and all that a frame heard asks for.
-pub(crate) fn turn<J: Opening, S: Store + Drop, L: Link, G: Gate, R: Wait>(
+pub fn turn<J: Opening, S: Store + Drop, L: Link, G: Gate, R: Wait>(
     rt: &R,
     shared: &Shared<J, S>,
     seat: &mut Seat<J>,

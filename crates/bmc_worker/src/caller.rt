@@ -29,7 +29,7 @@ impl<'a, J: Opening, S: Store + Drop, G: Gate, R: Wait> Caller<'a, J, S, G, R> {
 }
 
 impl<'a, J: Opening, S: Store + Drop, G: Gate, R: Wait> Carrier for Caller<'a, J, S, G, R> {
-    ghost use Rattle.bmc_ports.specs.Calling.{HasCalled, HasFoundNoRoom};
+    ghost use Rattle.bmc_worker.specs.Calling.{HasCalled, HasFoundNoRoom};
 
     type Kept = Seat<J>;
 

@@ -1,7 +1,7 @@
 use Rattle.std.proofs.Common.{◌+◌, ◌∙◌, refl, rules}
-use Rattle.bmc_ports.specs.declared.worker.End.TheVariants.{Turns, Full}
-use Rattle.bmc_ports.proofs.Turning.{works_on, full_early}
-use Rattle.bmc_ports.proofs.worker.serve_port.Goals as goal
+use Rattle.bmc_worker.specs.declared.worker.End.TheVariants.{Turns, Full}
+use Rattle.bmc_worker.proofs.Turning.{works_on, full_early}
+use Rattle.bmc_worker.proofs.worker.serve_port.Goals as goal
 
 pub loop-preserved : goal.loop-preserved
 loop-preserved g c = (
