@@ -1,6 +1,6 @@
 -- An exchange of a request that is looked at where it lies.
-use Rattle.std.specs.Prelude.{Result, Ok, Err, IfOk, ◌∷◌, [], ◌++◌}
-use Rattle.std.proofs.Common.{◌≡◌, ◌≤◌, ℕ, List, ◌-◌, length, take, drop, refl, sym, ◌∙◌, ap, subst, arith, lit≤}
+use Rattle.std.specs.Prelude.{Result, Ok, Err}
+use Rattle.std.proofs.Common.{◌≡◌, ◌≤◌, ℕ, List, ◌-◌, length, take, drop, sym, ◌∙◌, ap, subst, arith, lit≤}
 use Rattle.std.proofs.lemmas.List.{length-drop, take_all}
 use Rattle.std.proofs.Math.Seq.{drop-append_seam, drop-length}
 use Rattle.record_base.specs.declared.message.Asked.{Asked}
@@ -18,11 +18,10 @@ use Rattle.bmc_board.proofs.OneAnswer.{has_answer}
 use Rattle.bmc_carry.specs.declared.asked.AskedHere.{AskedHere}
 use Rattle.bmc_carry.specs.Asking.{meant}
 use Rattle.bmc_carry.specs.Carrying.{code_given}
-use Rattle.bmc_history.specs.declared.event.Call.{Call}
 use Rattle.bmc_history.specs.declared.event.Call.TheVariants.{Exchanged}
 use Rattle.bmc_history.specs.Entries.{exchanged}
 use Rattle.bmc_history.specs.declared.event.Event.{Event}
-use Rattle.bmc_history.specs.Calls.{IsRow, IsReply, GainsEvent, GainsCall, ExchangesHere, KeepsHere}
+use Rattle.bmc_history.specs.Calls.{IsRow, IsReply, GainsEvent, ExchangesHere}
 
 -- the bytes that were appended are the answer's data
 data_are : (given : Result (Unit {0}) ℕ) (old new : List ℕ) (a : Answered) → Gives given old new a → drop (length old) new ≡ a.body
@@ -70,31 +69,3 @@ exchanged_as setup records before after events later seat asked question given o
     subst (λ (q : Asked). IsRow setup records before after q a × IsReply setup records before after q a × (length a.body ≤ room_for q) × GainsEvent events later seat (Exchanged q a)) same
     (subst (λ (b : Answered). IsRow setup records before after asked b × IsReply setup records before after asked b × (length b.body ≤ room_for asked) × GainsEvent events later seat (Exchanged asked b))
     (sym said) (done.row, done.reply, done.fits, done.gained))
-
-pub kept_as : (calls kept : List Call) (asked question : Asked) (given : Result (Unit {0}) ℕ) (old new : List ℕ) (a : Answered) → asked ≡ question
-    → (done : KeepsHere calls kept asked given old new) → a ≡ done.answered → GainsCall calls kept (Exchanged question a)
-kept_as calls kept asked question given old new a same done said =
-    subst (λ (q : Asked). GainsCall calls kept (Exchanged q a)) same (subst (λ (b : Answered). GainsCall calls kept (Exchanged asked b)) (sym said) done.gained)
-
-kept_by : {S : Type 0} {E : Type 0} {g h : _} (setup : BoardFile) (records : S → Records) (before after : Board S g h) (events later : List Event) (seat : ℕ)
-    (calls kept : List Call) (asked : AskedHere) (result : Result (Result (Unit {0}) ℕ) E) (old new shown : List ℕ)
-    → IfOk result (λ given. ExchangesHere setup records before after events later seat (meant asked) given old new)
-    → IfOk result (λ given. GainsCall calls kept (exchanged asked (code_given given) shown))
-    → shown ≡ drop (length old) new → IfOk result (λ given. KeepsHere calls kept (meant asked) given old new)
-kept_by setup records before after events later seat calls kept asked (Ok given) old new shown done gained taken = record {
-  answered = done.answered;
-  gives = done.gives;
-  fits = done.fits;
-  gained = gained ∙ ap (λ (call : Call). calls ++ call ∷ []) (call_is asked given old new shown (code_given given) done.answered done.gives refl taken);
-}
-kept_by setup records before after events later seat calls kept asked (Err why) old new shown done gained taken = tt
-
--- the seat's list keeps the answer that the board gave
-pub keeps_here : {S : Type 0} {E : Type 0} {g h : _} (setup : BoardFile) (records : S → Records) (before after : Board S g h) (events later : List Event) (seat : ℕ)
-    (calls kept : List Call) (asked : AskedHere) (told result : Result (Result (Unit {0}) ℕ) E) (old new shown : List ℕ) → told ≡ result
-    → IfOk result (λ given. ExchangesHere setup records before after events later seat (meant asked) given old new)
-    → IfOk result (λ given. GainsCall calls kept (exchanged asked (code_given given) shown))
-    → shown ≡ drop (length old) new → IfOk told (λ given. KeepsHere calls kept (meant asked) given old new)
-keeps_here setup records before after events later seat calls kept asked told result old new shown same done gained taken =
-    subst (λ r. IfOk r (λ given. KeepsHere calls kept (meant asked) given old new)) (sym same)
-    (kept_by setup records before after events later seat calls kept asked result old new shown done gained taken)

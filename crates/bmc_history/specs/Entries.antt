@@ -1,5 +1,5 @@
 -- The lists of events and of calls, as they lie.
-use Rattle.std.specs.Prelude.{◌+◌, ◌-◌, ◌*◌, ◌≤◌, ℕ, List, map, take, drop}
+use Rattle.std.specs.Prelude.{◌≡◌, ◌+◌, ◌-◌, ◌*◌, ◌≤◌, ℕ, List, [], map, take, drop}
 use Rattle.two_wire.specs.Sizes.{most_ipmi_request_data, most_pldm_request_data, most_pldm_reply_data}
 use Rattle.record_base.specs.declared.message.Asked.TheVariants.{Ipmi, Pldm}
 use Rattle.bmc_carry.specs.declared.asked.AskedHere.{AskedHere}
@@ -36,6 +36,10 @@ pub record EventList : Type 0 where
 pub record CallList : Type 0 where
   pub items : List Call
   pub room : ℕ
+
+-- an empty list that has places for so many calls
+abbrev pub IsBlank : ℕ → CallList → Type 0
+IsBlank room list = (list.items ≡ []) × (list.room ≡ room)
 
 -- the bytes from one place on, up to another
 abbrev pub between : ℕ → ℕ → List ℕ → List ℕ

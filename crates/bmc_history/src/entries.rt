@@ -6,8 +6,7 @@
 ghost use Rattle.std.specs.Prelude.{◌≡◌, ◌<◌, ◌≤◌, [], IfOk, length, slice_get};
 ghost use Rattle.two_wire.specs.Sizes.{most_pldm_reply_data};
 ghost use Rattle.bmc_history.specs.Calls.{GainsEvent, GainsCall};
-ghost use Rattle.bmc_history.specs.Seated.{IsBlank};
-ghost use Rattle.bmc_history.specs.Entries.{call_of, exchanged, most_request};
+ghost use Rattle.bmc_history.specs.Entries.{IsBlank, call_of, exchanged, most_request};
 ghost use Rattle.bmc_history.specs.declared.event.Call.TheVariants.{Benched};
 
 use crate::entry::{Head, Mark};
@@ -146,7 +145,7 @@ impl Model for Calls {
 
 impl Calls {
     /// No calls, with room for so many.
-    pub(crate) fn open(alloc: Global, room: usize) -> Result<Self, AllocError>
+    pub fn open(alloc: Global, room: usize) -> Result<Self, AllocError>
         ensures { IfOk result (IsBlank room) }
     {
         match Events::open(alloc, room) {
@@ -173,7 +172,7 @@ impl Calls {
     }
 
     /// Adds the call of this request, and of the reply of this code and data.
-    pub(crate) fn gain_exchange(&mut self, asked: &AskedHere<'_>, code: u8, body: &[u8])
+    pub fn gain_exchange(&mut self, asked: &AskedHere<'_>, code: u8, body: &[u8])
         requires room { length self.old.items < self.old.room }
         requires fits { length body.now ≤ most_pldm_reply_data }
         ensures items { GainsCall self.old.items self.new.items
@@ -184,7 +183,7 @@ impl Calls {
     }
 
     /// Adds the call of this that happened, and this answer.
-    pub(crate) fn gain_bench(&mut self, bench: &Bench, answered: Result<(), NoSensor>)
+    pub fn gain_bench(&mut self, bench: &Bench, answered: Result<(), NoSensor>)
         requires { length self.old.items < self.old.room }
         ensures items { GainsCall self.old.items self.new.items (Benched bench.now answered) }
         ensures room { self.new.room ≡ self.old.room }

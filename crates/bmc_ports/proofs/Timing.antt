@@ -5,7 +5,7 @@ use Rattle.std.proofs.lemmas.List.{take_more, append_assoc, append-nil, length-a
 use Rattle.std.proofs.lemmas.Slice.Zip.{all_zipped_more}
 use Rattle.std.specs.List.{AllZip}
 use Rattle.bmc_history.specs.declared.event.Call.{Call}
-use Rattle.bmc_history.specs.declared.seat.Seat.{Seat}
+use Rattle.bmc_shared.specs.declared.seat.Seat.{Seat}
 use Rattle.bmc_ports.specs.declared.timed.Timed.{Timed}
 use Rattle.bmc_ports.specs.declared.timed.TimedEnd.{TimedEnd}
 use Rattle.bmc_ports.specs.declared.timed.TimedEnd.TheVariants.{Over, Full}

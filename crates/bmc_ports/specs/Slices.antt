@@ -5,7 +5,7 @@ use Rattle.bmc_core.specs.declared.port.Port.{Port}
 use Rattle.bmc_links.specs.declared.link.Counts.{Counts}
 use Rattle.bmc_links.specs.Counted.{counted_on}
 use Rattle.bmc_history.specs.declared.event.Call.{Call}
-use Rattle.bmc_history.specs.declared.seat.Seat.{Seat}
+use Rattle.bmc_shared.specs.declared.seat.Seat.{Seat}
 use Rattle.bmc_worker.specs.declared.worker.End.{End}
 use Rattle.bmc_worker.specs.declared.worker.End.TheVariants.{Turns, Full}
 use Rattle.bmc_worker.specs.Serving.{MakesTurn}

@@ -2,7 +2,7 @@
 use Rattle.std.specs.Prelude.{◌≡◌, ◌≢◌, ◌≤◌, ◌↔◌, ◌+◌, ◌++◌, ℕ, List, length, take, drop, true}
 use Rattle.std.specs.List.{AllZip}
 use Rattle.bmc_history.specs.declared.event.Call.{Call}
-use Rattle.bmc_history.specs.declared.seat.Seat.{Seat}
+use Rattle.bmc_shared.specs.declared.seat.Seat.{Seat}
 use Rattle.bmc_ports.specs.Scanning.{Happens}
 use Rattle.bmc_ports.specs.declared.timed.Timed.{Timed}
 use Rattle.bmc_ports.specs.declared.timed.TimedEnd.{TimedEnd}

@@ -12,11 +12,11 @@ pub mod silence;
 pub mod slices;
 pub mod timed;
 
-pub use bmc_history::{
+pub use bmc_links::{Counts, Heard, Link, LinkFault, MOST_KEPT, MemFault, MemLink};
+pub use bmc_shared::{
     Call, Calls, CloseFault, Event, Events, Held, History, Locked, MOST_EVENTS, OpenFault, Opening,
     PeriodFull, Seat, Seats, Shared,
 };
-pub use bmc_links::{Counts, Heard, Link, LinkFault, MOST_KEPT, MemFault, MemLink};
 pub use bmc_worker::{End, Gate, serve_port};
 pub use lane::{Lane, Lanes};
 pub use lending::{Sliced, run_slices};

@@ -4,7 +4,7 @@ ghost use Rattle.bmc_worker.specs.declared.worker.End.TheVariants.{Turns, Full};
 ghost use Rattle.bmc_ports.specs.Scanning.{Scanned};
 
 use bmc_board::Bench;
-use bmc_history::{Opening, PeriodFull, Seat, Shared};
+use bmc_shared::{Opening, PeriodFull, Seat, Shared};
 use bmc_worker::End;
 use cfg_records::Store;
 use std::sync::Wait;

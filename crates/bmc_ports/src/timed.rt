@@ -4,7 +4,7 @@ ghost use Rattle.bmc_ports.specs.Timing.{Gains};
 ghost use Rattle.bmc_ports.specs.declared.timed.TimedEnd.TheVariants.{Over, Full};
 
 use bmc_board::Bench;
-use bmc_history::{Opening, PeriodFull, Seat, Shared};
+use bmc_shared::{Opening, PeriodFull, Seat, Shared};
 use cfg_records::Store;
 use std::sync::Wait;
 use std::sync::atomic::{AtomicBool, Ordering};

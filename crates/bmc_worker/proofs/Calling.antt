@@ -11,8 +11,8 @@ use Rattle.bmc_core.specs.Port.{asked_of, Serves}
 use Rattle.bmc_history.specs.declared.event.Call.{Call}
 use Rattle.bmc_history.specs.declared.event.Call.TheVariants.{Exchanged}
 use Rattle.bmc_history.specs.declared.held.PeriodFull.{PeriodFull}
-use Rattle.bmc_history.specs.declared.seat.Seat.{Seat}
 use Rattle.bmc_history.specs.Calls.{KeepsHere}
+use Rattle.bmc_shared.specs.declared.seat.Seat.{Seat}
 use Rattle.bmc_worker.specs.Calling.{HasCalled, HasFoundNoRoom}
 use Rattle.bmc_worker.specs.Serving.{Takes}
 use Rattle.bmc_worker.specs.declared.worker.End.TheVariants.{Turns, Full}

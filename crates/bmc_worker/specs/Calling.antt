@@ -3,8 +3,8 @@ use Rattle.std.specs.Prelude.{◌≡◌, true}
 use Rattle.record_base.specs.declared.message.Asked.{Asked}
 use Rattle.record_base.specs.declared.message.Answered.{Answered}
 use Rattle.bmc_history.specs.declared.event.Call.TheVariants.{Exchanged}
-use Rattle.bmc_history.specs.declared.seat.Seat.{Seat}
 use Rattle.bmc_history.specs.Calls.{GainsCall}
+use Rattle.bmc_shared.specs.declared.seat.Seat.{Seat}
 
 -- its list gained the request with the answer, and its mark is as it was
 pub record HasCalled {J : Type 0} {g h : _} (before : Seat J g) (asked : Asked) (answered : Answered) (after : Seat J h) : Type 0 where

@@ -9,9 +9,9 @@ use Rattle.net_serve.specs.declared.periods.Period.{Period}
 use Rattle.bmc_links.specs.declared.link.Counts.{Counts}
 use Rattle.bmc_history.specs.declared.event.Call.{Call}
 use Rattle.bmc_history.specs.declared.event.Event.{Event}
-use Rattle.bmc_history.specs.declared.seat.Seats.{Seats}
 use Rattle.bmc_history.specs.Replay.{calls_of}
-use Rattle.bmc_history.specs.Seated.{IsFresh}
+use Rattle.bmc_shared.specs.declared.seat.Seats.{Seats}
+use Rattle.bmc_shared.specs.Seated.{IsFresh}
 use Rattle.bmc_worker.specs.declared.worker.End.{End}
 use Rattle.bmc_worker.specs.declared.worker.End.TheVariants.{Full}
 use Rattle.bmc_ports.specs.declared.lane.Lane.{Lane}

@@ -6,9 +6,9 @@ use Rattle.bmc_board.specs.State.{State, state_of}
 use Rattle.bmc_board.specs.OwnStore.{own_records}
 use Rattle.bmc_links.specs.declared.link.Counts.{Counts}
 use Rattle.bmc_history.specs.declared.event.Event.{Event}
-use Rattle.bmc_history.specs.declared.seat.Seats.{Seats}
-use Rattle.bmc_history.specs.Seated.{SeatMatches}
 use Rattle.bmc_history.specs.Replay.{Replays, calls_of}
+use Rattle.bmc_shared.specs.declared.seat.Seats.{Seats}
+use Rattle.bmc_shared.specs.Seated.{SeatMatches}
 use Rattle.bmc_worker.specs.declared.worker.End.{End}
 use Rattle.bmc_ports.specs.declared.lane.Lanes.{Lanes}
 use Rattle.bmc_ports.specs.declared.timed.Timed.{Timed}

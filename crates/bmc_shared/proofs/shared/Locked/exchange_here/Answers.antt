@@ -1,5 +1,6 @@
-use Rattle.bmc_history.proofs.Here.{keeps_here, rest_given}
-use Rattle.bmc_history.proofs.shared.Locked.exchange_here.Goals as goal
+use Rattle.bmc_history.proofs.Here.{rest_given}
+use Rattle.bmc_shared.proofs.Keeping.{keeps_here}
+use Rattle.bmc_shared.proofs.shared.Locked.exchange_here.Goals as goal
 
 pub returns-clause-kept : goal.returns-clause-kept
 returns-clause-kept g c =

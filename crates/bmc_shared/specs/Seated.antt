@@ -1,14 +1,9 @@
 -- What the seats of a board hold together.
 use Rattle.std.specs.Prelude.{◌≡◌, ◌+◌, ℕ, List, [], false, length}
 use Rattle.bmc_history.specs.declared.event.Event.{Event}
-use Rattle.bmc_history.specs.Entries.{CallList}
-use Rattle.bmc_history.specs.declared.seat.Seat.{Seat}
-use Rattle.bmc_history.specs.declared.seat.Seats.{Seats}
 use Rattle.bmc_history.specs.Matching.{Matches}
-
--- an empty list that has places for so many calls
-abbrev pub IsBlank : ℕ → CallList → Type 0
-IsBlank room list = (list.items ≡ []) × (list.room ≡ room)
+use Rattle.bmc_shared.specs.declared.seat.Seat.{Seat}
+use Rattle.bmc_shared.specs.declared.seat.Seats.{Seats}
 
 -- the seat called nothing yet, and was never refused
 abbrev pub IsFresh : {J : Type 0} {g : _} → Seat J g → Type 0
