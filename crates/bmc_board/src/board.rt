@@ -27,16 +27,21 @@ enum Kept {
 
 /// A board over any store of its records: what never changes of it, what isn't configuration, and its records. Each record has
 /// limits, and a value that they allow.
+///
+/// A Set over IPMI makes the record's new value in another place than one over PLDM, and the two places lie apart: where a thread for each
+/// bus shares the board, neither writes a line of the processor's cache that the other reads.
 #[derive(Drop)]
 pub struct Board<S: Store> {
     setup: Setup,
     activity: Activity,
     store: S,
-    /// Where a Set makes the record's new value.
-    made: Value,
+    /// Where a Set over PLDM makes the record's new value.
+    made_over_pldm: Value,
     /// The tables of its attributes.
     tables: Tables,
-    /// Of the table of values among them.
+    /// Where a Set over IPMI makes the record's new value.
+    made_over_ipmi: Value,
+    /// Of the table of values among the tables.
     kept: Kept,
     ghost sound: { IsSound setup (S.records store) } by { IsSound-prop setup (S.records store) },
     ghost tell: { Tells setup.attributes.items tables } by { Tells-prop setup.attributes.items tables },

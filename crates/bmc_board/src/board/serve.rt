@@ -8,6 +8,7 @@ ghost use Rattle.record_base.specs.declared.message.Answered.{Answered as Reply}
 ghost use Rattle.bmc_board.specs.Gives.{Gives};
 ghost use Rattle.bmc_board.specs.Replies.{done, unknown_code};
 ghost use Rattle.bmc_board.specs.Sensing.{value_at};
+ghost use Rattle.bmc_board.specs.declared.board.Kept.TheVariants.{Stale};
 
 use crate::activity::Activity;
 use crate::board::bios::{Standing, show_part, table_asked};
@@ -91,6 +92,24 @@ pub(super) fn show<B: Buffer>(shown: &[u8], to: &mut B) -> Result<(), Code>
     Ok(())
 }
 
+/// Says that the table of values is stale. What says so already isn't written: threads that share the board read it from their own caches.
+fn outdate(kept: &mut Kept)
+    ensures { kept.new ≡ Stale }
+{
+    if *kept == Kept::Current {
+        *kept = Kept::Stale;
+    }
+}
+
+/// Of two places, the one where this operation's new value is made: that of the bus over which its command comes.
+#[inline(always)]
+fn place_for<'a>(op: &Op<'_>, over_ipmi: &'a mut Value, over_pldm: &'a mut Value) -> &'a mut Value {
+    match op {
+        Op::NumericEffecter(_) | Op::StateEffecter(_) | Op::BiosAttribute(_) => over_pldm,
+        _ => over_ipmi,
+    }
+}
+
 /// The answer of a call that appended its data to nothing.
 fn answered(done: Result<(), Code>, body: Bytes<{ MOST_PLDM_REPLY_DATA }>) -> Answered
     ensures { (answer : Reply) → Gives done [] body answer → result ≡ answer }
@@ -136,8 +155,9 @@ impl<S: Store> Board<S> {
             setup,
             activity,
             store,
-            made: Value::new(),
+            made_over_pldm: Value::new(),
             tables,
+            made_over_ipmi: Value::new(),
             kept: Kept::Stale,
         })
     }
@@ -352,9 +372,10 @@ impl<S: Store> Board<S> {
         let key = Limits::key(op);
         match (self.setup.limits(&key), self.store.find(&key)) {
             (Some(limits), Some(place)) => {
-                limits.apply(op, self.store.value(place), &mut self.made)?;
-                self.kept = Kept::Stale;
-                self.store.write(place, self.made.as_slice());
+                let new = place_for(op, &mut self.made_over_ipmi, &mut self.made_over_pldm);
+                limits.apply(op, self.store.value(place), new)?;
+                outdate(&mut self.kept);
+                self.store.write(place, new.as_slice());
                 Limits::next_live(op, &mut self.activity.live);
                 Limits::set_reply(op, to);
                 Ok(())
@@ -415,7 +436,7 @@ impl<S: Store> Board<S> {
 
     /// Makes the value that the operation makes of its record, and gives the record's place: nothing is written.
     fn try_set(&mut self, op: &Op<'_>) -> Result<S::Place, Code>
-        ensures made { told result self.new.made
+        ensures made { told result self.new.made_over_ipmi
             ≡ outcome_at self.old.setup (state_of S.records self.old) op.now }
         ensures place { IfOk result (λ at. S.places self.old.store (key_of op.now) ≡ Some at) }
         ensures store { self.new.store ≡ self.old.store }
@@ -425,7 +446,7 @@ impl<S: Store> Board<S> {
         let key = Limits::key(op);
         match (self.setup.limits(&key), self.store.find(&key)) {
             (Some(limits), Some(place)) => {
-                limits.apply(op, self.store.value(place), &mut self.made)?;
+                limits.apply(op, self.store.value(place), &mut self.made_over_ipmi)?;
                 Ok(place)
             }
             _ => Err(unknown_code(&self.setup, &key)),
@@ -442,11 +463,11 @@ impl<S: Store> Board<S> {
             (Ok (request.SetStores first.now second.now)) result bytes bytes }
     {
         let place = self.try_set(&Op::ChannelAccess(*first))?;
-        let made: Bytes<2> = Bytes::from_slice(self.made.as_slice());
+        let made: Bytes<2> = Bytes::from_slice(self.made_over_ipmi.as_slice());
         let other = self.try_set(&Op::ChannelAccess(*second))?;
-        self.kept = Kept::Stale;
+        outdate(&mut self.kept);
         self.store.write(place, made.as_slice());
-        self.store.write(other, self.made.as_slice());
+        self.store.write(other, self.made_over_ipmi.as_slice());
         Ok(())
     }
 

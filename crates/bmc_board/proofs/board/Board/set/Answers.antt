@@ -8,6 +8,7 @@ use Rattle.record_kinds.specs.Limits.{key_of, is_of, valid, sets, limits_at}
 use Rattle.record_kinds.specs.Sound.{IsSound}
 use Rattle.record_kinds.specs.SoundLaws.{valid_at, sound_set}
 use Rattle.bmc_board.proofs.AnswerFacts.{limits_are_of}
+use Rattle.bmc_board.proofs.BiosTableFacts.{stale_is}
 use Rattle.bmc_board.proofs.board.Board.set.Goals as goal
 
 pub apply-requires : goal.apply-requires
@@ -44,4 +45,4 @@ invariant_of-self-in-Some-Some g c =
     let had : records key ≡ Some old = c.value.ensures key place_is in
     let done : sets limits c.args.op.now old new = subst (sets limits c.args.op.now old) (sym c.as_slice.ensures.value) c.in_ok-apply-in-Some-Some.ensures.decides in
     let wrote : g.S.Store.records c.write.new.self ≡ with_record records key new = c.write.ensures.records key place_is in
-    record { sound = subst (IsSound file) (sym wrote) (sound_set file records key limits c.args.op.now old new c.args.self.now.sound at had done); tell = c.args.self.now.tell; is_kept = tt }
+    record { sound = subst (IsSound file) (sym wrote) (sound_set file records key limits c.args.op.now old new c.args.self.now.sound at had done); tell = c.args.self.now.tell; is_kept = stale_is _ _ _ _ c.outdate.ensures }

@@ -7,6 +7,7 @@ use Rattle.record_kinds.specs.Limits.{key_of}
 use Rattle.record_kinds.specs.Sound.{IsSound}
 use Rattle.record_kinds.specs.SoundLaws.{sound_with}
 use Rattle.bmc_board.proofs.BothFacts.{IsWritten, written}
+use Rattle.bmc_board.proofs.BiosTableFacts.{stale_is}
 use Rattle.bmc_board.proofs.board.Board.set_stores.Goals as goal
 
 -- both new values are ones that their records' limits allow
@@ -17,8 +18,8 @@ invariant_of-self-2 g c =
     let again = c.try_set-2.new.self in
     let first : Op = of_kind.ChannelAccess c.args.first.now in
     let second : Op = of_kind.ChannelAccess c.args.second.now in
-    let x : List ℕ = tried.made in
-    let y : List ℕ = again.made in
+    let x : List ℕ = tried.made_over_ipmi in
+    let y : List ℕ = again.made_over_ipmi in
     let records : Records = g.S.Store.records again.store in
     let setups = c.in_ok-other.ensures.setup ∙ c.in_ok-place.ensures.setup in
     let stores = c.in_ok-other.ensures.store ∙ c.in_ok-place.ensures.store in
@@ -35,4 +36,4 @@ invariant_of-self-2 g c =
     c.write-2.ensures.records (key_of second) other_at ∙ (λ i. with_record (wrote i) (key_of second) (c.as_slice-3.ensures.value i)) in
     let is_sound : IsSound again.setup (with_record (with_record records (key_of first) x) (key_of second) y) =
     sound_with again.setup (with_record records (key_of first) x) (key_of second) two.limits y (sound_with again.setup records (key_of first) one.limits x again.sound one.at one.is_valid) two.at two.is_valid in
-    record { sound = subst (IsSound again.setup) (sym wrote_both) is_sound; tell = again.tell; is_kept = tt }
+    record { sound = subst (IsSound again.setup) (sym wrote_both) is_sound; tell = again.tell; is_kept = stale_is _ _ _ _ c.outdate.ensures }
