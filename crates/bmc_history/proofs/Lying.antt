@@ -3,7 +3,7 @@ use Rattle.std.specs.Prelude.{All, map}
 use Rattle.std.proofs.Common.{◌≡◌, ◌≤◌, ℕ, List, [], ◌∷◌, ◌+◌, ◌-◌, ◌++◌, length, take, drop, refl, sym, ◌∙◌, ap, arith}
 use Rattle.std.proofs.lemmas.List.{length-append, length-drop, take_all, take-append-le, drop-append-le, map-append}
 use Rattle.std.proofs.lemmas.List.Elements.{All-head, All-tail}
-use Rattle.std.proofs.Math.Seq.{drop-append_seam}
+use Rattle.std.proofs.Math.Seq.{take-append_seam, drop-append_seam}
 use Rattle.bmc_history.specs.declared.entry.Head.{Head}
 use Rattle.bmc_history.specs.declared.entry.Mark.{Mark}
 use Rattle.bmc_history.specs.Entries.{call_of, between, event_of, Lies}
@@ -18,6 +18,10 @@ between_stays from to xs ys rising within =
 between_added : (xs ys : List ℕ) → between (length xs) (length xs + length ys) (xs ++ ys) ≡ ys
 between_added xs ys =
     ap (take (length xs + length ys - length xs)) (drop-append_seam xs ys) ∙ take_all (length xs + length ys - length xs) ys (omega arith)
+
+-- bytes that were replaced by as many are these, whichever were there
+pub whole : (old new : List ℕ) (n : ℕ) → n ≡ length old → length new ≡ length old → take n (new ++ drop (length new) old) ≡ new
+whole old new n all same = ap (λ (m : ℕ). take m (new ++ drop (length new) old)) (all ∙ sym same) ∙ take-append_seam new (drop (length new) old)
 
 -- the event of a mark stays
 event_stays : (xs ys : List ℕ) (mark : Mark) → Lies (length xs) mark → event_of (xs ++ ys) mark ≡ event_of xs mark

@@ -2,8 +2,8 @@
 //!
 //! What is added is written at the end, and takes no memory: so the list grows from one line of the processor's cache to the next. All of the
 //! room is written once at the opening: the system finds the memory of a page when it's first written, and a call that holds a board's lock
-//! would wait for that.
-ghost use Rattle.std.specs.Prelude.{◌≡◌, ◌<◌, ◌≤◌, [], IfOk, length, slice_get};
+//! would wait for that. The bytes are there from then on, and what is added is copied over them.
+ghost use Rattle.std.specs.Prelude.{◌≡◌, ◌+◌, ◌<◌, ◌≤◌, ◌++◌, [], IfOk, length, take, slice_get};
 ghost use Rattle.two_wire.specs.Sizes.{most_pldm_reply_data};
 ghost use Rattle.bmc_history.specs.Calls.{GainsEvent, GainsCall};
 ghost use Rattle.bmc_history.specs.Entries.{IsBlank, call_of, exchanged, most_request};
@@ -24,22 +24,35 @@ const MOST_BYTES: usize = MOST_PLDM_REQUEST_DATA + MOST_PLDM_REPLY_DATA;
 #[derive(Debug, Drop)]
 pub struct Events {
     marks: Vec<Mark>,
+    /// How many of the bytes are those of events. The others have no meaning.
+    written: usize,
     bytes: Vec<u8>,
     room: usize,
 }
 
 impl Model for Events {
-    ghost use Rattle.std.specs.Prelude.{All, map, length, vec_len, vec_capacity};
+    ghost use Rattle.std.specs.Prelude.{All, map, take, length, vec_len, vec_capacity};
     ghost use Rattle.bmc_history.specs.Entries.{EventList, HasRoom, Lies, event_of};
 
     ghost Value = { EventList };
 
-    ghost view = { λ e.
-        record { items = map (event_of e.bytes.items) e.marks.items; room = e.room } };
+    ghost view = { λ e. record {
+      items = map (event_of (take e.written e.bytes.items)) e.marks.items;
+      room = e.room;
+    } };
 
-    ghost invariant = { λ e. All (Lies (length e.bytes.items)) e.marks.items
+    ghost invariant = { λ e. All (Lies e.written) e.marks.items
         × HasRoom e.room (vec_len e.marks) (vec_capacity e.marks)
-        (vec_len e.bytes) (vec_capacity e.bytes) };
+        e.written (length e.bytes.items) };
+}
+
+/// Puts these bytes behind the first so many, over those that are there.
+fn put(bytes: &mut [u8], at: usize, more: &[u8])
+    requires { at + length more.now ≤ length bytes.old }
+    ensures put { take (at + length more.now) bytes.new ≡ take at bytes.old ++ more.now }
+    ensures length { length bytes.new ≡ length bytes.old }
+{
+    bytes[at..at + more.len()].copy_from_slice(more);
 }
 
 impl Events {
@@ -56,8 +69,12 @@ impl Events {
         marks.clear();
         let mut bytes = Vec::with_capacity(alloc, most)?;
         bytes.resize(most, 0)?;
-        bytes.clear();
-        Ok(Events { marks, bytes, room })
+        Ok(Events {
+            marks,
+            written: 0,
+            bytes,
+            room,
+        })
     }
 
     /// How many events there are.
@@ -72,7 +89,7 @@ impl Events {
         ensures { result ≡ slice_get self.now.items place }
     {
         match self.marks.get(place) {
-            Some(mark) => Some(mark.event(self.bytes.as_slice())),
+            Some(mark) => Some(mark.event(&self.bytes[..self.written])),
             None => None,
         }
     }
@@ -86,17 +103,20 @@ impl Events {
             seat (call_of head request.now reply.now) }
         ensures room { self.new.room ≡ self.old.room }
     {
-        let start = self.bytes.len();
+        let start = self.written;
         let middle = start + request.len();
+        let end = middle + reply.len();
         let mark = Mark {
             seat,
             head,
             request: start,
             reply: middle,
-            end: middle + reply.len(),
+            end,
         };
-        self.bytes.extend_from_slice(request).unwrap();
-        self.bytes.extend_from_slice(reply).unwrap();
+        let bytes = self.bytes.as_mut_slice();
+        put(bytes, start, request);
+        put(bytes, middle, reply);
+        self.written = end;
         self.marks.push_reserved(mark);
     }
 
