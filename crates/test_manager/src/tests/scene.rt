@@ -4,6 +4,7 @@ use std::alloc::{AllocError, Global};
 use std::fmt::Debug;
 use std::process::Abort;
 use story_lines::{NoOutcome, NoScene, Scene, report_of};
+use text_undo::read_undo;
 use two_wire::{Address, Below, Bus, Retries};
 use undo_core::{Manager, OpenFault, ResumeFault, Sent, WrongPhase};
 use undo_plans::{Names, NextNumbers, Plan, Requests, Steps, UndoList, UndoRequest};
@@ -120,6 +121,20 @@ fn told_list(alloc: Global, kind: &str) -> Result<UndoList, AllocError> {
     Ok(told)
 }
 
+/// The list of an undo text: the next request over SMBus is request 3, and one over SMBus, of these digits, is to be sent.
+fn text_list(alloc: Global, digits: &str) -> Result<UndoList, NoOutcome> {
+    let mut text = String::from_str(alloc, "undo 2\nnext ipmb 0 smbus 3\n")?;
+    text.push_str("names ipmb 2C 20 smbus 2C 20 eid 0B 0A\nsmbus ")?;
+    for word in digits.split(' ') {
+        text.push_str(word)?;
+    }
+    text.push_str("\n")?;
+    match read_undo(alloc, text.as_str()) {
+        Ok(list) => Ok(list),
+        Err(_) => Err(NoOutcome::Unread),
+    }
+}
+
 /// Appends what the manager sends: its frames, each a word of hexadecimal digits.
 fn push_sent(alloc: Global, sent: Option<Sent>, text: &mut String) -> Result<(), AllocError> {
     if let Some(sent) = sent {
@@ -222,6 +237,14 @@ fn resume(
     Ok(Manager::resume(alloc, list, names(), retries))
 }
 
+/// The same of the list of an undo text that has one request: the words are the retries and its digits.
+fn resume_text(alloc: Global, words: &str) -> Result<Result<Manager, ResumeFault>, NoOutcome> {
+    let (retries, digits) = words.split_once(' ').ok_or(NoOutcome::Unread)?;
+    let retries = retries.parse::<u8>()?;
+    let list = text_list(alloc, digits)?;
+    Ok(Manager::resume(alloc, list, names(), retries))
+}
+
 /// What the manager that is there does, or shows.
 fn go_on(
     alloc: Global,
@@ -255,6 +278,7 @@ impl Scene for Managed {
     ///   attribute to a short text; `longer 3 ..`, to a long one and then to that;
     /// - `list 1 -> Halted 2 Stop`: one that goes on from the list of two requests; `named 1 ..`, from that list with the manager's names;
     ///   `others 1 -> OtherNames`, with other names;
+    /// - `text 3 03 07 00*4 .. -> Halted 1 Stop`: with so many retries, one that goes on from an undo text, which has this request over SMBus;
     /// - `start -> 2010D02C002705A8 Getting 0`, `quiet ..`, `stop ..`, `again ..`, `undo ..`: a call, the frames that the manager sends, and its
     ///   phase then; before the phase stands `refused` where it refuses the call;
     /// - `ipmb 2C14C0200027CBEE -> Halted 0 GetRefused CB`, `smbus ..`: the same of a frame that it hears on this bus;
@@ -269,6 +293,7 @@ impl Scene for Managed {
             "list" | "named" | "others" => {
                 begin(&mut self.manager, resume(alloc, kind, word)?, text)?
             }
+            "text" => begin(&mut self.manager, resume_text(alloc, word)?, text)?,
             _ => go_on(alloc, self.manager.as_mut(), kind, word, text)?,
         }
         Ok(())

@@ -21,6 +21,9 @@ smbus 2C14C0200027003F140A05505F6E3A -> Setting 0
 ipmb 2C1 -> Getting 0
 wait -> Getting 0
 start
+text 3 00 02 -> Halted 0 Stop
+text 3 -> Halted 1 Stop
+text 3 00 -> Halted 1 Stop
 list 1 -> Halted 1 Stop
 again -> Undoing 0
 ";
@@ -41,6 +44,9 @@ wrong: smbus 2C14C0200027003F140A05505F6E3A -> Setting 0 | came Getting 0
 wrong: ipmb 2C1 -> Getting 0 | unread
 wrong: wait -> Getting 0 | unread
 wrong: start | came refused Getting 0
+wrong: text 3 00 02 -> Halted 0 Stop | came Halted 1 Stop
+wrong: text 3 -> Halted 1 Stop | unread
+wrong: text 3 00 -> Halted 1 Stop | unread
 wrong: list 1 -> Halted 1 Stop | came Halted 2 Stop
 wrong: again -> Undoing 0 | came refused Halted 2 Stop
 ";

@@ -184,6 +184,11 @@ table 61*192 62*192 63*21
 entry 01 0 -> flag 01 next 192 bytes 61*192
 entry 00 192 -> flag 02 next 384 bytes 62*192
 entry 00 384 -> flag 04 next 0 bytes 63*21
+# The 205 bytes behind the first part go in two.
+table 61*192 62*192 63*13
+entry 01 0 -> flag 01 next 192 bytes 61*192
+entry 00 192 -> flag 02 next 384 bytes 62*192
+entry 00 384 -> flag 04 next 0 bytes 63*13
 ";
 
 #[test]
