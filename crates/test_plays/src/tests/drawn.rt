@@ -1,6 +1,9 @@
 //! Schedules that are drawn on buses where packets may join late ones.
 use super::text::push_lines;
-use cfg_records::{BoardFile, sample_board};
+use cfg_records::{
+    Attribute, AttributeKind, Attributes, BoardFile, StringAttribute, Text, TextLengths,
+    sample_board,
+};
 use lab_play::{Played, play};
 use lab_schedule::{Chances, Links, Wanted, make_schedule};
 use plan_file::read_plan;
@@ -18,14 +21,51 @@ const PLAN: &str = "[[step]] / kind = \"bios-attribute\" / handle = 1 / text = \
 [[step]] / kind = \"bios-attribute\" / handle = 1 / text = \"{200*e}\"
 ";
 
-fn plan(rt: &impl Abort, alloc: Global) -> Plan {
+/// One that sets an only attribute, to texts of three parts each.
+const PLAN_IN_PARTS: &str = "[[step]] / kind = \"bios-attribute\" / handle = 0 / text = \"{400*a}\"
+[[step]] / kind = \"bios-attribute\" / handle = 0 / text = \"{400*b}\"
+[[step]] / kind = \"bios-attribute\" / handle = 0 / text = \"{400*c}\"
+";
+
+/// Which texts a plan sets.
+#[derive(Clone, Copy)]
+enum Texts {
+    Whole,
+    InParts,
+}
+
+fn plan(rt: &impl Abort, alloc: Global, texts: Texts) -> Plan {
+    let lines = match texts {
+        Texts::Whole => PLAN,
+        Texts::InParts => PLAN_IN_PARTS,
+    };
     let mut text = String::new(alloc);
-    push_lines(&mut text, PLAN).expect(rt, "the lines of a plan");
+    push_lines(&mut text, lines).expect(rt, "the lines of a plan");
     read_plan(alloc, text.as_str()).ok().expect(rt, "a plan")
 }
 
-fn board(rt: &impl Abort, alloc: Global) -> BoardFile {
-    sample_board(alloc).expect(rt, "memory")
+/// An only attribute: a string, of 1,024 bytes at most, and now of none.
+fn long_string(rt: &impl Abort, alloc: Global) -> Attributes {
+    let lengths = TextLengths::new(0, 1024).expect(rt, "lengths");
+    let string = StringAttribute::new(1, lengths, Vec::new(alloc), Vec::new(alloc));
+    let attribute = Attribute {
+        handle: 0,
+        name: Text::from_slice(&[0x41]),
+        read_only: false,
+        kind: AttributeKind::Text(string.expect(rt, "a string")),
+    };
+    let mut items = Vec::new(alloc);
+    items.push(attribute).expect(rt, "memory");
+    Attributes::new(items).expect(rt, "attributes")
+}
+
+/// The sample board, whose attributes take the texts.
+fn board(rt: &impl Abort, alloc: Global, texts: Texts) -> BoardFile {
+    let mut file = sample_board(alloc).expect(rt, "memory");
+    if let Texts::InParts = texts {
+        file.attributes = long_string(rt, alloc);
+    }
+    file
 }
 
 /// The schedule that is drawn from the seed, and by which the plan is undone.
@@ -66,27 +106,39 @@ fn end_of(played: &Played) -> End {
 }
 
 /// How the play of the schedule ends.
-fn play_drawn(rt: &impl Abort, alloc: Global, wanted: Wanted) -> End {
-    let drawn = make_schedule(alloc, board(rt, alloc), plan(rt, alloc), wanted);
+fn play_drawn(rt: &impl Abort, alloc: Global, texts: Texts, wanted: Wanted) -> End {
+    let (file, steps) = (board(rt, alloc, texts), plan(rt, alloc, texts));
+    let drawn = make_schedule(alloc, file, steps, wanted);
     let events = drawn.expect(rt, "memory");
-    let played = play(alloc, board(rt, alloc), plan(rt, alloc), events.as_slice());
+    let (file, steps) = (board(rt, alloc, texts), plan(rt, alloc, texts));
+    let played = play(alloc, file, steps, events.as_slice());
     end_of(&played.ok().expect(rt, "a play without a fault"))
 }
 
 #[test]
 fn a_plan_is_undone_where_packets_may_join_late_and_none_does(rt: HostRuntime) {
     for seed in [4, 5] {
-        let end = play_drawn(&rt, rt.alloc(), wanted(seed, true));
+        let end = play_drawn(&rt, rt.alloc(), Texts::Whole, wanted(seed, true));
         assert_eq!(rt; end, End::Undone, "seed {seed}");
     }
+    let end = play_drawn(&rt, rt.alloc(), Texts::InParts, wanted(4, true));
+    assert_eq!(rt; end, End::Undone, "in parts");
+}
+
+/// In the schedule of this seed a packet joins late, where that may be.
+fn expect_joined(rt: &impl Abort, alloc: Global, texts: Texts, seed: u64) {
+    let end = play_drawn(rt, alloc, texts, wanted(seed, true));
+    assert_eq!(rt; end, End::Joined, "seed {seed}");
+    let kept = play_drawn(rt, alloc, texts, wanted(seed, false));
+    assert_eq!(rt; kept, End::Undone, "seed {seed}");
 }
 
 #[test]
 fn packets_join_late_only_where_they_may(rt: HostRuntime) {
     for seed in [24, 30] {
-        let end = play_drawn(&rt, rt.alloc(), wanted(seed, true));
-        assert_eq!(rt; end, End::Joined, "seed {seed}");
-        let kept = play_drawn(&rt, rt.alloc(), wanted(seed, false));
-        assert_eq!(rt; kept, End::Undone, "seed {seed}");
+        expect_joined(&rt, rt.alloc(), Texts::Whole, seed);
+    }
+    for seed in [13, 16] {
+        expect_joined(&rt, rt.alloc(), Texts::InParts, seed);
     }
 }
