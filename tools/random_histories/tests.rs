@@ -4,6 +4,7 @@ mod dice;
 mod expected;
 mod fault;
 mod gate;
+mod long_asset;
 mod scripts;
 mod sharing;
 mod tally;

@@ -4,6 +4,7 @@ mod course;
 mod dice;
 mod drawn;
 mod lan;
+mod long_asset;
 mod others;
 mod premise;
 mod settings;
@@ -23,7 +24,7 @@ use tally::Tally;
 const WHOLE: u64 = 250;
 
 /// What is counted, how often it was shown, and how often a whole portion shows it at least.
-fn counts(tally: &Tally) -> [(&'static str, u64, u64); 28] {
+fn counts(tally: &Tally) -> [(&'static str, u64, u64); 30] {
     [
         ("schedules", tally.schedules, WHOLE),
         ("events", tally.events, 6000),
@@ -49,6 +50,8 @@ fn counts(tally: &Tally) -> [(&'static str, u64, u64); 28] {
         ("GetRefused", tally.gets_refused, 5),
         ("Refused", tally.sets_refused, 4),
         ("NotRestorable", tally.not_restorable, 4),
+        ("Sets in parts that were acknowledged", tally.sets_in_parts, 20),
+        ("undos in parts that were acknowledged", tally.undos_in_parts, 3),
         ("packets of the manager that joined others", tally.joined, 200),
         ("schedules that broke the premise on packets", tally.broken, 1),
         ("schedules that make_schedule drew", tally.drawn, WHOLE / 4),

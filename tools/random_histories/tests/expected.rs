@@ -1,6 +1,6 @@
 //! What is expected of each run.
 use super::fault::NotMade;
-use super::scripts::Script;
+use super::scripts::{ENDPOINT, Script};
 use super::sharing::{Ports, Told, open_sample};
 use bmc_board::{Board, Records};
 use bmc_core::{Out, Port, Step};
@@ -8,7 +8,7 @@ use bmc_ports::{Call, End, History, Link, MOST_KEPT, MemLink};
 use record_base::{Answered, Asked};
 use std::alloc::Global;
 use std::process::Abort;
-use two_wire::{Below, Frame, NetFn};
+use two_wire::{Below, Bytes, Frame, NetFn};
 
 /// Whether a board that is told the history's calls in their order answers each so.
 fn replays(board: &mut Board<Records>, history: &History) -> bool {
@@ -25,14 +25,29 @@ fn replays(board: &mut Board<Records>, history: &History) -> bool {
     true
 }
 
-/// The boot flags, the boot device's sensor, the log with its newest record, and an enumeration: what the scripts change.
-fn questions() -> [Asked; 5] {
+/// A last part of a Set: it's refused for its length where the endpoint of the scripts has set a first part and no more, and else for its handle.
+fn last_part() -> Asked {
+    Asked::Pldm {
+        from: ENDPOINT,
+        kind: Below::new(3),
+        command: 0x07,
+        body: Bytes::from_slice(&[0xC0, 0, 0, 0, 0x04, 0x61]),
+    }
+}
+
+/// The boot flags, the boot device's sensor, the log with its newest record, an enumeration, the parts of a text, and whether a first part of it was
+/// set: what the scripts change.
+fn questions() -> [Asked; 9] {
     [
         Asked::ipmi(NetFn::new(0x00), 0x09, &[0x05, 0x00, 0x00]),
         Asked::ipmi(NetFn::new(0x04), 0x2D, &[0x05]),
         Asked::ipmi(NetFn::new(0x0A), 0x40, &[]),
         Asked::ipmi(NetFn::new(0x0A), 0x43, &[0, 0, 0xFF, 0xFF, 0, 0xFF]),
         Asked::pldm(Below::new(3), 0x08, &[0, 0, 0, 0, 0x01, 0, 0]),
+        Asked::pldm(Below::new(3), 0x08, &[0, 0, 0, 0, 0x01, 1, 0]),
+        Asked::pldm(Below::new(3), 0x08, &[0xC0, 0, 0, 0, 0x00, 1, 0]),
+        Asked::pldm(Below::new(3), 0x08, &[0x80, 0x01, 0, 0, 0x00, 1, 0]),
+        last_part(),
     ]
 }
 
@@ -44,6 +59,33 @@ fn are_alike(one: &mut Board<Records>, other: &mut Board<Records>) -> bool {
         }
     }
     true
+}
+
+/// Whether the request is the last part of a Set that was carried out, and whether it got a later part.
+fn is_part(asked: &Asked, answered: &Answered) -> (bool, bool) {
+    match asked {
+        Asked::Pldm { command, body, .. } if answered.code == 0 => {
+            let part = body.as_slice().get(4).copied();
+            (
+                *command == 0x07 && part == Some(0x04),
+                *command == 0x08 && part == Some(0x00),
+            )
+        }
+        _ => (false, false),
+    }
+}
+
+/// How many Sets in parts of the history were carried out, and how many later parts were got.
+pub(super) fn parts_of(history: &History) -> (u64, u64) {
+    let (mut sets, mut gets) = (0, 0);
+    for place in 0..history.len() {
+        if let Some(Call::Exchanged { asked, answered }) = history.get(place).map(|event| event.call) {
+            let (is_set, is_got) = is_part(&asked, &answered);
+            sets += u64::from(is_set);
+            gets += u64::from(is_got);
+        }
+    }
+    (sets, gets)
 }
 
 /// The seat of the event at this place.

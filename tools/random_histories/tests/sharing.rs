@@ -1,6 +1,7 @@
 //! One run: two workers and a scanner share a board, which is closed then.
 use super::fault::NotMade;
 use super::gate::Mixed;
+use super::long_asset::with_long_asset;
 use super::scripts::{ENDPOINT, REQUESTER, Script};
 use bmc_board::{Bench, Board, Records};
 use bmc_core::{At, Port};
@@ -25,9 +26,11 @@ pub(super) struct Told {
     pub history: History,
 }
 
-/// The sample board.
+/// The sample board, whose text may be longer.
 pub(super) fn open_sample(alloc: Global) -> Result<Board<Records>, AllocError> {
-    Board::of_file(alloc, sample_board(alloc)?)
+    let mut file = sample_board(alloc)?;
+    file.attributes = with_long_asset(alloc, file.attributes)?;
+    Board::of_file(alloc, file)
 }
 
 /// A port of the controller at its address on this bus.

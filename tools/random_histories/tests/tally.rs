@@ -1,5 +1,5 @@
 //! How often what happened in the runs.
-use super::expected::{events_of, place_of, seat_at};
+use super::expected::{events_of, parts_of, place_of, seat_at};
 use super::sharing::Told;
 use bmc_ports::{End, History, Link};
 use std::process::Abort;
@@ -17,6 +17,8 @@ pub(super) struct Tally {
     pub second_first: u64,
     pub first_first: u64,
     pub mixed: u64,
+    pub set_in_parts: u64,
+    pub later_parts: u64,
     pub own: u64,
 }
 
@@ -55,6 +57,8 @@ impl Tally {
         second_first: 0,
         first_first: 0,
         mixed: 0,
+        set_in_parts: 0,
+        later_parts: 0,
         own: 0,
     };
 
@@ -77,6 +81,9 @@ impl Tally {
             self.first_first += u64::from(of_first < of_second);
         }
         self.mixed += u64::from(changes(history) >= seats(history).max(1));
+        let (sets, gets) = parts_of(history);
+        self.set_in_parts += sets;
+        self.later_parts += gets;
     }
 
     /// Adds what others counted.
@@ -91,11 +98,13 @@ impl Tally {
         self.second_first += other.second_first;
         self.first_first += other.first_first;
         self.mixed += other.mixed;
+        self.set_in_parts += other.set_in_parts;
+        self.later_parts += other.later_parts;
         self.own += other.own;
     }
 
     /// What is counted, how often it was shown, and how often a thousand runs show it at least.
-    pub fn counts(&self) -> [(&'static str, u64, u64); 11] {
+    pub fn counts(&self) -> [(&'static str, u64, u64); 13] {
         [
             ("runs", self.runs, 1_000),
             ("events", self.events, 8_000),
@@ -107,6 +116,8 @@ impl Tally {
             ("runs with port 1 before port 0", self.second_first, 80),
             ("runs with port 0 before port 1", self.first_first, 80),
             ("runs in which one seat came amid another's events", self.mixed, 100),
+            ("Sets in parts that were carried out", self.set_in_parts, 60),
+            ("later parts that were got", self.later_parts, 40),
             ("runs over ports of their own", self.own, 100),
         ]
     }

@@ -217,6 +217,24 @@ fn value_after<'a>(
     }
 }
 
+/// The value that the step of this place finds in its record, in this course.
+pub(super) fn found_by<'a>(
+    start: &'a [(Key, StartValue)],
+    course: &'a Course,
+    place: usize,
+) -> Option<&'a [u8]> {
+    let (key, _) = course.changes.as_slice().get(place)?;
+    value_after(start, course.changes.as_slice().get(..place)?, key)
+}
+
+/// How long a value goes whole at most: an entry has three bytes before it, and one of over 205 bytes goes in parts. No other record has so many.
+const MOST_WHOLE: usize = 202;
+
+/// Whether requests that set this value go in parts.
+pub(super) fn goes_in_parts(value: &[u8]) -> bool {
+    value.len() > MOST_WHOLE
+}
+
 /// Whether the records are those of the start after these changes.
 pub(super) fn are_after(
     records: &Records,

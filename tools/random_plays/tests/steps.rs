@@ -1,28 +1,28 @@
 //! Random plans, and the boards on which they run.
 use super::dice::Dice;
 use super::lan::lans;
+use super::long_asset::{ASSET, MOST_TEXT, with_long_asset};
 use super::settings::{STATES, Setting, any_setting};
 use cfg_records::{
-    Attribute, AttributeKind, Attributes, BoardFile, Distinct, EventChange, EventMasks, Key, NumericBytes, NumericEffecter, NumericRange,
+    BoardFile, Distinct, EventChange, EventMasks, Key, NumericBytes, NumericEffecter, NumericRange,
     NumericSize, Op, SetBiosAttribute, SetEventEnable, SetHysteresis, SetNumericEffecter,
-    Items, SetThresholds, StateEffecter, StateField, StringAttribute, Text, TextLengths, Value,
+    Items, SetThresholds, StateEffecter, StateField, Value,
     sample_board,
 };
 use std::alloc::Global;
 use std::test::Fail;
 
-/// The handle of the sample board's text, and that of its number.
-pub(super) const ASSET: u16 = 1;
+/// The handle of the sample board's number.
 pub(super) const DELAY: u16 = 2;
 
 /// The types of a string and of an integer (DSP0247).
 const STRING_TYPE: u8 = 0x01;
 const INTEGER_TYPE: u8 = 0x03;
 
-/// The greatest length of the sample board's text, that on the board with more, and that of any text of a plan.
+/// The greatest length of the sample board's text, that of any text of a plan, and that of one whose Set goes in three parts.
 const SAMPLE_TEXT: u64 = 200;
-const MOST_TEXT: u16 = 1000;
 const PLAN_TEXT: u64 = 1024;
+const FEW_PARTS_TEXT: u64 = 571;
 
 /// A text of one letter, so often.
 #[derive(Clone, Copy, Debug)]
@@ -106,32 +106,6 @@ fn states(alloc: Global) -> Result<StateEffecter, Fail> {
         fields.push(StateField::new(Items::new(allowed), 1).ok_or("a field")?)?;
     }
     Ok(StateEffecter::new(STATES, true, fields).ok_or("states")?)
-}
-
-/// The sample board's text, with room for `MOST_TEXT` bytes.
-fn asset(alloc: Global) -> Result<Attribute, Fail> {
-    let lengths = TextLengths::new(0, MOST_TEXT).ok_or("lengths")?;
-    let current = Vec::from_slice(alloc, &[0x72, 0x61, 0x63, 0x6B, 0x2D, 0x31])?;
-    let kind = StringAttribute::new(1, lengths, Vec::new(alloc), current).ok_or("a string")?;
-    Ok(Attribute {
-        handle: ASSET,
-        name: Text::from_slice(&[0x41, 0x73, 0x73, 0x65, 0x74]),
-        read_only: false,
-        kind: AttributeKind::Text(kind),
-    })
-}
-
-/// These attributes, with that text in its place.
-fn with_long_asset(alloc: Global, attributes: Attributes) -> Result<Attributes, Fail> {
-    let mut items = Vec::new(alloc);
-    for attribute in attributes.items.into_vec() {
-        if attribute.handle == ASSET {
-            items.push(asset(alloc)?)?;
-        } else {
-            items.push(attribute)?;
-        }
-    }
-    Ok(Attributes::new(items).ok_or("attributes")?)
 }
 
 /// The sample board, with a longer text, LAN parameters of channel 1, a state effecter, 9 of two fields, and four numeric effecters: 4 of u16 from 0 to 1000, 5
@@ -298,13 +272,23 @@ pub(super) fn text_of_packets(dice: &mut Dice, packets: u64) -> Step {
     })
 }
 
-/// A text whose Set goes in parts, of two to six requests, or seldom a too long one.
-pub(super) fn text_in_parts(dice: &mut Dice) -> Step {
-    let more = PLAN_TEXT - SAMPLE_TEXT;
+/// A text whose Set goes in parts, of at most so many bytes.
+fn text_up_to(dice: &mut Dice, most: u64) -> Step {
+    let more = most - SAMPLE_TEXT;
     Step::Text(Repeated {
         letter: 0x61 + dice.byte() % 26,
         length: (SAMPLE_TEXT + 1 + dice.below(more)) as u16,
     })
+}
+
+/// A text whose Set goes in two to six requests, or seldom a too long one.
+fn text_in_parts(dice: &mut Dice) -> Step {
+    text_up_to(dice, PLAN_TEXT)
+}
+
+/// A text whose Set goes in two or three requests.
+pub(super) fn text_in_few_parts(dice: &mut Dice) -> Step {
+    text_up_to(dice, FEW_PARTS_TEXT)
 }
 
 /// A number of the delay, which goes by tens up to 300: mostly such a one.

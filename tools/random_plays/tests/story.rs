@@ -1,10 +1,10 @@
 //! One schedule after another, each made event by event: what comes next depends on the frames that were sent and on the phase.
-use super::course::{Course, are_after, changed_by, course_of};
+use super::course::{Course, are_after, changed_by, course_of, found_by, goes_in_parts};
 use super::dice::Dice;
 use super::drawn::{any_wanted, is_drawn};
 use super::others::{idle, noise_of, other_message, other_request, scan};
 use super::premise::{Waiting, is_first_of_several};
-use super::steps::{Step, any_step, board_with_more, text_of_packets};
+use super::steps::{Step, any_step, board_with_more, text_in_few_parts, text_of_packets};
 use super::tally::{Tally, may_be_offered, one_more};
 use super::told::{push_events_of, push_step};
 use bmc_board::Records;
@@ -37,12 +37,17 @@ struct Scene {
     is_late: bool,
 }
 
-/// Steps of long texts.
-fn long_texts(alloc: Global, dice: &mut Dice) -> Result<Vec<Step>, Fail> {
+/// Steps of long texts, some of them in parts where the board takes such.
+fn long_texts(alloc: Global, dice: &mut Dice, has_more: bool) -> Result<Vec<Step>, Fail> {
     let mut steps = Vec::new(alloc);
     for _ in 0..5 {
         let packets = 2 + dice.below(3);
-        steps.push(text_of_packets(dice, packets))?;
+        let is_in_parts = has_more && dice.happens(20);
+        steps.push(if is_in_parts {
+            text_in_few_parts(dice)
+        } else {
+            text_of_packets(dice, packets)
+        })?;
     }
     Ok(steps)
 }
@@ -61,7 +66,7 @@ fn any_scene(alloc: Global, dice: &mut Dice) -> Result<Scene, Fail> {
     let is_late = dice.happens(20);
     let has_more = dice.happens(90);
     let steps = if is_late {
-        long_texts(alloc, dice)?
+        long_texts(alloc, dice, has_more)?
     } else {
         any_steps(alloc, dice, has_more)?
     };
@@ -333,6 +338,49 @@ fn is_caused(phase: &Phase, course: &Course, told_to_stop: bool) -> bool {
     }
 }
 
+/// Whether a plan that was in the first phase and is in the second got the reply to the last request of a Set: that of this step.
+fn step_set(from: &Phase, to: &Phase) -> Option<usize> {
+    match (from, to) {
+        (Phase::Setting(step), Phase::Getting(_) | Phase::Done | Phase::Halted(_, Why::Stop)) => {
+            Some(*step)
+        }
+        _ => None,
+    }
+}
+
+/// The same of what undoes a step.
+fn step_undone(from: &Phase, to: &Phase) -> Option<usize> {
+    match (from, to) {
+        (Phase::Undoing(step), Phase::Undone) => Some(*step),
+        (Phase::Undoing(step), Phase::Undoing(next)) if next < step => Some(*step),
+        _ => None,
+    }
+}
+
+/// Counts what was acknowledged in parts as the plan went from a phase into another.
+fn count_parts(
+    tally: &mut Tally,
+    start: &[(Key, StartValue)],
+    course: &Course,
+    from: &Phase,
+    to: &Phase,
+) {
+    if let Some(step) = step_set(from, to) {
+        if let Some((_, value)) = course.changes.as_slice().get(step) {
+            if goes_in_parts(value.as_slice()) {
+                one_more(&mut tally.sets_in_parts);
+            }
+        }
+    }
+    if let Some(step) = step_undone(from, to) {
+        if let Some(old) = found_by(start, course, step) {
+            if goes_in_parts(old) {
+                one_more(&mut tally.undos_in_parts);
+            }
+        }
+    }
+}
+
 /// A schedule that is being made: the events that were taken, and the lab in which they happened.
 #[derive(Drop)]
 struct Made {
@@ -379,8 +427,11 @@ impl Made {
     }
 
     /// The lab took the last event that was offered, in this phase.
-    fn take(&mut self, from: &Phase, before: usize, tally: &mut Tally) {
+    fn take(&mut self, course: &Course, from: &Phase, before: usize, tally: &mut Tally) {
         let phase = self.lab.phase();
+        if !self.waiting.is_broken {
+            count_parts(tally, self.start.as_slice(), course, from, &phase);
+        }
         if let Some(event) = self.events.as_slice().last() {
             self.waiting.take(event, &self.lab, before);
         }
@@ -435,6 +486,7 @@ fn refuse(alloc: Global, scene: &Scene, made: &mut Made, tally: &mut Tally) -> R
 fn offer(
     alloc: Global,
     scene: &Scene,
+    course: &Course,
     made: &mut Made,
     event: Event,
     tally: &mut Tally,
@@ -444,7 +496,7 @@ fn offer(
     let taken = made.lab.step(&event);
     made.events.push(event)?;
     match taken {
-        Ok(()) => made.take(&from, before, tally),
+        Ok(()) => made.take(course, &from, before, tally),
         Err(_) => refuse(alloc, scene, made, tally)?,
     }
     made.go_on();
@@ -463,7 +515,7 @@ fn offer_events(
     for _ in 0..MOST_EVENTS {
         if made.later <= MOST_LATER && made.wrong.is_none() {
             let event = any_event(alloc, dice, scene, &made.lab, made.events.as_slice())?;
-            offer(alloc, scene, made, event, tally)?;
+            offer(alloc, scene, course, made, event, tally)?;
             if made.wrong.is_none() {
                 made.wrong = made.fallen(scene, course, &made.lab.phase(), made.lab.store());
             }
@@ -486,7 +538,7 @@ fn offer_drawn(
     for event in make_schedule(alloc, file, plan_of(alloc, scene)?, wanted)? {
         if made.wrong.is_none() {
             let before = made.events.len();
-            offer(alloc, scene, made, event, tally)?;
+            offer(alloc, scene, course, made, event, tally)?;
             if made.wrong.is_none() {
                 made.wrong = made.fallen(scene, course, &made.lab.phase(), made.lab.store());
             }
