@@ -1,0 +1,3 @@
+//! Both ends of a bus: the ports of a controller, and a manager.
+mod manager;
+mod ports;
