@@ -4,5 +4,4 @@ pub mod AttributeSteps
 pub mod UserSteps
 pub mod Changes
 pub mod Steps
-pub mod StepKind
 pub mod OnePlan

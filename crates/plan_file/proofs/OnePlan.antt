@@ -1,18 +1,4 @@
 -- A tree holds one plan.
-pub mod Thresholds
-pub mod Hysteresis
-pub mod EventEnable
-pub mod Watchdog
-pub mod PowerPolicy
-pub mod GlobalEnables
-pub mod BootParam
-pub mod BiosAttribute
-pub mod StateEffecter
-pub mod NumericEffecter
-pub mod UserName
-pub mod UserAccess
-pub mod ChannelAccess
-pub mod LanParam
 use Rattle.std.proofs.Common.{◌≡◌, ◌∙◌, ℕ, List, Option, Some, None, MatchOption, Result, Ok, Err, sym, ap, subst}
 use Rattle.toml.specs.Data.{Members}
 use Rattle.toml.specs.Parse.{parse_document}
@@ -20,7 +6,6 @@ use Rattle.record_base.specs.declared.op.Op.{Op}
 use Rattle.undo_plans.specs.declared.plan.Plan.{Plan}
 use Rattle.text_fields.specs.declared.field.Field.TheVariants as field
 use Rattle.plan_file.specs.declared.kind.Kind.{Kind}
-use Rattle.plan_file.specs.declared.kind.Kind.TheVariants as kind
 use Rattle.plan_file.specs.declared.plan_fault.PlanFault.{PlanFault}
 use Rattle.plan_file.specs.declared.plan_fault.PlanFault.TheVariants as plan
 use Rattle.text_fields.specs.Trees.{table_of, members_in}
@@ -29,32 +14,14 @@ use Rattle.text_fields.specs.Faults.{first}
 use Rattle.plan_file.specs.PlanFaults.{plan_faults}
 use Rattle.plan_file.specs.PlanHolds.{HoldsStep, HoldsPlan, AnswersPlan, ReadsPlan}
 use Rattle.text_fields.proofs.Unique.{one_found, one_list}
-use Rattle.plan_file.proofs.StepKind.{IsOne}
 
 -- ---- steps
-
--- the operation that a step of the kind holds is one
-only : (named : Kind) → IsOne (of_kind named)
-only kind.Thresholds = Thresholds.only
-only kind.Hysteresis = Hysteresis.only
-only kind.EventEnable = EventEnable.only
-only kind.Watchdog = Watchdog.only
-only kind.PowerPolicy = PowerPolicy.only
-only kind.GlobalEnables = GlobalEnables.only
-only kind.BootParam = BootParam.only
-only kind.BiosAttribute = BiosAttribute.only
-only kind.StateEffecter = StateEffecter.only
-only kind.NumericEffecter = NumericEffecter.only
-only kind.UserName = UserName.only
-only kind.UserAccess = UserAccess.only
-only kind.ChannelAccess = ChannelAccess.only
-only kind.LanParam = LanParam.only
 
 -- a table holds one step
 one_step : (tree : Members) (a b : Op) → HoldsStep tree a → HoldsStep tree b → a ≡ b
 one_step tree a b (named, (is, holds)) (other, (also, held)) =
     let same = one_found (kind_in tree) other named also is in
-    only named tree a b holds (subst (λ (k : Kind). (of_kind k).Holds tree b) same held)
+    (of_kind named).only tree a b holds (subst (λ (k : Kind). (of_kind k).Holds tree b) same held)
 
 -- ---- plans
 

@@ -27,20 +27,20 @@ use Rattle.plan_file.specs.StepKind.{StepKind}
 
 -- the kind, as one value
 abbrev pub of_kind : Kind → StepKind
-of_kind kind.Thresholds = Thresholds.kind
-of_kind kind.Hysteresis = Hysteresis.kind
-of_kind kind.EventEnable = EventEnable.kind
-of_kind kind.Watchdog = Watchdog.kind
-of_kind kind.PowerPolicy = PowerPolicy.kind
-of_kind kind.GlobalEnables = GlobalEnables.kind
-of_kind kind.BootParam = BootParam.kind
-of_kind kind.BiosAttribute = BiosAttribute.kind
-of_kind kind.StateEffecter = StateEffecter.kind
-of_kind kind.NumericEffecter = NumericEffecter.kind
-of_kind kind.UserName = UserName.kind
-of_kind kind.UserAccess = UserAccess.kind
-of_kind kind.ChannelAccess = ChannelAccess.kind
-of_kind kind.LanParam = LanParam.kind
+of_kind kind.Thresholds = Thresholds.Kind.kind
+of_kind kind.Hysteresis = Hysteresis.Kind.kind
+of_kind kind.EventEnable = EventEnable.Kind.kind
+of_kind kind.Watchdog = Watchdog.Kind.kind
+of_kind kind.PowerPolicy = PowerPolicy.Kind.kind
+of_kind kind.GlobalEnables = GlobalEnables.Kind.kind
+of_kind kind.BootParam = BootParam.Kind.kind
+of_kind kind.BiosAttribute = BiosAttribute.Kind.kind
+of_kind kind.StateEffecter = StateEffecter.Kind.kind
+of_kind kind.NumericEffecter = NumericEffecter.Kind.kind
+of_kind kind.UserName = UserName.Kind.kind
+of_kind kind.UserAccess = UserAccess.Kind.kind
+of_kind kind.ChannelAccess = ChannelAccess.Kind.kind
+of_kind kind.LanParam = LanParam.Kind.kind
 
 -- the kind of the steps that make such a change
 abbrev pub kind_of : Op → Kind

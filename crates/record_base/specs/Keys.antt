@@ -1,30 +1,48 @@
 -- The names of records: the lengths of the values, and the places of a sensor's records.
-use Rattle.std.specs.Prelude.{ℕ, Bool, Option, Some, None, nat_le, ◌==◌, ◌&&◌, ◌||◌}
+use Rattle.std.specs.Prelude.{ℕ, Bool, Option, Some, None, nat_le, ◌≤◌, ◌==◌, ◌&&◌, ◌||◌}
 use Rattle.std.specs.Ordering.{is_eq}
 use Rattle.std.specs.declared.cmp.Ordering.{Ordering}
 use Rattle.record_base.specs.declared.key.Key.{Key}
 use Rattle.record_base.specs.declared.key.Key.TheVariants as key
+use Rattle.record_base.specs.declared.key.Lengths.{Lengths}
+use Rattle.record_base.specs.declared.key.Lengths.TheVariants.{Exactly, OfNumber, Between}
 use Rattle.record_base.specs.AttributeSizes.{least_value, most_value}
 use Rattle.record_base.specs.BootParam.{boot_length}
 use Rattle.record_base.specs.Lan.{lan_length}
 use Rattle.record_base.specs.contracts.key.KeyOrd.TheImpl as key_ord
 
+-- one of these lengths
+abbrev pub has_length : Lengths → ℕ → Bool
+has_length (Exactly only) size = size == only
+has_length OfNumber size = (size == 1) || (size == 2) || (size == 4)
+has_length (Between least most) size = nat_le least size && nat_le size most
+
+-- there is such a length, and none is above this number
+abbrev pub AreFew : ℕ → Lengths → Type 0
+AreFew bound (Exactly only) = only ≤ bound
+AreFew bound OfNumber = 4 ≤ bound
+AreFew bound (Between least most) = (least ≤ most) × (most ≤ bound)
+
+-- the lengths that a value of the key's kind may have: a line for each kind
+abbrev pub lengths : Key → Lengths
+lengths (key.Thresholds sensor) = Exactly 6
+lengths (key.Hysteresis sensor) = Exactly 2
+lengths (key.EventEnable sensor) = Exactly 5
+lengths key.PowerPolicy = Exactly 1
+lengths key.Watchdog = Exactly 5
+lengths key.GlobalEnables = Exactly 1
+lengths (key.BootParam parameter) = Exactly (boot_length parameter)
+lengths (key.NumericEffecter id) = OfNumber
+lengths (key.StateEffecter id) = Between 1 8
+lengths (key.UserName user) = Exactly 16
+lengths (key.UserAccess on) = Exactly 1
+lengths (key.ChannelAccess stored) = Exactly 2
+lengths (key.BiosAttribute handle) = Between least_value most_value
+lengths (key.LanParam on) = Exactly (lan_length on.parameter)
+
 -- a value of the key's kind may have this length
 abbrev pub is_length : Key → ℕ → Bool
-is_length (key.Thresholds sensor) size = size == 6
-is_length (key.Hysteresis sensor) size = size == 2
-is_length (key.EventEnable sensor) size = size == 5
-is_length key.PowerPolicy size = size == 1
-is_length key.Watchdog size = size == 5
-is_length key.GlobalEnables size = size == 1
-is_length (key.BootParam parameter) size = size == boot_length parameter
-is_length (key.NumericEffecter id) size = (size == 1) || (size == 2) || (size == 4)
-is_length (key.StateEffecter id) size = nat_le 1 size && nat_le size 8
-is_length (key.UserName user) size = size == 16
-is_length (key.UserAccess on) size = size == 1
-is_length (key.ChannelAccess stored) size = size == 2
-is_length (key.BiosAttribute handle) size = nat_le least_value size && nat_le size most_value
-is_length (key.LanParam on) size = size == lan_length on.parameter
+is_length key = has_length (lengths key)
 
 -- the table that has a sensor's record, and the sensor's number: a line for each kind
 abbrev pub slot : Key → Option (ℕ × ℕ)

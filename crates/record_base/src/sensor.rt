@@ -2,10 +2,7 @@
 ghost use Rattle.std.specs.Prelude.{◌<◌};
 
 use crate::board_sizes::MOST_SENSORS;
-use crate::distinct::{Distinct, Numbered};
-use crate::event_enable::EventEnable;
-use crate::hysteresis::Hysteresis;
-use crate::sensor_thresholds::Thresholds;
+use crate::*;
 
 /// A sensor: its number (0 to 254), its type by IPMI's number, and the values of its records.
 #[derive(Clone, Copy, Debug)]

@@ -5,18 +5,20 @@ use Rattle.std.specs.Prelude.{slice_get}
 use Rattle.std.specs.Option.{option_map}
 use Rattle.std.proofs.Props.{props}
 use Rattle.std.proofs.lemmas.Bool.Decides.{nat_tests}
-use Rattle.std.proofs.lemmas.List.{map-append, length-drop, drop-append-le, take-append-le}
+use Rattle.std.proofs.lemmas.List.Elements.{All-push}
+use Rattle.std.proofs.lemmas.List.{map-append, length-append, length-drop, drop-append-le, take-append-le}
 use Rattle.std.proofs.lemmas.Option.{slice_get-map, slice_get-get_or}
 use Rattle.std.proofs.Math.Seq.{drop-append_seam, take-length}
 use Rattle.record_base.specs.declared.op.Op.{Op}
 use Rattle.record_base.specs.declared.op.Op.TheVariants as op
 use Rattle.record_base.specs.declared.field_changes.FieldChange.{FieldChange}
 use Rattle.record_base.specs.declared.state_effecter.SetStateEffecter.{SetStateEffecter}
+use Rattle.record_base.specs.declared.bios_attribute.SetBiosAttribute.{SetBiosAttribute}
 use Rattle.record_base.specs.BiosAttribute.{setting}
 use Rattle.record_base.specs.BiosAttributeLaws.{few_sent, same_setting, sent_whole}
 use Rattle.undo_plans.specs.declared.kept.Kept.{Kept}
 use Rattle.undo_plans.specs.declared.kept.Kept.TheVariants as kept
-use Rattle.undo_plans.specs.Kept.{value_of, kept_of, IsAmong, kept_op}
+use Rattle.undo_plans.specs.Kept.{value_of, IsAmong, kept_op, Keeps}
 
 -- bytes among others stay where they are, with more behind the others
 same_bytes : (values more : List ℕ) (from count : ℕ) → from + count ≤ length values → take count (drop from (values ++ more)) ≡ take count (drop from values)
@@ -42,22 +44,48 @@ same_ops values more (any ∷ others) all =
     let there = same_ops values more others (rest_of values any others all) in
     λ i. here i ∷ there i
 
--- an operation whose value lies behind these is given again
-put_together : (values : List ℕ) (any : Op) → kept_op (values ++ value_of any) (kept_of (length values) any) ≡ any
-put_together values (op.BiosAttribute set) =
+-- how an operation on an attribute is kept, where a value of so many bytes lies from this place on
+abbrev kept_from : ℕ → ℕ → SetBiosAttribute → Kept
+kept_from from count set = kept.BiosAttribute (record { attribute = set.attribute; attribute_type = set.attribute_type; from = from; count = count })
+
+given_again : (values : List ℕ) (set : SetBiosAttribute) → kept_op (values ++ set.value) (kept_from (length values) (length set.value) set) ≡ op.BiosAttribute set
+given_again values set =
     let there : take (length set.value) (drop (length values) (values ++ set.value)) ≡ set.value =
     ap (take (length set.value)) (drop-append_seam values set.value) ∙ take-length set.value in
     ap (λ (bytes : List ℕ). op.BiosAttribute (setting set.attribute set.attribute_type bytes)) there
     ∙ ap op.BiosAttribute (same_setting set.attribute set.attribute_type _ set.value (few_sent set.value) set.fits (sent_whole set.value set.fits))
-put_together values _ = refl
+
+set_kept : (from : ℕ) (set : SetBiosAttribute) → Keeps from (op.BiosAttribute set) (kept_from from (length set.value) set)
+set_kept from set values long =
+    let within : length values + length set.value ≤ length (values ++ set.value) = omega (arith, length-append values set.value) in
+    subst
+    (λ (n : ℕ). IsAmong (values ++ set.value) (kept_from n (length set.value) set) × (kept_op (values ++ set.value) (kept_from n (length set.value) set) ≡ op.BiosAttribute set))
+    long (within, given_again values set)
+
+-- an operation on an attribute is kept so
+pub attribute_kept : (from : ℕ) (set : SetBiosAttribute) (any : Op) (value : List ℕ) → any ≡ op.BiosAttribute set → value ≡ set.value → Keeps from any (kept_from from (length value) set)
+attribute_kept from set any value is same =
+    subst (λ (o : Op). Keeps from o (kept_from from (length value) set)) (sym is)
+    (subst (λ (v : List ℕ). Keeps from (op.BiosAttribute set) (kept_from from (length v) set)) (sym same) (set_kept from set))
+
+more_among : (values more : List ℕ) (any : Kept) → IsAmong values any → IsAmong (values ++ more) any
+more_among values more (kept.BiosAttribute set) within = omega (arith, within, length-append values more)
+more_among values more _ within = tt
+
+each_among : (values more : List ℕ) (ops : List Kept) → All (IsAmong values) ops → All (IsAmong (values ++ more)) ops
+each_among values more ops all k d below = more_among values more _ (all k d below)
+
+-- the values of all operations are among these, with one operation more
+pub all_among : (values more : List ℕ) (ops : List Kept) (kept : Kept) → All (IsAmong values) ops → IsAmong (values ++ more) kept → All (IsAmong (values ++ more)) (ops ++ kept ∷ [])
+all_among values more ops kept all among = All-push (IsAmong (values ++ more)) ops kept (each_among values more ops all) among
 
 -- an operation is added
-pub one_more : (values : List ℕ) (ops : List Kept) (any : Op) → All (IsAmong values) ops
-    → map (kept_op (values ++ value_of any)) (ops ++ kept_of (length values) any ∷ []) ≡ map (kept_op values) ops ++ any ∷ []
-one_more values ops any all =
+pub one_more : (values : List ℕ) (ops : List Kept) (any : Op) (kept : Kept) → All (IsAmong values) ops → Keeps (length values) any kept
+    → map (kept_op (values ++ value_of any)) (ops ++ kept ∷ []) ≡ map (kept_op values) ops ++ any ∷ []
+one_more values ops any kept all keeps =
     let before = same_ops values (value_of any) ops all in
-    let last = put_together values any in
-    map-append (kept_op (values ++ value_of any)) ops (kept_of (length values) any ∷ []) ∙ (λ i. before i ++ last i ∷ [])
+    let last = (keeps values refl).1 in
+    map-append (kept_op (values ++ value_of any)) ops (kept ∷ []) ∙ (λ i. before i ++ last i ∷ [])
 
 -- ---- an operation is given again
 

@@ -1,5 +1,5 @@
 -- How a plan keeps an operation: the value of an attribute lies among the plan's values, and the rest by itself.
-use Rattle.std.specs.Prelude.{ℕ, ◌+◌, ◌≤◌, List, [], length, take, drop}
+use Rattle.std.specs.Prelude.{◌≡◌, ℕ, ◌+◌, ◌≤◌, List, [], ◌++◌, length, take, drop}
 use Rattle.record_base.specs.declared.op.Op.{Op}
 use Rattle.record_base.specs.declared.op.Op.TheVariants as op
 use Rattle.record_base.specs.BiosAttribute.{setting}
@@ -10,23 +10,6 @@ use Rattle.undo_plans.specs.declared.kept.Kept.TheVariants as kept
 abbrev pub value_of : Op → List ℕ
 value_of (op.BiosAttribute set) = set.value
 value_of _ = []
-
--- how the operation is kept, where its value lies from this place on
-abbrev pub kept_of : ℕ → Op → Kept
-kept_of from (op.Thresholds set) = kept.Thresholds set
-kept_of from (op.Hysteresis set) = kept.Hysteresis set
-kept_of from (op.EventEnable set) = kept.EventEnable set
-kept_of from (op.PowerPolicy set) = kept.PowerPolicy set
-kept_of from (op.Watchdog set) = kept.Watchdog set
-kept_of from (op.GlobalEnables set) = kept.GlobalEnables set
-kept_of from (op.BootParam set) = kept.BootParam set
-kept_of from (op.NumericEffecter set) = kept.NumericEffecter set
-kept_of from (op.StateEffecter set) = kept.StateEffecter set
-kept_of from (op.UserName set) = kept.UserName set
-kept_of from (op.UserAccess set) = kept.UserAccess set
-kept_of from (op.ChannelAccess set) = kept.ChannelAccess set
-kept_of from (op.BiosAttribute set) = kept.BiosAttribute (record { attribute = set.attribute; attribute_type = set.attribute_type; from = from; count = length set.value })
-kept_of from (op.LanParam set) = kept.LanParam set
 
 -- the value of an attribute lies among these
 abbrev pub IsAmong : List ℕ → Kept → Type 0
@@ -49,3 +32,8 @@ kept_op values (kept.UserAccess set) = op.UserAccess set
 kept_op values (kept.ChannelAccess set) = op.ChannelAccess set
 kept_op values (kept.BiosAttribute set) = op.BiosAttribute (setting set.attribute set.attribute_type (take set.count (drop set.from values)))
 kept_op values (kept.LanParam set) = op.LanParam set
+
+-- The operation is kept so, where its value lies from this place on: its value is among any values that it lies behind so, and with them
+-- the operation is given again.
+abbrev pub Keeps : ℕ → Op → Kept → Type 0
+Keeps from any kept = (values : List ℕ) → length values ≡ from → IsAmong (values ++ value_of any) kept × (kept_op (values ++ value_of any) kept ≡ any)

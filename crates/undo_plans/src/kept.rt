@@ -1,13 +1,9 @@
 //! Operations as a plan keeps them.
 ghost use Rattle.std.specs.Prelude.{◌≡◌, ◌≤◌, [], length};
 ghost use Rattle.record_base.specs.AttributeSizes.{most_sent};
-ghost use Rattle.undo_plans.specs.Kept.{value_of, kept_of, kept_op, IsAmong};
+ghost use Rattle.undo_plans.specs.Kept.{value_of, kept_op, IsAmong, Keeps};
 
-use record_base::{
-    Op, SetBiosAttribute, SetBootParam, SetChannelAccess, SetEventEnable, SetGlobalEnables,
-    SetHysteresis, SetLanParam, SetNumericEffecter, SetPowerPolicy, SetStateEffecter,
-    SetThresholds, SetUserAccess, SetUserName, SetWatchdog,
-};
+use record_base::*;
 
 /// The operation on an attribute, but for the value that it gives: that lies elsewhere, from a place on.
 #[derive(Debug, Drop)]
@@ -58,32 +54,40 @@ fn same_states(set: &SetStateEffecter) -> SetStateEffecter
     }
 }
 
+/// The same change, of one type in place of the other: a line for each kind. The value of an attribute alone lies elsewhere, so its kind
+/// has an expression of its own.
+macro_rules! of_each_kind {
+    ($any:expr, $from:ident to $to:ident, $attribute:ident => $made:expr) => {
+        match $any {
+            $from::Thresholds(set) => $to::Thresholds(*set),
+            $from::Hysteresis(set) => $to::Hysteresis(*set),
+            $from::EventEnable(set) => $to::EventEnable(*set),
+            $from::PowerPolicy(set) => $to::PowerPolicy(*set),
+            $from::Watchdog(set) => $to::Watchdog(*set),
+            $from::GlobalEnables(set) => $to::GlobalEnables(*set),
+            $from::BootParam(set) => $to::BootParam(*set),
+            $from::NumericEffecter(set) => $to::NumericEffecter(*set),
+            $from::StateEffecter(set) => $to::StateEffecter(same_states(set)),
+            $from::UserName(set) => $to::UserName(*set),
+            $from::UserAccess(set) => $to::UserAccess(*set),
+            $from::ChannelAccess(set) => $to::ChannelAccess(*set),
+            $from::BiosAttribute($attribute) => $made,
+            $from::LanParam(set) => $to::LanParam(*set),
+        }
+    };
+}
+
 impl Kept {
     /// How an operation is kept, where the value that it gives to an attribute lies from this place on.
     pub(crate) fn of(op: &Op<'_>, from: usize) -> Self
-        ensures { result ≡ kept_of from op.now }
+        ensures { Keeps from op.now result }
     {
-        match op {
-            Op::Thresholds(set) => Kept::Thresholds(*set),
-            Op::Hysteresis(set) => Kept::Hysteresis(*set),
-            Op::EventEnable(set) => Kept::EventEnable(*set),
-            Op::PowerPolicy(set) => Kept::PowerPolicy(*set),
-            Op::Watchdog(set) => Kept::Watchdog(*set),
-            Op::GlobalEnables(set) => Kept::GlobalEnables(*set),
-            Op::BootParam(set) => Kept::BootParam(*set),
-            Op::NumericEffecter(set) => Kept::NumericEffecter(*set),
-            Op::StateEffecter(set) => Kept::StateEffecter(same_states(set)),
-            Op::UserName(set) => Kept::UserName(*set),
-            Op::UserAccess(set) => Kept::UserAccess(*set),
-            Op::ChannelAccess(set) => Kept::ChannelAccess(*set),
-            Op::BiosAttribute(set) => Kept::BiosAttribute(KeptAttribute {
-                attribute: set.attribute,
-                attribute_type: set.attribute_type,
-                from,
-                count: set.value.as_slice().len(),
-            }),
-            Op::LanParam(set) => Kept::LanParam(*set),
-        }
+        of_each_kind!(op, Op to Kept, set => Kept::BiosAttribute(KeptAttribute {
+            attribute: set.attribute,
+            attribute_type: set.attribute_type,
+            from,
+            count: set.value.as_slice().len(),
+        }))
     }
 
     /// The operation. The value that it gives to an attribute lies among these bytes.
@@ -91,24 +95,9 @@ impl Kept {
         requires { IsAmong values.now self.now }
         ensures { result ≡ kept_op values.now self.now }
     {
-        match self {
-            Kept::Thresholds(set) => Op::Thresholds(*set),
-            Kept::Hysteresis(set) => Op::Hysteresis(*set),
-            Kept::EventEnable(set) => Op::EventEnable(*set),
-            Kept::PowerPolicy(set) => Op::PowerPolicy(*set),
-            Kept::Watchdog(set) => Op::Watchdog(*set),
-            Kept::GlobalEnables(set) => Op::GlobalEnables(*set),
-            Kept::BootParam(set) => Op::BootParam(*set),
-            Kept::NumericEffecter(set) => Op::NumericEffecter(*set),
-            Kept::StateEffecter(set) => Op::StateEffecter(same_states(set)),
-            Kept::UserName(set) => Op::UserName(*set),
-            Kept::UserAccess(set) => Op::UserAccess(*set),
-            Kept::ChannelAccess(set) => Op::ChannelAccess(*set),
-            Kept::BiosAttribute(kept) => {
-                let value = &values[kept.from..kept.from + kept.count];
-                Op::BiosAttribute(SetBiosAttribute::of(kept.attribute, kept.attribute_type, value))
-            }
-            Kept::LanParam(set) => Op::LanParam(*set),
-        }
+        of_each_kind!(self, Kept to Op, kept => {
+            let value = &values[kept.from..kept.from + kept.count];
+            Op::BiosAttribute(SetBiosAttribute::of(kept.attribute, kept.attribute_type, value))
+        })
     }
 }

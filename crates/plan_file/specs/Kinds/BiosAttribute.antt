@@ -1,5 +1,7 @@
 -- What a step that sets the value of a BIOS attribute holds.
-use Rattle.std.specs.Prelude.{◌≡◌, Some, codes}
+pub mod Laws
+pub mod Kind
+use Rattle.std.specs.Prelude.{◌≡◌, Some}
 use Rattle.std.specs.List.{AllZip}
 use Rattle.toml.specs.Data.{Members}
 use Rattle.record_base.specs.declared.op.Op.{Op}
@@ -11,8 +13,6 @@ use Rattle.record_base.specs.declared.bios_attribute.SetBiosAttribute.{SetBiosAt
 use Rattle.text_fields.specs.declared.field.Field.TheVariants as field
 use Rattle.text_fields.specs.Trees.{IsNaturalIn, members_in, HasNumber, Lacks}
 use Rattle.text_fields.specs.Attributes.{string_in}
-use Rattle.plan_file.specs.declared.kind.bios_attribute.TheConstants.{FIELDS}
-use Rattle.plan_file.specs.StepKind.{StepKind}
 
 -- the step gives this value of an attribute, its indexes, its text or its number, and none besides
 abbrev pub GivesValue : Members → AttributeValue → Type 0
@@ -32,7 +32,3 @@ pub record HoldsBiosAttribute (tree : Members) (set : SetBiosAttribute) : Type 0
 abbrev pub HoldsOp : Members → Op → Type 0
 HoldsOp tree (op.BiosAttribute set) = HoldsBiosAttribute tree set
 HoldsOp tree other = ⊥
-
--- such a step, as one value
-abbrev pub kind : StepKind
-kind = record { word = codes "bios-attribute"; rows = FIELDS; Holds = HoldsOp }

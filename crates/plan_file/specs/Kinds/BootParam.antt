@@ -1,5 +1,7 @@
 -- What a step that sets a boot parameter holds.
-use Rattle.std.specs.Prelude.{◌≡◌, ℕ, List, [], length, Option, Some, None, codes}
+pub mod Laws
+pub mod Kind
+use Rattle.std.specs.Prelude.{◌≡◌, ℕ, List, [], length, Option, Some, None}
 use Rattle.toml.specs.Data.{Data, Members}
 use Rattle.record_base.specs.declared.op.Op.{Op}
 use Rattle.record_base.specs.declared.op.Op.TheVariants as op
@@ -8,8 +10,6 @@ use Rattle.record_base.specs.declared.boot_param.SetBootParam.{SetBootParam}
 use Rattle.record_base.specs.BootParam.{selector, parameter_of, change_bytes}
 use Rattle.text_fields.specs.declared.field.Field.TheVariants as field
 use Rattle.text_fields.specs.Trees.{in_field, bytes_in, HasNumber, HasFlag}
-use Rattle.plan_file.specs.declared.kind.boot_param.TheConstants.{FIELDS}
-use Rattle.plan_file.specs.StepKind.{StepKind}
 
 -- what a step gives are these bytes: none where it gives nothing
 abbrev pub IsGiven : Option Data → List ℕ → Type 0
@@ -30,7 +30,3 @@ pub record HoldsBootParam (tree : Members) (set : SetBootParam) : Type 0 where
 abbrev pub HoldsOp : Members → Op → Type 0
 HoldsOp tree (op.BootParam set) = HoldsBootParam tree set
 HoldsOp tree other = ⊥
-
--- such a step, as one value
-abbrev pub kind : StepKind
-kind = record { word = codes "boot-param"; rows = FIELDS; Holds = HoldsOp }

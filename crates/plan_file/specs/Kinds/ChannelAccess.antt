@@ -1,5 +1,7 @@
 -- What a step that sets the access of a channel in one of its stores holds.
-use Rattle.std.specs.Prelude.{◌≡◌, Some, option_and_then, codes}
+pub mod Laws
+pub mod Kind
+use Rattle.std.specs.Prelude.{◌≡◌, Some, option_and_then}
 use Rattle.toml.specs.Data.{Members}
 use Rattle.record_base.specs.declared.op.Op.{Op}
 use Rattle.record_base.specs.declared.op.Op.TheVariants as op
@@ -9,8 +11,6 @@ use Rattle.record_base.specs.declared.channel.SetChannelAccess.{SetChannelAccess
 use Rattle.text_fields.specs.declared.field.Field.TheVariants as field
 use Rattle.text_fields.specs.Trees.{in_field, HasNumber, Lacks}
 use Rattle.text_fields.specs.Channels.{store_of}
-use Rattle.plan_file.specs.declared.kind.channel_access.TheConstants.{FIELDS}
-use Rattle.plan_file.specs.StepKind.{StepKind}
 
 -- the step says what of a channel's access and limit changes: those that it gives
 abbrev pub HoldsChannelChange : Members → ChannelChange → Type 0
@@ -28,7 +28,3 @@ pub record HoldsChannelAccess (tree : Members) (set : SetChannelAccess) : Type 0
 abbrev pub HoldsOp : Members → Op → Type 0
 HoldsOp tree (op.ChannelAccess set) = HoldsChannelAccess tree set
 HoldsOp tree other = ⊥
-
--- such a step, as one value
-abbrev pub kind : StepKind
-kind = record { word = codes "channel-access"; rows = FIELDS; Holds = HoldsOp }

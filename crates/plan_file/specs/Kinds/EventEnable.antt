@@ -1,4 +1,6 @@
 -- What a step that sets which events are enabled holds.
+pub mod Laws
+pub mod Kind
 use Rattle.std.specs.Prelude.{◌≡◌, ℕ, true, List, codes}
 use Rattle.toml.specs.Data.{Members}
 use Rattle.record_base.specs.Masks.{has}
@@ -12,8 +14,6 @@ use Rattle.text_fields.specs.declared.field.Field.{Field}
 use Rattle.text_fields.specs.declared.field.Field.TheVariants as field
 use Rattle.text_fields.specs.Trees.{members_in, HasNumber, HasFlag}
 use Rattle.text_fields.specs.Ranges.{has_text, is_listed}
-use Rattle.plan_file.specs.declared.kind.event_enable.TheConstants.{FIELDS}
-use Rattle.plan_file.specs.StepKind.{StepKind}
 
 -- the mask has the events whose offsets the table lists in the field
 abbrev pub HasEvents : Field → Members → ℕ → Type 0
@@ -46,7 +46,3 @@ pub record HoldsEventEnable (tree : Members) (set : SetEventEnable) : Type 0 whe
 abbrev pub HoldsOp : Members → Op → Type 0
 HoldsOp tree (op.EventEnable set) = HoldsEventEnable tree set
 HoldsOp tree other = ⊥
-
--- such a step, as one value
-abbrev pub kind : StepKind
-kind = record { word = codes "event-enable"; rows = FIELDS; Holds = HoldsOp }

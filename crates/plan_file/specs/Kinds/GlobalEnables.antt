@@ -1,13 +1,12 @@
 -- What a step that sets the global enables holds.
-use Rattle.std.specs.Prelude.{codes}
+pub mod Laws
+pub mod Kind
 use Rattle.toml.specs.Data.{Members}
 use Rattle.record_base.specs.declared.op.Op.{Op}
 use Rattle.record_base.specs.declared.op.Op.TheVariants as op
 use Rattle.record_base.specs.declared.global_enables.SetGlobalEnables.{SetGlobalEnables}
 use Rattle.text_fields.specs.declared.field.Field.TheVariants as field
 use Rattle.text_fields.specs.Trees.{HasNumber}
-use Rattle.plan_file.specs.declared.kind.global_enables.TheConstants.{FIELDS}
-use Rattle.plan_file.specs.StepKind.{StepKind}
 
 -- the step holds a change of the global enables
 abbrev pub HoldsGlobalEnables : Members → SetGlobalEnables → Type 0
@@ -17,7 +16,3 @@ HoldsGlobalEnables tree set = HasNumber field.Value tree set.byte
 abbrev pub HoldsOp : Members → Op → Type 0
 HoldsOp tree (op.GlobalEnables set) = HoldsGlobalEnables tree set
 HoldsOp tree other = ⊥
-
--- such a step, as one value
-abbrev pub kind : StepKind
-kind = record { word = codes "global-enables"; rows = FIELDS; Holds = HoldsOp }

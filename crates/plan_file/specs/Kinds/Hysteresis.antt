@@ -1,13 +1,12 @@
 -- What a step that sets hysteresis holds.
-use Rattle.std.specs.Prelude.{codes}
+pub mod Laws
+pub mod Kind
 use Rattle.toml.specs.Data.{Members}
 use Rattle.record_base.specs.declared.op.Op.{Op}
 use Rattle.record_base.specs.declared.op.Op.TheVariants as op
 use Rattle.record_base.specs.declared.hysteresis.SetHysteresis.{SetHysteresis}
 use Rattle.text_fields.specs.declared.field.Field.TheVariants as field
 use Rattle.text_fields.specs.Trees.{HasNumber}
-use Rattle.plan_file.specs.declared.kind.hysteresis.TheConstants.{FIELDS}
-use Rattle.plan_file.specs.StepKind.{StepKind}
 
 -- the step holds a change of hysteresis
 pub record HoldsHysteresis (tree : Members) (set : SetHysteresis) : Type 0 where
@@ -19,7 +18,3 @@ pub record HoldsHysteresis (tree : Members) (set : SetHysteresis) : Type 0 where
 abbrev pub HoldsOp : Members → Op → Type 0
 HoldsOp tree (op.Hysteresis set) = HoldsHysteresis tree set
 HoldsOp tree other = ⊥
-
--- such a step, as one value
-abbrev pub kind : StepKind
-kind = record { word = codes "hysteresis"; rows = FIELDS; Holds = HoldsOp }

@@ -1,5 +1,7 @@
 -- What a step that sets a LAN parameter holds.
-use Rattle.std.specs.Prelude.{◌≡◌, length, Some, codes, option_and_then}
+pub mod Laws
+pub mod Kind
+use Rattle.std.specs.Prelude.{◌≡◌, length, Some, option_and_then}
 use Rattle.toml.specs.Data.{Members}
 use Rattle.record_base.specs.declared.op.Op.{Op}
 use Rattle.record_base.specs.declared.op.Op.TheVariants as op
@@ -8,8 +10,6 @@ use Rattle.record_base.specs.declared.lan.SetLanParam.{SetLanParam}
 use Rattle.record_base.specs.Lan.{lan_selector, changed_parameter, lan_data}
 use Rattle.text_fields.specs.declared.field.Field.TheVariants as field
 use Rattle.text_fields.specs.Trees.{in_field, bytes_in, HasNumber}
-use Rattle.plan_file.specs.declared.kind.lan_param.TheConstants.{FIELDS}
-use Rattle.plan_file.specs.StepKind.{StepKind}
 
 -- the step names a LAN parameter, and gives the data that it becomes
 pub record HoldsLanChange (tree : Members) (change : LanChange) : Type 0 where
@@ -25,7 +25,3 @@ pub record HoldsLanParam (tree : Members) (set : SetLanParam) : Type 0 where
 abbrev pub HoldsOp : Members → Op → Type 0
 HoldsOp tree (op.LanParam set) = HoldsLanParam tree set
 HoldsOp tree other = ⊥
-
--- such a step, as one value
-abbrev pub kind : StepKind
-kind = record { word = codes "lan-param"; rows = FIELDS; Holds = HoldsOp }

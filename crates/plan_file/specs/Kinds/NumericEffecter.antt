@@ -1,5 +1,6 @@
 -- What a step that sets the value of a numeric effecter holds.
-use Rattle.std.specs.Prelude.{codes}
+pub mod Laws
+pub mod Kind
 use Rattle.toml.specs.Data.{Members}
 use Rattle.record_base.specs.declared.op.Op.{Op}
 use Rattle.record_base.specs.declared.op.Op.TheVariants as op
@@ -7,8 +8,6 @@ use Rattle.record_base.specs.declared.numeric_effecter.SetNumericEffecter.{SetNu
 use Rattle.text_fields.specs.declared.field.Field.TheVariants as field
 use Rattle.text_fields.specs.Numeric.{sized_bytes, AreBytes}
 use Rattle.text_fields.specs.Trees.{HasNumber}
-use Rattle.plan_file.specs.declared.kind.numeric_effecter.TheConstants.{FIELDS}
-use Rattle.plan_file.specs.StepKind.{StepKind}
 
 -- the step holds a change of a numeric effecter's value: the bytes of its number, of its size
 pub record HoldsNumericEffecter (tree : Members) (set : SetNumericEffecter) : Type 0 where
@@ -20,7 +19,3 @@ pub record HoldsNumericEffecter (tree : Members) (set : SetNumericEffecter) : Ty
 abbrev pub HoldsOp : Members → Op → Type 0
 HoldsOp tree (op.NumericEffecter set) = HoldsNumericEffecter tree set
 HoldsOp tree other = ⊥
-
--- such a step, as one value
-abbrev pub kind : StepKind
-kind = record { word = codes "numeric-effecter"; rows = FIELDS; Holds = HoldsOp }

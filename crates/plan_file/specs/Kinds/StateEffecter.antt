@@ -1,5 +1,7 @@
 -- What a step that sets states of a state effecter holds.
-use Rattle.std.specs.Prelude.{◌≡◌, Some, codes}
+pub mod Laws
+pub mod Kind
+use Rattle.std.specs.Prelude.{◌≡◌, Some}
 use Rattle.std.specs.List.{AllZip}
 use Rattle.toml.specs.Data.{Data, Members}
 use Rattle.record_base.specs.declared.op.Op.{Op}
@@ -9,8 +11,6 @@ use Rattle.record_base.specs.declared.state_effecter.SetStateEffecter.{SetStateE
 use Rattle.text_fields.specs.declared.field.Field.TheVariants as field
 use Rattle.text_fields.specs.Trees.{members_in, HasNumber}
 use Rattle.text_fields.specs.States.{change_of}
-use Rattle.plan_file.specs.declared.kind.state_effecter.TheConstants.{FIELDS}
-use Rattle.plan_file.specs.StepKind.{StepKind}
 
 -- the member of an array says what becomes of a field
 abbrev pub IsChangeIn : Data → FieldChange → Type 0
@@ -25,7 +25,3 @@ pub record HoldsStateEffecter (tree : Members) (set : SetStateEffecter) : Type 0
 abbrev pub HoldsOp : Members → Op → Type 0
 HoldsOp tree (op.StateEffecter set) = HoldsStateEffecter tree set
 HoldsOp tree other = ⊥
-
--- such a step, as one value
-abbrev pub kind : StepKind
-kind = record { word = codes "state-effecter"; rows = FIELDS; Holds = HoldsOp }

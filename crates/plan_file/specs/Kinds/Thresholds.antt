@@ -1,15 +1,16 @@
 -- What a step that sets thresholds holds.
-use Rattle.std.specs.Prelude.{◌≡◌, ℕ, Bool, map, slice_get, is_some, codes}
+pub mod Laws
+pub mod Kind
+use Rattle.std.specs.Prelude.{◌≡◌, ℕ, Bool, map, slice_get, is_some}
 use Rattle.toml.specs.Data.{Members}
 use Rattle.record_base.specs.Masks.{has}
 use Rattle.record_base.specs.declared.op.Op.{Op}
 use Rattle.record_base.specs.declared.op.Op.TheVariants as op
 use Rattle.record_base.specs.declared.sensor_thresholds.SetThresholds.{SetThresholds}
 use Rattle.text_fields.specs.declared.field.Field.TheVariants as field
-use Rattle.plan_file.specs.declared.kind.thresholds.TheConstants.{LIMITS, FIELDS}
+use Rattle.plan_file.specs.declared.kind.thresholds.TheConstants.{LIMITS}
 use Rattle.text_fields.specs.Trees.{in_field, number_in, HasNumber}
 use Rattle.text_fields.specs.Ranges.{passes, or_zero}
-use Rattle.plan_file.specs.StepKind.{StepKind}
 
 -- the step gives the threshold of this place
 abbrev pub is_given : Members → ℕ → Bool
@@ -25,7 +26,3 @@ pub record HoldsThresholds (tree : Members) (set : SetThresholds) : Type 0 where
 abbrev pub HoldsOp : Members → Op → Type 0
 HoldsOp tree (op.Thresholds set) = HoldsThresholds tree set
 HoldsOp tree other = ⊥
-
--- such a step, as one value
-abbrev pub kind : StepKind
-kind = record { word = codes "thresholds"; rows = FIELDS; Holds = HoldsOp }

@@ -1,13 +1,13 @@
 -- What a step that sets what a user may do on a channel holds.
-use Rattle.std.specs.Prelude.{◌≡◌, ℕ, ◌+◌, ◌*◌, ◌/◌, ◌%◌, Bool, if◌then◌else◌, Option, Some, None, is_some, codes}
+pub mod Laws
+pub mod Kind
+use Rattle.std.specs.Prelude.{◌≡◌, ℕ, ◌+◌, ◌*◌, ◌/◌, ◌%◌, Bool, if◌then◌else◌, Option, Some, None, is_some}
 use Rattle.toml.specs.Data.{Members}
 use Rattle.record_base.specs.declared.op.Op.{Op}
 use Rattle.record_base.specs.declared.op.Op.TheVariants as op
 use Rattle.record_base.specs.declared.user.SetUserAccess.{SetUserAccess}
 use Rattle.text_fields.specs.declared.field.Field.TheVariants as field
 use Rattle.text_fields.specs.Trees.{in_field, flag_in, HasNumber}
-use Rattle.plan_file.specs.declared.kind.user_access.TheConstants.{FIELDS}
-use Rattle.plan_file.specs.StepKind.{StepKind}
 
 -- 1 for what is true
 abbrev pub bit_of : Option Bool → ℕ
@@ -32,7 +32,3 @@ pub record HoldsUserAccess (tree : Members) (set : SetUserAccess) : Type 0 where
 abbrev pub HoldsOp : Members → Op → Type 0
 HoldsOp tree (op.UserAccess set) = HoldsUserAccess tree set
 HoldsOp tree other = ⊥
-
--- such a step, as one value
-abbrev pub kind : StepKind
-kind = record { word = codes "user-access"; rows = FIELDS; Holds = HoldsOp }

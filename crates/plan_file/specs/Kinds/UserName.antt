@@ -1,5 +1,7 @@
 -- What a step that sets the name of a user holds.
-use Rattle.std.specs.Prelude.{◌≡◌, Some, option_and_then, codes}
+pub mod Laws
+pub mod Kind
+use Rattle.std.specs.Prelude.{◌≡◌, Some, option_and_then}
 use Rattle.toml.specs.Data.{Members}
 use Rattle.record_base.specs.declared.op.Op.{Op}
 use Rattle.record_base.specs.declared.op.Op.TheVariants as op
@@ -7,8 +9,6 @@ use Rattle.record_base.specs.declared.user.SetUserName.{SetUserName}
 use Rattle.text_fields.specs.declared.field.Field.TheVariants as field
 use Rattle.text_fields.specs.Trees.{in_field, HasNumber}
 use Rattle.text_fields.specs.Users.{name_of}
-use Rattle.plan_file.specs.declared.kind.user_name.TheConstants.{FIELDS}
-use Rattle.plan_file.specs.StepKind.{StepKind}
 
 -- the step holds a change of a user's name
 pub record HoldsUserName (tree : Members) (set : SetUserName) : Type 0 where
@@ -19,7 +19,3 @@ pub record HoldsUserName (tree : Members) (set : SetUserName) : Type 0 where
 abbrev pub HoldsOp : Members → Op → Type 0
 HoldsOp tree (op.UserName set) = HoldsUserName tree set
 HoldsOp tree other = ⊥
-
--- such a step, as one value
-abbrev pub kind : StepKind
-kind = record { word = codes "user-name"; rows = FIELDS; Holds = HoldsOp }

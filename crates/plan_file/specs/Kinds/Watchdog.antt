@@ -1,5 +1,7 @@
 -- What a step that sets the watchdog timer holds.
-use Rattle.std.specs.Prelude.{◌≡◌, ◌<◌, ◌/◌, ◌%◌, codes}
+pub mod Laws
+pub mod Kind
+use Rattle.std.specs.Prelude.{◌≡◌, ◌<◌, ◌/◌, ◌%◌}
 use Rattle.toml.specs.Data.{Members}
 use Rattle.record_base.specs.Masks.{has}
 use Rattle.record_base.specs.declared.op.Op.{Op}
@@ -7,8 +9,6 @@ use Rattle.record_base.specs.declared.op.Op.TheVariants as op
 use Rattle.record_base.specs.declared.watchdog.SetWatchdog.{SetWatchdog}
 use Rattle.text_fields.specs.declared.field.Field.TheVariants as field
 use Rattle.text_fields.specs.Trees.{HasNumber, HasFlag}
-use Rattle.plan_file.specs.declared.kind.watchdog.TheConstants.{FIELDS}
-use Rattle.plan_file.specs.StepKind.{StepKind}
 
 -- the step holds a change of the watchdog timer: of the byte of its use bit 6 (don't stop) is 0, and so are the flags to clear
 pub record HoldsWatchdog (tree : Members) (set : SetWatchdog) : Type 0 where
@@ -25,7 +25,3 @@ pub record HoldsWatchdog (tree : Members) (set : SetWatchdog) : Type 0 where
 abbrev pub HoldsOp : Members → Op → Type 0
 HoldsOp tree (op.Watchdog set) = HoldsWatchdog tree set
 HoldsOp tree other = ⊥
-
--- such a step, as one value
-abbrev pub kind : StepKind
-kind = record { word = codes "watchdog"; rows = FIELDS; Holds = HoldsOp }

@@ -11,9 +11,9 @@ use Rattle.record_base.specs.declared.boot_param.BootChange.TheVariants as boot
 use Rattle.record_base.specs.declared.boot_param.SetBootParam.{SetBootParam}
 use Rattle.text_fields.specs.declared.field.Field.TheVariants as field
 use Rattle.text_fields.specs.Trees.{in_field, flag_in}
-use Rattle.plan_file.specs.Kinds.BootParam.{IsGiven, HoldsBootChange, HoldsBootParam, kind}
+use Rattle.plan_file.specs.Kinds.BootParam.{IsGiven, HoldsBootChange, HoldsBootParam, HoldsOp}
 use Rattle.text_fields.proofs.Unique.{one_found, one_number, one_bytes, same_flags}
-use Rattle.plan_file.proofs.StepKind.{IsOne}
+use Rattle.plan_file.specs.StepKind.{IsOne}
 
 one_given : (found : Option Data) (ms ns : List ℕ) → IsGiven found ms → IsGiven found ns → ms ≡ ns
 one_given None ms ns p q = p ∙ sym q
@@ -60,5 +60,5 @@ one tree a b p q =
     λ i. record { invalid = invalid i; change = change i }
 
 -- the operation that such a step holds is one
-pub only : IsOne kind
+pub only : IsOne HoldsOp
 only tree = elim [ op.BootParam a ↦ elim [ op.BootParam b ↦ λ p q. ap op.BootParam (one tree a b p q) | _ ↦ λ p q. absurd q ] | _ ↦ λ b p. absurd p ]

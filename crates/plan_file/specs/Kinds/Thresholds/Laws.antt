@@ -5,9 +5,9 @@ use Rattle.toml.specs.Data.{Members}
 use Rattle.record_base.specs.declared.op.Op.TheVariants as op
 use Rattle.record_base.specs.declared.sensor_thresholds.SetThresholds.{SetThresholds}
 use Rattle.text_fields.specs.declared.field.Field.TheVariants as field
-use Rattle.plan_file.specs.Kinds.Thresholds.{HoldsThresholds, is_given, kind}
+use Rattle.plan_file.specs.Kinds.Thresholds.{HoldsThresholds, is_given, HoldsOp}
 use Rattle.text_fields.proofs.Unique.{same_made, one_number, one_mask}
-use Rattle.plan_file.proofs.StepKind.{IsOne}
+use Rattle.plan_file.specs.StepKind.{IsOne}
 
 abbrev thresholds_at : (s : ℕ × (ℕ × List ℕ)) → length s.1.1 ≡ 6 → SetThresholds
 thresholds_at s six = record { sensor = s.0; mask = s.1.0; values = s.1.1; six = six }
@@ -20,5 +20,5 @@ one tree a b p q =
     same_made thresholds_at (λ s. hlevel props) (a.sensor, (a.mask, a.values)) (b.sensor, (b.mask, b.values)) a.six b.six (λ i. (sensor i, (mask i, values i)))
 
 -- the operation that such a step holds is one
-pub only : IsOne kind
+pub only : IsOne HoldsOp
 only tree = elim [ op.Thresholds a ↦ elim [ op.Thresholds b ↦ λ p q. ap op.Thresholds (one tree a b p q) | _ ↦ λ p q. absurd q ] | _ ↦ λ b p. absurd p ]

@@ -14,9 +14,9 @@ use Rattle.record_base.specs.declared.lan.LanChange.TheVariants as change
 use Rattle.record_base.specs.declared.lan.SetLanParam.{SetLanParam}
 use Rattle.text_fields.specs.declared.field.Field.TheVariants as field
 use Rattle.text_fields.specs.Trees.{in_field, bytes_in}
-use Rattle.plan_file.specs.Kinds.LanParam.{HoldsLanChange, HoldsLanParam, kind}
+use Rattle.plan_file.specs.Kinds.LanParam.{HoldsLanChange, HoldsLanParam, HoldsOp}
 use Rattle.text_fields.proofs.Unique.{one_number, one_bytes}
-use Rattle.plan_file.proofs.StepKind.{IsOne}
+use Rattle.plan_file.specs.StepKind.{IsOne}
 
 one_given : (found : Option Data) (ms ns : List ℕ) → option_and_then (bytes_in (length ms)) found ≡ Some ms → option_and_then (bytes_in (length ns)) found ≡ Some ns → ms ≡ ns
 one_given None ms ns p q = cc p
@@ -64,5 +64,5 @@ one tree a b p q =
     λ i. record { channel = channel i; change = change i }
 
 -- the operation that such a step holds is one
-pub only : IsOne kind
+pub only : IsOne HoldsOp
 only tree = elim [ op.LanParam a ↦ elim [ op.LanParam b ↦ λ p q. ap op.LanParam (one tree a b p q) | _ ↦ λ p q. absurd q ] | _ ↦ λ b p. absurd p ]

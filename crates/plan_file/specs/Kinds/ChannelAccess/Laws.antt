@@ -11,9 +11,9 @@ use Rattle.text_fields.specs.declared.field.Field.{Field}
 use Rattle.text_fields.specs.declared.field.Field.TheVariants as field
 use Rattle.text_fields.specs.Trees.{in_field, natural, number_in}
 use Rattle.text_fields.specs.Channels.{store_of}
-use Rattle.plan_file.specs.Kinds.ChannelAccess.{HoldsChannelChange, HoldsChannelAccess, kind}
+use Rattle.plan_file.specs.Kinds.ChannelAccess.{HoldsChannelChange, HoldsChannelAccess, HoldsOp}
 use Rattle.text_fields.proofs.Unique.{one_found, one_number}
-use Rattle.plan_file.proofs.StepKind.{IsOne}
+use Rattle.plan_file.specs.StepKind.{IsOne}
 
 lacked : (named : Field) (tree : Members) (n : ℕ) → in_field named tree ≡ None → number_in named tree ≡ Some n → ⊥
 lacked named tree n lacks is = let none : number_in named tree ≡ None = ap (option_and_then natural) lacks in let both : None ≡ Some n = sym none ∙ is in cc both
@@ -43,5 +43,5 @@ one tree a b p q =
     λ i. record { channel = channel i; store = store i; change = change i }
 
 -- the operation that such a step holds is one
-pub only : IsOne kind
+pub only : IsOne HoldsOp
 only tree = elim [ op.ChannelAccess a ↦ elim [ op.ChannelAccess b ↦ λ p q. ap op.ChannelAccess (one tree a b p q) | _ ↦ λ p q. absurd q ] | _ ↦ λ b p. absurd p ]

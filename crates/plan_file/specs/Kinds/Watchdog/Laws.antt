@@ -8,9 +8,9 @@ use Rattle.record_base.specs.declared.op.Op.TheVariants as op
 use Rattle.record_base.specs.declared.watchdog.SetWatchdog.{SetWatchdog}
 use Rattle.text_fields.specs.declared.field.Field.TheVariants as field
 use Rattle.text_fields.specs.Trees.{flag_in}
-use Rattle.plan_file.specs.Kinds.Watchdog.{HoldsWatchdog, kind}
+use Rattle.plan_file.specs.Kinds.Watchdog.{HoldsWatchdog, HoldsOp}
 use Rattle.text_fields.proofs.Unique.{one_found, one_number, same_bit}
-use Rattle.plan_file.proofs.StepKind.{IsOne}
+use Rattle.plan_file.specs.StepKind.{IsOne}
 
 -- a byte is bits 6:0 and bit 7
 one_use : (a b : ℕ) → a < 256 → b < 256 → a % 128 ≡ b % 128 → bit_at a 7 ≡ bit_at b 7 → a ≡ b
@@ -30,5 +30,5 @@ one tree a b p q =
     λ i. record { timer_use = use_byte i; actions = actions i; pre_timeout = pre_timeout i; flags_to_clear = flags i; initial = initial i }
 
 -- the operation that such a step holds is one
-pub only : IsOne kind
+pub only : IsOne HoldsOp
 only tree = elim [ op.Watchdog a ↦ elim [ op.Watchdog b ↦ λ p q. ap op.Watchdog (one tree a b p q) | _ ↦ λ p q. absurd q ] | _ ↦ λ b p. absurd p ]

@@ -9,9 +9,9 @@ use Rattle.record_base.specs.declared.event_enable.EventMasks.{EventMasks}
 use Rattle.text_fields.specs.declared.field.Field.TheVariants as field
 use Rattle.text_fields.specs.Trees.{flag_in, members_in}
 use Rattle.text_fields.specs.Ranges.{has_text, is_listed}
-use Rattle.plan_file.specs.Kinds.EventEnable.{HoldsEvents, HoldsChange, HoldsEventEnable, kind}
+use Rattle.plan_file.specs.Kinds.EventEnable.{HoldsEvents, HoldsChange, HoldsEventEnable, HoldsOp}
 use Rattle.text_fields.proofs.Unique.{one_found, one_number, one_mask, one_word}
-use Rattle.plan_file.proofs.StepKind.{IsOne}
+use Rattle.plan_file.specs.StepKind.{IsOne}
 
 one_events : (tree : Members) (a b : EventMasks) → HoldsEvents tree a → HoldsEvents tree b → a ≡ b
 one_events tree a b p q =
@@ -46,5 +46,5 @@ one tree a b p q =
     λ i. record { sensor = sensor i; messages = messages i; scanning = scanning i; change = change i }
 
 -- the operation that such a step holds is one
-pub only : IsOne kind
+pub only : IsOne HoldsOp
 only tree = elim [ op.EventEnable a ↦ elim [ op.EventEnable b ↦ λ p q. ap op.EventEnable (one tree a b p q) | _ ↦ λ p q. absurd q ] | _ ↦ λ b p. absurd p ]

@@ -11,9 +11,9 @@ use Rattle.record_base.specs.declared.bios_attribute.SetBiosAttribute.{SetBiosAt
 use Rattle.text_fields.specs.declared.field.Field.TheVariants as field
 use Rattle.text_fields.specs.Trees.{in_field, natural, number_in, members_in}
 use Rattle.text_fields.specs.Attributes.{string_of, string_in}
-use Rattle.plan_file.specs.Kinds.BiosAttribute.{GivesValue, HoldsBiosAttribute, kind}
+use Rattle.plan_file.specs.Kinds.BiosAttribute.{GivesValue, HoldsBiosAttribute, HoldsOp}
 use Rattle.text_fields.proofs.Unique.{same_made, one_found, one_list, one_natural, one_number}
-use Rattle.plan_file.proofs.StepKind.{IsOne}
+use Rattle.plan_file.specs.StepKind.{IsOne}
 
 -- a field that the table lacks has no text and no number
 no_text : (tree : Members) (text : List ℕ) → in_field field.Text tree ≡ None → string_in field.Text tree ≡ Some text → ⊥
@@ -45,5 +45,5 @@ one tree a b p q =
     same_made attribute_at (λ s. hlevel props) (a.attribute, (a.attribute_type, a.value)) (b.attribute, (b.attribute_type, b.value)) a.fits b.fits (λ i. (handle i, (code i, sent i)))
 
 -- the operation that such a step holds is one
-pub only : IsOne kind
+pub only : IsOne HoldsOp
 only tree = elim [ op.BiosAttribute a ↦ elim [ op.BiosAttribute b ↦ λ p q. ap op.BiosAttribute (one tree a b p q) | _ ↦ λ p q. absurd q ] | _ ↦ λ b p. absurd p ]

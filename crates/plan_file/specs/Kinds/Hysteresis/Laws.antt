@@ -4,9 +4,9 @@ use Rattle.toml.specs.Data.{Members}
 use Rattle.record_base.specs.declared.op.Op.TheVariants as op
 use Rattle.record_base.specs.declared.hysteresis.SetHysteresis.{SetHysteresis}
 use Rattle.text_fields.specs.declared.field.Field.TheVariants as field
-use Rattle.plan_file.specs.Kinds.Hysteresis.{HoldsHysteresis, kind}
+use Rattle.plan_file.specs.Kinds.Hysteresis.{HoldsHysteresis, HoldsOp}
 use Rattle.text_fields.proofs.Unique.{one_number}
-use Rattle.plan_file.proofs.StepKind.{IsOne}
+use Rattle.plan_file.specs.StepKind.{IsOne}
 
 one : (tree : Members) (a b : SetHysteresis) → HoldsHysteresis tree a → HoldsHysteresis tree b → a ≡ b
 one tree a b p q =
@@ -16,5 +16,5 @@ one tree a b p q =
     λ i. record { sensor = sensor i; positive = positive i; negative = negative i }
 
 -- the operation that such a step holds is one
-pub only : IsOne kind
+pub only : IsOne HoldsOp
 only tree = elim [ op.Hysteresis a ↦ elim [ op.Hysteresis b ↦ λ p q. ap op.Hysteresis (one tree a b p q) | _ ↦ λ p q. absurd q ] | _ ↦ λ b p. absurd p ]

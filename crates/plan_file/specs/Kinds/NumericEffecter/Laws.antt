@@ -7,9 +7,9 @@ use Rattle.record_base.specs.declared.numeric_effecter.NumericBytes.TheVariants 
 use Rattle.record_base.specs.declared.numeric_effecter.SetNumericEffecter.{SetNumericEffecter}
 use Rattle.text_fields.specs.declared.field.Field.TheVariants as field
 use Rattle.text_fields.specs.Numeric.{sized_bytes, AreBytes}
-use Rattle.plan_file.specs.Kinds.NumericEffecter.{HoldsNumericEffecter, kind}
+use Rattle.plan_file.specs.Kinds.NumericEffecter.{HoldsNumericEffecter, HoldsOp}
 use Rattle.text_fields.proofs.Unique.{one_found, one_number}
-use Rattle.plan_file.proofs.StepKind.{IsOne}
+use Rattle.plan_file.specs.StepKind.{IsOne}
 
 one_told : (a b : NumericBytes) (told : Option (List ℕ)) → AreBytes a told → AreBytes b told → a ≡ b
 one_told (bytes.One a) (bytes.One b) told p q = let same = one_found told _ _ p q in cc same
@@ -34,5 +34,5 @@ one tree a b p q =
     λ i. record { effecter = effecter i; size = size i; value = value i }
 
 -- the operation that such a step holds is one
-pub only : IsOne kind
+pub only : IsOne HoldsOp
 only tree = elim [ op.NumericEffecter a ↦ elim [ op.NumericEffecter b ↦ λ p q. ap op.NumericEffecter (one tree a b p q) | _ ↦ λ p q. absurd q ] | _ ↦ λ b p. absurd p ]

@@ -8,9 +8,9 @@ use Rattle.record_base.specs.declared.state_effecter.SetStateEffecter.{SetStateE
 use Rattle.text_fields.specs.declared.field.Field.TheVariants as field
 use Rattle.text_fields.specs.Trees.{members_in}
 use Rattle.text_fields.specs.States.{change_of}
-use Rattle.plan_file.specs.Kinds.StateEffecter.{HoldsStateEffecter, kind}
+use Rattle.plan_file.specs.Kinds.StateEffecter.{HoldsStateEffecter, HoldsOp}
 use Rattle.text_fields.proofs.Unique.{same_made, one_found, one_list, one_number}
-use Rattle.plan_file.proofs.StepKind.{IsOne}
+use Rattle.plan_file.specs.StepKind.{IsOne}
 
 abbrev states_at : (s : ℕ × List FieldChange) → length s.1 ≤ 9 → SetStateEffecter
 states_at s few = record { effecter = s.0; changes = s.1; few = few }
@@ -22,5 +22,5 @@ one tree a b p q =
     same_made states_at (λ s. hlevel props) (a.effecter, a.changes) (b.effecter, b.changes) a.few b.few (λ i. (effecter i, changes i))
 
 -- the operation that such a step holds is one
-pub only : IsOne kind
+pub only : IsOne HoldsOp
 only tree = elim [ op.StateEffecter a ↦ elim [ op.StateEffecter b ↦ λ p q. ap op.StateEffecter (one tree a b p q) | _ ↦ λ p q. absurd q ] | _ ↦ λ b p. absurd p ]

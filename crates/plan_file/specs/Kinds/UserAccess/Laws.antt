@@ -4,9 +4,9 @@ use Rattle.toml.specs.Data.{Members}
 use Rattle.record_base.specs.declared.op.Op.TheVariants as op
 use Rattle.record_base.specs.declared.user.SetUserAccess.{SetUserAccess}
 use Rattle.text_fields.specs.declared.field.Field.TheVariants as field
-use Rattle.plan_file.specs.Kinds.UserAccess.{HoldsUserAccess, kind}
+use Rattle.plan_file.specs.Kinds.UserAccess.{HoldsUserAccess, HoldsOp}
 use Rattle.text_fields.proofs.Unique.{one_number}
-use Rattle.plan_file.proofs.StepKind.{IsOne}
+use Rattle.plan_file.specs.StepKind.{IsOne}
 
 one : (tree : Members) (a b : SetUserAccess) → HoldsUserAccess tree a → HoldsUserAccess tree b → a ≡ b
 one tree a b p q =
@@ -19,5 +19,5 @@ one tree a b p q =
     λ i. record { first = first_byte i; user = user i; limit = limit i; session_limit = session_limit i }
 
 -- the operation that such a step holds is one
-pub only : IsOne kind
+pub only : IsOne HoldsOp
 only tree = elim [ op.UserAccess a ↦ elim [ op.UserAccess b ↦ λ p q. ap op.UserAccess (one tree a b p q) | _ ↦ λ p q. absurd q ] | _ ↦ λ b p. absurd p ]

@@ -7,9 +7,9 @@ use Rattle.record_base.specs.declared.user.SetUserName.{SetUserName}
 use Rattle.text_fields.specs.declared.field.Field.TheVariants as field
 use Rattle.text_fields.specs.Trees.{in_field}
 use Rattle.text_fields.specs.Users.{name_of}
-use Rattle.plan_file.specs.Kinds.UserName.{HoldsUserName, kind}
+use Rattle.plan_file.specs.Kinds.UserName.{HoldsUserName, HoldsOp}
 use Rattle.text_fields.proofs.Unique.{same_made, one_found, one_number}
-use Rattle.plan_file.proofs.StepKind.{IsOne}
+use Rattle.plan_file.specs.StepKind.{IsOne}
 
 abbrev name_at : (s : ℕ × List ℕ) → length s.1 ≡ 16 → SetUserName
 name_at s sixteen = record { user = s.0; name = s.1; sixteen = sixteen }
@@ -21,5 +21,5 @@ one tree a b p q =
     same_made name_at (λ s. hlevel props) (a.user, a.name) (b.user, b.name) a.sixteen b.sixteen (λ i. (user i, name i))
 
 -- the operation that such a step holds is one
-pub only : IsOne kind
+pub only : IsOne HoldsOp
 only tree = elim [ op.UserName a ↦ elim [ op.UserName b ↦ λ p q. ap op.UserName (one tree a b p q) | _ ↦ λ p q. absurd q ] | _ ↦ λ b p. absurd p ]
