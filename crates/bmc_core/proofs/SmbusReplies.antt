@@ -1,34 +1,13 @@
--- The replies of a port on the System Management Bus: as frames, as bytes, and as they are kept.
-use Rattle.std.proofs.Common.{◌≡◌, ℕ, ◌+◌, ◌%◌, ◌<◌, ◌≤◌, Bool, true, false, if◌then◌else◌, List, [], ◌∷◌, ◌++◌, length, map, Option, Some, None, refl, ◌∙◌, ap, arith}
+-- The replies of a port on the System Management Bus: as bytes, and as they are kept.
+use Rattle.std.proofs.Common.{◌≡◌, ℕ, ◌+◌, ◌%◌, ◌<◌, Bool, true, false, if◌then◌else◌, List, [], ◌∷◌, ◌++◌, length, Option, Some, None, arith}
 use Rattle.two_wire.specs.declared.Bus.TheVariants.{Smbus}
-use Rattle.mctp_net.specs.declared.packet.Packet.{Packet}
-use Rattle.mctp_net.specs.declared.message.Message.{Message}
-use Rattle.mctp_net.specs.Cut.{IsCutOf, AreWritten}
-use Rattle.mctp_net.proofs.OneCut.{cut-one}
 use Rattle.pldm_base.specs.Message.{reply_start}
 use Rattle.record_base.specs.declared.message.Answered.{Answered}
 use Rattle.model_bus.specs.Request.{Request as Asking, Kept, Entry, Carried, Idled, carried_since}
 use Rattle.model_bus.specs.Carried.{Outcome, Repeats, IsBusy, IsNew, kept_for, outcome_of, outcome, is_busy}
-use Rattle.model_ports.specs.Values.{Part, written, parts_of}
 use Rattle.model_ports.specs.PortSteps.{spelled}
-use Rattle.model_ports.proofs.Parts.{parts_are_cuts}
 use Rattle.bmc_core.specs.SmbusHeard.{InMessage, asking}
 use Rattle.bmc_core.specs.SmbusShown.{AreReplies}
-
--- ---- as frames
-
--- each frame is its packet's
-packets_written : (ps : List Packet) (frames : List (List ℕ)) → AreWritten ps frames → frames ≡ map written (map (λ p. Part p) ps)
-packets_written [] [] all = refl
-packets_written [] (frame ∷ frames) all = absurd all
-packets_written (p ∷ ps) [] all = absurd all
-packets_written (p ∷ ps) (frame ∷ frames) all = λ i. all.0.spelled i ∷ packets_written ps frames all.1 i
-
--- so the frames of any cut are those of the message's parts
-pub message_written : (m : Message) (ps : List Packet) (frames : List (List ℕ)) → 0 < length m.body → length m.body ≤ 256 → IsCutOf m ps → AreWritten ps frames
-    → frames ≡ map written (map (λ p. Part p) (parts_of m))
-message_written m ps frames some fits cut all =
-    packets_written ps frames all ∙ ap (λ (qs : List Packet). map written (map (λ p. Part p) qs)) (cut-one m ps (parts_of m) cut (parts_are_cuts.cut m some fits))
 
 -- ---- as bytes
 

@@ -23,7 +23,7 @@ use Rattle.bmc_core.specs.declared.smbus_port.SmbusPort.{SmbusPort}
 use Rattle.bmc_core.specs.declared.smbus_port.pending.SmbusPending.{SmbusPending}
 use Rattle.bmc_core.specs.Outs.{sends}
 use Rattle.bmc_core.specs.SmbusHeard.{InMessage, Heard, message_heard, asked_of, found, kept_with}
-use Rattle.bmc_core.specs.SmbusShown.{AreOf, Shows, Hearing, HearsBytes, IsGiven, IsStep, IsTold, IsRead, frames_from, request_in}
+use Rattle.bmc_core.specs.SmbusShown.{AreOf, Shows, ForPortsAt, Hearing, HearsBytes, IsGiven, IsStep, IsTold, IsRead, frames_from, request_in}
 use Rattle.bmc_core.specs.Served.{HasCarried}
 use Rattle.bmc_core.specs.SmbusServed.{IsCarriedOut, Serves}
 use Rattle.bmc_core.proofs.SmbusPorts.{hearing_map, ended, message_is, parts_at, answered}
@@ -35,8 +35,7 @@ pending_of m = record { envelope = m.envelope; header = m.request.header; body =
 
 -- what the port `read` shows, where it has read bytes: all but what waits is as it was
 abbrev pub ReadBy : SmbusPort → SmbusPort → List ℕ → Out → Option Packet → Type 0
-ReadBy port now bytes out packet =
-    (p : PortState) → p.wire ≡ port.wire → p.eid ≡ port.endpoint → p.kept ≡ seen port.assembler → IsRead p bytes (seen now.assembler) out packet
+ReadBy port now bytes out packet = ForPortsAt port.wire port.endpoint (seen port.assembler) (λ at. IsRead at bytes (seen now.assembler) out packet)
 
 -- what was heard in a message, at a port that now is this one
 abbrev pub HeardBy : SmbusPort → SmbusPort → Packet → List ℕ → Out → Option InMessage → Type 0

@@ -33,6 +33,10 @@ pub record InMessage : Type 0 where
   pub envelope : Envelope
   pub request : PldmRequest
 
+-- a request's bytes behind the first
+abbrev pub behind_first : PldmRequest → List ℕ
+behind_first request = request.header.pldm_type ∷ request.header.command ∷ request.body
+
 -- what a port hears: nothing, for a reason; a packet whose message isn't whole yet; a control request; or a request of PLDM
 pub data Heard : Type 0 where
   Ignored : Reason → Heard

@@ -55,6 +55,10 @@ pub record Shows (port : SmbusPort) (at : PortState) : Type 0 where
   pub kept : at.kept ≡ seen port.assembler
   pub log : AreOf port.windows at.log
 
+-- this holds of each port of a lab at this address, with this endpoint, at which these packets wait
+abbrev pub ForPortsAt : (wire eid : ℕ) → (waits : Assemblies) → (Holds : PortState → Type 0) → Type 0
+ForPortsAt wire eid waits Holds = (at : PortState) → at.wire ≡ wire → at.eid ≡ eid → at.kept ≡ waits → Holds at
+
 -- ---- what a port does with the bytes that it hears
 
 -- The bytes have a fault, or they are one packet. The relation holds of the port of the lab that has taken the packet, and of what the port hears.

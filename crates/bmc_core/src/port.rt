@@ -138,8 +138,10 @@ impl Port {
 
     /// Forgets a requester's window, and says whether there was one.
     pub fn idle(&mut self, requester: u8) -> bool
-        ensures keeps { (p : PortState) → Shows self.old p → Shows self.new (idles requester p) }
-        ensures had { (p : PortState) → Shows self.old p → result ≡ has_window requester p.log }
+        ensures keeps { (p : PortState) → Shows self.old p
+            → Shows self.new (idles requester p) }
+        ensures had { (p : PortState) → Shows self.old p
+            → result ≡ has_window requester p.log }
         ensures bus { bus_of self.new ≡ bus_of self.old }
     {
         match self {

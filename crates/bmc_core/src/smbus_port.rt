@@ -7,7 +7,7 @@ ghost use Rattle.model_ports.specs.PortSteps.{PortState, quiet_port, idles};
 ghost use Rattle.bmc_core.specs.declared.smbus_port.SmbusPort.{SmbusPort as AnyPort};
 ghost use Rattle.bmc_core.specs.Rule.{has_window};
 ghost use Rattle.bmc_core.specs.SmbusHeard.{message_heard};
-ghost use Rattle.bmc_core.specs.SmbusShown.{AreOf, Shows, Hearing, IsGiven, IsStep, IsTold, IsRead, HearsBytes};
+ghost use Rattle.bmc_core.specs.SmbusShown.{AreOf, Shows, ForPortsAt, Hearing, IsGiven, IsStep, IsTold, IsRead, HearsBytes};
 ghost use Rattle.bmc_core.specs.SmbusServed.{Serves};
 
 mod hearing;
@@ -52,8 +52,8 @@ fn read<'a>(
     bytes: &'a [u8],
     out: &mut Out,
 ) -> Option<Packet<'a>>
-    ensures { (p : PortState) → p.wire ≡ wire → p.eid ≡ endpoint.now → p.kept ≡ seen assembler.old
-        → IsRead p bytes.now (seen assembler.new) out.new result }
+    ensures { ForPortsAt wire endpoint.now (seen assembler.old) (λ at.
+        IsRead at bytes.now (seen assembler.new) out.new result) }
 {
     let packet = match read_packet(bytes) {
         Ok(packet) => packet,
@@ -219,8 +219,10 @@ impl SmbusPort {
 
     /// Forgets a requester's window, and says whether there was one.
     pub fn idle(&mut self, requester: u8) -> bool
-        ensures keeps { (p : PortState) → Shows self.old p → Shows self.new (idles requester p) }
-        ensures had { (p : PortState) → Shows self.old p → result ≡ has_window requester p.log }
+        ensures keeps { (p : PortState) → Shows self.old p
+            → Shows self.new (idles requester p) }
+        ensures had { (p : PortState) → Shows self.old p
+            → result ≡ has_window requester p.log }
     {
         self.windows.idle(requester)
     }

@@ -1,5 +1,6 @@
 -- What a link in memory hears.
-use Rattle.std.specs.Prelude.{ℕ, ◌≤◌, List, [], ◌∷◌, length}
+use Rattle.std.specs.Prelude.{ℕ, ◌≤◌, List, [], ◌∷◌, length, map}
+use Rattle.std.specs.Borrow.{Bor}
 use Rattle.two_wire.specs.Sizes.{most_frame_bytes}
 use Rattle.bmc_links.specs.declared.link.Heard.{Heard}
 use Rattle.bmc_links.specs.declared.link.Heard.TheVariants.{Frame, Quiet}
@@ -7,6 +8,10 @@ use Rattle.bmc_links.specs.declared.link.Heard.TheVariants.{Frame, Quiet}
 -- so many of the frames that it sends can be read
 abbrev pub most_kept : ℕ
 most_kept = 256
+
+-- the byte lists that a script is given as
+abbrev pub lists_in : List (Bor (List ℕ)) → List (List ℕ)
+lists_in script = map (λ bytes. bytes.now) script
 
 -- the bytes fit a frame
 abbrev pub fits : List ℕ → Type 0

@@ -1,8 +1,8 @@
 //! A link in memory.
-ghost use Rattle.std.specs.Prelude.{◌≡◌, ◌≤◌, ◌++◌, ◌∷◌, [], Ok, All, IfOk, IfErr, length, map, take, vec_capacity};
+ghost use Rattle.std.specs.Prelude.{◌≡◌, ◌≤◌, ◌++◌, ◌∷◌, [], Ok, All, IfOk, IfErr, length, take, vec_capacity};
 ghost use Rattle.std.specs.Vec.Iter.{into_iter_items};
 ghost use Rattle.bmc_links.specs.Counted.{none_counted, after_next, after_send};
-ghost use Rattle.bmc_links.specs.Scripts.{most_kept, fits, head_of, rest_of};
+ghost use Rattle.bmc_links.specs.Scripts.{most_kept, lists_in, fits, head_of, rest_of};
 ghost use Rattle.bmc_links.specs.declared.mem_link.MemFault.TheVariants.{TooLong};
 
 use crate::link::{Counts, Heard, Link, LinkFault};
@@ -35,9 +35,10 @@ pub struct MemLink {
 
 /// The script's frames.
 fn read_script(alloc: Global, script: &[&[u8]]) -> Result<Vec<Frame>, MemFault>
-    ensures script { IfOk result (λ frames. frames.items ≡ map (λ bytes. bytes.now) script.now) }
+    ensures script { IfOk result (λ frames. frames.items ≡ lists_in script.now) }
     ensures fit { IfOk result (λ frames. All fits frames.items) }
-    ensures too_long { IfErr result (λ fault. fault ≡ TooLong → ¬ All fits (map (λ bytes. bytes.now) script.now)) }
+    ensures too_long { IfErr result (λ fault. fault ≡ TooLong
+        → ¬ All fits (lists_in script.now)) }
 {
     let Ok(mut frames) = Vec::with_capacity(alloc, script.len()) else {
         return Err(MemFault::Memory);
@@ -55,11 +56,13 @@ impl MemLink {
     /// A link that hears this script. A script is a list of byte lists, and an empty one of them is a call that hears nothing. The room
     /// for what it sends is taken here.
     pub fn new(alloc: Global, script: &[&[u8]]) -> Result<MemLink, MemFault>
-        ensures script { IfOk result (λ link. into_iter_items link.script ≡ map (λ bytes. bytes.now) script.now) }
+        ensures script { IfOk result (λ link.
+            into_iter_items link.script ≡ lists_in script.now) }
         ensures sent { IfOk result (λ link. link.sent.items ≡ []) }
         ensures counts { IfOk result (λ link. link.counts ≡ none_counted) }
         ensures fit { IfOk result (λ link. All fits (into_iter_items link.script)) }
-        ensures too_long { IfErr result (λ fault. fault ≡ TooLong → ¬ All fits (map (λ bytes. bytes.now) script.now)) }
+        ensures too_long { IfErr result (λ fault. fault ≡ TooLong
+            → ¬ All fits (lists_in script.now)) }
     {
         let script = read_script(alloc, script)?;
         let Ok(sent) = Vec::with_capacity(alloc, MOST_KEPT) else {
@@ -102,7 +105,8 @@ impl Link for MemLink {
     fn next(&mut self) -> Result<Heard, LinkFault>
         ensures counts { self.new.counts ≡ after_next result self.old.counts }
         ensures heard { result ≡ Ok (head_of (into_iter_items self.old.script)) }
-        ensures rest { into_iter_items self.new.script ≡ rest_of (into_iter_items self.old.script) }
+        ensures rest { into_iter_items self.new.script
+            ≡ rest_of (into_iter_items self.old.script) }
         ensures sent { self.new.sent ≡ self.old.sent }
     {
         let heard = match self.script.next() {
@@ -118,7 +122,8 @@ impl Link for MemLink {
     fn send(&mut self, frame: &Frame) -> Result<(), LinkFault>
         ensures counts { self.new.counts ≡ after_send result self.old.counts }
         ensures done { result ≡ Ok tt }
-        ensures sent { self.new.sent.items ≡ take most_kept (self.old.sent.items ++ frame.now ∷ []) }
+        ensures sent { self.new.sent.items
+            ≡ take most_kept (self.old.sent.items ++ frame.now ∷ []) }
         ensures script { into_iter_items self.new.script ≡ into_iter_items self.old.script }
     {
         if self.sent.len() < MOST_KEPT {

@@ -52,7 +52,8 @@ impl<const NUMBERS: u8, const CAP: usize> Windows<NUMBERS, CAP> {
     pub fn new(alloc: Global) -> Result<Self, AllocError>
         requires circle { IsTrue (is_circle NUMBERS) }
         requires room { CAP ≤ 65535 }
-        ensures { IfOk result (λ windows. (reading : Reading) → Keeps NUMBERS reading windows []) }
+        ensures { IfOk result (λ windows. (reading : Reading)
+            → Keeps NUMBERS reading windows []) }
     {
         let mut windows = Vec::with_capacity(alloc, COUNT)?;
         for _place in 0..MOST_WINDOWS {
@@ -149,7 +150,8 @@ impl<const NUMBERS: u8, const CAP: usize> Windows<NUMBERS, CAP> {
 
     /// Forgets a requester's window, and says whether there was one.
     pub fn idle(&mut self, requester: u8) -> bool
-        ensures keeps { (reading : Reading) (log : List Entry) → Keeps NUMBERS reading self.old log
+        ensures keeps { (reading : Reading) (log : List Entry)
+            → Keeps NUMBERS reading self.old log
             → Keeps NUMBERS reading self.new (Idled requester ∷ log) }
         ensures had { (reading : Reading) (log : List Entry) → Keeps NUMBERS reading self.old log
             → result ≡ list_any (λ q. q == requester) (requesters log) }

@@ -1,7 +1,6 @@
 -- The machinery's headline follows from the statement's claim: so the claim is as strong.
 use Rattle.std.proofs.Common.{◌≡◌, ◌⊎◌, ℕ, zero, suc, true, false, List, [], ◌∷◌, ◌++◌, length, map, Option, Some, None, refl, sym, ◌∙◌, ap, subst, inl, inr}
 use Rattle.std.proofs.lemmas.List.{length-map, map-append}
-use Rattle.std.proofs.lemmas.Option.{same_Some}
 use Rattle.two_wire.specs.Codes.{success}
 use Rattle.record_base.specs.declared.op.Op.{Op}
 use Rattle.record_base.specs.declared.key.Key.{Key}
@@ -21,10 +20,10 @@ use Rattle.model_bus.specs.Request as bus
 use Rattle.model_bus.specs.Repeat.{In}
 use Rattle.model_bus.specs.Answered.{Answered as UndoAnswered}
 use Rattle.model_undo.specs.Family as undo_family
-use Rattle.model_undo.specs.Family.{AllValid}
 use Rattle.model_undo.specs.Plan as plans
 use Rattle.model_undo.specs.Machine as machine
 use Rattle.model_undo.specs.Headline as undo_headline
+use Rattle.model_undo.proofs.Headline.{parts_show_same}
 use Rattle.model_lab.specs.Lab as lab
 use Rattle.model_lab.specs.ManagerSteps.{addresses}
 use Rattle.model_family.specs.Family.{SetsWithin, conf_within}
@@ -106,19 +105,6 @@ module _ (setup : BoardFile) (names : Names) where
       at : (o : Option Limits) → limits_at setup key ≡ o → ((limits : Limits) → limits_at setup key ≡ Some limits → conf limits again.body ≡ conf limits shown.body) → conf_within (limits_at setup key) again.body ≡ conf_within (limits_at setup key) shown.body
       at (Some limits) e told = subst (λ (o : Option Limits). conf_within o again.body ≡ conf_within o shown.body) (sym e) (told limits e)
       at None e told = subst (λ (o : Option Limits). conf_within o again.body ≡ conf_within o shown.body) (sym e) refl
-
-  -- where the records are the same, so is what the requests of a Get show together
-  parts_back : (b c : State) → AllValid (F setup names) b.records → c.records ≡ b.records → undo_headline.PartsShowSame (F setup names) b c
-  parts_back b c valid same key shown again was_shown is_shown =
-      let laws = is_family setup (addresses names) in
-      let words = (F setup names).words in
-      let get = words.getting key in
-      let before = laws.parts_show b.records key shown valid was_shown in
-      let after = laws.parts_show c.records key again (subst (AllValid (F setup names)) (sym same) valid) is_shown in
-      let found : b.records key ≡ Some after.value = ap (λ (r : Records). r key) (sym same) ∙ after.found in
-      let one_value : after.value ≡ before.value = same_Some after.value before.value (sym found ∙ before.found) in
-      laws.kinds.steady key before.value (words.joined get again) (words.joined get shown) (valid key before.value before.found)
-      (subst (λ (v : List ℕ). (F setup names).Shows key v (words.joined get again)) one_value after.shows) before.shows
 
 -- a call of `stop` here is one in the model
 stop_in : (earlier later : List Event) → In (lab.Calls lab_call.Stop) (map seen_event (earlier ++ Calls Stop ∷ later))
@@ -236,7 +222,7 @@ module _ (setup : BoardFile) (names : Names) (plan : List Op) (retries : ℕ) wh
         let end : seen_lab names g.made_then (after setup (ours setup) names plan retries (events ++ later)) ≡ law.after setup names plan retries (map seen_event events ++ map seen_event later) = sym g.is ∙ ap (law.after setup names plan retries) split_map in
         let now = (after setup (ours setup) names plan retries (events ++ later)).board in
         let valid = (starts_valid setup (addresses names)).opened_valid in
-        subst (λ (l : lab.Lab (P names)). IsSame l.board) end (told.0, shows_back setup names start.board now told.1, parts_back setup names start.board now valid told.0)
+        subst (λ (l : lab.Lab (P names)). IsSame l.board) end (told.0, shows_back setup names start.board now told.1, parts_show_same (F setup names) (is_family setup (addresses names)) start.board now valid told.0)
 
     abbrev UndoneThere : List lab.Event → List lab.Event → Type 0
     UndoneThere es ls = Trusted (es ++ ls) → law.phase_after setup names plan retries es ≡ undo_phase.Undone

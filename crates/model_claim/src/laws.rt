@@ -28,5 +28,6 @@ pub fn machinery_refines_the_statement()
 /// Every play keeps its promise, where no event that it takes breaks the premise on packets: its phase says what the records are, undone means that each
 /// is what it was at the start, and a plan that halted has a reason.
 pub fn plays_keep_their_promise()
-    ensures { (file : BoardFile) (plan : List Op) (retries : ℕ) → KeepsPromise file plan retries }
+    ensures { (file : BoardFile) (plan : List Op) (retries : ℕ)
+        → KeepsPromise file plan retries }
 {}

@@ -1,12 +1,10 @@
 //! What holds of a plan and its undo at the records and the commands of a board.
 
-ghost use Rattle.std.specs.Prelude.{ℕ, List};
 ghost use Rattle.two_wire.specs.declared.Bus.{Bus};
 ghost use Rattle.cfg_records.specs.declared.board_file.BoardFile.{BoardFile};
-ghost use Rattle.model_bus.specs.Packet.{Packet, IsCutting};
 ghost use Rattle.model_undo.specs.IsFamily.{IsFamily};
 ghost use Rattle.model_bus.specs.Addresses.{Addresses};
-ghost use Rattle.model_undo.specs.TwoBuses.{in_messages, with_packets, messages_come, packets_come};
+ghost use Rattle.model_undo.specs.TwoBuses.{OverBothBuses, DeliveredOverBothBuses, HoweverSent};
 ghost use Rattle.model_undo.specs.Headline.{AlwaysStands, UndoneForGood, StopsOnlyIfTold};
 ghost use Rattle.model_undo.specs.Giving.{HaltsByAnswers};
 ghost use Rattle.model_undo.specs.RecordsRun.{RecordsStand};
@@ -33,36 +31,28 @@ pub fn records_stand()
 /// At every moment of every honest schedule of both buses the manager's phase says what the records are, and a plan that halted has the
 /// cause that it names. SMBus goes in whole messages, or in packets, cut in any way that a receiver can join.
 pub fn phases_stand()
-    ensures messages { (setup : BoardFile) (at : Bus → Addresses)
-        → AlwaysStands (family setup at) (in_messages at) (wires at) }
-    ensures packets { (setup : BoardFile) (at : Bus → Addresses) (split : List ℕ → List Packet)
-        → IsCutting split → AlwaysStands (family setup at) (with_packets at split) (wires at) }
+    ensures { (setup : BoardFile) (at : Bus → Addresses)
+        → OverBothBuses at (λ buses. AlwaysStands (family setup at) buses (wires at)) }
 {}
 
 /// A halt has its cause in its own schedule. Refused, GetRefused and NotRestorable come only where the board gave that answer to the Set or to the
 /// Get of that step, at the records after the steps before it; Stop comes only where the manager was told to stop, or another went on from its list.
 pub fn halts_by_given_answers()
-    ensures messages { (setup : BoardFile) (at : Bus → Addresses)
-        → HaltsByAnswers (family setup at) (in_messages at) (wires at) }
-    ensures packets { (setup : BoardFile) (at : Bus → Addresses) (split : List ℕ → List Packet)
-        → IsCutting split → HaltsByAnswers (family setup at) (with_packets at split) (wires at) }
+    ensures { (setup : BoardFile) (at : Bus → Addresses)
+        → OverBothBuses at (λ buses. HaltsByAnswers (family setup at) buses (wires at)) }
 {}
 
 /// Once a plan is undone, and at every moment from then on, every record is what it was before the plan, and each Get that is carried out,
 /// whoever asks it, shows the same configuration.
 pub fn undone_is_for_good()
-    ensures messages { (setup : BoardFile) (at : Bus → Addresses)
-        → UndoneForGood (family setup at) (in_messages at) (wires at) }
-    ensures packets { (setup : BoardFile) (at : Bus → Addresses) (split : List ℕ → List Packet)
-        → IsCutting split → UndoneForGood (family setup at) (with_packets at split) (wires at) }
+    ensures { (setup : BoardFile) (at : Bus → Addresses)
+        → OverBothBuses at (λ buses. UndoneForGood (family setup at) buses (wires at)) }
 {}
 
 /// A plan halts because of a stop only where it was stopped, or where another manager went on from its list.
 pub fn stops_only_if_told()
-    ensures messages { (setup : BoardFile) (at : Bus → Addresses)
-        → StopsOnlyIfTold (family setup at) (in_messages at) (wires at) }
-    ensures packets { (setup : BoardFile) (at : Bus → Addresses) (split : List ℕ → List Packet)
-        → IsCutting split → StopsOnlyIfTold (family setup at) (with_packets at split) (wires at) }
+    ensures { (setup : BoardFile) (at : Bus → Addresses)
+        → OverBothBuses at (λ buses. StopsOnlyIfTold (family setup at) buses (wires at)) }
 {}
 
 /// A manager that goes on from a list is halted after as many steps as the list undoes, with no request open, and gives that same list. From
@@ -89,13 +79,9 @@ pub fn plans_run_through()
 /// Over two buses that lose nothing a plan runs just so: each request is delivered once, each reply is delivered once, nobody else asks, and such a
 /// schedule is honest. The port of each bus is to have a place for the manager at the start, and what is sent in packets is to be cut.
 pub fn plans_run_through_over_buses()
-    ensures messages { (setup : BoardFile) (at : Bus → Addresses)
-        → AlwaysRunsThroughBuses (family setup at) (in_messages at) (messages_come at)
-        (wires at) (answer setup) }
-    ensures packets { (setup : BoardFile) (at : Bus → Addresses) (split : List ℕ → List Packet)
-        → IsCutting split
-        → AlwaysRunsThroughBuses (family setup at) (with_packets at split) (packets_come at split)
-        (wires at) (answer setup) }
+    ensures { (setup : BoardFile) (at : Bus → Addresses)
+        → DeliveredOverBothBuses at (λ buses come.
+        AlwaysRunsThroughBuses (family setup at) buses come (wires at) (answer setup)) }
 {}
 
 /// A board starts with valid records, as the other theorems ask, and its limits allow only such.
@@ -110,24 +96,18 @@ pub fn boards_start_ready()
 
 /// What isn't configuration may become anything on the bench, but for what is staged.
 pub fn bench_may_change()
-    ensures messages { (setup : BoardFile) (at : Bus → Addresses)
-        → BenchMay setup at (in_messages at) }
-    ensures packets { (setup : BoardFile) (at : Bus → Addresses) (split : List ℕ → List Packet)
-        → BenchMay setup at (with_packets at split) }
+    ensures { (setup : BoardFile) (at : Bus → Addresses)
+        → HoweverSent at (BenchMay setup at) }
 {}
 
 /// Others may have the board answer requests whose commands set no configuration, at any moment. These leave what is staged, too.
 pub fn quiet_requests_may_come()
-    ensures messages { (setup : BoardFile) (at : Bus → Addresses)
-        → QuietMay setup at (in_messages at) }
-    ensures packets { (setup : BoardFile) (at : Bus → Addresses) (split : List ℕ → List Packet)
-        → QuietMay setup at (with_packets at split) }
+    ensures { (setup : BoardFile) (at : Bus → Addresses)
+        → HoweverSent at (QuietMay setup at) }
 {}
 
 /// A schedule may have each answer of the board to a request of the manager.
 pub fn answers_may_come()
-    ensures messages { (setup : BoardFile) (at : Bus → Addresses)
-        → AnswersMay setup at (in_messages at) }
-    ensures packets { (setup : BoardFile) (at : Bus → Addresses) (split : List ℕ → List Packet)
-        → AnswersMay setup at (with_packets at split) }
+    ensures { (setup : BoardFile) (at : Bus → Addresses)
+        → HoweverSent at (AnswersMay setup at) }
 {}

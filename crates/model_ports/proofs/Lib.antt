@@ -4,6 +4,7 @@ pub mod Cutting
 pub mod WholeBytes
 pub mod Spelling
 pub mod Parts
+pub mod Written
 pub mod Turning
 pub mod PortPart
 pub mod PortEvents

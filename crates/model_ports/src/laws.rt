@@ -40,8 +40,8 @@ pub fn parts_are_heard()
 
 /// What a turn is, by what is done with the request.
 pub fn turns_are_these()
-    ensures { (above : ℕ → ℕ → Bool) (r : Heard) (spell : Answered → List ℕ) (setup : BoardFile)
-        (asked : Asked) (log : List Entry) (before : State)
+    ensures { (above : ℕ → ℕ → Bool) (r : Heard) (spell : Answered → List ℕ)
+        (setup : BoardFile) (asked : Asked) (log : List Entry) (before : State)
         → TurnsBy above r spell setup asked log before }
 {}
 

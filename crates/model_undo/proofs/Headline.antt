@@ -165,6 +165,28 @@ module _ (F : Family) (L : Bus → Line) (W : Wires F.words) where
         | inr told ↦ inl told
       ]
 
+-- ---- what Gets show
+
+module _ (F : Family) (laws : IsFamily F) where
+  -- two Gets where the records are the same
+  pub shows_same : (b c : F.Board) → AllValid F (F.records b) → F.records c ≡ F.records b → ShowsSame F b c
+  shows_same b c valid same key one other is_get is_get_too shown again b' c' row row_again =
+      let alike : again.code ≡ shown.code = laws.gets_agree b b' c c' one other key shown again is_get is_get_too same row row_again in (
+        alike,
+        λ was_shown. laws.gets_steady b b' c c' one other key shown again is_get is_get_too same valid row row_again was_shown (alike ∙ was_shown),
+      )
+
+  -- two Gets of several requests
+  pub parts_show_same : (b c : F.Board) → AllValid F (F.records b) → F.records c ≡ F.records b → PartsShowSame F b c
+  parts_show_same b c valid same key shown again was_shown is_shown =
+      let get = F.words.getting key in
+      let before = laws.parts_show (F.records b) key shown valid was_shown in
+      let after = laws.parts_show (F.records c) key again (subst (AllValid F) (sym same) valid) is_shown in
+      let found : F.get (F.records b) key ≡ Some after.value = ap (λ (r : F.Records). F.get r key) (sym same) ∙ after.found in
+      let one_value : after.value ≡ before.value = same_Some _ _ (sym found ∙ before.found) in
+      laws.kinds.steady key before.value (F.words.joined get again) (F.words.joined get shown) (valid key before.value before.found)
+      (subst (λ (v : F.Value). F.Shows key v (F.words.joined get again)) one_value after.shows) before.shows
+
 module _ (F : Family) (laws : IsFamily F) (L : Bus → Line) (lines : (bus : Bus) → IsLine (L bus)) (W : Wires F.words) where
   abbrev first : Bus → ℕ
   first bus = 0
@@ -224,25 +246,6 @@ module _ (F : Family) (laws : IsFamily F) (L : Bus → Line) (lines : (bus : Bus
       let h = holds_after plan retries on board start events (may_prefix F L W events later (opening F L plan retries on board) may) in
       (stands_at plan (F.records board) w h, halts_at plan (F.records board) w h)
 
-  -- two Gets where the records are the same
-  pub shows_same : (b c : F.Board) → AllValid F (F.records b) → F.records c ≡ F.records b → ShowsSame F b c
-  shows_same b c valid same key one other is_get is_get_too shown again b' c' row row_again =
-      let alike : again.code ≡ shown.code = laws.gets_agree b b' c c' one other key shown again is_get is_get_too same row row_again in (
-        alike,
-        λ was_shown. laws.gets_steady b b' c c' one other key shown again is_get is_get_too same valid row row_again was_shown (alike ∙ was_shown),
-      )
-
-  -- two Gets of several requests
-  parts_show_same : (b c : F.Board) → AllValid F (F.records b) → F.records c ≡ F.records b → PartsShowSame F b c
-  parts_show_same b c valid same key shown again was_shown is_shown =
-      let get = F.words.getting key in
-      let before = laws.parts_show (F.records b) key shown valid was_shown in
-      let after = laws.parts_show (F.records c) key again (subst (AllValid F) (sym same) valid) is_shown in
-      let found : F.get (F.records b) key ≡ Some after.value = ap (λ (r : F.Records). F.get r key) (sym same) ∙ after.found in
-      let one_value : after.value ≡ before.value = same_Some _ _ (sym found ∙ before.found) in
-      laws.kinds.steady key before.value (F.words.joined get again) (F.words.joined get shown) (valid key before.value before.found)
-      (subst (λ (v : F.Value). F.Shows key v (F.words.joined get again)) one_value after.shows) before.shows
-
   pub undone_for_good : UndoneForGood F L W
   undone_for_good plan retries on board start events later may undone =
       let w0 = opening F L plan retries on board in
@@ -254,7 +257,7 @@ module _ (F : Family) (laws : IsFamily F) (L : Bus → Line) (lines : (bus : Bus
       let same : F.records (run F L W (events ++ later) w0).board ≡ F.records board =
       subst (λ (s : Stage F.words). Stands F plan (F.records board) (phase_at F.words s) (F.records (run F L W (events ++ later) w0).board)) still stands in
       let w = run F L W (events ++ later) w0 in
-      (same, shows_same board w.board start.valid same, parts_show_same board w.board start.valid same)
+      (same, shows_same F laws board w.board start.valid same, parts_show_same F laws board w.board start.valid same)
 
   pub stops_only_if_told : StopsOnlyIfTold F L W
   stops_only_if_told plan retries k on board start events may halted =

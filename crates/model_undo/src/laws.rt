@@ -1,12 +1,11 @@
 //! What holds of a plan and its undo, at a board of registers. Each theorem is proved over any family of kinds of record, as a lemma
 //! (`proofs/Headline.antt`, `proofs/Resume.antt`, `proofs/Clean.antt`), and stands here as the contract of a function that does nothing.
 
-ghost use Rattle.std.specs.Prelude.{ℕ, List};
 ghost use Rattle.two_wire.specs.declared.Bus.{Bus};
-ghost use Rattle.model_bus.specs.Packet.{Packet, IsCutting, packets_of};
+ghost use Rattle.model_bus.specs.Packet.{packets_of};
 ghost use Rattle.model_undo.specs.IsFamily.{IsFamily};
 ghost use Rattle.model_bus.specs.Addresses.{Addresses};
-ghost use Rattle.model_undo.specs.TwoBuses.{in_messages, with_packets, messages_come, packets_come};
+ghost use Rattle.model_undo.specs.TwoBuses.{with_packets, packets_come, OverBothBuses, DeliveredOverBothBuses};
 ghost use Rattle.model_undo.specs.Headline.{AlwaysStands, UndoneForGood, StopsOnlyIfTold};
 ghost use Rattle.model_undo.specs.Giving.{HaltsByAnswers};
 ghost use Rattle.model_undo.specs.Resume.{GoesOnAlike};
@@ -32,32 +31,28 @@ pub fn records_stand()
 /// At every moment of every honest schedule of both buses the manager's phase says what the records are, and a plan that halted has the
 /// cause that it names. SMBus goes in whole messages, or in packets, cut in any way that a receiver can join.
 pub fn phases_stand()
-    ensures messages { (at : Bus → Addresses) → AlwaysStands registers (in_messages at) wires }
-    ensures packets { (at : Bus → Addresses) (split : List ℕ → List Packet) → IsCutting split
-        → AlwaysStands registers (with_packets at split) wires }
+    ensures { (at : Bus → Addresses)
+        → OverBothBuses at (λ buses. AlwaysStands registers buses wires) }
 {}
 
 /// A halt has its cause in its own schedule. Refused, GetRefused and NotRestorable come only where the board gave that answer to the Set or to the
 /// Get of that step, at the records after the steps before it; Stop comes only where the manager was told to stop, or another went on from its list.
 pub fn halts_by_given_answers()
-    ensures messages { (at : Bus → Addresses) → HaltsByAnswers registers (in_messages at) wires }
-    ensures packets { (at : Bus → Addresses) (split : List ℕ → List Packet) → IsCutting split
-        → HaltsByAnswers registers (with_packets at split) wires }
+    ensures { (at : Bus → Addresses)
+        → OverBothBuses at (λ buses. HaltsByAnswers registers buses wires) }
 {}
 
 /// Once a plan is undone, and at every moment from then on, every record is what it was before the plan, and each Get that is carried out,
 /// whoever asks it, shows the same configuration.
 pub fn undone_is_for_good()
-    ensures messages { (at : Bus → Addresses) → UndoneForGood registers (in_messages at) wires }
-    ensures packets { (at : Bus → Addresses) (split : List ℕ → List Packet) → IsCutting split
-        → UndoneForGood registers (with_packets at split) wires }
+    ensures { (at : Bus → Addresses)
+        → OverBothBuses at (λ buses. UndoneForGood registers buses wires) }
 {}
 
 /// A plan halts because of a stop only where it was stopped, or where another manager went on from its list.
 pub fn stops_only_if_told()
-    ensures messages { (at : Bus → Addresses) → StopsOnlyIfTold registers (in_messages at) wires }
-    ensures packets { (at : Bus → Addresses) (split : List ℕ → List Packet) → IsCutting split
-        → StopsOnlyIfTold registers (with_packets at split) wires }
+    ensures { (at : Bus → Addresses)
+        → OverBothBuses at (λ buses. StopsOnlyIfTold registers buses wires) }
 {}
 
 /// A manager that goes on from a list is halted after as many steps as the list undoes, with no request open, and gives that same list. From
@@ -84,13 +79,10 @@ pub fn plans_run_clean()
 /// schedule is honest. The port of each bus is to have a place for the manager at the start, and what is sent in packets is to be cut: what the
 /// registers say is.
 pub fn plans_run_clean_over_buses()
-    ensures messages { (at : Bus → Addresses) (answer : Board → Asked → Answered × Board)
+    ensures runs { (at : Bus → Addresses) (answer : Board → Asked → Answered × Board)
         → AnswersByRow registers answer
-        → AlwaysRunsOverBuses registers (in_messages at) (messages_come at) wires answer }
-    ensures packets { (at : Bus → Addresses) (split : List ℕ → List Packet) → IsCutting split
-        → (answer : Board → Asked → Answered × Board) → AnswersByRow registers answer
-        → AlwaysRunsOverBuses registers (with_packets at split) (packets_come at split) wires
-        answer }
+        → DeliveredOverBothBuses at (λ buses come.
+        AlwaysRunsOverBuses registers buses come wires answer) }
     ensures cut { (at : Bus → Addresses) (answer : Board → Asked → Answered × Board)
         → AnswersByRow registers answer
         → AllCanBeSent registers (with_packets at packets_of) (packets_come at packets_of) wires

@@ -1,13 +1,11 @@
 //! The same at a record whose Gets and Sets are two requests each, of which the board stages the first of a Set. So the theorems hold of series of
 //! requests, and aren't about nothing there.
 
-ghost use Rattle.std.specs.Prelude.{ℕ, List};
 ghost use Rattle.two_wire.specs.declared.Bus.{Bus};
-ghost use Rattle.model_bus.specs.Packet.{Packet, IsCutting};
 ghost use Rattle.model_bus.specs.Addresses.{Addresses};
 ghost use Rattle.model_bus.specs.Answered.{Answered};
 ghost use Rattle.model_undo.specs.IsFamily.{IsFamily};
-ghost use Rattle.model_undo.specs.TwoBuses.{in_messages, with_packets, messages_come, packets_come};
+ghost use Rattle.model_undo.specs.TwoBuses.{OverBothBuses, DeliveredOverBothBuses};
 ghost use Rattle.model_undo.specs.Headline.{AlwaysStands, UndoneForGood, StopsOnlyIfTold};
 ghost use Rattle.model_undo.specs.Giving.{HaltsByAnswers};
 ghost use Rattle.model_undo.specs.RecordsRun.{RecordsStand};
@@ -30,34 +28,26 @@ pub fn pairs_stand()
 
 /// The phase says what the records are, and a halt has its cause, over both buses.
 pub fn pair_phases_stand()
-    ensures messages { (at : Bus → Addresses)
-        → AlwaysStands pair_family (in_messages at) pair_wires }
-    ensures packets { (at : Bus → Addresses) (split : List ℕ → List Packet) → IsCutting split
-        → AlwaysStands pair_family (with_packets at split) pair_wires }
+    ensures { (at : Bus → Addresses)
+        → OverBothBuses at (λ buses. AlwaysStands pair_family buses pair_wires) }
 {}
 
 /// A halt is caused by answers that the board gave in that very schedule: to one of the requests of a Get or of a Set, or to all of a Get.
 pub fn pairs_halt_by_given_answers()
-    ensures messages { (at : Bus → Addresses)
-        → HaltsByAnswers pair_family (in_messages at) pair_wires }
-    ensures packets { (at : Bus → Addresses) (split : List ℕ → List Packet) → IsCutting split
-        → HaltsByAnswers pair_family (with_packets at split) pair_wires }
+    ensures { (at : Bus → Addresses)
+        → OverBothBuses at (λ buses. HaltsByAnswers pair_family buses pair_wires) }
 {}
 
 /// Once a plan is undone, the record is for good what it was, and Gets of two requests show so.
 pub fn pairs_are_undone_for_good()
-    ensures messages { (at : Bus → Addresses)
-        → UndoneForGood pair_family (in_messages at) pair_wires }
-    ensures packets { (at : Bus → Addresses) (split : List ℕ → List Packet) → IsCutting split
-        → UndoneForGood pair_family (with_packets at split) pair_wires }
+    ensures { (at : Bus → Addresses)
+        → OverBothBuses at (λ buses. UndoneForGood pair_family buses pair_wires) }
 {}
 
 /// A plan halts because of a stop only where it was stopped, or where another manager went on from its list.
 pub fn pairs_stop_only_if_told()
-    ensures messages { (at : Bus → Addresses)
-        → StopsOnlyIfTold pair_family (in_messages at) pair_wires }
-    ensures packets { (at : Bus → Addresses) (split : List ℕ → List Packet) → IsCutting split
-        → StopsOnlyIfTold pair_family (with_packets at split) pair_wires }
+    ensures { (at : Bus → Addresses)
+        → OverBothBuses at (λ buses. StopsOnlyIfTold pair_family buses pair_wires) }
 {}
 
 /// A manager that goes on from a list of series does from `undo` on what the list's own manager would have done.
@@ -80,12 +70,8 @@ pub fn plans_run_through()
 
 /// Over two buses that lose nothing a plan runs just so.
 pub fn plans_run_through_over_buses()
-    ensures messages { (at : Bus → Addresses) (answer : Board → Asked → Answered × Board)
+    ensures { (at : Bus → Addresses) (answer : Board → Asked → Answered × Board)
         → AnswersByRow pair_family answer
-        → AlwaysRunsThroughBuses pair_family (in_messages at) (messages_come at) pair_wires
-        answer }
-    ensures packets { (at : Bus → Addresses) (split : List ℕ → List Packet) → IsCutting split
-        → (answer : Board → Asked → Answered × Board) → AnswersByRow pair_family answer
-        → AlwaysRunsThroughBuses pair_family (with_packets at split) (packets_come at split)
-        pair_wires answer }
+        → DeliveredOverBothBuses at (λ buses come.
+        AlwaysRunsThroughBuses pair_family buses come pair_wires answer) }
 {}

@@ -1,4 +1,3 @@
-pub mod Written
 pub mod Backs
 pub mod Rooms
 pub mod Calling

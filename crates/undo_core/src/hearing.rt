@@ -40,9 +40,11 @@ impl Manager {
         ensures heard { ForShown self.old (λ names s.
             Comes names (Hears bus bytes.now) s self.new result) }
         // Nothing else changes the manager, and it sends nothing then.
-        ensures no_response { bus ≡ IsIpmb → ((r : AnyResponse) → IsResponse r bytes.now → ⊥)
+        ensures no_response { bus ≡ IsIpmb
+            → ((r : AnyResponse) → IsResponse r bytes.now → ⊥)
             → (self.new ≡ self.old) × (result ≡ None) }
-        ensures no_packet { bus ≡ IsSmbus → ((p : AnyPacket) → IsPacket p bytes.now → ⊥)
+        ensures no_packet { bus ≡ IsSmbus
+            → ((p : AnyPacket) → IsPacket p bytes.now → ⊥)
             → (self.new ≡ self.old) × (result ≡ None) }
     {
         match bus {

@@ -39,7 +39,8 @@ impl Manager {
 
     /// How many requests it began on a bus: those that were answered, and the open one.
     pub fn begun(&self, bus: Bus) -> usize
-        ensures { ForShown self.now (λ names s. result ≡ begun_on (words_of names) bus s.machine) }
+        ensures { ForShown self.now (λ names s.
+            result ≡ begun_on (words_of names) bus s.machine) }
     {
         let answered = match bus {
             Bus::Ipmb => self.counts.ipmb,

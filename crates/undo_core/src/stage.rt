@@ -52,7 +52,8 @@ impl Task {
 
     /// The phase while its request is heeded.
     fn phase(&self) -> Phase
-        ensures { ForTask self.now (λ names of. result ≡ machine.task_phase (words_of names) of) }
+        ensures { ForTask self.now (λ names of.
+            result ≡ machine.task_phase (words_of names) of) }
     {
         match self {
             Task::Gets(step) => Phase::Getting(*step),
@@ -88,10 +89,11 @@ impl Stage {
 
     /// Whether the plan ended or halted, so that its undo may begin.
     pub fn is_over(&self) -> bool
-        ensures over { result ≡ true
-            → (self.now ≡ IsAtEnd) ⊎ ((k : ℕ) × (why : AnyWhy) × (self.now ≡ IsAtHalt k why)) }
+        ensures over { result ≡ true → (self.now ≡ IsAtEnd)
+            ⊎ ((k : ℕ) × (why : AnyWhy) × (self.now ≡ IsAtHalt k why)) }
         ensures no_end { result ≡ false → self.now ≡ IsAtEnd → ⊥ }
-        ensures no_halt { result ≡ false → (k : ℕ) (why : AnyWhy) → self.now ≡ IsAtHalt k why → ⊥ }
+        ensures no_halt { result ≡ false → (k : ℕ) (why : AnyWhy)
+            → self.now ≡ IsAtHalt k why → ⊥ }
     {
         match self {
             Stage::AtEnd | Stage::AtHalt(_, _) => true,

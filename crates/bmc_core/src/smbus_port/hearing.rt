@@ -1,11 +1,10 @@
 //! Packets to requests, and what becomes of all else.
-ghost use Rattle.std.specs.Prelude.{◌≡◌, ◌≤◌, ℕ, length, find, None};
+ghost use Rattle.std.specs.Prelude.{◌≤◌, ℕ, length, find, None};
 ghost use Rattle.two_wire.specs.Sizes.{most_message_bytes};
 ghost use Rattle.mctp_net.specs.Control.{request_of as control_request_of};
 ghost use Rattle.mctp_net.specs.Places.{seen};
 ghost use Rattle.pldm_base.specs.Message.{request_in as pldm_request_in, has_fault, faults};
-ghost use Rattle.model_ports.specs.PortSteps.{PortState};
-ghost use Rattle.bmc_core.specs.SmbusShown.{HasTaken, HasHeard};
+ghost use Rattle.bmc_core.specs.SmbusShown.{ForPortsAt, HasTaken, HasHeard};
 ghost use Rattle.bmc_core.specs.SmbusHeard.{message_heard, control_heard, pldm_heard};
 
 use super::pending::RequestInMessage;
@@ -25,8 +24,8 @@ pub(super) fn take(
     packet: &Packet<'_>,
     out: &mut Out,
 ) -> bool
-    ensures { (p : PortState) → p.wire ≡ wire → p.eid ≡ endpoint.now → p.kept ≡ seen assembler.old
-        → HasTaken p packet.now (seen assembler.new) out.new result }
+    ensures { ForPortsAt wire endpoint.now (seen assembler.old) (λ at.
+        HasTaken at packet.now (seen assembler.new) out.new result) }
 {
     let envelope = packet.envelope;
     if envelope.destination.byte() != wire.byte() {

@@ -4,7 +4,7 @@ ghost use Rattle.two_wire.specs.Sizes.{most_message_bytes};
 ghost use Rattle.pldm_base.specs.Message.{request_bytes};
 ghost use Rattle.bmc_windows.specs.Heard.{request_of};
 ghost use Rattle.bmc_carry.specs.Asking.{meant};
-ghost use Rattle.bmc_core.specs.SmbusHeard.{asking, asked_of};
+ghost use Rattle.bmc_core.specs.SmbusHeard.{asking, asked_of, behind_first};
 ghost use Rattle.bmc_core.specs.SmbusShown.{pldm_reading, request_in};
 
 use bmc_carry::AskedHere;
@@ -30,22 +30,20 @@ pub(super) struct RequestInMessage<'a> {
 }
 
 impl<'a> Model for RequestInMessage<'a> {
-    ghost use Rattle.std.specs.Prelude.{◌≡◌, ◌∷◌};
-    ghost use Rattle.bmc_core.specs.SmbusHeard.{InMessage};
+    ghost use Rattle.std.specs.Prelude.{◌≡◌};
+    ghost use Rattle.bmc_core.specs.SmbusHeard.{InMessage, behind_first};
 
     ghost Value = { InMessage };
 
     ghost view = { λ r. record { envelope = r.envelope; request = r.request } };
 
-    ghost invariant = { λ r. r.rest.now ≡ r.request.header.pldm_type ∷ r.request.header.command ∷ r.request.body };
+    ghost invariant = { λ r. r.rest.now ≡ behind_first r.request };
 }
 
 impl<'a> RequestInMessage<'a> {
-    ghost use Rattle.std.specs.Prelude.{◌∷◌};
-
     /// The request, with its bytes behind the first.
     pub fn new(envelope: Envelope, request: PldmRequest<'a>, rest: &'a [u8]) -> Self
-        requires { rest.now ≡ request.header.pldm_type ∷ request.header.command ∷ request.body }
+        requires { rest.now ≡ behind_first request }
         ensures { result ≡ record { envelope = envelope; request = request.entry } }
     {
         RequestInMessage {

@@ -1,12 +1,9 @@
 use Rattle.model_undo.proofs.laws.stops_only_if_told.Goals as goal
-use Rattle.model_undo.specs.TwoBuses.{in_messages, with_packets}
+use Rattle.model_undo.specs.Headline.{StopsOnlyIfTold}
 use Rattle.model_undo.specs.Registers.{registers, wires}
 use Rattle.model_undo.proofs.Registers.{registers_are_family}
-use Rattle.model_undo.proofs.TwoBuses.{message_lines, packet_lines}
+use Rattle.model_undo.proofs.TwoBuses.{over_both_buses}
 use Rattle.model_undo.proofs.Headline.{stops_only_if_told}
 
-pub returns-clause-messages : goal.returns-clause-messages
-returns-clause-messages c at = stops_only_if_told registers registers_are_family (in_messages at) (message_lines at) wires
-
-pub returns-clause-packets : goal.returns-clause-packets
-returns-clause-packets c at split cutting = stops_only_if_told registers registers_are_family (with_packets at split) (packet_lines at split cutting) wires
+pub returns : goal.returns
+returns c at = over_both_buses at (λ buses. StopsOnlyIfTold registers buses wires) (λ buses lines. stops_only_if_told registers registers_are_family buses lines wires)

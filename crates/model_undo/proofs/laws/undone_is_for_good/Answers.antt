@@ -1,12 +1,9 @@
 use Rattle.model_undo.proofs.laws.undone_is_for_good.Goals as goal
-use Rattle.model_undo.specs.TwoBuses.{in_messages, with_packets}
+use Rattle.model_undo.specs.Headline.{UndoneForGood}
 use Rattle.model_undo.specs.Registers.{registers, wires}
 use Rattle.model_undo.proofs.Registers.{registers_are_family}
-use Rattle.model_undo.proofs.TwoBuses.{message_lines, packet_lines}
+use Rattle.model_undo.proofs.TwoBuses.{over_both_buses}
 use Rattle.model_undo.proofs.Headline.{undone_for_good}
 
-pub returns-clause-messages : goal.returns-clause-messages
-returns-clause-messages c at = undone_for_good registers registers_are_family (in_messages at) (message_lines at) wires
-
-pub returns-clause-packets : goal.returns-clause-packets
-returns-clause-packets c at split cutting = undone_for_good registers registers_are_family (with_packets at split) (packet_lines at split cutting) wires
+pub returns : goal.returns
+returns c at = over_both_buses at (λ buses. UndoneForGood registers buses wires) (λ buses lines. undone_for_good registers registers_are_family buses lines wires)

@@ -5,7 +5,7 @@ use Rattle.mctp_net.specs.declared.packet.Packet.{Packet}
 use Rattle.mctp_net.specs.declared.message.Message.{Message}
 use Rattle.model_bus.specs.Bytes.{pldm_request}
 use Rattle.model_ports.specs.Values.{Part, written, parts_of, IsFrameOn}
-use Rattle.undo_core.proofs.Written.{message_written, message_read}
+use Rattle.model_ports.proofs.Written.{message_written, message_read}
 use Rattle.undo_core.proofs.sending.message_frames.Goals as goal
 
 pub returns-clause-frames : goal.returns-clause-frames

@@ -5,7 +5,7 @@ use Rattle.model_ports.specs.Values.{Part, written, parts_of}
 use Rattle.bmc_core.specs.Outs.{sends, AreRead}
 use Rattle.bmc_core.specs.SmbusShown.{frames_from}
 use Rattle.bmc_core.proofs.OwnBytes.{message_read}
-use Rattle.bmc_core.proofs.SmbusReplies.{message_written}
+use Rattle.model_ports.proofs.Written.{message_written}
 use Rattle.bmc_core.proofs.smbus_port.replying.send.Goals as goal
 
 pub returns : goal.returns
