@@ -1,6 +1,6 @@
 //! The names of records.
 ghost use Rattle.std.specs.Prelude.{◌≡◌, ◌<◌, ◌≤◌, ℕ, IfSome, IsTrue};
-ghost use Rattle.record_base.specs.Keys.{AreFew, has_length, is_length, lengths, slot};
+ghost use Rattle.record_base.specs.Keys.{AreUpTo, has_length, in_map, in_table, is_length, slot, storage};
 
 use crate::attribute_sizes::{LEAST_VALUE, MOST_VALUE};
 use crate::boot_param::BootParameter;
@@ -8,6 +8,7 @@ use crate::channel::StoredAccess;
 use crate::lan::ParameterOnChannel;
 use crate::user::{UserNumber, UserOnChannel};
 use crate::value::VALUE_CAPACITY;
+use Lengths::*;
 
 /// How many kinds of record a sensor has.
 pub const SENSOR_KINDS: usize = 3;
@@ -59,55 +60,87 @@ impl Lengths {
         ensures { result ≡ has_length self.now length }
     {
         match self {
-            Lengths::Exactly(only) => length == *only,
-            Lengths::OfNumber => length == 1 || length == 2 || length == 4,
-            Lengths::Between(least, most) => *least <= length && length <= *most,
+            Exactly(only) => length == *only,
+            OfNumber => length == 1 || length == 2 || length == 4,
+            Between(least, most) => *least <= length && length <= *most,
         }
     }
 
     /// The longest of them.
     fn longest(&self) -> usize
-        requires { AreFew VALUE_CAPACITY self.now }
+        requires { AreUpTo VALUE_CAPACITY self.now }
         ensures is_one { IsTrue (has_length self.now result) }
         ensures bound { (n : ℕ) → IsTrue (has_length self.now n) → n ≤ result }
         ensures short { result ≤ VALUE_CAPACITY }
     {
         match self {
-            Lengths::Exactly(only) => *only,
-            Lengths::OfNumber => 4,
-            Lengths::Between(_, most) => *most,
+            Exactly(only) => *only,
+            OfNumber => 4,
+            Between(_, most) => *most,
         }
     }
 }
 
+/// What a store asks of a key: the lengths that a value of its kind may have, and where the key is a sensor's, the table of its kind, and the
+/// sensor's number.
+#[derive(Drop)]
+struct Storage {
+    lengths: Lengths,
+    slot: Option<(usize, u8)>,
+}
+
+/// What a store asks of the key of a sensor's record.
+#[inline(always)]
+fn in_table(table: usize, sensor: u8, lengths: Lengths) -> Storage
+    ensures { result ≡ in_table table sensor lengths }
+{
+    Storage {
+        lengths,
+        slot: Some((table, sensor)),
+    }
+}
+
+/// The same of another record's key.
+#[inline(always)]
+fn in_map(lengths: Lengths) -> Storage
+    ensures { result ≡ in_map lengths }
+{
+    Storage {
+        lengths,
+        slot: None,
+    }
+}
+
 impl Key {
-    /// The lengths that a value of the key's kind may have: a line for each kind.
-    fn lengths(&self) -> Lengths
-        ensures are { result ≡ lengths self.now }
-        ensures few { AreFew VALUE_CAPACITY result }
+    /// What a store asks of it: a line for each kind.
+    #[inline(always)]
+    fn storage(&self) -> Storage
+        ensures is { result ≡ storage self.now }
+        ensures longest { AreUpTo VALUE_CAPACITY result.lengths }
+        ensures table { IfSome result.slot (λ at. at.0 < SENSOR_KINDS) }
     {
         match self {
-            Key::Thresholds(_) => Lengths::Exactly(6),
-            Key::Hysteresis(_) => Lengths::Exactly(2),
-            Key::EventEnable(_) => Lengths::Exactly(5),
-            Key::PowerPolicy => Lengths::Exactly(1),
-            Key::Watchdog => Lengths::Exactly(5),
-            Key::GlobalEnables => Lengths::Exactly(1),
-            Key::BootParam(parameter) => Lengths::Exactly(parameter.length()),
-            Key::NumericEffecter(_) => Lengths::OfNumber,
-            Key::StateEffecter(_) => Lengths::Between(1, 8),
-            Key::UserName(_) => Lengths::Exactly(16),
-            Key::UserAccess(_) => Lengths::Exactly(1),
-            Key::ChannelAccess(_) => Lengths::Exactly(2),
-            Key::BiosAttribute(_) => Lengths::Between(LEAST_VALUE, MOST_VALUE),
-            Key::LanParam(on) => Lengths::Exactly(on.parameter.length()),
+            Key::Thresholds(sensor) => in_table(0, *sensor, Exactly(6)),
+            Key::Hysteresis(sensor) => in_table(1, *sensor, Exactly(2)),
+            Key::EventEnable(sensor) => in_table(2, *sensor, Exactly(5)),
+            Key::PowerPolicy => in_map(Exactly(1)),
+            Key::Watchdog => in_map(Exactly(5)),
+            Key::GlobalEnables => in_map(Exactly(1)),
+            Key::BootParam(parameter) => in_map(Exactly(parameter.length())),
+            Key::NumericEffecter(_) => in_map(OfNumber),
+            Key::StateEffecter(_) => in_map(Between(1, 8)),
+            Key::UserName(_) => in_map(Exactly(16)),
+            Key::UserAccess(_) => in_map(Exactly(1)),
+            Key::ChannelAccess(_) => in_map(Exactly(2)),
+            Key::BiosAttribute(_) => in_map(Between(LEAST_VALUE, MOST_VALUE)),
+            Key::LanParam(on) => in_map(Exactly(on.parameter.length())),
         }
     }
     /// Whether a value of the key's kind may have this length, in bytes.
     pub fn is_length(&self, length: usize) -> bool
         ensures { result ≡ is_length self.now length }
     {
-        self.lengths().has(length)
+        self.storage().lengths.has(length)
     }
     /// The length of the longest value of the key's kind.
     pub fn longest(&self) -> usize
@@ -115,7 +148,7 @@ impl Key {
         ensures bound { (n : ℕ) → IsTrue (is_length self.now n) → n ≤ result }
         ensures short { result ≤ VALUE_CAPACITY }
     {
-        self.lengths().longest()
+        self.storage().lengths.longest()
     }
     /// The table that has a sensor's record, and the sensor's number.
     #[inline(always)]
@@ -123,11 +156,6 @@ impl Key {
         ensures is { result ≡ slot self.now }
         ensures table { IfSome result (λ at. at.0 < SENSOR_KINDS) }
     {
-        match self {
-            Key::Thresholds(sensor) => Some((0, *sensor)),
-            Key::Hysteresis(sensor) => Some((1, *sensor)),
-            Key::EventEnable(sensor) => Some((2, *sensor)),
-            _ => None,
-        }
+        self.storage().slot
     }
 }
