@@ -1,6 +1,7 @@
 -- What the seats of a board hold together.
-use Rattle.std.specs.Prelude.{◌≡◌, ◌+◌, ℕ, List, [], false, length}
+use Rattle.std.specs.Prelude.{◌≡◌, ◌+◌, ℕ, List, [], true, false, length, Result, OnOk, OnErr}
 use Rattle.bmc_history.specs.declared.event.Event.{Event}
+use Rattle.bmc_history.specs.declared.held.PeriodFull.{PeriodFull}
 use Rattle.bmc_history.specs.Matching.{Matches}
 use Rattle.bmc_shared.specs.declared.seat.Seat.{Seat}
 use Rattle.bmc_shared.specs.declared.seat.Seats.{Seats}
@@ -8,6 +9,14 @@ use Rattle.bmc_shared.specs.declared.seat.Seats.{Seats}
 -- the seat called nothing yet, and was never refused
 abbrev pub IsFresh : {J : Type 0} {g : _} → Seat J g → Type 0
 IsFresh seat = (seat.calls.items ≡ []) × (seat.refused ≡ false)
+
+-- What a call of a seat leaves of it, where it came to this. Without room in the history the seat is marked as refused, and its list stays; else its
+-- mark stays. Its number always stays.
+pub record LeavesSeat {J A : Type 0} {g h : _} (result : Result A PeriodFull) (before : Seat J g) (after : Seat J h) : Type 0 where
+  pub mark : OnOk result (after.refused ≡ before.refused)
+  pub same_list : OnErr result (after.calls.items ≡ before.calls.items)
+  pub marked : OnErr result (after.refused ≡ true)
+  pub number : after.number ≡ before.number
 
 -- the seat's list is the history's of this number; where it was refused, the history is full
 abbrev pub SeatMatches : {J : Type 0} {g : _} → ℕ → List Event → ℕ → Seat J g → Type 0

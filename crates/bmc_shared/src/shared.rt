@@ -10,7 +10,7 @@ ghost use Rattle.bmc_history.specs.Replay.{Replays, IsRoom};
 ghost use Rattle.bmc_history.specs.Calls.{IsRow, IsReply, IsHappening, GainsEvent, GainsCall, ExchangesHere, KeepsHere};
 ghost use Rattle.bmc_history.specs.declared.event.Call.TheVariants.{Exchanged, Benched};
 ghost use Rattle.bmc_history.specs.declared.held.OpenFault.TheVariants.{Room};
-ghost use Rattle.bmc_shared.specs.Seated.{IsFresh, SeatMatches, AllMatch, calls_made};
+ghost use Rattle.bmc_shared.specs.Seated.{IsFresh, LeavesSeat, SeatMatches, AllMatch, calls_made};
 ghost use Rattle.bmc_shared.specs.declared.shared.CloseFault.TheVariants.{Mismatch};
 
 use crate::seat::{Seat, Seats};
@@ -135,10 +135,7 @@ impl<J: Opening, S: Store> Locked<J, S> {
         ensures kept { IfOk result (λ given.
             KeepsHere seat.old.calls.items seat.new.calls.items (meant asked.now)
             given (B.bytes reply.old) (B.bytes reply.new)) }
-        ensures mark { OnOk result (seat.new.refused ≡ seat.old.refused) }
-        ensures same_list { OnErr result (seat.new.calls.items ≡ seat.old.calls.items) }
-        ensures marked { OnErr result (seat.new.refused ≡ true) }
-        ensures number { seat.new.number ≡ seat.old.number }
+        ensures seat { LeavesSeat result seat.old seat.new }
     {
         let Seat {
             number,
@@ -166,10 +163,7 @@ impl<J: Opening, S: Store> Locked<J, S> {
         ensures same { OnErr result (self.new.held ≡ self.old.held) }
         ensures kept { IfOk result (λ answered.
             GainsCall seat.old.calls.items seat.new.calls.items (Exchanged asked.now answered)) }
-        ensures mark { OnOk result (seat.new.refused ≡ seat.old.refused) }
-        ensures same_list { OnErr result (seat.new.calls.items ≡ seat.old.calls.items) }
-        ensures marked { OnErr result (seat.new.refused ≡ true) }
-        ensures number { seat.new.number ≡ seat.old.number }
+        ensures seat { LeavesSeat result seat.old seat.new }
     {
         let mut body = Bytes::new();
         match self.exchange_here(seat, &AskedHere::of(asked), &mut body) {
@@ -194,10 +188,7 @@ impl<J: Opening, S: Store> Locked<J, S> {
         ensures same { OnErr result (self.new.held ≡ self.old.held) }
         ensures kept { IfOk result (λ answered.
             GainsCall seat.old.calls.items seat.new.calls.items (Benched bench answered)) }
-        ensures mark { OnOk result (seat.new.refused ≡ seat.old.refused) }
-        ensures same_list { OnErr result (seat.new.calls.items ≡ seat.old.calls.items) }
-        ensures marked { OnErr result (seat.new.refused ≡ true) }
-        ensures number { seat.new.number ≡ seat.old.number }
+        ensures seat { LeavesSeat result seat.old seat.new }
     {
         let Locked { held, book } = self;
         let Seat {
@@ -284,10 +275,7 @@ impl<J: Opening, S: Store + Drop> Shared<J, S> {
         ensures fits { IfOk result (λ answered. length answered.body ≤ room_for asked.now) }
         ensures kept { IfOk result (λ answered.
             GainsCall seat.old.calls.items seat.new.calls.items (Exchanged asked.now answered)) }
-        ensures mark { OnOk result (seat.new.refused ≡ seat.old.refused) }
-        ensures same_list { OnErr result (seat.new.calls.items ≡ seat.old.calls.items) }
-        ensures marked { OnErr result (seat.new.refused ≡ true) }
-        ensures number { seat.new.number ≡ seat.old.number }
+        ensures seat { LeavesSeat result seat.old seat.new }
     {
         self.lock.lock(rt).exchange(seat, asked)
     }
@@ -307,10 +295,7 @@ impl<J: Opening, S: Store + Drop> Shared<J, S> {
         ensures kept { IfOk result (λ given.
             KeepsHere seat.old.calls.items seat.new.calls.items (meant asked.now)
             given (B.bytes reply.old) (B.bytes reply.new)) }
-        ensures mark { OnOk result (seat.new.refused ≡ seat.old.refused) }
-        ensures same_list { OnErr result (seat.new.calls.items ≡ seat.old.calls.items) }
-        ensures marked { OnErr result (seat.new.refused ≡ true) }
-        ensures number { seat.new.number ≡ seat.old.number }
+        ensures seat { LeavesSeat result seat.old seat.new }
     {
         let Seat {
             number,
@@ -333,10 +318,7 @@ impl<J: Opening, S: Store + Drop> Shared<J, S> {
     ) -> Result<Result<(), NoSensor>, PeriodFull>
         ensures kept { IfOk result (λ answered.
             GainsCall seat.old.calls.items seat.new.calls.items (Benched bench answered)) }
-        ensures mark { OnOk result (seat.new.refused ≡ seat.old.refused) }
-        ensures same_list { OnErr result (seat.new.calls.items ≡ seat.old.calls.items) }
-        ensures marked { OnErr result (seat.new.refused ≡ true) }
-        ensures number { seat.new.number ≡ seat.old.number }
+        ensures seat { LeavesSeat result seat.old seat.new }
     {
         self.lock.lock(rt).bench(seat, bench)
     }

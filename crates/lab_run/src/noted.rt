@@ -39,7 +39,8 @@ impl Lab {
 
     /// The frame of this number, if there is such a frame.
     fn frame_at(&self, number: usize) -> Option<&SentFrame>
-        ensures some { IfSome result (λ frame. slice_get self.now.frames number ≡ Some frame.now) }
+        ensures some { IfSome result (λ frame.
+            slice_get self.now.frames number ≡ Some frame.now) }
         ensures none { IfNone result (slice_get self.now.frames number ≡ None) }
     {
         self.frames.as_slice().get(number)

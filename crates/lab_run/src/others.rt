@@ -111,7 +111,8 @@ fn message_changes(from: u8, bytes: &[u8]) -> bool
 
 /// What is wrong with another requester's message but for want of room.
 pub fn message_fault(names: &Names, message: &OtherMessage) -> Option<Fault>
-    ensures { result ≡ first_of (check Changing (message_changes message.now.from message.now.body)
+    ensures { result ≡ first_of (
+        check Changing (message_changes message.now.from message.now.body)
         ∷ check Impersonates (is_own Smbus names.now message.now.from) ∷ []) }
 {
     if message_changes(message.from, message.body.as_slice()) {

@@ -61,7 +61,8 @@ impl Lab {
     fn happen(&mut self, event: &Event) -> Result<(), AllocError>
         requires taken { ForShown self.now (λ file x. fault_at file x event.now ≡ None) }
         requires few { CanCountOn self.now.idles }
-        ensures becomes { OnOk result (Becomes self.old self.new (λ file. happens file event.now)) }
+        ensures becomes { OnOk result
+            (Becomes self.old self.new (λ file. happens file event.now)) }
         ensures done { OnOk result (Did event.now self.old self.new) }
         ensures few { (on : AnyBus)
             → idles_in on self.new.idles ≤ suc (idles_in on self.old.idles) }

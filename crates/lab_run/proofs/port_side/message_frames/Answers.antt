@@ -5,7 +5,7 @@ use Rattle.mctp_net.specs.declared.packet.Packet.{Packet}
 use Rattle.mctp_net.specs.declared.message.Message.{Message}
 use Rattle.model_ports.specs.Values.{Part, parts_of, IsFrameOn}
 use Rattle.model_lab.specs.Meaning.{message_of}
-use Rattle.undo_core.proofs.Written.{message_read}
+use Rattle.model_ports.proofs.Written.{message_read}
 use Rattle.lab_run.proofs.port_side.message_frames.Goals as goal
 
 pub returns : goal.returns

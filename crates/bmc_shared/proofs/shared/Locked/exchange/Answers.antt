@@ -30,8 +30,5 @@ returns-in-Ok g c =
       same = tt;
       kept = kept_as c.args.seat.now.calls.items c.exchange_here.new.seat.calls.items (meant c.of.result) c.args.asked.now c.in-Ok.given c.new-body.result c.exchange_here.new.reply c.answered.result
           c.of.ensures kept told;
-      mark = c.in-Ok.ensures.mark;
-      same_list = tt;
-      marked = tt;
-      number = c.in-Ok.ensures.number;
+      seat = record { mark = c.in-Ok.ensures.seat.mark; same_list = tt; marked = tt; number = c.in-Ok.ensures.seat.number };
     }
