@@ -41,15 +41,8 @@ use watch_boot::watchdog;
 pub(super) fn unknown_code(setup: &Setup, key: &Key) -> Code
     ensures { result ≡ unknown_code setup.now key.now }
 {
-    // Each key is named, so that a new one isn't forgotten. The policy, the watchdog and the enables are on every board.
+    // The policy, the watchdog and the enables are on every board.
     match key {
-        Key::Thresholds(_)
-        | Key::Hysteresis(_)
-        | Key::EventEnable(_)
-        | Key::PowerPolicy
-        | Key::Watchdog
-        | Key::GlobalEnables
-        | Key::BootParam(_) => code::NOT_PRESENT,
         Key::NumericEffecter(_) | Key::StateEffecter(_) => code::PLDM_INVALID_EFFECTER,
         Key::BiosAttribute(_) => code::PLDM_INVALID_ATTRIBUTE,
         Key::UserName(_) | Key::UserAccess(_) => code::INVALID_DATA_FIELD,
@@ -61,6 +54,7 @@ pub(super) fn unknown_code(setup: &Setup, key: &Key) -> Code
                 code::INVALID_DATA_FIELD
             }
         }
+        _ => code::NOT_PRESENT,
     }
 }
 
