@@ -24,9 +24,9 @@ use crate::storage::{
 };
 use bios_attr::{BiosTable, Tables};
 use cfg_records::{
-    AccessStore, Answered, Asked, BoardFile, ChannelNumber, CommandReader, Key, Op, RecordKind,
-    SetChannelAccess, Store, StoredAccess, UserNumber, Value, byte_at,
+    Answered, Asked, BoardFile, CommandReader, Key, Op, RecordKind, Store, Value, byte_at,
 };
+use record_base::{AccessStore, ChannelNumber, SetChannelAccess, StoredAccess, UserNumber};
 use record_kinds::{Limits, PlainKind, Setup, of_each_plain_kind};
 use sensor_recs::taken::reading_data;
 use std::alloc::{AllocError, Global};
