@@ -3,7 +3,8 @@ ghost use Rattle.std.specs.Prelude.{◌≡◌, ◌/◌, ◌%◌};
 ghost use Rattle.bmc_board.specs.Live.{device_data, already_in_progress, progress_data};
 ghost use Rattle.bmc_board.specs.Replies.{sessionless_channel};
 
-use cfg_records::{ChannelNumber, Device};
+use cfg_records::Device;
+use record_base::ChannelNumber;
 use two_wire::Code;
 use user_chan::lan_request::LanAnswer;
 

@@ -9,8 +9,7 @@ use Rattle.record_base.specs.Attribute.{attribute_value}
 use Rattle.cfg_records.specs.Records.{Pair}
 use Rattle.cfg_records.specs.LanBoards.{lan_kinds}
 use Rattle.record_base.specs.declared.sensor.Sensor.{Sensor}
-use Rattle.record_base.specs.Sensor.Hysteresis.{hysteresis_value}
-use Rattle.record_base.specs.Sensor.EventEnable.{event_value}
+use Rattle.record_base.specs.Sensor as sensor
 use Rattle.record_base.specs.Values.{policy_value, settings_value, enables_value, number_value, stored, access_value, boot_value}
 
 -- lists of pairs as one, each behind those before it
@@ -22,8 +21,8 @@ joined before (pairs ∷ more) = joined (before ++ pairs) more
 abbrev pub sensor_kinds : List Sensor → List (List Pair)
 sensor_kinds sensors =
     map (λ s. (key.Thresholds s.number, s.thresholds.values)) sensors
-    ∷ map (λ s. (key.Hysteresis s.number, hysteresis_value s.hysteresis)) sensors
-    ∷ map (λ s. (key.EventEnable s.number, event_value s.events.messages s.events.scanning s.events.enabled)) sensors
+    ∷ map (λ s. (key.Hysteresis s.number, sensor.Hysteresis.hysteresis_value s.hysteresis)) sensors
+    ∷ map (λ s. (key.EventEnable s.number, sensor.EventEnable.event_value s.events.messages s.events.scanning s.events.enabled)) sensors
     ∷ []
 
 -- the keys of each kind of record that an effecter has, with their values, in the effecters' order: a line for each kind

@@ -3,14 +3,7 @@ ghost use Rattle.std.specs.Prelude.{◌≡◌, [], ◌∷◌, IfOk, false};
 ghost use Rattle.cfg_records.specs.Sample.{IsSampleDevice, IsTemperature, IsFan, IsUnset, sample_record, IsSampleBoot, AreSampleUsers, AreSampleChannels, AreSampleAccesses, IsQuiet, IsAsset, IsDelay, AreSampleAttributes, IsSampleBoard};
 
 use crate::board_file::BoardFile;
-use record_base::{
-    Attribute, AttributeKind, Attributes, Bcd, BootFlags, BootOptions, Channel, ChannelAccess,
-    ChannelNumber, Channels, Device, Distinct, EnumerationAttribute, EventEnable, EventMasks,
-    GlobalEnables, Hysteresis, Indexes, IntegerAttribute, IntegerSteps, LogCapacity,
-    ManufacturerId, PowerPolicy, SdrRecord, SdrRecords, Sensor, StringAttribute, Text, TextLengths,
-    ThresholdMasks, Thresholds, User, UserAccess, UserAccesses, UserNumber, UserOnChannel, Users,
-    Watchdog,
-};
+use record_base::*;
 use std::alloc::{AllocError, Global};
 
 /// A temperature sensor, all of whose thresholds can be read and set.

@@ -4,13 +4,13 @@ ghost use Rattle.std.specs.Prelude.{◌≡◌};
 ghost use Rattle.record_kinds.specs.Limits.{reader_of};
 
 use crate::setup::Setup;
-use bios_attr::AttributeLimits;
+use bios_attr::*;
 use cfg_records::{Asked, CommandReader, Key, Live, Op, RecordData, RecordKind, Value};
-use effecter_recs::{NumericLimits, StateLimits};
-use sensor_recs::{EventEnableLimits, HysteresisLimits, ThresholdLimits};
+use effecter_recs::*;
+use sensor_recs::*;
 use two_wire::{Buffer, Code};
-use user_chan::{ChannelAccessLimits, UserAccessLimits, UserNameLimits};
-use watch_boot::{BootParamLimits, GlobalEnablesLimits, PowerPolicyLimits, WatchdogLimits};
+use user_chan::*;
+use watch_boot::*;
 
 /// A kind of record with one command to show a record and one command to change it. Each command names the record and the change by its
 /// data alone, and any data name some.
@@ -64,7 +64,7 @@ pub enum Limits<'f> {
     UserAccess(UserAccessLimits),
     ChannelAccess(ChannelAccessLimits),
     BiosAttribute(AttributeLimits),
-    LanParam(user_chan::LanParamLimits),
+    LanParam(LanParamLimits),
 }
 
 /// The plain kinds, and a line for each other kind.

@@ -10,8 +10,9 @@ ghost use Rattle.record_kinds.specs.Series.{set_whole, get_next};
 use crate::limits::Limits;
 use bios_attr::bios_attribute::{BIOS, SET_CURRENT_VALUE};
 use bios_attr::entry_parts::{BEFORE_ENTRY_VALUE, get_part, part_at};
-use cfg_records::{Asked, Key, Op, RecordKind, SetBiosAttribute};
+use cfg_records::{Asked, Key, Op, RecordKind};
 use pldm_base::MOST_WHOLE;
+use record_base::SetBiosAttribute;
 use two_wire::Below;
 
 /// Whether the entry that sets an attribute goes in parts.

@@ -5,9 +5,10 @@ ghost use Rattle.record_base.specs.BoardSizes.{most_sensors};
 ghost use Rattle.record_base.specs.Distinct.{NamesDiffer};
 ghost use Rattle.record_kinds.specs.Places.{ArePlaces};
 
-use cfg_records::{
-    AccessStore, Attribute, Attributes, BoardFile, Channel, ChannelNumber, Device, NumericEffecter,
-    Sensor, StateEffecter, StoredAccess, User, UserAccess, UserNumber, UserOnChannel,
+use cfg_records::{BoardFile, Device, Sensor};
+use record_base::{
+    AccessStore, Attribute, Attributes, Channel, ChannelNumber, NumericEffecter, StateEffecter,
+    StoredAccess, User, UserAccess, UserNumber, UserOnChannel,
 };
 use std::alloc::{AllocError, Global};
 use std::marker::Model;

@@ -206,13 +206,12 @@ one_sensor tree a b p q =
     let settable = one_number field.Settable tree a.thresholds.masks.settable b.thresholds.masks.settable p.settable q.settable in
     let values = one_numbers field.Thresholds tree a.thresholds.values b.thresholds.values p.values q.values in
     let thresholds = one_thresholds a.thresholds b.thresholds (one_masks a.thresholds.masks b.thresholds.masks readable settable) values in
-    let hysteresis = one_pair field.Hysteresis tree p.hysteresis q.hysteresis in
     let events = one_events tree a.events b.events p.events q.events in
     λ i. record {
       number = number i;
       sensor_type = sensor_type i;
       thresholds = thresholds i;
-      hysteresis = record { positive = hysteresis.0 i; negative = hysteresis.1 i };
+      hysteresis = let pair = one_pair field.Hysteresis tree p.hysteresis q.hysteresis in record { positive = pair.0 i; negative = pair.1 i };
       events = events i;
       numbered = under 255 number a.numbered b.numbered i;
     }

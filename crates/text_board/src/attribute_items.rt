@@ -16,7 +16,7 @@ ghost use Rattle.text_board.specs.Faults.{IsFirstFault, attribute_rows, attribut
 use crate::check::checked;
 use crate::fault::{FileFault, Item};
 use crate::tables::{ENUMERATION, INTEGER, STRING, TOP, attribute_rows};
-use cfg_records::{
+use record_base::{
     Attribute, AttributeKind, Attributes, EnumerationAttribute, Indexes, IntegerAttribute,
     IntegerSteps, StringAttribute, Text, TextLengths,
 };

@@ -19,9 +19,9 @@ use crate::state_items::state_effecters;
 use crate::tables::{DEVICE, TOP};
 use crate::users::users;
 use cfg_records::{
-    BoardFile, BootOptions, Device, Distinct, GlobalEnables, LogCapacity, ManufacturerId,
-    PowerPolicy, SdrRecord, SdrRecords, Watchdog,
+    BoardFile, Device, Distinct, LogCapacity, ManufacturerId, SdrRecord, SdrRecords,
 };
+use record_base::{BootOptions, GlobalEnables, PowerPolicy, Watchdog};
 use std::alloc::Global;
 use text_fields::range::{boot_flags, digits, enables, record, watchdog};
 use text_fields::tree::members_of;

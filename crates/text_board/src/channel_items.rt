@@ -15,9 +15,10 @@ use crate::check::check;
 use crate::fault::{FileFault, Item, Place};
 use crate::items::{ArrayReader, items_of};
 use crate::tables::{CHANNEL, TOP, session_rows};
-use cfg_records::{
-    Channel, ChannelAccess, ChannelNumber, Channels, Distinct, SessionlessChannels, UserAccess,
-    UserAccesses, UserNumber, UserOnChannel,
+use cfg_records::Distinct;
+use record_base::{
+    Channel, ChannelAccess, ChannelNumber, Channels, SessionlessChannels, UserAccess, UserAccesses,
+    UserNumber, UserOnChannel,
 };
 use std::alloc::Global;
 use text_fields::channels::{accesses, channel_in, limits};

@@ -10,7 +10,7 @@ use crate::check::checked;
 use crate::fault::{FileFault, Item, Place};
 use crate::items::{ArrayReader, distinct_items};
 use crate::tables::{NUMERIC, TOP};
-use cfg_records::{NumericEffecter, NumericEffecters, NumericRange};
+use record_base::{NumericEffecter, NumericEffecters, NumericRange};
 use std::alloc::Global;
 use text_fields::numeric::{size_in, sized_in};
 use text_fields::{Checked, Field};

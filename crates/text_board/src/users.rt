@@ -10,7 +10,7 @@ ghost use Rattle.text_board.specs.Holds.{IsNameIn};
 
 use crate::fault::FileFault;
 use crate::tables::TOP;
-use cfg_records::{User, UserNumber, Users};
+use record_base::{User, UserNumber, Users};
 use std::alloc::Global;
 use text_fields::tree::members_of;
 use text_fields::users::name;

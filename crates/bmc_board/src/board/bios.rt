@@ -7,8 +7,9 @@ ghost use Rattle.bmc_board.specs.BiosTables.{values_in, table_asked, handle_in, 
 
 use crate::board::serve::value_at;
 use bios_attr::{BiosTable, CurrentValues};
-use cfg_records::{Attributes, Key, Store, byte_at};
+use cfg_records::{Key, Store, byte_at};
 use pldm_base::{Part, part};
+use record_base::Attributes;
 use two_wire::{Buffer, Code, code};
 
 /// The number of the pending table, which is no table of this controller.

@@ -6,9 +6,9 @@ ghost use Rattle.bmc_board.specs.Sensing.{compared_at, logs, after_all, after_re
 use super::serve::value_at;
 use crate::bench::{Bench, NoSensor};
 use crate::board::Board;
-use cfg_records::event_enable::SCANNING_PLACE;
 use cfg_records::mask::has;
 use cfg_records::{Key, Sensor, Store, byte_at};
+use record_base::event_enable::SCANNING_PLACE;
 use sel_log::Sel;
 use sensor_recs::{Compared, Events};
 use watch_boot::watchdog;

@@ -4,7 +4,8 @@ ghost use Rattle.std.specs.Prelude.{Ok, ◌+◌, ◌≤◌, length};
 use crate::board::Board;
 use crate::board::serve::show;
 use crate::live::LiveCommand;
-use cfg_records::{ChannelNumber, Key, Op, Store};
+use cfg_records::{Key, Op, Store};
+use record_base::ChannelNumber;
 use two_wire::{Buffer, Code, code};
 use user_chan::lan_request::{LanAnswer, LanRequest, LanShown, lan_request_in, lan_shown_in};
 

@@ -24,9 +24,9 @@ use crate::storage::{
 };
 use bios_attr::{BiosTable, Tables};
 use cfg_records::{
-    AccessStore, Answered, Asked, BoardFile, ChannelNumber, CommandReader, Key, Op, RecordKind,
-    SetChannelAccess, Store, StoredAccess, UserNumber, Value, byte_at,
+    Answered, Asked, BoardFile, CommandReader, Key, Op, RecordKind, Store, Value, byte_at,
 };
+use record_base::{AccessStore, ChannelNumber, SetChannelAccess, StoredAccess, UserNumber};
 use record_kinds::{Limits, PlainKind, Setup, of_each_plain_kind};
 use sensor_recs::taken::reading_data;
 use std::alloc::{AllocError, Global};
@@ -41,15 +41,8 @@ use watch_boot::watchdog;
 pub(super) fn unknown_code(setup: &Setup, key: &Key) -> Code
     ensures { result ≡ unknown_code setup.now key.now }
 {
-    // Each key is named, so that a new one isn't forgotten. The policy, the watchdog and the enables are on every board.
+    // The policy, the watchdog and the enables are on every board.
     match key {
-        Key::Thresholds(_)
-        | Key::Hysteresis(_)
-        | Key::EventEnable(_)
-        | Key::PowerPolicy
-        | Key::Watchdog
-        | Key::GlobalEnables
-        | Key::BootParam(_) => code::NOT_PRESENT,
         Key::NumericEffecter(_) | Key::StateEffecter(_) => code::PLDM_INVALID_EFFECTER,
         Key::BiosAttribute(_) => code::PLDM_INVALID_ATTRIBUTE,
         Key::UserName(_) | Key::UserAccess(_) => code::INVALID_DATA_FIELD,
@@ -61,6 +54,7 @@ pub(super) fn unknown_code(setup: &Setup, key: &Key) -> Code
                 code::INVALID_DATA_FIELD
             }
         }
+        _ => code::NOT_PRESENT,
     }
 }
 

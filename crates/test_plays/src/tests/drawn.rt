@@ -1,12 +1,10 @@
 //! Schedules that are drawn on buses where packets may join late ones.
 use super::text::push_lines;
-use cfg_records::{
-    Attribute, AttributeKind, Attributes, BoardFile, StringAttribute, Text, TextLengths,
-    sample_board,
-};
+use cfg_records::{BoardFile, sample_board};
 use lab_play::{Played, play};
 use lab_schedule::{Chances, Links, Wanted, make_schedule};
 use plan_file::read_plan;
+use record_base::{Attribute, AttributeKind, Attributes, StringAttribute, Text, TextLengths};
 use std::alloc::Global;
 use std::process::Abort;
 use two_wire::Below;

@@ -5,7 +5,8 @@ ghost use Rattle.record_base.specs.declared.attribute_range.AttributeRange.TheVa
 use super::{expect, expect_bytes};
 use bios_attr::AttributeLimits;
 use bios_attr::bios_attribute::attribute_in;
-use cfg_records::{AttributeRange, RecordData, RecordKind, SetBiosAttribute, TextLengths, Value};
+use cfg_records::{RecordData, RecordKind, Value};
+use record_base::{AttributeRange, SetBiosAttribute, TextLengths};
 
 /// The value of the sample board's string.
 const VALUE: [u8; 8] = [6, 0, 0x72, 0x61, 0x63, 0x6B, 0x2D, 0x31];

@@ -1,12 +1,13 @@
 //! Calls of a board, of its tables of commands, and of the kinds of record.
 use super::{expect, expect_bytes, expect_text};
 use bmc_board::{Bench, Board, Command, Lengths, NoSensor, Records, is_changing, read_request};
-use cfg_records::{
-    AccessStore, Asked, BootChange, BootFlags, BootParameter, ChannelChange, ChannelNumber,
-    EventChange, EventMasks, FieldChange, FieldChanges, Key, MaskedBits, NumericBytes, Op,
-    RecordKind, SetBiosAttribute, SetBootParam, SetChannelAccess, SetEventEnable, SetGlobalEnables,
-    SetHysteresis, SetNumericEffecter, SetPowerPolicy, SetStateEffecter, SetThresholds,
-    SetUserAccess, SetUserName, SetWatchdog, SixBits, Store, sample_board,
+use cfg_records::{Asked, Key, Op, RecordKind, Store, sample_board};
+use record_base::{
+    AccessStore, BootChange, BootFlags, BootParameter, ChannelChange, ChannelNumber, EventChange,
+    EventMasks, FieldChange, FieldChanges, MaskedBits, NumericBytes, SetBiosAttribute,
+    SetBootParam, SetChannelAccess, SetEventEnable, SetGlobalEnables, SetHysteresis,
+    SetNumericEffecter, SetPowerPolicy, SetStateEffecter, SetThresholds, SetUserAccess,
+    SetUserName, SetWatchdog, SixBits,
 };
 use record_kinds::{Limits, PlainKind};
 use std::alloc::{AllocError, Global};

@@ -1,6 +1,7 @@
 //! Strings of up to 1,024 bytes, over PLDM.
 use super::{expect, expect_told};
-use cfg_records::{Asked, Key, Op, SetBiosAttribute};
+use cfg_records::{Asked, Key, Op};
+use record_base::SetBiosAttribute;
 use record_kinds::Limits;
 use two_wire::Below;
 

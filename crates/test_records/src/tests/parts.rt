@@ -1,10 +1,11 @@
 //! Parts of boards, made by their calls: effecters, what users may do, attributes and sensor data records.
 use super::{expect, expect_bytes};
-use cfg_records::{
+use cfg_records::{Items, Key, SdrRecord};
+use record_base::{
     Attribute, AttributeKind, AttributeRange, ChannelAccess, EnumerationAttribute, Indexes,
-    IntegerAttribute, IntegerSteps, Items, Key, NumericEffecter, NumericRange, NumericSize,
-    PossibleValues, SdrRecord, StateEffecter, StateField, StringAttribute, Text, TextLengths,
-    UserAccess, UserNumber, UserOnChannel,
+    IntegerAttribute, IntegerSteps, NumericEffecter, NumericRange, NumericSize, PossibleValues,
+    StateEffecter, StateField, StringAttribute, Text, TextLengths, UserAccess, UserNumber,
+    UserOnChannel,
 };
 use std::alloc::Global;
 use std::process::Abort;

@@ -4,11 +4,14 @@ ghost use Rattle.record_base.specs.Keys.{is_length};
 
 use super::{expect, expect_bytes, expect_text};
 use cfg_records::{
-    Answered, Asked, BootFlags, BootOptions, BootParameter, EventEnable, EventMasks, Hysteresis,
-    Key, Live, NoKey, PlainStore, Sensor, Sensors, StartValue, Store, StoreFault, ThresholdMasks,
-    Thresholds, sample_board,
+    Answered, Asked, Key, Live, NoKey, PlainStore, Sensor, Sensors, StartValue, Store, StoreFault,
+    sample_board,
 };
 use packed_store::PackedStore;
+use record_base::{
+    BootFlags, BootOptions, BootParameter, EventEnable, EventMasks, Hysteresis, ThresholdMasks,
+    Thresholds,
+};
 use std::alloc::{AllocError, Global};
 use std::process::Abort;
 use two_wire::{Below, Bytes, Lun, NetFn, code};

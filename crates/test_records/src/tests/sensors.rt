@@ -2,10 +2,8 @@
 ghost use Rattle.std.specs.Prelude.{◌≡◌, ◌<◌};
 
 use super::{expect, expect_bytes};
-use cfg_records::{
-    EventMasks, Hysteresis, Live, RecordData, RecordKind, SetHysteresis, SetThresholds,
-    ThresholdMasks, Value,
-};
+use cfg_records::{Live, RecordData, RecordKind, Value};
+use record_base::{EventMasks, Hysteresis, SetHysteresis, SetThresholds, ThresholdMasks};
 use sensor_recs::{Compared, Event, HysteresisLimits, ThresholdLimits};
 use std::process::Abort;
 use two_wire::code::INVALID_DATA_FIELD;

@@ -2,7 +2,7 @@
 use super::attribute::asset;
 use super::{expect, expect_bytes, expect_told};
 use attribute_parts::{Entry, SetPart, Stagings, part_in};
-use cfg_records::TextLengths;
+use record_base::TextLengths;
 use std::alloc::Global;
 use std::process::Abort;
 use two_wire::code::{PLDM_INVALID_DATA, PLDM_INVALID_LENGTH};

@@ -1,8 +1,8 @@
 //! Values that a board's records can have.
 use super::{expect, expect_bytes};
-use cfg_records::{
-    Bcd, EventEnable, EventMasks, GlobalEnables, ManufacturerId, PowerPolicy, ThresholdMasks,
-    Thresholds, Watchdog,
+use cfg_records::{Bcd, ManufacturerId};
+use record_base::{
+    EventEnable, EventMasks, GlobalEnables, PowerPolicy, ThresholdMasks, Thresholds, Watchdog,
 };
 
 #[test]

@@ -2,9 +2,8 @@
 ghost use Rattle.std.specs.Prelude.{◌≤◌};
 
 use super::{expect, expect_bytes};
-use cfg_records::{
-    Asked, Live, RecordData, RecordKind, SetPowerPolicy, SetWatchdog, Value, there_and_back,
-};
+use cfg_records::{Asked, Live, RecordData, RecordKind, Value, there_and_back};
+use record_base::{SetPowerPolicy, SetWatchdog};
 use std::process::Abort;
 use two_wire::{Below, NetFn};
 use watch_boot::watchdog::live_after_reset;
