@@ -77,7 +77,8 @@ impl<S: Store> Board<S> {
 
     /// A tenth of a second passes.
     fn tick(&mut self)
-        ensures left { self.new.activity ≡ after_tick (S.records self.old.store) self.old.activity }
+        ensures left { self.new.activity
+            ≡ after_tick (S.records self.old.store) self.old.activity }
         ensures records { S.records self.new.store ≡ S.records self.old.store }
         ensures setup { self.new.setup ≡ self.old.setup }
     {

@@ -95,7 +95,8 @@ fn outdate(kept: &mut Kept)
     }
 }
 
-/// Of two places, the one where this operation's new value is made: that of the bus over which its command comes.
+/// Of two places, the one where this operation's new value is made: that of the bus over which its command comes. Either is right, and no clause says
+/// which: what lies there is overwritten before it's read, and means nothing once the record has the value. The choice keeps threads apart (`Board`).
 #[inline(always)]
 fn place_for<'a>(op: &Op<'_>, over_ipmi: &'a mut Value, over_pldm: &'a mut Value) -> &'a mut Value {
     match op {
@@ -123,7 +124,6 @@ impl<S: Store> Board<S> {
     ghost use Rattle.bmc_board.specs.declared.board.Kept.TheVariants as kept;
     ghost use Rattle.bios_attr.specs.declared.bios_table.BiosTable.TheVariants as bios_table;
     ghost use Rattle.bmc_board.specs.BiosTables.{values_in, table_bytes, asked_part, table_answer, longest_part};
-    ghost use Rattle.bmc_board.specs.Room.{longest_reply};
     ghost use Rattle.bmc_board.specs.Row.{Row};
     ghost use Rattle.bmc_board.specs.Request as request;
     ghost use Rattle.bmc_board.specs.Request.{asked_of, asked_by};
@@ -343,7 +343,7 @@ impl<S: Store> Board<S> {
 
     /// Appends what a Get of the key's record replies.
     pub(super) fn get<B: Buffer>(&self, key: &Key, to: &mut B) -> Result<(), Code>
-        requires room { length (B.bytes to.old) + longest_reply (request.Get key.now) ≤ B.capacity }
+        requires room { Fits (Ok (request.Get key.now)) (B.bytes to.old) B.capacity }
         ensures { Gives result (B.bytes to.old) (B.bytes to.new)
             (serve_by S.records self.now (request.Get key.now)).0 }
     {
@@ -359,7 +359,7 @@ impl<S: Store> Board<S> {
     /// Carries out the operation, where its record takes it, and appends what the Set replies.
     #[inline(always)]
     pub(super) fn set<B: Buffer>(&mut self, op: &Op<'_>, to: &mut B) -> Result<(), Code>
-        requires room { length (B.bytes to.old) + longest_reply (request.Set op.now) ≤ B.capacity }
+        requires room { Fits (Ok (request.Set op.now)) (B.bytes to.old) B.capacity }
         ensures { Serves S.records self.old self.new (Ok (request.Set op.now))
             result (B.bytes to.old) (B.bytes to.new) }
     {
