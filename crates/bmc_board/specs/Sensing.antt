@@ -96,14 +96,6 @@ abbrev pub bench_of : BoardFile → State → Bench → Result (Unit {0}) NoSens
 bench_of setup before event =
     let (answer, after) = happens setup before.records before.activity event in (answer, state before.records after)
 
--- what isn't configuration, once the sensor of this number gave a reading: as it was where no sensor has the number
-abbrev pub scan : BoardFile → (sensor reading : ℕ) → State → Activity
-scan setup sensor reading before = (bench_of setup before (Reading sensor reading)).1.activity
-
--- what isn't configuration, a tenth of a second later
-abbrev pub tick : State → Activity
-tick before = after_tick before.records before.activity
-
 -- the event is a reading of a sensor that isn't there
 abbrev pub NamesNoSensor : BoardFile → Bench → Type 0
 NamesNoSensor setup (Reading number reading) = sensor_at setup.sensors.items number ≡ None

@@ -60,12 +60,8 @@ module _ (file : BoardFile) where
   happens_by (event.Calls call) x tag = ap (λ (o : ℕ → ℕ). o tag) (call_same (called plans _ x.manager) x)
   happens_by (event.ToBmc number) x tag = delivered_by (slice_get x.frames number) x tag
   happens_by (event.ToMgr number) x tag = ap (λ (o : ℕ → ℕ). o tag) (returned_same (slice_get x.frames number) x)
-  happens_by (event.OtherIpmb r) x tag = refl
-  happens_by (event.OtherSmbus m) x tag = refl
-  happens_by (event.Noise on bytes) x tag = refl
   happens_by (event.Idle on requester) x tag = ap (λ (o : ℕ → ℕ). o tag) (port_same on (idles requester (port_on plans on x)) x)
-  happens_by (event.Scan sensor reading) x tag = refl
-  happens_by event.Tick x tag = refl
+  happens_by _ x tag = refl
 
 -- ---- a table
 

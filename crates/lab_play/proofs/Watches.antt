@@ -55,15 +55,8 @@ module _ (file : BoardFile) (lab : Lab) (x : LabModel plans) (shows : Shows file
   frame_keeps (Some f) none = value_keeps f.request f.value none
 
   event_keeps : (e : Event) → part_at x e ≡ None → KeepsPremise file x e
-  event_keeps (event.Calls call) none = tt
   event_keeps (event.ToBmc number) none = frame_keeps (slice_get x.frames number) none
-  event_keeps (event.ToMgr number) none = tt
-  event_keeps (event.OtherIpmb r) none = tt
-  event_keeps (event.OtherSmbus m) none = tt
-  event_keeps (event.Noise on bytes) none = tt
-  event_keeps (event.Idle on requester) none = tt
-  event_keeps (event.Scan sensor reading) none = tt
-  event_keeps event.Tick none = tt
+  event_keeps _ none = tt
 
   same_still : (o : Option ℕ) (place : ℕ) (Keeps : Type 0) → Keeps → TellsNext o o place Keeps
   same_still None place Keeps keeps = keeps
@@ -121,15 +114,8 @@ module _ (file : BoardFile) (lab : Lab) (x : LabModel plans) (shows : Shows file
     frame_told number (Some f) at low there took_is = value_told f (frame_sent lab.frames x.frames number f shows.frames at) f.value refl low there took_is
 
     event_told : (e : Event) → part.tag < 8 → part_at x e ≡ Some part → taken ≡ took_by (done_at x e) → TellsNext old.broken (broken_at old part begun taken place) place (KeepsPremise file x e)
-    event_told (event.Calls call) low there took_is = absurd (none-some part there)
     event_told (event.ToBmc number) low there took_is = frame_told number (slice_get x.frames number) refl low there took_is
-    event_told (event.ToMgr number) low there took_is = absurd (none-some part there)
-    event_told (event.OtherIpmb r) low there took_is = absurd (none-some part there)
-    event_told (event.OtherSmbus m) low there took_is = absurd (none-some part there)
-    event_told (event.Noise on bytes) low there took_is = absurd (none-some part there)
-    event_told (event.Idle on requester) low there took_is = absurd (none-some part there)
-    event_told (event.Scan sensor reading) low there took_is = absurd (none-some part there)
-    event_told event.Tick low there took_is = absurd (none-some part there)
+    event_told _ low there took_is = absurd (none-some part there)
 
   pub a_packet : (e : Event) (place : ℕ) (part : ManagerPart) (begun : ℕ) (taken : Bool) (new : Watch) → part.tag < 8 → part_at x e ≡ Some part → begun ≡ begun_on plans.words Smbus x.manager.machine
       → taken ≡ took_by (done_at x e) → new.opened ≡ opened_in part old.opened → new.broken ≡ broken_at old part begun taken place

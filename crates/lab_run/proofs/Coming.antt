@@ -29,16 +29,9 @@ module _ (file : BoardFile) (old new : Lab) (x : LabModel plans) (shows : Shows 
       let no : Some NoFrame ≡ None = sym (ap (λ (o : Option LabFrame). first_of (delivery plans ToPort x o)) is) ∙ none in cc no
 
   pub done_is : (e : Event) → fault_at file x e ≡ None → Did e old new → done_in e new ≡ done_at x e
-  done_is (event.Calls call) none did = refl
   done_is (event.ToBmc number) none did =
       done_of_frame number (slice_get x.frames number) refl none did
-  done_is (event.ToMgr number) none did = refl
-  done_is (event.OtherIpmb request) none did = refl
-  done_is (event.OtherSmbus message) none did = refl
-  done_is (event.Noise on bytes) none did = refl
-  done_is (event.Idle on requester) none did = refl
-  done_is (event.Scan sensor reading) none did = refl
-  done_is event.Tick none did = refl
+  done_is _ none did = refl
 
 -- ---- the bus of a frame that is sent
 

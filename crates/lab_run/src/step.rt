@@ -5,13 +5,14 @@ ghost use Rattle.model_lab.specs.Played.{fault_at, happens};
 ghost use Rattle.lab_run.specs.Shown.{ForShown, Becomes, Steps, CanCountOn, idles_in};
 ghost use Rattle.lab_run.specs.Hearing.{Did};
 ghost use Rattle.bmc_board.specs.Sensing.{bench_of};
+ghost use Rattle.model_lab.specs.Meaning.{on_board};
 
 use crate::lab_state::Lab;
 use crate::others::{idle_fault, message_fault, noise_fault, request_fault};
 use bmc_board::Bench;
 use model_lab::{Fault, Way};
 use std::alloc::AllocError;
-use text_schedule::Event;
+use text_schedule::{BenchEvent, Event};
 
 /// Why a lab doesn't take an event.
 #[derive(Clone, Copy, Debug, PartialEq, Eq)]
@@ -20,6 +21,19 @@ pub enum Refused {
     Memory,
     /// The event has this fault.
     Fault(Fault),
+}
+
+/// What an event on the bench is to the board.
+fn on_board(event: BenchEvent) -> Bench
+    ensures { result ≡ on_board event }
+{
+    match event {
+        BenchEvent::Scan { sensor, reading } => Bench::Reading {
+            sensor,
+            raw: reading,
+        },
+        BenchEvent::Tick => Bench::Tick,
+    }
 }
 
 impl Lab {
@@ -44,7 +58,7 @@ impl Lab {
             Event::Idle(on, requester) => {
                 idle_fault(&self.names, *on, *requester, self.manager.open_bus())
             }
-            Event::Scan { .. } | Event::Tick => None,
+            Event::OnBench(_) => None,
         }
     }
 
@@ -75,11 +89,7 @@ impl Lab {
             Event::OtherSmbus(message) => return self.other_message(message),
             Event::Noise(on, bytes) => return self.noise(*on, bytes.as_slice()),
             Event::Idle(on, requester) => self.idle(*on, *requester),
-            Event::Scan { sensor, reading } => self.bench(Bench::Reading {
-                sensor: *sensor,
-                raw: *reading,
-            }),
-            Event::Tick => self.bench(Bench::Tick),
+            Event::OnBench(happened) => self.bench(on_board(*happened)),
         }
         Ok(())
     }

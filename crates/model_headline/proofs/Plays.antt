@@ -62,14 +62,7 @@ module _ (file : BoardFile) where
 
   stops_here : (before : State) (e : Event) → event_of lab_names file before e ≡ lab.Calls called.Stop → e ≡ event.Calls called.Stop
   stops_here before (event.Calls call) is = (let same : call ≡ called.Stop = cc is in ap event.Calls same)
-  stops_here before (event.ToBmc number) is = absurd cc
-  stops_here before (event.ToMgr number) is = absurd cc
-  stops_here before (event.OtherIpmb r) is = absurd cc
-  stops_here before (event.OtherSmbus m) is = absurd cc
-  stops_here before (event.Noise on bytes) is = absurd cc
-  stops_here before (event.Idle on requester) is = absurd cc
-  stops_here before (event.Scan sensor reading) is = absurd cc
-  stops_here before event.Tick is = absurd cc
+  stops_here before _ is = absurd cc
 
   stop_from : (es : List Event) (x : Lab plans) → In (lab.Calls called.Stop) (events_from es x) → In (event.Calls called.Stop) es
   stop_from [] x is = absurd is

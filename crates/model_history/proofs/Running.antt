@@ -9,7 +9,6 @@ use Rattle.two_wire.specs.declared.Bus.TheVariants.{Ipmb, Smbus}
 use Rattle.cfg_records.specs.declared.board_file.BoardFile.{BoardFile}
 use Rattle.bmc_board.specs.declared.activity.Activity.{Activity}
 use Rattle.bmc_board.specs.declared.bench.Bench.{Bench}
-use Rattle.bmc_board.specs.declared.bench.Bench.TheVariants as bench
 use Rattle.bmc_board.specs.State.{on_bench as left_by_bench}
 use Rattle.bmc_board.specs.Sensing.{bench_of}
 use Rattle.bmc_board.proofs.SensingFacts.{benched_so as bench_leaves}
@@ -22,7 +21,7 @@ use Rattle.model_lab.specs.declared.way.Way.{Way}
 use Rattle.model_lab.specs.declared.way.Way.TheVariants.{ToManager, ToOthers}
 use Rattle.model_lab.specs.ManagerSteps.{ManagerDeed, Sent, called, manager_hears}
 use Rattle.model_lab.specs.Lab.{LabFrame, Lab, port_on, with_port, sends, manager_does, call_does, port_does, opens, delivered, returned, step}
-use Rattle.model_lab.specs.Meaning.{lab_names, request_of, message_of}
+use Rattle.model_lab.specs.Meaning.{lab_names, request_of, message_of, on_board}
 use Rattle.model_lab.specs.Played.{plans, happens, after}
 use Rattle.bmc_history.specs.declared.event.Call.{Call}
 use Rattle.bmc_history.specs.declared.event.Event.{Event as BoardEvent}
@@ -162,8 +161,7 @@ module _ (file : BoardFile) where
       ported (event.OtherSmbus m) Smbus ToOthers 0 (hears_all file x.smbus x.board message) x x refl refl refl (did_all file x.smbus x.board message)
   stepped (event.Noise on bytes) x = quiet (event.Noise on bytes) x x refl (leaves_all x)
   stepped (event.Idle on requester) x = quiet (event.Idle on requester) x (with_port plans on (idles requester (port_on plans on x)) x) refl (forgets on requester x)
-  stepped (event.Scan sensor reading) x = benched_so (event.Scan sensor reading) x (bench.Reading sensor reading) refl
-  stepped event.Tick x = benched_so event.Tick x bench.Tick refl
+  stepped (event.OnBench happened) x = benched_so (event.OnBench happened) x (on_board happened) refl
 
   pub has_history : (events : List Event) (x : Lab plans) → HasHistory file events x
   has_history [] x = record { history = []; is = refl; replays = refl; ipmb = carries_none x.ipmb.log; smbus = carries_none x.smbus.log }

@@ -6,7 +6,6 @@ use Rattle.record_base.specs.declared.message.Asked.TheVariants.{Ipmi, Pldm}
 use Rattle.record_base.specs.declared.message.Answered.{Answered}
 use Rattle.cfg_records.specs.declared.board_file.BoardFile.{BoardFile}
 use Rattle.bmc_board.specs.declared.bench.Bench.{Bench}
-use Rattle.bmc_board.specs.declared.bench.Bench.TheVariants as bench
 use Rattle.bmc_board.specs.Decode.{sent_by}
 use Rattle.bmc_board.specs.State.{State}
 use Rattle.bmc_board.specs.Sensing.{bench_of}
@@ -14,8 +13,9 @@ use Rattle.model_bus.specs.Bytes.{ipmb_request, pldm_request}
 use Rattle.model_bus.specs.Request.{Kept, Entry, Carried, Idled}
 use Rattle.model_ports.specs.Wires.{bus_of, reply_to, family_answer}
 use Rattle.text_schedule.specs.declared.event.Event.{Event}
-use Rattle.text_schedule.specs.declared.event.Event.TheVariants.{Scan, Tick}
+use Rattle.text_schedule.specs.declared.event.Event.TheVariants.{OnBench}
 use Rattle.model_lab.specs.Lab.{Lab}
+use Rattle.model_lab.specs.Meaning.{on_board}
 use Rattle.model_lab.specs.Played.{plans, happens, after}
 use Rattle.bmc_history.specs.declared.event.Call.{Call}
 use Rattle.bmc_history.specs.declared.event.Call.TheVariants.{Exchanged, Benched}
@@ -59,8 +59,7 @@ benched file before happened = Benched happened (bench_of file before happened).
 
 -- what an event of a schedule has happen on the bench
 abbrev pub on_bench : BoardFile → State → Event → List Call
-on_bench file before (Scan sensor reading) = benched file before (bench.Reading sensor reading) ∷ []
-on_bench file before Tick = benched file before bench.Tick ∷ []
+on_bench file before (OnBench happened) = benched file before (on_board happened) ∷ []
 on_bench file before _ = []
 
 -- ---- the history

@@ -4,11 +4,15 @@ use Rattle.ipmb_frame.specs.declared.message.Request.{Request}
 use Rattle.mctp_net.specs.declared.message.Message.{Message}
 use Rattle.cfg_records.specs.declared.board_file.BoardFile.{BoardFile}
 use Rattle.bmc_board.specs.State.{State}
-use Rattle.bmc_board.specs.Sensing.{scan, tick}
+use Rattle.bmc_board.specs.Sensing.{bench_of}
+use Rattle.bmc_board.specs.declared.bench.Bench.{Bench}
+use Rattle.bmc_board.specs.declared.bench.Bench.TheVariants as bench
 use Rattle.model_ports.specs.Places.{controller_wire, controller_eid}
 use Rattle.undo_plans.specs.declared.names.Names.{Names}
 use Rattle.text_schedule.specs.declared.event.OtherRequest.{OtherRequest}
 use Rattle.text_schedule.specs.declared.event.OtherMessage.{OtherMessage}
+use Rattle.text_schedule.specs.declared.event.BenchEvent.{BenchEvent}
+use Rattle.text_schedule.specs.declared.event.BenchEvent.TheVariants.{Scan, Tick}
 use Rattle.text_schedule.specs.declared.event.Event.{Event}
 use Rattle.text_schedule.specs.declared.event.Event.TheVariants as event
 use Rattle.model_lab.specs.Lab.{Event as LabEvent, Calls, ToBmc, ToMgr, OtherIpmb, OtherSmbus, Noise, Idles, OnBench}
@@ -55,6 +59,11 @@ message_of names message = record {
   body = message.body;
 }
 
+-- what an event on the bench is to the controller's board
+abbrev pub on_board : BenchEvent → Bench
+on_board (Scan sensor reading) = bench.Reading sensor reading
+on_board Tick = bench.Tick
+
 -- the event of the lab's model, where the board of this file is in this state
 abbrev pub event_of : Names → BoardFile → State → Event → LabEvent
 event_of names file before (event.Calls call) = Calls call
@@ -64,5 +73,4 @@ event_of names file before (event.OtherIpmb request) = OtherIpmb (request_of nam
 event_of names file before (event.OtherSmbus message) = OtherSmbus (message_of names message)
 event_of names file before (event.Noise on bytes) = Noise on bytes
 event_of names file before (event.Idle on requester) = Idles on requester
-event_of names file before (event.Scan sensor reading) = OnBench (scan file sensor reading before)
-event_of names file before event.Tick = OnBench (tick before)
+event_of names file before (event.OnBench happened) = OnBench (bench_of file before (on_board happened)).1.activity

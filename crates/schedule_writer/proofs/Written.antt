@@ -1,5 +1,5 @@
 -- What is written of an event says it.
-use Rattle.std.proofs.Common.{◌≡◌, ◌≢◌, ℕ, zero, suc, ◌<◌, ◌≤◌, ◌%◌, ◌^◌, ◌==◌, inl, inr, Bool, true, false, cond, List, [], ◌∷◌, ◌++◌, length, take, get_or, arith, refl, sym, ◌∙◌, ap, subst, Ok, codes, not, append_assoc}
+use Rattle.std.proofs.Common.{◌≡◌, ◌≢◌, ℕ, zero, suc, ◌<◌, ◌≤◌, ◌%◌, ◌^◌, ◌==◌, inl, inr, Bool, true, false, cond, List, [], ◌∷◌, ◌++◌, map, length, take, get_or, arith, refl, sym, ◌∙◌, ap, subst, Ok, codes, not, append_assoc}
 use Rattle.std.specs.Prelude.{nat_lt}
 use Rattle.std.specs.List.{AllByRecursion, AllZip, slice_split}
 use Rattle.std.specs.Fmt.{decimal}
@@ -20,11 +20,11 @@ use Rattle.two_wire.specs.declared.Bus.TheVariants.{Ipmb, Smbus}
 use Rattle.text_schedule.specs.declared.event.OtherRequest.{OtherRequest}
 use Rattle.text_schedule.specs.declared.event.OtherMessage.{OtherMessage}
 use Rattle.text_schedule.specs.declared.event.Event.{Event}
-use Rattle.text_schedule.specs.declared.event.Event.TheVariants.{ToBmc, ToMgr, OtherIpmb, OtherSmbus, Noise, Idle, Scan}
-use Rattle.text_schedule.specs.Text.{lines_of, words_of, IsNumber, IsByte}
-use Rattle.text_schedule.specs.Line.{bus_name, most_noise, AreSome, IsRequest, Says}
-use Rattle.text_schedule.specs.Schedule.{spoken, Say}
-use Rattle.schedule_writer.specs.Written.{said, byte_digits, bytes_of, line_of, text_of, Stands}
+use Rattle.text_schedule.specs.declared.event.Event.TheVariants.{ToBmc, ToMgr, OtherIpmb, OtherSmbus}
+use Rattle.text_schedule.specs.Text.{lines_of, words_of, IsNumber}
+use Rattle.text_schedule.specs.Line.{Word, Name, Number, Digits, bus_name, bytes_of, words_for, Spells, AreSome, IsRequest, IsSound, Says}
+use Rattle.text_schedule.specs.Schedule.{is_skipped, spoken, Say}
+use Rattle.schedule_writer.specs.Written.{said, written, spaced, line_with, line_of, text_of, Stands}
 
 -- ---- where a text is cut
 
@@ -69,7 +69,7 @@ own : IsNumeralModel (AllDigits 10) (digits_value 10)
 own = numerals_by_value (AllDigits 10) tells_digits
 
 -- what has neither spaces nor line feeds
-record IsWord (word : List ℕ) : Type 0 where
+pub record IsWord (word : List ℕ) : Type 0 where
   spaces : Lacks 32 word
   feeds : Lacks 10 word
 
@@ -92,11 +92,11 @@ digits_word bytes small = let read = decode_of-encode_upper bytes small in recor
   feeds = digits_lack 10 (encode_upper bytes) bytes read (λ h. cc h);
 }
 
-bus_word : (on : Bus) → IsWord (bus_name on)
+pub bus_word : (on : Bus) → IsWord (bus_name on)
 bus_word Ipmb = record { spaces = lacks_by_test 32 (codes "ipmb") refl; feeds = lacks_by_test 10 (codes "ipmb") refl }
 bus_word Smbus = record { spaces = lacks_by_test 32 (codes "smbus") refl; feeds = lacks_by_test 10 (codes "smbus") refl }
 
-one_word : (word : List ℕ) → has 32 word ≡ false → has 10 word ≡ false → IsWord word
+pub one_word : (word : List ℕ) → has 32 word ≡ false → has 10 word ≡ false → IsWord word
 one_word word spaces feeds = record { spaces = lacks_by_test 32 word spaces; feeds = lacks_by_test 10 word feeds }
 
 -- ---- the words of a line
@@ -115,17 +115,9 @@ word_before word rest words is has_words = record {
   feeds = lacks_both 10 word (32 ∷ rest) is.feeds ((λ (e : 32 ≡ 10). cc e), has_words.feeds);
 }
 
-small_byte : (byte : ℕ) → byte < 256 → IsBytes (byte ∷ [])
+pub small_byte : (byte : ℕ) → byte < 256 → IsBytes (byte ∷ [])
 small_byte byte small zero = small
 small_byte byte small (suc i) = omega arith
-
-byte_read : (byte : ℕ) → byte < 256 → IsByte (byte_digits byte) byte
-byte_read byte small = decode_of-encode_upper (byte ∷ []) (small_byte byte small)
-
-byte_word : (byte : ℕ) → byte < 256 → IsWord (byte_digits byte)
-byte_word byte small = digits_word (byte ∷ []) (small_byte byte small)
-
--- ---- the lines
 
 number_read : (n : ℕ) → nat_lt n 1000000000 ≡ true → (n < 2 ^ 32) × IsNumber 9 (decimal n) n
 number_read n low =
@@ -133,51 +125,70 @@ number_read n low =
     let is = decimal_is_IsNumeral n (omega (arith, small)) in
     (omega (arith, small), record { decimal = is.0; few = length-decimal-le 9 n (omega arith) (omega (arith, small)) (omega (arith, small)); value = is.1 })
 
+-- ---- a line of words
+
+-- what is written of the word is read as it
+abbrev pub IsGood : Word → Type 0
+IsGood (Name name) = IsWord name
+IsGood (Number number) = nat_lt number 1000000000 ≡ true
+IsGood (Digits bytes) = IsBytes bytes
+
+good_word : (word : Word) → IsGood word → IsWord (written word)
+good_word (Name name) good = good
+good_word (Number number) good = decimal_word number (number_read number good).0
+good_word (Digits bytes) good = digits_word bytes good
+
+good_spelled : (word : Word) → IsGood word → Spells (written word) word
+good_spelled (Name name) good = refl
+good_spelled (Number number) good = (number_read number good).1
+good_spelled (Digits bytes) good = decode_of-encode_upper bytes good
+
+abbrev pub AllGood : List Word → Type 0
+AllGood words = AllByRecursion IsGood words
+
+all_spelled : (words : List Word) → AllGood words → AllZip Spells (map written words) words
+all_spelled [] all = tt
+all_spelled (word ∷ words) all = (good_spelled word all.0, all_spelled words all.1)
+
+has_all : (word : Word) (words : List Word) → IsGood word → AllGood words → HasWords (spaced word words) (map written (word ∷ words))
+has_all word [] good all = last_word (written word) (good_word word good)
+has_all word (next ∷ words) good all = word_before (written word) (spaced next words) (map written (next ∷ words)) (good_word word good) (has_all next words all.0 all.1)
+
+line_has : (words : List Word) → AllGood words → is_skipped (line_with words) ≡ false → HasWords (line_with words) (map written words)
+line_has [] all spoken = absurd cc
+line_has (word ∷ words) all spoken = has_all word words all.0 all.1
+
+-- a line of good words stands for its event
+pub stands : (event : Event) → AllGood (words_for event) → IsSound event → is_skipped (line_of event) ≡ false → Stands (line_of event) event
+stands event good sound spoken =
+    let has_words = line_has (words_for event) good spoken in
+    record {
+      says = (subst (λ (texts : List (List ℕ)). AllZip Spells texts (words_for event)) (sym has_words.are) (all_spelled (words_for event) good), sound);
+      spoken = spoken;
+      whole = has_words.feeds;
+    }
+
+-- ---- the lines
+
 pub to_bmc_stands : (n : ℕ) → nat_lt n 1000000000 ≡ true → Stands (line_of (ToBmc n)) (ToBmc n)
-to_bmc_stands n low =
-    let read = number_read n low in
-    let w = word_before (codes "to-bmc") (decimal n) (decimal n ∷ []) (one_word (codes "to-bmc") refl refl) (last_word (decimal n) (decimal_word n read.0)) in
-    record { says = (decimal n, w.are, read.1); spoken = refl; whole = w.feeds }
+to_bmc_stands n low = let e = ToBmc n in stands e (one_word _ refl refl, (low, tt)) tt refl
 
 pub to_mgr_stands : (n : ℕ) → nat_lt n 1000000000 ≡ true → Stands (line_of (ToMgr n)) (ToMgr n)
-to_mgr_stands n low =
-    let read = number_read n low in
-    let w = word_before (codes "to-mgr") (decimal n) (decimal n ∷ []) (one_word (codes "to-mgr") refl refl) (last_word (decimal n) (decimal_word n read.0)) in
-    record { says = (decimal n, w.are, read.1); spoken = refl; whole = w.feeds }
-
-other_stands : (r : OtherRequest) → r.requester.address < 256 → IsBytes (bytes_of r) → IsRequest r (bytes_of r) → Stands (line_of (OtherIpmb r)) (OtherIpmb r)
-other_stands r from small is =
-    let digits = encode_upper (bytes_of r) in
-    let address = byte_digits r.requester.address in
-    let w = word_before (codes "other") _ (codes "ipmb" ∷ address ∷ digits ∷ []) (one_word (codes "other") refl refl)
-    (word_before (codes "ipmb") _ (address ∷ digits ∷ []) (bus_word Ipmb)
-    (word_before address digits (digits ∷ []) (byte_word r.requester.address from) (last_word digits (digits_word (bytes_of r) small)))) in
-    record {
-      says = (address, digits, bytes_of r, w.are, byte_read r.requester.address from, decode_of-encode_upper (bytes_of r) small, is);
-      spoken = refl;
-      whole = w.feeds;
-    }
-
-message_stands : (m : OtherMessage) → m.from < 256 → IsBytes m.body → AreSome 256 m.body → Stands (line_of (OtherSmbus m)) (OtherSmbus m)
-message_stands m from small some =
-    let digits = encode_upper m.body in
-    let endpoint = byte_digits m.from in
-    let w = word_before (codes "other") _ (codes "smbus" ∷ endpoint ∷ digits ∷ []) (one_word (codes "other") refl refl)
-    (word_before (codes "smbus") _ (endpoint ∷ digits ∷ []) (bus_word Smbus)
-    (word_before endpoint digits (digits ∷ []) (byte_word m.from from) (last_word digits (digits_word m.body small)))) in
-    record {
-      says = (endpoint, digits, w.are, byte_read m.from from, decode_of-encode_upper m.body small, some);
-      spoken = refl;
-      whole = w.feeds;
-    }
+to_mgr_stands n low = let e = ToMgr n in stands e (one_word _ refl refl, (low, tt)) tt refl
 
 -- by what the code has of the message
 pub message_by : (m : OtherMessage) (body : List ℕ) → body ≡ m.body → m.from < 256 → IsBytes body → 0 < length body → length body ≤ 256 → Stands (line_of (OtherSmbus m)) (OtherSmbus m)
-message_by m body same from small some few = message_stands m from (subst IsBytes same small) (subst (AreSome 256) same (record { some = some; few = few }))
+message_by m body same from small some few =
+    let e = OtherSmbus m in
+    let sound : AreSome 256 m.body = subst (AreSome 256) same (record { some = some; few = few }) in
+    stands e (one_word _ refl refl, (bus_word Smbus, (small_byte m.from from, (subst IsBytes same small, tt)))) sound refl
 
 -- and of the request
 pub request_by : (r : OtherRequest) (address : ℕ) (bytes : List ℕ) → address ≡ r.requester.address → address < 256 → bytes ≡ bytes_of r → IsBytes bytes → IsRequest r (bytes_of r) → Stands (line_of (OtherIpmb r)) (OtherIpmb r)
-request_by r address bytes same small are all is = other_stands r (subst (λ (a : ℕ). a < 256) same small) (subst IsBytes are all) is
+request_by r address bytes same small are all is =
+    let e = OtherIpmb r in
+    let from : r.requester.address < 256 = subst (λ (a : ℕ). a < 256) same small in
+    stands e (one_word _ refl refl, (bus_word Ipmb, (small_byte r.requester.address from, (subst IsBytes are all, tt)))) is refl
 
 pub request_is : (r : OtherRequest) (net_fn responder lun : ℕ) (body : List ℕ) (address : ℕ)
     → net_fn ≡ r.net_fn → responder ≡ r.responder → lun ≡ r.requester.lun → body ≡ r.body → address ≡ r.requester.address
@@ -190,28 +201,6 @@ request_is r net_fn responder lun body address f p l b a even low under few plai
   few = subst (λ (bytes : List ℕ). length bytes ≤ 25) b few;
   address = subst (λ (n : ℕ). n % 2 ≡ 0) a plain;
 }
-
-pub noise_stands : (on : Bus) (bytes : List ℕ) → IsBytes bytes → AreSome most_noise bytes → Stands (line_of (Noise on bytes)) (Noise on bytes)
-noise_stands on bytes small some =
-    let digits = encode_upper bytes in
-    let w = word_before (codes "noise") _ (bus_name on ∷ digits ∷ []) (one_word (codes "noise") refl refl)
-    (word_before (bus_name on) digits (digits ∷ []) (bus_word on) (last_word digits (digits_word bytes small))) in
-    record { says = (digits, w.are, decode_of-encode_upper bytes small, some); spoken = refl; whole = w.feeds }
-
-pub idle_stands : (on : Bus) (requester : ℕ) → requester < 256 → Stands (line_of (Idle on requester)) (Idle on requester)
-idle_stands on requester small =
-    let digits = byte_digits requester in
-    let w = word_before (codes "idle") _ (bus_name on ∷ digits ∷ []) (one_word (codes "idle") refl refl)
-    (word_before (bus_name on) digits (digits ∷ []) (bus_word on) (last_word digits (byte_word requester small))) in
-    record { says = (digits, w.are, byte_read requester small); spoken = refl; whole = w.feeds }
-
-pub scan_stands : (sensor reading : ℕ) → sensor < 256 → reading < 256 → Stands (line_of (Scan sensor reading)) (Scan sensor reading)
-scan_stands sensor reading one two =
-    let first = byte_digits sensor in
-    let second = byte_digits reading in
-    let w = word_before (codes "scan") _ (first ∷ second ∷ []) (one_word (codes "scan") refl refl)
-    (word_before first second (second ∷ []) (byte_word sensor one) (last_word second (byte_word reading two))) in
-    record { says = (first, second, w.are, byte_read sensor one, byte_read reading two); spoken = refl; whole = w.feeds }
 
 -- ---- the text
 

@@ -5,12 +5,12 @@ ghost use Rattle.hex.specs.Hex.{IsBytes, encode_upper};
 ghost use Rattle.text_lines.specs.Cuts.{ended};
 ghost use Rattle.text_schedule.specs.Text.{lines_of};
 ghost use Rattle.two_wire.specs.Sizes.{most_ipmi_request_data};
-ghost use Rattle.text_schedule.specs.Line.{AreSome, IsRequest, most_noise, call_name, bus_name};
+ghost use Rattle.text_schedule.specs.Line.{AreSome, IsRequest, bytes_of, most_noise};
 ghost use Rattle.text_schedule.specs.Schedule.{Say};
-ghost use Rattle.schedule_writer.specs.Written.{Stands, byte_digits, bytes_of, has_line, line_of, text_of};
+ghost use Rattle.schedule_writer.specs.Written.{Stands, byte_digits, has_line, line_of, text_of};
 
 use std::alloc::{AllocError, Global};
-use text_schedule::{Call, Event, OtherMessage, OtherRequest};
+use text_schedule::{BenchEvent, Event, OtherMessage, OtherRequest, bus_name};
 use two_wire::size::MOST_IPMI_REQUEST_DATA;
 use two_wire::{Bus, Bytes};
 
@@ -19,29 +19,6 @@ const NUMBERS_END: u32 = 1_000_000_000;
 
 /// The most bytes of a request without addresses and check bytes: two bytes of numbers, the command and the data.
 const MOST_REQUEST: usize = MOST_IPMI_REQUEST_DATA + 3;
-
-/// The call's name in a schedule.
-fn call_word(call: Call) -> &'static str
-    ensures { result.now ≡ call_name call }
-{
-    match call {
-        Call::Start => "start",
-        Call::Quiet => "quiet",
-        Call::Stop => "stop",
-        Call::Again => "again",
-        Call::Undo => "undo",
-    }
-}
-
-/// The bus's name in a schedule.
-fn bus_word(bus: Bus) -> &'static str
-    ensures { result.now ≡ bus_name bus }
-{
-    match bus {
-        Bus::Ipmb => "ipmb",
-        Bus::Smbus => "smbus",
-    }
-}
 
 /// Whether a line can say the event: the number of a frame has at most nine digits.
 pub fn has_line(event: &Event) -> bool
@@ -128,7 +105,7 @@ fn push_noise(alloc: Global, text: &mut String, on: Bus, bytes: &[u8]) -> Result
         ≡ string_bytes text.old ++ ended (line_of (Event.Noise on bytes.now))) }
     ensures stands { Stands (line_of (Event.Noise on bytes.now)) (Event.Noise on bytes.now) }
 {
-    let bus = bus_word(on);
+    let bus = bus_name(on);
     let digits = digits_of(alloc, bytes)?;
     writeln!(text, "noise {bus} {digits}")
 }
@@ -139,7 +116,7 @@ fn push_idle(alloc: Global, text: &mut String, on: Bus, requester: u8) -> Result
         ≡ string_bytes text.old ++ ended (line_of (Event.Idle on requester))) }
     ensures stands { Stands (line_of (Event.Idle on requester)) (Event.Idle on requester) }
 {
-    let bus = bus_word(on);
+    let bus = bus_name(on);
     let from = byte_digits(alloc, requester)?;
     writeln!(text, "idle {bus} {from}")
 }
@@ -147,8 +124,9 @@ fn push_idle(alloc: Global, text: &mut String, on: Bus, requester: u8) -> Result
 /// Adds the line of a reading.
 fn push_scan(alloc: Global, text: &mut String, sensor: u8, reading: u8) -> Result<(), AllocError>
     ensures text { OnOk result (string_bytes text.new
-        ≡ string_bytes text.old ++ ended (line_of (Event.Scan sensor reading))) }
-    ensures stands { Stands (line_of (Event.Scan sensor reading)) (Event.Scan sensor reading) }
+        ≡ string_bytes text.old ++ ended (line_of (Event.OnBench (BenchEvent.Scan sensor reading)))) }
+    ensures stands { Stands (line_of (Event.OnBench (BenchEvent.Scan sensor reading)))
+        (Event.OnBench (BenchEvent.Scan sensor reading)) }
 {
     let sensor = byte_digits(alloc, sensor)?;
     let reading = byte_digits(alloc, reading)?;
@@ -162,18 +140,19 @@ pub fn push_event(alloc: Global, text: &mut String, event: &Event) -> Result<(),
     ensures stands { has_line event.now ≡ true → Stands (line_of event.now) event.now }
 {
     match event {
-        Event::Calls(call) => {
-            let call = call_word(*call);
-            writeln!(text, "{call}")
-        }
         Event::ToBmc(number) => writeln!(text, "to-bmc {number}"),
         Event::ToMgr(number) => writeln!(text, "to-mgr {number}"),
         Event::OtherIpmb(request) => push_request(alloc, text, request),
         Event::OtherSmbus(message) => push_message(alloc, text, message),
         Event::Noise(on, bytes) => push_noise(alloc, text, *on, bytes.as_slice()),
         Event::Idle(on, requester) => push_idle(alloc, text, *on, *requester),
-        Event::Scan { sensor, reading } => push_scan(alloc, text, *sensor, *reading),
-        Event::Tick => text.push_str("tick\n"),
+        Event::OnBench(BenchEvent::Scan { sensor, reading }) => {
+            push_scan(alloc, text, *sensor, *reading)
+        }
+        _ => {
+            let name = event.name();
+            writeln!(text, "{name}")
+        }
     }
 }
 

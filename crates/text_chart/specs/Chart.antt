@@ -5,10 +5,9 @@ use Rattle.std.specs.Fmt.{decimal}
 use Rattle.text_lines.specs.Cuts.{ended}
 use Rattle.two_wire.specs.declared.Bus.{Bus}
 use Rattle.two_wire.specs.declared.Bus.TheVariants.{Ipmb, Smbus}
-use Rattle.text_schedule.specs.declared.event.Call.{Call}
-use Rattle.text_schedule.specs.declared.event.Call.TheVariants as call
 use Rattle.text_schedule.specs.declared.event.Event.{Event}
 use Rattle.text_schedule.specs.declared.event.Event.TheVariants as event
+use Rattle.text_schedule.specs.Line.{call_name, event_name}
 use Rattle.bmc_core.specs.declared.out.Done.{Done}
 use Rattle.bmc_core.specs.declared.out.Done.TheVariants as done
 use Rattle.model_undo.specs.PhaseNames.{phase_name}
@@ -21,16 +20,9 @@ use Rattle.text_chart.specs.Arrivals.{came_at, lost_from}
 
 -- ---- the manager's column
 
-abbrev pub call_word : Call → List ℕ
-call_word call.Start = codes "start"
-call_word call.Quiet = codes "quiet"
-call_word call.Stop = codes "stop"
-call_word call.Again = codes "again"
-call_word call.Undo = codes "undo"
-
 -- the call, where the manager is called
 abbrev pub call_cell : Event → List ℕ
-call_cell (event.Calls call) = call_word call
+call_cell (event.Calls call) = call_name call
 call_cell _ = []
 
 -- ---- the bus's columns
@@ -53,17 +45,14 @@ came_cell to number None copy = []
 came_cell to number (Some came) copy =
     arrow to came.on ++ (decimal number ++ (word_if came.late (codes " late") ++ word_if copy (codes " copy")))
 
--- what comes, after what came at these events
+-- what comes, after what came at these events: a frame, and else the event's first word in a schedule
 abbrev pub comes_cell : List Note → Option Came → Event → List ℕ
 comes_cell earlier came (event.Calls call) = []
 comes_cell earlier came (event.ToBmc number) = came_cell Controller number came (came_at earlier number)
 comes_cell earlier came (event.ToMgr number) = came_cell Manager number came (came_at earlier number)
 comes_cell earlier came (event.OtherIpmb request) = codes "->other"
 comes_cell earlier came (event.OtherSmbus message) = codes "=>other"
-comes_cell earlier came (event.Noise on bytes) = codes "noise"
-comes_cell earlier came (event.Idle on requester) = codes "idle"
-comes_cell earlier came (event.Scan sensor reading) = codes "scan"
-comes_cell earlier came event.Tick = codes "tick"
+comes_cell earlier came other = event_name other
 
 -- the frames behind the first of so many
 abbrev pub more_text : ℕ → List ℕ

@@ -1,6 +1,6 @@
 //! What the columns of an event hold.
 ghost use Rattle.std.specs.Prelude.{◌≡◌, ◌++◌, ◌-◌, List, OnOk, IfOk, string_bytes};
-ghost use Rattle.text_chart.specs.Chart.{call_word, call_cell, arrow, word_if, came_cell, comes_cell, more_text, lost_text, sent_cell, sends_cell, done_word, done_cell};
+ghost use Rattle.text_chart.specs.Chart.{call_cell, arrow, word_if, came_cell, comes_cell, more_text, lost_text, sent_cell, sends_cell, done_word, done_cell};
 ghost use Rattle.lab_run.specs.declared.note.Note.{Note as AnyNote};
 ghost use Rattle.text_chart.specs.Arrivals.{Holds};
 
@@ -8,28 +8,15 @@ use crate::arrivals::Arrivals;
 use bmc_core::Done;
 use lab_run::{Came, Note};
 use std::alloc::{AllocError, Global};
-use text_schedule::{Call, Event};
+use text_schedule::{Event, call_name};
 use two_wire::Bus;
-
-/// A call's word.
-fn call_word(call: Call) -> &'static str
-    ensures { result.now ≡ call_word call }
-{
-    match call {
-        Call::Start => "start",
-        Call::Quiet => "quiet",
-        Call::Stop => "stop",
-        Call::Again => "again",
-        Call::Undo => "undo",
-    }
-}
 
 /// The call, where the manager is called.
 pub(crate) fn call_cell(event: &Event) -> &'static str
     ensures { result.now ≡ call_cell event.now }
 {
     match event {
-        Event::Calls(call) => call_word(*call),
+        Event::Calls(call) => call_name(*call),
         _ => "",
     }
 }
@@ -103,10 +90,7 @@ pub(crate) fn comes_cell(
         Event::Calls(_) => "",
         Event::OtherIpmb(_) => "->other",
         Event::OtherSmbus(_) => "=>other",
-        Event::Noise(..) => "noise",
-        Event::Idle(..) => "idle",
-        Event::Scan { .. } => "scan",
-        Event::Tick => "tick",
+        other => other.name(),
     };
     String::from_str(alloc, word)
 }

@@ -1,5 +1,9 @@
 //! What happens in a lab.
+ghost use Rattle.std.specs.Prelude.{◌≡◌};
+ghost use Rattle.text_schedule.specs.Line.{event_name};
+
 use crate::octets::Octets;
+use crate::words::call_name;
 use ipmb_frame::{Party, Sequence};
 use two_wire::size::{MOST_FRAME_BYTES, MOST_IPMI_REQUEST_DATA, MOST_MESSAGE_BYTES};
 use two_wire::{Bus, Bytes, Lun, NetFn};
@@ -40,6 +44,15 @@ pub struct OtherMessage {
     pub body: Octets<{ MOST_MESSAGE_BYTES }>,
 }
 
+/// What happens on the bench: on the controller's board, beside requests.
+#[derive(Clone, Copy, Debug, PartialEq, Eq)]
+pub enum BenchEvent {
+    /// A sensor's reading is taken.
+    Scan { sensor: u8, reading: u8 },
+    /// A tenth of a second goes by.
+    Tick,
+}
+
 /// What can happen.
 #[derive(Debug, Drop)]
 pub enum Event {
@@ -57,8 +70,24 @@ pub enum Event {
     Noise(Bus, Octets<{ MOST_NOISE }>),
     /// The controller's port forgets the window of this requester.
     Idle(Bus, u8),
-    /// A sensor's reading is taken.
-    Scan { sensor: u8, reading: u8 },
-    /// A tenth of a second goes by.
-    Tick,
+    /// This happens on the bench.
+    OnBench(BenchEvent),
+}
+
+impl Event {
+    /// The first word of the line that says it.
+    pub fn name(&self) -> &'static str
+        ensures { result.now ≡ event_name self.now }
+    {
+        match self {
+            Event::Calls(call) => call_name(*call),
+            Event::ToBmc(_) => "to-bmc",
+            Event::ToMgr(_) => "to-mgr",
+            Event::OtherIpmb(_) | Event::OtherSmbus(_) => "other",
+            Event::Noise(..) => "noise",
+            Event::Idle(..) => "idle",
+            Event::OnBench(BenchEvent::Scan { .. }) => "scan",
+            Event::OnBench(BenchEvent::Tick) => "tick",
+        }
+    }
 }

@@ -8,7 +8,8 @@ mod octets;
 mod schedule;
 mod words;
 
-pub use event::{Call, Event, MOST_NOISE, OtherMessage, OtherRequest};
+pub use event::{BenchEvent, Call, Event, MOST_NOISE, OtherMessage, OtherRequest};
 pub use laws::{one_schedule, refused_or_told};
 pub use octets::Octets;
 pub use schedule::{Schedule, ScheduleFault, read_schedule};
+pub use words::{bus_name, call_name};

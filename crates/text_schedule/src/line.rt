@@ -4,7 +4,7 @@ ghost use Rattle.text_schedule.specs.Text.{IsByte};
 ghost use Rattle.text_schedule.specs.Line.{IsRequest, Say, Says};
 ghost use Rattle.text_schedule.specs.Reads.{Finds, Reads, ReadsBytes};
 
-use crate::event::{Event, OtherMessage, OtherRequest};
+use crate::event::{BenchEvent, Event, OtherMessage, OtherRequest};
 use crate::octets::Octets;
 use crate::words::{find_bus, find_call, frame_number, words};
 use ipmb_frame::Party;
@@ -38,7 +38,7 @@ fn one_word(word: &str) -> Option<Event>
     ensures { Finds (Say (word.now ∷ [])) result }
 {
     if word == "tick" {
-        return Some(Event::Tick);
+        return Some(Event::OnBench(BenchEvent::Tick));
     }
     let call = find_call(word)?;
     Some(Event::Calls(call))
@@ -71,7 +71,7 @@ fn scan(sensor: &str, reading: &str) -> Option<Event>
 {
     let sensor = byte(sensor)?;
     let reading = byte(reading)?;
-    Some(Event::Scan { sensor, reading })
+    Some(Event::OnBench(BenchEvent::Scan { sensor, reading }))
 }
 
 /// The event that the words `noise`, a bus and bytes say.

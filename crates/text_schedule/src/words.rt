@@ -25,6 +25,29 @@ pub fn words(alloc: Global, line: &str) -> Result<Vec<&str>, AllocError>
     line.split(' ').collect(alloc)
 }
 
+/// The call's name.
+pub fn call_name(call: Call) -> &'static str
+    ensures { result.now ≡ call_name call }
+{
+    match call {
+        Call::Start => "start",
+        Call::Quiet => "quiet",
+        Call::Stop => "stop",
+        Call::Again => "again",
+        Call::Undo => "undo",
+    }
+}
+
+/// The bus's name.
+pub fn bus_name(bus: Bus) -> &'static str
+    ensures { result.now ≡ bus_name bus }
+{
+    match bus {
+        Bus::Ipmb => "ipmb",
+        Bus::Smbus => "smbus",
+    }
+}
+
 /// The call of this name.
 pub fn find_call(name: &str) -> Option<Call>
     ensures { Finds (λ call. name.now ≡ call_name call) result }

@@ -20,7 +20,7 @@ file schedule
 + other smbus 0B 01800002
 + other ipmb 40 2a074205fF
 
-=> Schedule { events: [Calls(Start), ToBmc(0), ToMgr(7), Noise(Ipmb, Octets { items: [255] }), Noise(Smbus, Octets { items: [0, 171] }), Idle(Ipmb, 44), Idle(Smbus, 8), Scan { sensor: 5, reading: 96 }, Tick, OtherSmbus(OtherMessage { from: 11, body: Octets { items: [1, 128, 0, 2] } }), OtherIpmb(OtherRequest { requester: Party { address: Address { byte: 64 }, lun: Below { number: 3 } }, responder: Below { number: 2 }, net_fn: NetFn { number: 10 }, sequence: Below { number: 1 }, command: 66, body: Bytes { items: [5, 255] } })] }
+=> Schedule { events: [Calls(Start), ToBmc(0), ToMgr(7), Noise(Ipmb, Octets { items: [255] }), Noise(Smbus, Octets { items: [0, 171] }), Idle(Ipmb, 44), Idle(Smbus, 8), OnBench(Scan { sensor: 5, reading: 96 }), OnBench(Tick), OtherSmbus(OtherMessage { from: 11, body: Octets { items: [1, 128, 0, 2] } }), OtherIpmb(OtherRequest { requester: Party { address: Address { byte: 64 }, lun: Below { number: 3 } }, responder: Below { number: 2 }, net_fn: NetFn { number: 10 }, sequence: Below { number: 1 }, command: 66, body: Bytes { items: [5, 255] } })] }
 
 # Schedules, good and bad.
 file schedule

@@ -1,7 +1,7 @@
-use Rattle.std.proofs.Common.{◌+◌, ℕ, List, [], false, get_or, sym, ◌∙◌, subst, map, take}
+use Rattle.std.proofs.Common.{◌+◌, ℕ, List, [], get_or, sym, ◌∙◌, subst, map, take}
 use Rattle.std.specs.Borrow.{Bor}
 use Rattle.text_schedule.specs.Line.{Says}
-use Rattle.text_schedule.specs.Schedule.{Say, is_skipped}
+use Rattle.text_schedule.specs.Schedule.{Say}
 use Rattle.text_schedule.proofs.Lines.{pushed, refused, next_said, bad_first}
 use Rattle.text_schedule.proofs.schedule.events_of.Goals as goal
 

@@ -1,11 +1,11 @@
 use Rattle.std.proofs.Common.{ℕ, List, sym, ◌∙◌, ap, subst}
 use Rattle.std.specs.Prelude.{OnOk}
 use Rattle.bmc_board.specs.declared.bench.Bench.{Bench}
-use Rattle.bmc_board.specs.declared.bench.Bench.TheVariants as bench
 use Rattle.bmc_board.specs.State.{State, on_bench}
 use Rattle.bmc_board.specs.Sensing.{bench_of}
 use Rattle.bmc_board.proofs.SensingFacts.{benched_so}
 use Rattle.model_lab.specs.Lab.{step}
+use Rattle.model_lab.specs.Meaning.{on_board}
 use Rattle.text_schedule.specs.declared.event.Event.{Event}
 use Rattle.model_lab.specs.Faults.{is_frame}
 use Rattle.model_lab.specs.Played.{fault_at, happens}
@@ -20,11 +20,15 @@ use Rattle.lab_run.proofs.lab_state.Lab.happen.Goals as goal
 abbrev After : Lab → Lab → Event → Type 0
 After old new e = Becomes old new (λ file. happens file e)
 
+-- the lab becomes what it is once this happened on the board
+abbrev Benched : Lab → Lab → Bench → Type 0
+Benched old new happened = Becomes old new (λ file x. record x { board = (bench_of file x.board happened).1 })
+
 -- what happens on the bench leaves what is staged
-benched : (old new : Lab) (event : Bench) → Becomes old new (λ file x. record x { board = (bench_of file x.board event).1 })
-    → Becomes old new (λ file x. record x { board = on_bench x.board (bench_of file x.board event).1.activity })
-benched old new event becomes file x shows =
-    subst (λ (board : State). Shows file new (record x { board = board })) (sym (benched_so file x.board event)) (becomes file x shows)
+benched : (old new : Lab) (happened : Bench) → Benched old new happened
+    → Becomes old new (λ file x. record x { board = on_bench x.board (bench_of file x.board happened).1.activity })
+benched old new happened becomes file x shows =
+    subst (λ (board : State). Shows file new (record x { board = board })) (sym (benched_so file x.board happened)) (becomes file x shows)
 
 pub returns-in-Calls-clause-becomes : goal.returns-in-Calls-clause-becomes
 unfolding step
@@ -61,14 +65,12 @@ pub returns-in-Idle-clause-becomes : goal.returns-in-Idle-clause-becomes
 unfolding step
 returns-in-Idle-clause-becomes c = subst (After c.args.self.now c.idle.new.self) (sym c.in-Idle.is) c.idle.ensures.becomes
 
-pub returns-in-Scan-clause-becomes : goal.returns-in-Scan-clause-becomes
+pub returns-in-OnBench-clause-becomes : goal.returns-in-OnBench-clause-becomes
 unfolding step
-returns-in-Scan-clause-becomes c =
-    subst (After c.args.self.now c.bench.new.self) (sym c.in-Scan.is) (benched c.args.self.now c.bench.new.self (bench.Reading c.in-Scan.sensor c.in-Scan.reading) c.bench.ensures.becomes)
-
-pub returns-in-Tick-clause-becomes : goal.returns-in-Tick-clause-becomes
-unfolding step
-returns-in-Tick-clause-becomes c = subst (After c.args.self.now c.bench-in-Tick.new.self) (sym c.in-Tick.is) (benched c.args.self.now c.bench-in-Tick.new.self bench.Tick c.bench-in-Tick.ensures.becomes)
+returns-in-OnBench-clause-becomes c =
+    subst (After c.args.self.now c.bench.new.self) (sym c.in-OnBench.is)
+    (benched c.args.self.now c.bench.new.self (on_board c.in-OnBench.happened)
+    (subst (Benched c.args.self.now c.bench.new.self) c.on_board.ensures c.bench.ensures.becomes))
 
 -- ---- what the controller did
 
@@ -97,8 +99,5 @@ returns-in-Noise-clause-done c =
 pub returns-in-Idle-clause-done : goal.returns-in-Idle-clause-done
 returns-in-Idle-clause-done c = subst (λ (e : Event). Did e c.args.self.now c.idle.new.self) (sym c.in-Idle.is) tt
 
-pub returns-in-Scan-clause-done : goal.returns-in-Scan-clause-done
-returns-in-Scan-clause-done c = subst (λ (e : Event). Did e c.args.self.now c.bench.new.self) (sym c.in-Scan.is) tt
-
-pub returns-in-Tick-clause-done : goal.returns-in-Tick-clause-done
-returns-in-Tick-clause-done c = subst (λ (e : Event). Did e c.args.self.now c.bench-in-Tick.new.self) (sym c.in-Tick.is) tt
+pub returns-in-OnBench-clause-done : goal.returns-in-OnBench-clause-done
+returns-in-OnBench-clause-done c = subst (λ (e : Event). Did e c.args.self.now c.bench.new.self) (sym c.in-OnBench.is) tt
