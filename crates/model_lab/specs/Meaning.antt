@@ -5,7 +5,7 @@ use Rattle.mctp_net.specs.declared.message.Message.{Message}
 use Rattle.cfg_records.specs.declared.board_file.BoardFile.{BoardFile}
 use Rattle.bmc_board.specs.State.{State}
 use Rattle.bmc_board.specs.Sensing.{scan, tick}
-use Rattle.model_ports.specs.Places.{controller_wire, controller_eid}
+use Rattle.two_wire.specs.Places.{controller_wire, controller_eid}
 use Rattle.undo_plans.specs.declared.names.Names.{Names}
 use Rattle.text_schedule.specs.declared.event.OtherRequest.{OtherRequest}
 use Rattle.text_schedule.specs.declared.event.OtherMessage.{OtherMessage}
