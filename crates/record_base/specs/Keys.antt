@@ -7,6 +7,7 @@ use Rattle.record_base.specs.declared.key.Key.TheVariants as key
 use Rattle.record_base.specs.AttributeSizes.{least_value, most_value}
 use Rattle.record_base.specs.BootParam.{boot_length}
 use Rattle.record_base.specs.Lan.{lan_length}
+use Rattle.record_base.specs.UserSizes.{user_name_size}
 use Rattle.record_base.specs.contracts.key.KeyOrd.TheImpl as key_ord
 
 -- a value of the key's kind may have this length
@@ -20,7 +21,7 @@ is_length key.GlobalEnables size = size == 1
 is_length (key.BootParam parameter) size = size == boot_length parameter
 is_length (key.NumericEffecter id) size = (size == 1) || (size == 2) || (size == 4)
 is_length (key.StateEffecter id) size = nat_le 1 size && nat_le size 8
-is_length (key.UserName user) size = size == 16
+is_length (key.UserName user) size = size == user_name_size
 is_length (key.UserAccess on) size = size == 1
 is_length (key.ChannelAccess stored) size = size == 2
 is_length (key.BiosAttribute handle) size = nat_le least_value size && nat_le size most_value

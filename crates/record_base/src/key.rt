@@ -7,6 +7,7 @@ use crate::boot_param::BootParameter;
 use crate::channel::StoredAccess;
 use crate::lan::ParameterOnChannel;
 use crate::user::{UserNumber, UserOnChannel};
+use crate::user_sizes::USER_NAME_SIZE;
 use crate::value::VALUE_CAPACITY;
 
 /// How many kinds of record a sensor has.
@@ -60,7 +61,7 @@ impl Key {
             Key::BootParam(parameter) => length == parameter.length(),
             Key::NumericEffecter(_) => length == 1 || length == 2 || length == 4,
             Key::StateEffecter(_) => 1 <= length && length <= 8,
-            Key::UserName(_) => length == 16,
+            Key::UserName(_) => length == USER_NAME_SIZE,
             Key::UserAccess(_) => length == 1,
             Key::ChannelAccess(_) => length == 2,
             Key::BiosAttribute(_) => LEAST_VALUE <= length && length <= MOST_VALUE,
@@ -83,7 +84,7 @@ impl Key {
             Key::BootParam(parameter) => parameter.length(),
             Key::NumericEffecter(_) => 4,
             Key::StateEffecter(_) => 8,
-            Key::UserName(_) => 16,
+            Key::UserName(_) => USER_NAME_SIZE,
             Key::UserAccess(_) => 1,
             Key::ChannelAccess(_) => 2,
             Key::BiosAttribute(_) => MOST_VALUE,
