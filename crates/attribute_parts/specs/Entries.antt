@@ -17,9 +17,13 @@ use Rattle.bios_attr.specs.EntryParts.{before_entry_value}
 abbrev pub text_length : List ℕ → ℕ
 text_length entry = number_of (byte_at entry 3) (byte_at entry 4)
 
--- how many bytes the entry has once it is whole: an attribute, a type and a length before the text
+-- how many bytes it has before its text: the attribute, its type and the text's length
+abbrev pub before_text : ℕ
+before_text = 5
+
+-- how many bytes it has once it is whole
 abbrev pub whole_length : List ℕ → ℕ
-whole_length entry = 5 + text_length entry
+whole_length entry = before_text + text_length entry
 
 -- the operation of a whole entry: it sets its attribute, by its type, to the rest
 abbrev pub op_of : List ℕ → SetBiosAttribute

@@ -1,12 +1,12 @@
 -- What holds of all stagings.
 use Rattle.std.specs.Prelude.{ℕ, ◌<◌, ◌≤◌, List, length, All}
 use Rattle.bios_attr.specs.EntryParts.{most_entry}
-use Rattle.attribute_parts.specs.Entries.{whole_length}
+use Rattle.attribute_parts.specs.Entries.{before_text, whole_length}
 use Rattle.attribute_parts.specs.Stagings.{Staged, most_stagings}
 
 -- the bytes begin an entry, and more are behind them
 pub record IsBegun (entry : List ℕ) : Type 0 where
-  pub headed : 5 ≤ length entry
+  pub headed : before_text ≤ length entry
   pub goes_on : length entry < whole_length entry
   pub fits : whole_length entry ≤ most_entry
 

@@ -10,9 +10,9 @@ use bmc_board::Board;
 use bmc_core::{At, Out, Port};
 use cfg_records::{BoardFile, Store};
 use mctp_net::EndpointId;
-use model_ports::{CONTROLLER_EID, CONTROLLER_WIRE};
 use std::alloc::{AllocError, Global};
 use text_board::read_board;
+use two_wire::places::{CONTROLLER_EID, CONTROLLER_WIRE};
 use two_wire::{Address, Bus};
 
 /// The board of a file's text.

@@ -15,12 +15,12 @@ use Rattle.bios_attr.specs.declared.bios_attribute.AttributeLimits.{AttributeLim
 use Rattle.bios_attr.specs.declared.bios_attribute.AskedPart.{AskedPart}
 use Rattle.bios_attr.specs.declared.bios_attribute.AskedPart.TheVariants.{First, Later}
 use Rattle.record_base.specs.declared.bios_attribute.SetBiosAttribute.{SetBiosAttribute}
-use Rattle.record_base.specs.AttributeSizes.{most_indexes, most_text}
+use Rattle.record_base.specs.AttributeSizes.{most_indexes, most_text, before_value}
 use Rattle.record_base.specs.AttributeValue.{two_bytes, number_of, value_in}
 use Rattle.bios_attr.specs.ValueEntry.{shown_type, entry_in}
 use Rattle.record_base.specs.BiosAttribute.{setting}
 pub use Rattle.bios_attr.specs.EntryParts.{bios, set_current_value, get_current_value, start_and_end, get_first_part, get_next_part, no_handle, transfer_handle}
-use Rattle.bios_attr.specs.EntryParts.{first_body}
+use Rattle.bios_attr.specs.EntryParts.{least_set, before_part, first_body}
 use Rattle.record_base.specs.AttributeRange.{type_of, IsValue, is_allowed}
 
 -- ---- what a Set makes
@@ -66,10 +66,10 @@ attribute_body op = no_handle ++ start_and_end ∷ op_entry op
 -- the operation in such data: too short first, then another flag, then too short for an entry
 abbrev pub attribute_in : List ℕ → Result SetBiosAttribute ℕ
 attribute_in body =
-    if nat_lt (length body) 6 then Err pldm_invalid_length
+    if nat_lt (length body) least_set then Err pldm_invalid_length
     else (if not (byte_at body 4 == start_and_end) then Err pldm_invalid_data
-    else (if nat_lt (length body) 8 then Err pldm_invalid_length
-    else Ok (setting (number_of (byte_at body 5) (byte_at body 6)) (byte_at body 7) (drop 8 body))))
+    else (if nat_lt (length body) before_value then Err pldm_invalid_length
+    else Ok (setting (number_of (byte_at body 5) (byte_at body 6)) (byte_at body 7) (drop before_value body))))
 
 -- the part of an attribute's entry that the data of a Get ask for: another transfer operation is refused
 abbrev pub attribute_shown_in : List ℕ → Result AskedPart ℕ
@@ -96,15 +96,15 @@ is_entry_within None = false
 -- a Get reply: four bytes, the flag, and a value entry
 pub record IsAttributeReply (reply : List ℕ) : Type 0 where
   pub flagged : slice_index reply 4 ≡ start_and_end
-  pub holds_entry : IsTrue (is_entry_within (entry_in (drop 5 reply)))
+  pub holds_entry : IsTrue (is_entry_within (entry_in (drop before_part reply)))
 
 -- the test of this
 abbrev pub is_attribute_reply : List ℕ → Bool
-is_attribute_reply reply = (slice_index reply 4 == start_and_end) && is_entry_within (entry_in (drop 5 reply))
+is_attribute_reply reply = (slice_index reply 4 == start_and_end) && is_entry_within (entry_in (drop before_part reply))
 
 -- the operation that sets what the reply shows: its whole entry
 abbrev pub undo_attribute : List ℕ → SetBiosAttribute
-undo_attribute reply = setting (number_of (slice_index reply 5) (slice_index reply 6)) (slice_index reply 7) (drop 8 reply)
+undo_attribute reply = setting (number_of (slice_index reply 5) (slice_index reply 6)) (slice_index reply 7) (drop before_value reply)
 
 -- ---- the kind
 

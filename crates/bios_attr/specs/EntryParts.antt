@@ -4,11 +4,13 @@ use Rattle.std.specs.Prelude.{ℕ, ◌+◌, ◌*◌, ◌-◌, nat_le, nat_lt, Li
 use Rattle.std.specs.Int.{w32, to_le_bytes, from_le_bytes}
 use Rattle.std.specs.List.{flat_map}
 use Rattle.std.specs.Option.{option_map}
-use Rattle.record_base.specs.Requests.{pldm_request, byte_at}
+use Rattle.record_base.specs.Requests.{pldm_request, byte_at, bytes_at}
 use Rattle.record_base.specs.AttributeSizes.{most_value}
 use Rattle.record_base.specs.AttributeValue.{two_bytes}
 use Rattle.record_base.specs.declared.message.Asked.{Asked}
 use Rattle.record_base.specs.declared.message.Asked.TheVariants.{Ipmi, Pldm}
+pub use Rattle.pldm_base.specs.Parts.{get_first_part, get_next_part}
+use Rattle.pldm_base.specs.declared.table.TransferFlag.TheVariants.{StartAndEnd}
 use Rattle.pldm_base.specs.Parts.{part_length, part_bytes, is_last, next_handle, flag_of, flag_byte, most_whole, goes_whole}
 
 -- ---- what requests say
@@ -23,15 +25,9 @@ set_current_value = 0x07
 abbrev pub get_current_value : ℕ
 get_current_value = 0x08
 
--- the transfer flag of data that is whole, and the transfer operations that ask for the first part and for a later one
+-- the transfer flag of data that is whole
 abbrev pub start_and_end : ℕ
-start_and_end = 0x05
-
-abbrev pub get_first_part : ℕ
-get_first_part = 0x01
-
-abbrev pub get_next_part : ℕ
-get_next_part = 0x00
+start_and_end = flag_byte StartAndEnd
 
 -- a transfer handle that stands for nothing
 abbrev pub no_handle : List ℕ
@@ -39,7 +35,7 @@ no_handle = 0 ∷ 0 ∷ 0 ∷ 0 ∷ []
 
 -- the transfer handle in the data of a request
 abbrev pub transfer_handle : List ℕ → ℕ
-transfer_handle body = from_le_bytes w32 (byte_at body 0 ∷ byte_at body 1 ∷ byte_at body 2 ∷ byte_at body 3 ∷ [])
+transfer_handle body = from_le_bytes w32 (bytes_at 4 body 0)
 
 -- how many bytes an attribute's entry has before its value: the attribute, and its type
 abbrev pub before_entry_value : ℕ
@@ -52,6 +48,10 @@ most_entry = before_entry_value + most_value
 -- how many bytes stand before an entry or its part in the data: the transfer handle and the flag
 abbrev pub before_part : ℕ
 before_part = 5
+
+-- the data of a Set that goes whole have at least a byte more
+abbrev pub least_set : ℕ
+least_set = before_part + 1
 
 -- the entry, or its part, in the data
 abbrev pub entry_in : List ℕ → List ℕ

@@ -5,7 +5,7 @@ ghost use Rattle.record_base.specs.AttributeValue.{two_bytes};
 ghost use Rattle.bios_attr.specs.EntryParts.{first_part};
 ghost use Rattle.bios_attr.specs.BiosAttribute.{no_handle, get_first_part, attribute_body, transfer_handle, attribute_in, attribute_shown_in, attribute_view, is_within, is_attribute_reply};
 
-use crate::entry_parts::{BEFORE_ENTRY_VALUE, goes_in_parts, part_at};
+use crate::entry_parts::{BEFORE_ENTRY_VALUE, BEFORE_PART, goes_in_parts, part_at};
 use crate::value_entry::{entry_in, shown_type};
 use pldm_base::{GET_FIRST_PART, GET_NEXT_PART, MOST_WHOLE, PART_LENGTH, TransferFlag};
 use record_base::attribute_sizes::{BEFORE_VALUE, MOST_INDEXES, MOST_TEXT};
@@ -13,7 +13,7 @@ use record_base::attribute_value::{AttributeValue, value_in};
 use record_base::value::DATA_CAPACITY;
 use record_base::{
     Asked, Attribute, AttributeRange, Key, Live, RecordData, RecordKind, SetBiosAttribute, Value,
-    byte_at,
+    byte_at, bytes_at,
 };
 use two_wire::code::{PLDM_INVALID_DATA, PLDM_INVALID_LENGTH};
 use two_wire::{Below, Buffer, Code};
@@ -28,10 +28,10 @@ pub const SET_CURRENT_VALUE: u8 = 0x07;
 pub const GET_CURRENT_VALUE: u8 = 0x08;
 
 /// The transfer flag of data that is whole.
-pub const START_AND_END: u8 = 0x05;
+pub const START_AND_END: u8 = TransferFlag::StartAndEnd as u8;
 
 /// How many bytes the data of a Set have at least, of whatever flag.
-const LEAST_SET: usize = 6;
+const LEAST_SET: usize = BEFORE_PART + 1;
 
 /// A transfer handle that stands for nothing.
 const NO_HANDLE: [u8; 4] = [0; 4];
@@ -83,12 +83,7 @@ fn body(op: &SetBiosAttribute<'_>) -> RecordData
 pub fn transfer_handle(body: &[u8]) -> u32
     ensures { result ≡ transfer_handle body.now }
 {
-    u32::from_le_bytes([
-        byte_at(body, 0),
-        byte_at(body, 1),
-        byte_at(body, 2),
-        byte_at(body, 3),
-    ])
+    u32::from_le_bytes(bytes_at(body, 0))
 }
 
 /// The operation that the data of its request says: nothing where they are too short, or where their flag says that they are a part.
@@ -141,7 +136,7 @@ fn is_attribute_reply(reply: &[u8]) -> bool
     if reply.len() < BEFORE_VALUE || reply.len() > DATA_CAPACITY || reply[4] != START_AND_END {
         return false;
     }
-    match entry_in(&reply[5..]) {
+    match entry_in(&reply[BEFORE_PART..]) {
         Some(entry) => is_within(&entry.value),
         None => false,
     }

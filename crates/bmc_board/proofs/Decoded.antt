@@ -1,5 +1,5 @@
 -- Each request for a record, and each for an operation, is read as what it asks for: a line for each kind whose data don't show it by themselves.
-use Rattle.std.proofs.Common.{◌≡◌, ℕ, ◌+◌, ◌*◌, ◌/◌, ◌%◌, ◌<◌, ap, ◌∙◌, List, [], ◌∷◌, take, length, Bool, true, false, if◌then◌else◌, Option, Some, None, Result, Ok, Err, refl, arith, nat_le, nat_lt, ◌≤◌}
+use Rattle.std.proofs.Common.{◌≡◌, ℕ, ◌+◌, ◌*◌, ◌/◌, ◌%◌, ◌<◌, ap, ◌∙◌, List, [], ◌∷◌, take, length, Bool, true, false, if◌then◌else◌, Option, Some, None, Result, Ok, Err, refl, sym, subst, arith, nat_le, nat_lt, ◌≤◌}
 use Rattle.std.proofs.lemmas.Bool.Decides.{nat_tests}
 use Rattle.record_base.specs.declared.key.Key.TheVariants as key
 use Rattle.record_base.specs.declared.op.Op.{Op}
@@ -42,7 +42,9 @@ use Rattle.record_base.specs.Numbers.{ChannelNumber, UserNumber, SixBits, low_bi
 use Rattle.record_base.specs.NumberLaws.{same_field, low_bits_again}
 use Rattle.user_chan.specs.ChannelAccess.{in_store}
 use Rattle.user_chan.specs.ChannelRequests.{store_at, named, change, asked_for}
-use Rattle.user_chan.specs.UserNamesLaws.{sixteen}
+use Rattle.record_base.specs.UserSizes.{user_name_size}
+use Rattle.user_chan.specs.UserNames.{shown_name}
+use Rattle.user_chan.specs.UserNamesLaws.{shown_is}
 use Rattle.std.proofs.Math.Nat.{ℕ_set}
 use Rattle.record_base.proofs.Operations.{set_thresholds, same_thresholds}
 use Rattle.record_kinds.specs.Series.{set_whole}
@@ -163,19 +165,17 @@ states_read o =
     (ap (λ (made : SetStateEffecter). Ok (request.Set (op.StateEffecter made))) (same_states _ _ _ _ _ _ (two_bytes o.effecter) (all_read o.changes o.few)))
 
 -- so is a request for a name
-abbrev set_name : (user : ℕ) (name : List ℕ) → length name ≡ 16 → SetUserName
-set_name user name sixteen = record { user = user; name = name; sixteen = sixteen }
+abbrev set_name : (user : ℕ) (name : List ℕ) → length name ≡ user_name_size → SetUserName
+set_name user name sized = record { user = user; name = name; sized = sized }
 
 abbrev NameIsRead : SetUserName → Type 0
 NameIsRead o = asked_by (set_whole (op.UserName o)) ≡ Ok (request.Set (op.UserName o))
 
 name_read : (o : SetUserName) → NameIsRead o
 name_read o =
-    sixteen (λ (v : List ℕ). (is : length v ≡ 16) → NameIsRead (set_name o.user v is))
-    (λ a b c d e f g h i j k l m n z p is.
-    let v : List ℕ = a ∷ b ∷ c ∷ d ∷ e ∷ f ∷ g ∷ h ∷ i ∷ j ∷ k ∷ l ∷ m ∷ n ∷ z ∷ p ∷ [] in
-    ap (λ (it : length v ≡ 16). Ok (request.Set (op.UserName (set_name o.user v it)))) (ℕ_set (length v) 16 refl is))
-    o.name o.sixteen o.sixteen
+    subst (λ (name : List ℕ). (sized : length name ≡ user_name_size) → NameIsRead (set_name o.user name sized)) (sym (shown_is o.name o.sized))
+    (λ sized. ap (λ (it : length (shown_name o.name) ≡ user_name_size). Ok (request.Set (op.UserName (set_name o.user (shown_name o.name) it)))) (ℕ_set (length (shown_name o.name)) user_name_size refl sized))
+    o.sized
 
 -- one for what a user may do
 abbrev set_access : (first user limit : ℕ) → Option ℕ → SetUserAccess

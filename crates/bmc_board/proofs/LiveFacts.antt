@@ -40,7 +40,8 @@ use Rattle.bmc_board.specs.Live.{reset_answer, already_in_progress, with_progres
 use Rattle.bios_attr.specs.declared.bios_table.BiosTable.{BiosTable}
 use Rattle.record_base.specs.declared.attribute.Attribute.{Attribute}
 use Rattle.pldm_base.specs.Parts.{asked_offset}
-use Rattle.bmc_board.specs.BiosTables.{values_in, table_bytes, table_numbered, table_asked, part_data, part_answer, handle_in, table_where, longest_part}
+use Rattle.bios_attr.specs.EntryParts.{transfer_handle}
+use Rattle.bmc_board.specs.BiosTables.{values_in, table_bytes, table_numbered, table_asked, part_data, part_answer, table_where, longest_part}
 use Rattle.bmc_board.specs.AnyLive.{IsLive, AreLive}
 use Rattle.bmc_board.proofs.Rightly.{code_of}
 use Rattle.bmc_board.proofs.LiveReplies.{is_done, Stays, is_refused}
@@ -238,7 +239,7 @@ shows_part_of asked records before table None = is_refused live.GetBiosTable ask
 
 shows_table : (asked : List ℕ) (records : Records) (before : Activity) (table : Result BiosTable ℕ) (bytes_of : BiosTable → List ℕ) → ((code : ℕ) → table ≡ Err code → IsCode code)
     → IsLive live.GetBiosTable asked records before (table_where table asked bytes_of, before)
-shows_table asked records before (Ok table) bytes_of is = shows_part_of asked records before (bytes_of table) (asked_offset (bytes_of table) (byte_at asked 4) (handle_in asked))
+shows_table asked records before (Ok table) bytes_of is = shows_part_of asked records before (bytes_of table) (asked_offset (bytes_of table) (byte_at asked 4) (transfer_handle asked))
 shows_table asked records before (Err code) bytes_of is = is_refused live.GetBiosTable asked records before code (is code refl) (λ code. refl)
 
 code_where : (a b : Bool) (table : BiosTable) (code : ℕ) → (if a then Err pldm_invalid_table else (if b then Err pldm_no_table else Ok table)) ≡ Err code → IsCode code

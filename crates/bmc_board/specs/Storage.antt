@@ -3,10 +3,10 @@
 use Rattle.std.specs.Prelude.{ℕ, ◌+◌, ◌-◌, ◌*◌, ◌==◌, ◌&&◌, not, nat_lt, min, List, [], ◌∷◌, ◌++◌, length, take, drop, Bool, Option, Some, None, Result, Ok, Err, if◌then◌else◌}
 use Rattle.std.specs.Int.{w16, w32, to_le_bytes, from_le_bytes}
 use Rattle.two_wire.specs.Codes.{not_present, reservation_canceled, out_of_range, too_many_bytes, invalid_data_field}
-use Rattle.record_base.specs.Requests.{byte_at}
+use Rattle.record_base.specs.Requests.{byte_at, bytes_at}
 use Rattle.record_base.specs.declared.message.Answered.{Answered}
 use Rattle.sel_log.specs.declared.info.Info.{Info}
-use Rattle.sel_log.specs.LogRecord.{id_of}
+use Rattle.sel_log.specs.LogRecord.{record_size, id_of}
 use Rattle.sel_log.specs.Reservations.{is_present}
 use Rattle.sel_log.specs.Log as log
 use Rattle.sel_log.specs.Log.{Log, add_answer, after_add, after_clear}
@@ -78,11 +78,9 @@ sel_part l asked =
 
 -- ---- what changes the log
 
--- the sixteen bytes of a record that is to be added
+-- the bytes of a record that is to be added
 abbrev pub record_in : List ℕ → List ℕ
-record_in body =
-    byte_at body 0 ∷ byte_at body 1 ∷ byte_at body 2 ∷ byte_at body 3 ∷ byte_at body 4 ∷ byte_at body 5 ∷ byte_at body 6 ∷ byte_at body 7
-    ∷ byte_at body 8 ∷ byte_at body 9 ∷ byte_at body 10 ∷ byte_at body 11 ∷ byte_at body 12 ∷ byte_at body 13 ∷ byte_at body 14 ∷ byte_at body 15 ∷ []
+record_in body = bytes_at record_size body 0
 
 -- an answer, with the log after it
 abbrev pub LogGiven : Type 0
@@ -114,4 +112,4 @@ cleared l body =
 
 -- the seconds that Set SEL Time gives
 abbrev pub time_in : List ℕ → ℕ
-time_in body = from_le_bytes w32 (byte_at body 0 ∷ byte_at body 1 ∷ byte_at body 2 ∷ byte_at body 3 ∷ [])
+time_in body = from_le_bytes w32 (bytes_at 4 body 0)

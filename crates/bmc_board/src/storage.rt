@@ -4,8 +4,8 @@ ghost use Rattle.two_wire.specs.Sizes.{most_ipmi_reply_data};
 ghost use Rattle.bmc_board.specs.Gives.{Gives};
 ghost use Rattle.bmc_board.specs.Storage.{word_at, sdr_info, sel_info, part_in, part_length, part_of, sdr_part, sel_part, record_in, added, says_clear, cleared, time_in};
 
-use cfg_records::byte_at;
-use sel_log::{Info, LogRecord, Sel};
+use record_base::{byte_at, bytes_at};
+use sel_log::{Info, LogRecord, RECORD_SIZE, Sel};
 use sensor_recs::Sdr;
 use two_wire::{Buffer, Code, code};
 
@@ -50,7 +50,7 @@ fn word_at(body: &[u8], place: usize) -> u16
     requires { place + 1 ≤ 255 }
     ensures { result ≡ word_at body.now place }
 {
-    u16::from_le_bytes([byte_at(body, place), byte_at(body, place + 1)])
+    u16::from_le_bytes(bytes_at(body, place))
 }
 
 /// The part that the data of Get SDR and of Get SEL Entry asks for.
@@ -187,24 +187,7 @@ pub fn show_entry<B: Buffer>(log: &Sel, asked: &PartAsked, to: &mut B) -> Result
 fn record_in(body: &[u8]) -> LogRecord
     ensures { result ≡ record_in body.now }
 {
-    LogRecord::from_slice(&[
-        byte_at(body, 0),
-        byte_at(body, 1),
-        byte_at(body, 2),
-        byte_at(body, 3),
-        byte_at(body, 4),
-        byte_at(body, 5),
-        byte_at(body, 6),
-        byte_at(body, 7),
-        byte_at(body, 8),
-        byte_at(body, 9),
-        byte_at(body, 10),
-        byte_at(body, 11),
-        byte_at(body, 12),
-        byte_at(body, 13),
-        byte_at(body, 14),
-        byte_at(body, 15),
-    ])
+    LogRecord::from_slice(&bytes_at::<RECORD_SIZE>(body, 0))
 }
 
 /// Add SEL Entry.
@@ -257,10 +240,5 @@ pub fn clear<B: Buffer>(log: &mut Sel, body: &[u8], to: &mut B) -> Result<(), Co
 pub fn time_in(body: &[u8]) -> u32
     ensures { result ≡ time_in body.now }
 {
-    u32::from_le_bytes([
-        byte_at(body, 0),
-        byte_at(body, 1),
-        byte_at(body, 2),
-        byte_at(body, 3),
-    ])
+    u32::from_le_bytes(bytes_at(body, 0))
 }

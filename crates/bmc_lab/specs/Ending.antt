@@ -6,7 +6,7 @@ use Rattle.bmc_lab.specs.declared.console.Stream.{Stream}
 use Rattle.bmc_lab.specs.declared.console.Stream.TheVariants.{Error}
 use Rattle.bmc_lab.specs.declared.report.Report.{Report}
 use Rattle.bmc_lab.specs.declared.status.Status.{Status}
-use Rattle.bmc_lab.specs.declared.status.Status.TheVariants.{Memory, Stopped}
+use Rattle.bmc_lab.specs.declared.status.Status.TheVariants.{Memory, Stopped, Output}
 use Rattle.bmc_lab.specs.declared.ending.Untold.{Untold}
 use Rattle.bmc_lab.specs.declared.ending.Untold.TheVariants as untold
 use Rattle.bmc_lab.specs.Console.{HasFailed, Written}
@@ -26,12 +26,12 @@ Ends (Err e) stream text status = (stream ≡ Error) × (text ≡ codes "memory\
 abbrev pub Saying : Type 1
 Saying = Stream → List ℕ → Status → Type 0
 
--- How a run of this console ends that has something to say, and with which status: 6 where a write failed, 5 where memory was refused,
+-- How a run of this console ends that has something to say, and with which status: `Output` where a write failed, `Memory` where memory was refused,
 -- which standard error says, or that of what it says, once that is written.
 abbrev pub RunEnds : {W E : Type 0} → (out : W → Option (List ℕ)) → (err : E → Option (List ℕ)) → Saying → (old new : Console W E) → ℕ → Type 0
 RunEnds out err says old new result =
-    ((result ≡ 6) × HasFailed new)
-    ⊎ (((result ≡ 5) × Appends (err old.err) (err new.err) (codes "memory\n") × Keeps (out old.out) (out new.out))
+    ((result ≡ byte_of Output) × HasFailed new)
+    ⊎ (((result ≡ byte_of Memory) × Appends (err old.err) (err new.err) (codes "memory\n") × Keeps (out old.out) (out new.out))
     ⊎ ((stream : Stream) × (text : List ℕ) × (status : Status) × says stream text status × (result ≡ byte_of status)
     × Written stream text (out old.out) (out new.out) (err old.err) (err new.err)))
 

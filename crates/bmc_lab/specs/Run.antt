@@ -8,7 +8,7 @@ use Rattle.bmc_core.specs.declared.port.At.{At}
 use Rattle.bmc_core.specs.declared.port.Port.{Port}
 use Rattle.bmc_board.specs.State.{State, opened}
 use Rattle.bmc_core.specs.Outs.{sent}
-use Rattle.model_ports.specs.Places.{controller_wire, controller_eid}
+use Rattle.two_wire.specs.Places.{controller_wire, controller_eid}
 use Rattle.model_ports.specs.PortSteps.{quiet_port}
 use Rattle.bmc_core.specs.Port.{bus_of, Shows, Hears}
 use Rattle.text_board.specs.declared.fault.FileFault.{FileFault}

@@ -11,10 +11,10 @@ use crate::report::Report;
 use bmc_core::{At, Board, Out, Port};
 use cfg_records::{BoardFile, sample_board};
 use mctp_net::EndpointId;
-use model_ports::{CONTROLLER_EID, CONTROLLER_WIRE};
 use std::alloc::{AllocError, Global};
 use std::io;
 use text_board::{FileFault, read_board};
+use two_wire::places::{CONTROLLER_EID, CONTROLLER_WIRE};
 use two_wire::{Address, Bus};
 
 /// Where the controller is.

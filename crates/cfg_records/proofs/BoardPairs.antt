@@ -6,6 +6,7 @@ use Rattle.std.specs.Option.{option_map, option_or}
 use Rattle.std.proofs.lemmas.List.{length-map}
 use Rattle.std.proofs.lemmas.List.Elements.{All-append, All-map}
 use Rattle.std.proofs.lemmas.List.Folds.{find-append}
+use Rattle.record_base.specs.UserSizes.{user_name_size}
 use Rattle.record_base.specs.declared.key.Key.{Key}
 use Rattle.record_base.specs.declared.key.Key.TheVariants as key
 use Rattle.record_base.specs.declared.sensor.Sensor.{Sensor}
@@ -189,8 +190,8 @@ of_sensors file of value place = of_numbered (λ s. s.number) of value place fil
 six : (n : ℕ) → n ≡ 6 → IsTrue (is_length (key.Thresholds 0) n)
 six n h = grind (arith, nat_tests)
 
-sixteen : (n : ℕ) → n ≡ 16 → IsTrue (n == 16)
-sixteen n h = grind (arith, nat_tests)
+sized : (n : ℕ) → n ≡ user_name_size → IsTrue (n == user_name_size)
+sized n h = grind (arith, nat_tests)
 
 of_width : (size : NumericSize) (n : ℕ) → IsTrue (is_length (key.NumericEffecter 0) (length (bytes_of size n)))
 of_width U8 n = refl
@@ -224,7 +225,7 @@ pairs_are file =
     and_then file 3 _ before_3 (of_numbered (λ e. e.id) key.NumericEffecter number_value 3 file.numeric_effecters.items file.numeric_effecters.differ (λ m n same. cc) (λ n. refl) (λ e. of_width e.range.size e.current)) in
     let before_5 =
     and_then file 4 _ before_4 (of_numbered (λ e. e.id) key.StateEffecter (λ e. state_value e.fields) 4 file.state_effecters.items file.state_effecters.differ (λ m n same. cc) (λ n. refl) (λ e. of_fields e.fields e.some e.few)) in
-    let before_6 = and_then file 5 _ before_5 (of_items (λ u. u.number.number) (λ u. key.UserName u.number) (λ u. u.name) 5 file.users.items (numbered_differ (λ u. u.number.number) 1 file.users.items file.users.valid.numbered) (λ u v same. ap user_number same) (λ u. refl) (λ u. sixteen _ u.sixteen)) in
+    let before_6 = and_then file 5 _ before_5 (of_items (λ u. u.number.number) (λ u. key.UserName u.number) (λ u. u.name) 5 file.users.items (numbered_differ (λ u. u.number.number) 1 file.users.items file.users.valid.numbered) (λ u v same. ap user_number same) (λ u. refl) (λ u. sized _ u.sized)) in
     let before_7 = and_then file 6 _ before_6 (of_items (λ a. number_on a.on) (λ a. key.UserAccess a.on) (λ a. a.byte ∷ []) 6 file.user_accesses.items file.user_accesses.differ (λ a b same. ap user_on_number same) (λ a. refl) (λ a. refl)) in
     let before_8 =
     and_then file 7 _ before_7

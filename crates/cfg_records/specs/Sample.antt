@@ -1,5 +1,6 @@
 -- The sample board.
 use Rattle.std.specs.Prelude.{◌≡◌, ℕ, List, [], ◌∷◌, map, replicate, false}
+use Rattle.record_base.specs.UserSizes.{user_name_size}
 use Rattle.record_base.specs.declared.sensor.Sensor.{Sensor}
 use Rattle.record_base.specs.declared.watchdog.Watchdog.{Watchdog}
 use Rattle.record_base.specs.declared.device.Device.{Device}
@@ -74,7 +75,7 @@ pub record IsUser (user : User) (number : ℕ) (name : List ℕ) : Type 0 where
 
 -- a user without a name, and "admin"
 abbrev pub AreSampleUsers : List User → Type 0
-AreSampleUsers (a ∷ b ∷ []) = IsUser a 1 (replicate 16 0) × IsUser b 2 (0x61 ∷ 0x64 ∷ 0x6D ∷ 0x69 ∷ 0x6E ∷ replicate 11 0)
+AreSampleUsers (a ∷ b ∷ []) = IsUser a 1 (replicate user_name_size 0) × IsUser b 2 (0x61 ∷ 0x64 ∷ 0x6D ∷ 0x69 ∷ 0x6E ∷ replicate 11 0)
 AreSampleUsers _ = ⊥
 
 -- one channel with sessions, which is always open to the limit of an administrator

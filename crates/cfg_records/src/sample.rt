@@ -3,6 +3,7 @@ ghost use Rattle.std.specs.Prelude.{◌≡◌, [], ◌∷◌, IfOk, false};
 ghost use Rattle.cfg_records.specs.Sample.{IsSampleDevice, IsTemperature, IsFan, IsUnset, sample_record, IsSampleBoot, AreSampleUsers, AreSampleChannels, AreSampleAccesses, IsQuiet, IsAsset, IsDelay, AreSampleAttributes, IsSampleBoard};
 
 use crate::board_file::BoardFile;
+use record_base::user_sizes::USER_NAME_SIZE;
 use record_base::*;
 use std::alloc::{AllocError, Global};
 
@@ -126,7 +127,7 @@ fn users(alloc: Global) -> Result<Users, AllocError>
     let mut users = Vec::new(alloc);
     users.push(User {
         number: UserNumber { number: 1 },
-        name: [0; 16],
+        name: [0; USER_NAME_SIZE],
     })?;
     users.push(User {
         number: UserNumber { number: 2 },

@@ -7,7 +7,7 @@ use Rattle.bmc_board.specs.State.{State}
 use Rattle.bmc_board.specs.Sensing.{bench_of}
 use Rattle.bmc_board.specs.declared.bench.Bench.{Bench}
 use Rattle.bmc_board.specs.declared.bench.Bench.TheVariants as bench
-use Rattle.model_ports.specs.Places.{controller_wire, controller_eid}
+use Rattle.two_wire.specs.Places.{controller_wire, controller_eid}
 use Rattle.undo_plans.specs.declared.names.Names.{Names}
 use Rattle.text_schedule.specs.declared.event.OtherRequest.{OtherRequest}
 use Rattle.text_schedule.specs.declared.event.OtherMessage.{OtherMessage}

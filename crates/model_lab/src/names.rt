@@ -2,8 +2,8 @@
 ghost use Rattle.std.specs.Prelude.{◌≡◌};
 ghost use Rattle.model_lab.specs.Meaning.{lab_names as the_names};
 
-use model_ports::{CONTROLLER_EID, CONTROLLER_WIRE};
 use two_wire::Address;
+use two_wire::places::{CONTROLLER_EID, CONTROLLER_WIRE};
 use undo_plans::Names;
 
 /// The manager's two-wire address on IPMB.

@@ -1,4 +1,3 @@
-pub mod Places
 pub mod Seen
 pub mod Wires
 pub mod Values

@@ -56,13 +56,20 @@ pub record IsPart (table : List ℕ) (offset : ℕ) (p : Part) : Type 0 where
   pub next : p.next ≡ next_handle table offset
   pub flag : p.flag ≡ flag_of (offset == 0) (is_last table offset)
 
--- the offset of the part that a request asks for: operation 1 asks for the first, 0 for a later one by its handle; no
--- part of a table of over 2^32 bytes is asked for, since handles have 32 bits
+-- the transfer operations that ask for the first part and for a later one
+abbrev pub get_first_part : ℕ
+get_first_part = 0x01
+
+abbrev pub get_next_part : ℕ
+get_next_part = 0x00
+
+-- the offset of the part that a request asks for: the first, or a later one by its handle; no part of a table of over
+-- 2^32 bytes is asked for, since handles have 32 bits
 abbrev pub asked_offset : List ℕ → ℕ → ℕ → Option ℕ
 asked_offset table operation handle =
     if nat_lt (2 ^ 32) (length table) then None
-    else (if operation == 1 then Some 0
-    else (if operation == 0 && (nat_lt 0 handle && begins_part table handle) then Some handle
+    else (if operation == get_first_part then Some 0
+    else (if operation == get_next_part && (nat_lt 0 handle && begins_part table handle) then Some handle
     else None))
 
 -- ---- an entry, which is given whole where it is short
@@ -78,7 +85,7 @@ goes_whole entry = nat_le (length entry) most_whole
 -- the offset of the part of an entry that a request asks for: a whole one has no later part
 abbrev pub asked_of_entry : List ℕ → ℕ → ℕ → Option ℕ
 asked_of_entry entry operation handle =
-    if goes_whole entry then (if operation == 1 then Some 0 else None)
+    if goes_whole entry then (if operation == get_first_part then Some 0 else None)
     else asked_offset entry operation handle
 
 -- the part of an entry at an offset: the whole entry, or that of a table

@@ -3,3 +3,4 @@ pub mod Orders
 pub mod Names
 pub mod Numbers
 pub mod Operations
+pub mod DataBytes

@@ -10,6 +10,7 @@ use Rattle.record_base.specs.declared.key.Lengths.TheVariants.{Exactly, OfNumber
 use Rattle.record_base.specs.AttributeSizes.{least_value, most_value}
 use Rattle.record_base.specs.BootParam.{boot_length}
 use Rattle.record_base.specs.Lan.{lan_length}
+use Rattle.record_base.specs.UserSizes.{user_name_size}
 use Rattle.record_base.specs.contracts.key.KeyOrd.TheImpl as key_ord
 
 -- one of these lengths
@@ -43,7 +44,7 @@ storage key.GlobalEnables = in_map (Exactly 1)
 storage (key.BootParam parameter) = in_map (Exactly (boot_length parameter))
 storage (key.NumericEffecter id) = in_map OfNumber
 storage (key.StateEffecter id) = in_map (Between 1 8)
-storage (key.UserName user) = in_map (Exactly 16)
+storage (key.UserName user) = in_map (Exactly user_name_size)
 storage (key.UserAccess on) = in_map (Exactly 1)
 storage (key.ChannelAccess stored) = in_map (Exactly 2)
 storage (key.BiosAttribute handle) = in_map (Between least_value most_value)

@@ -16,6 +16,7 @@ pub mod NumericEffecter
 pub mod StateField
 pub mod StateEffecter
 pub mod StateLaws
+pub mod UserSizes
 pub mod UserAccess
 pub mod ChannelAccess
 pub mod Vlan
@@ -28,6 +29,7 @@ pub mod PartLaws
 pub mod Meaning
 pub mod RefusalLaws
 pub mod Requests
+pub mod RequestsLaws
 pub mod Opening
 pub mod Kind
 pub mod AllKinds

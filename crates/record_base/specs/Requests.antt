@@ -1,5 +1,5 @@
 -- The requests that get and set records, and their data.
-use Rattle.std.specs.Prelude.{ℕ, List, slice_index}
+use Rattle.std.specs.Prelude.{ℕ, zero, suc, List, [], ◌∷◌, slice_index}
 use Rattle.record_base.specs.declared.message.Asked.{Asked}
 use Rattle.record_base.specs.declared.message.Asked.TheVariants.{Ipmi, Pldm}
 
@@ -31,3 +31,8 @@ pldm_request kind command body = Pldm 0 kind command body
 -- the byte at a place of the data, 00h where it is missing
 abbrev pub byte_at : List ℕ → ℕ → ℕ
 byte_at body place = slice_index body place
+
+-- so many bytes of the data, from a place on
+abbrev pub bytes_at : ℕ → List ℕ → ℕ → List ℕ
+bytes_at zero body place = []
+bytes_at (suc more) body place = byte_at body place ∷ bytes_at more body (suc place)

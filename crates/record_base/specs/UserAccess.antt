@@ -1,10 +1,11 @@
 -- What a user may do on a channel (IPMI 2.0, Set and Get User Access). A value has one byte: bits 6:4 callback, link and messages, and the
 -- limit of privileges in bits 3:0.
-use Rattle.std.specs.Prelude.{◌≡◌, ℕ, ◌%◌, ◌<◌, List, length, slice_index, Bool, nat_le, ◌==◌, ◌&&◌, ◌||◌, IsTrue}
+use Rattle.std.specs.Prelude.{◌≡◌, ℕ, ◌%◌, ◌<◌, List, length, slice_index, Bool, ◌==◌, ◌||◌, IsTrue}
+use Rattle.record_base.specs.UserSizes.{no_access, is_privilege}
 
 -- a limit of privileges: callback to OEM, or no access
 abbrev pub is_limit : ℕ → Bool
-is_limit n = (nat_le 1 n && nat_le n 5) || (n == 15)
+is_limit n = is_privilege n || (n == no_access)
 
 -- a value that a user can have
 pub record IsUserAccess (value : List ℕ) : Type 0 where

@@ -2,12 +2,13 @@
 use Rattle.std.specs.Prelude.{◌≡◌, ◌≤◌, List, [], ◌∷◌, length, replicate}
 use Rattle.record_base.specs.declared.user.User.{User}
 use Rattle.record_base.specs.BoardSizes.{most_users}
+use Rattle.record_base.specs.UserSizes.{user_name_size}
 use Rattle.record_base.specs.InOrder.{AreNumbered}
 
 -- there is a first user, who has no name
 abbrev pub BeginUnnamed : List User → Type 0
 BeginUnnamed [] = ⊥
-BeginUnnamed (user ∷ users) = user.name ≡ replicate 16 0
+BeginUnnamed (user ∷ users) = user.name ≡ replicate user_name_size 0
 
 -- users of numbers 1, 2 and so on, of whom the first has no name
 pub record AreUsers (users : List User) : Type 0 where

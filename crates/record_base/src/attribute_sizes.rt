@@ -1,4 +1,7 @@
 //! How much a BIOS attribute can have.
+ghost use Rattle.std.specs.Prelude.{◌≡◌};
+ghost use Rattle.record_base.specs.AttributeSizes.{most_indexes, most_few, most_name, most_text, least_value, most_value, most_data, before_value, most_sent, most_attributes};
+
 use crate::value::DATA_CAPACITY;
 
 /// How many possible values an enumeration has at most.
@@ -33,3 +36,17 @@ pub const MOST_SENT: usize = DATA_CAPACITY - BEFORE_VALUE;
 
 /// How many attributes a board has at most.
 pub const MOST_ATTRIBUTES: usize = 64;
+
+/// Each constant is the definition of its name.
+pub fn attribute_sizes_are_the_definitions()
+    ensures indexes { MOST_INDEXES ≡ most_indexes }
+    ensures few { MOST_FEW ≡ most_few }
+    ensures name { MOST_NAME ≡ most_name }
+    ensures text { MOST_TEXT ≡ most_text }
+    ensures least { LEAST_VALUE ≡ least_value }
+    ensures most { MOST_VALUE ≡ most_value }
+    ensures data { DATA_CAPACITY ≡ most_data }
+    ensures before { BEFORE_VALUE ≡ before_value }
+    ensures sent { MOST_SENT ≡ most_sent }
+    ensures attributes { MOST_ATTRIBUTES ≡ most_attributes }
+{}

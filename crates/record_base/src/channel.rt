@@ -8,6 +8,7 @@ use crate::board_sizes::MOST_CHANNELS;
 use crate::distinct::{Distinct, Numbered};
 use crate::key::Key;
 use crate::start_value::StartValue;
+use crate::user_sizes::{has_mode, is_privilege};
 
 /// The number of a channel (IPMI 2.0): 4 bits of a request.
 pub type ChannelNumber = BitField<4>;
@@ -31,7 +32,7 @@ pub struct StoredAccess {
 }
 
 /// Who gets in over a channel, by the bytes of Get Channel Access (IPMI 2.0): the access in bits 5:0, of which 2:0 are the mode, at
-/// most 3, and the limit of privileges, 1 to 5.
+/// most `MOST_MODE`, and the limit of privileges, from `LEAST_PRIVILEGE` to `MOST_PRIVILEGE`.
 #[derive(Clone, Copy, Debug)]
 pub struct ChannelAccess {
     pub access: u8,
@@ -89,7 +90,7 @@ impl ChannelAccess {
         ensures made { IsSome result ↔ IsChannelAccess (access ∷ limit ∷ []) }
         ensures bytes { IfSome result (λ made. (made.access ≡ access) × (made.limit ≡ limit)) }
     {
-        if access >= 64 || access % 8 > 3 || limit < 1 || limit > 5 {
+        if access >= 64 || !has_mode(access) || !is_privilege(limit) {
             return None;
         }
         Some(ChannelAccess { access, limit })

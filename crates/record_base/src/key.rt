@@ -7,6 +7,7 @@ use crate::boot_param::BootParameter;
 use crate::channel::StoredAccess;
 use crate::lan::ParameterOnChannel;
 use crate::user::{UserNumber, UserOnChannel};
+use crate::user_sizes::USER_NAME_SIZE;
 use crate::value::VALUE_CAPACITY;
 use Lengths::*;
 
@@ -129,7 +130,7 @@ impl Key {
             Key::BootParam(parameter) => in_map(Exactly(parameter.length())),
             Key::NumericEffecter(_) => in_map(OfNumber),
             Key::StateEffecter(_) => in_map(Between(1, 8)),
-            Key::UserName(_) => in_map(Exactly(16)),
+            Key::UserName(_) => in_map(Exactly(USER_NAME_SIZE)),
             Key::UserAccess(_) => in_map(Exactly(1)),
             Key::ChannelAccess(_) => in_map(Exactly(2)),
             Key::BiosAttribute(_) => in_map(Between(LEAST_VALUE, MOST_VALUE)),

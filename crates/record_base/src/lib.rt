@@ -42,6 +42,7 @@ pub mod start_value;
 pub mod state_effecter;
 pub mod thresholds;
 pub mod user;
+pub mod user_sizes;
 pub mod users;
 pub mod value;
 pub mod watchdog;
@@ -76,7 +77,7 @@ pub use lan::{
 pub use lan_item::{Lan, Lans};
 pub use live::Live;
 pub use log_capacity::LogCapacity;
-pub use message::{Answered, Asked, byte_at};
+pub use message::{Answered, Asked, byte_at, bytes_at};
 pub use numeric_effecter::{NumericBytes, NumericEffecter, NumericEffecters, SetNumericEffecter};
 pub use numeric_range::NumericRange;
 pub use numeric_size::NumericSize;

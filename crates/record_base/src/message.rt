@@ -1,7 +1,7 @@
 //! Requests and replies, without their frames.
-ghost use Rattle.std.specs.Prelude.{◌≡◌, ◌≤◌, ◌↔◌, [], length, IsTrue};
+ghost use Rattle.std.specs.Prelude.{◌≡◌, ◌+◌, ◌<◌, ◌≤◌, ◌^◌, ◌↔◌, [], length, IsTrue};
 ghost use Rattle.two_wire.specs.Sizes.{most_ipmi_request_data, most_pldm_request_data, most_pldm_reply_data};
-ghost use Rattle.record_base.specs.Requests.{byte_at};
+ghost use Rattle.record_base.specs.Requests.{byte_at, bytes_at};
 
 use two_wire::size::{MOST_IPMI_REQUEST_DATA, MOST_PLDM_REPLY_DATA, MOST_PLDM_REQUEST_DATA};
 use two_wire::{Below, Bytes, Code, Lun, NetFn};
@@ -81,6 +81,18 @@ pub fn byte_at(body: &[u8], place: usize) -> u8
         Some(byte) => *byte,
         None => 0,
     }
+}
+
+/// So many bytes of a request's data from a place on, 00h where they are missing.
+pub fn bytes_at<const N: usize>(body: &[u8], place: usize) -> [u8; N]
+    requires { place + N < 2 ^ 32 }
+    ensures { result ≡ bytes_at N body.now place }
+{
+    let mut bytes = [0; N];
+    for i in 0..N {
+        bytes[i] = byte_at(body, place + i);
+    }
+    bytes
 }
 
 impl Asked {

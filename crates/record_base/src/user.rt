@@ -1,6 +1,7 @@
 //! Users: in a board file, and as they are set.
 ghost use Rattle.std.specs.Prelude.{◌≡◌, [], ◌∷◌, length};
 ghost use Rattle.record_base.specs.UserAccess.{is_limit, IsUserAccess};
+ghost use Rattle.record_base.specs.UserSizes.{user_name_size};
 ghost use Rattle.record_base.specs.PartLaws.{IsUserAccess-prop};
 
 use crate::bit_field::BitField;
@@ -9,6 +10,7 @@ use crate::channel::ChannelNumber;
 use crate::distinct::{Distinct, Numbered};
 use crate::key::Key;
 use crate::start_value::StartValue;
+use crate::user_sizes::{NO_ACCESS, USER_NAME_SIZE, is_privilege};
 
 /// The number of a user (IPMI 2.0): 6 bits of a request. No user has the number 0.
 pub type UserNumber = BitField<6>;
@@ -20,12 +22,12 @@ pub struct UserOnChannel {
     pub user: UserNumber,
 }
 
-/// A user of a board, 1 to 16, and the user's name, behind which there is 00h.
+/// A user of a board, of a number from 1 on, and the user's name, behind which there is 00h.
 #[derive(Clone, Copy, Debug)]
 pub struct User {
     pub number: UserNumber,
-    pub name: [u8; 16],
-    pub ghost sixteen: { length name ≡ 16 },
+    pub name: [u8; USER_NAME_SIZE],
+    pub ghost sized: { length name ≡ user_name_size },
 }
 
 /// What a user may do on a channel with sessions, by a byte of Get User Access (IPMI 2.0): bit 6 callback alone, bit 5 link
@@ -55,8 +57,8 @@ pub struct SetUserAccess {
 #[derive(Clone, Copy, Debug, PartialEq, Eq)]
 pub struct SetUserName {
     pub user: u8,
-    pub name: [u8; 16],
-    pub ghost sixteen: { length name ≡ 16 },
+    pub name: [u8; USER_NAME_SIZE],
+    pub ghost sized: { length name ≡ user_name_size },
 }
 
 impl Numbered for User {
@@ -97,7 +99,7 @@ impl UserOnChannel {
 pub fn is_limit(limit: u8) -> bool
     ensures { result ≡ is_limit limit }
 {
-    (1 <= limit && limit <= 5) || limit == 15
+    is_privilege(limit) || limit == NO_ACCESS
 }
 
 impl User {

@@ -6,8 +6,9 @@ use crate::board_sizes::MOST_USERS;
 use crate::in_order::are_numbered;
 use crate::items::Items;
 use crate::user::User;
+use crate::user_sizes::USER_NAME_SIZE;
 
-/// The users of a board: at most 16, of numbers 1, 2 and so on in order. The first has no name.
+/// The users of a board: at most `MOST_USERS`, of numbers 1, 2 and so on in order. The first has no name.
 #[derive(Debug, Drop)]
 pub struct Users {
     pub items: Items<User>,
@@ -24,7 +25,10 @@ impl Users {
         ensures items { IfSome result (λ made. made.items ≡ items.items) }
     {
         let first = items.first()?;
-        if first.name != [0; 16] || items.len() > MOST_USERS || !are_numbered(items.as_slice(), 1) {
+        if first.name != [0; USER_NAME_SIZE]
+            || items.len() > MOST_USERS
+            || !are_numbered(items.as_slice(), 1)
+        {
             return None;
         }
         Some(Users {

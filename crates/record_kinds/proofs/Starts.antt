@@ -150,7 +150,7 @@ sound_in_kind file (key.StateEffecter id) =
     sound_of (λ e. (key.StateEffecter e.id, state_value e.fields)) (λ e. limits.StateEffecter e) (λ e. e.id == id) file.state_effecters.items (key.StateEffecter id)
     (λ e. same_numbered key.StateEffecter (λ m n same. cc) e.id id) (λ e. begin_allowed e.fields)
 sound_in_kind file (key.UserName user) =
-    sound_of (λ u. (key.UserName u.number, u.name)) (λ u. limits.UserName (record {})) (λ u. u.number.number == user.number) file.users.items (key.UserName user) (λ u. same_user_key u.number user) (λ u. u.sixteen)
+    sound_of (λ u. (key.UserName u.number, u.name)) (λ u. limits.UserName (record {})) (λ u. u.number.number == user.number) file.users.items (key.UserName user) (λ u. same_user_key u.number user) (λ u. u.sized)
 sound_in_kind file (key.UserAccess on) =
     sound_of (λ a. (key.UserAccess a.on, a.byte ∷ [])) (λ a. limits.UserAccess (record { user = on.user; most = length file.users.items })) (λ a. is_on a.on on) file.user_accesses.items (key.UserAccess on)
     (λ a. same_on_key a.on on) (λ a. a.valid)

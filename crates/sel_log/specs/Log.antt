@@ -2,12 +2,13 @@
 use Rattle.std.specs.Prelude.{ℕ, ◌+◌, ◌-◌, ◌*◌, ◌==◌, ◌≤◌, nat_le, Bool, true, false, List, [], ◌∷◌, ◌++◌, length, Option, is_some, Result, Ok, Err, if◌then◌else◌}
 use Rattle.std.specs.List.{find, slice_get}
 use Rattle.two_wire.specs.Codes.{out_of_space, reservation_canceled}
+use Rattle.two_wire.specs.LogSize.{least_log_records, most_log_records}
 use Rattle.sel_log.specs.declared.clock.Clock.{Clock}
 use Rattle.sel_log.specs.declared.reservations.Reservations.{Reservations}
 use Rattle.sel_log.specs.declared.info.Info.{Info}
 use Rattle.sel_log.specs.Clock.{clock_at}
 use Rattle.sel_log.specs.Reservations.{no_reservation, is_present}
-use Rattle.sel_log.specs.LogRecord.{id_of, kept}
+use Rattle.sel_log.specs.LogRecord.{record_size, id_of, kept}
 
 -- a log: its records, the oldest first, how many it can have, and what else it keeps
 pub record Log : Type 0 where
@@ -23,8 +24,8 @@ pub record Log : Type 0 where
 
 -- a log can have so many records
 pub record IsCapacity (capacity : ℕ) : Type 0 where
-  pub least : 1 ≤ capacity
-  pub most : capacity ≤ 1024
+  pub least : least_log_records ≤ capacity
+  pub most : capacity ≤ most_log_records
 
 -- a new log
 abbrev pub new_log : ℕ → Log
@@ -81,11 +82,11 @@ after_clear log reservation =
     then record log { records = []; overflow = false; last_clear = log.clock.seconds; reservations = record log.reservations { present = 0 } }
     else log
 
--- what Get SEL Info tells: each free place has sixteen bytes
+-- what Get SEL Info tells: each free place has the bytes of a record
 abbrev pub info_of : Log → Info
 info_of log = record {
   count = length log.records;
-  free_bytes = 16 * (log.capacity - length log.records);
+  free_bytes = record_size * (log.capacity - length log.records);
   last_add = log.last_add;
   last_clear = log.last_clear;
   overflow = log.overflow;

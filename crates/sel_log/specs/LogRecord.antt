@@ -2,6 +2,10 @@
 use Rattle.std.specs.Prelude.{ℕ, nat_lt, Bool, List, ◌∷◌, ◌++◌, take, drop, slice_index, if◌then◌else◌}
 use Rattle.std.specs.Int.{w16, w32, to_le_bytes, from_le_bytes}
 
+-- how many bytes a record has
+abbrev pub record_size : ℕ
+record_size = 16
+
 -- a record's id, its first two bytes
 abbrev pub id_of : List ℕ → ℕ
 id_of bytes = from_le_bytes w16 (take 2 bytes)

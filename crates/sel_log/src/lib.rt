@@ -9,6 +9,6 @@ mod sel;
 
 pub use clock::Clock;
 pub use info::Info;
-pub use log_record::LogRecord;
+pub use log_record::{LogRecord, RECORD_SIZE, record_size_is_the_definition};
 pub use reservations::Reservations;
 pub use sel::{Entry, FIRST_RECORD, LAST_RECORD, Sel, SelFault};

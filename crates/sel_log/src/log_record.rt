@@ -1,6 +1,6 @@
 //! A record of the log.
 ghost use Rattle.std.specs.Prelude.{◌≡◌, ◌<◌, length};
-ghost use Rattle.sel_log.specs.LogRecord.{id_of, kept};
+ghost use Rattle.sel_log.specs.LogRecord.{record_size, id_of, kept};
 
 use std::marker::Model;
 use two_wire::Bytes;
@@ -8,27 +8,36 @@ use two_wire::Bytes;
 /// Records of these types and above have no time.
 const FIRST_TYPE_WITHOUT_TIME: u8 = 0xE0;
 
-/// The sixteen bytes of a record: its id in two bytes, its type, and 13 bytes whose first four are its time where its type has one.
+/// How many bytes a record has (IPMI 2.0).
+pub const RECORD_SIZE: usize = 16;
+
+/// The constant is the definition.
+pub fn record_size_is_the_definition()
+    ensures { RECORD_SIZE ≡ record_size }
+{}
+
+/// The bytes of a record: its id in two bytes, its type, and 13 bytes whose first four are its time where its type has one.
 /// Numbers have their lowest byte first.
 #[derive(Debug, Drop)]
 pub struct LogRecord {
-    bytes: Bytes<16>,
+    bytes: Bytes<{ RECORD_SIZE }>,
 }
 
 impl Model for LogRecord {
     ghost use Rattle.std.specs.Prelude.{List, ℕ, ◌≡◌, length};
+    ghost use Rattle.sel_log.specs.LogRecord.{record_size};
 
     ghost Value = { List ℕ };
 
     ghost view = { λ r. r.bytes };
 
-    ghost invariant = { λ r. length r.bytes ≡ 16 };
+    ghost invariant = { λ r. length r.bytes ≡ record_size };
 }
 
 impl LogRecord {
     /// The record that has these bytes.
     pub fn from_slice(bytes: &[u8]) -> Self
-        requires { length bytes.now ≡ 16 }
+        requires { length bytes.now ≡ record_size }
         ensures { result ≡ bytes.now }
     {
         LogRecord {
@@ -39,7 +48,7 @@ impl LogRecord {
     /// Its bytes.
     pub fn as_slice(&self) -> &[u8]
         ensures value { result.now ≡ self.now }
-        ensures sixteen { length result.now ≡ 16 }
+        ensures sized { length result.now ≡ record_size }
     {
         self.bytes.as_slice()
     }

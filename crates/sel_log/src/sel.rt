@@ -1,5 +1,6 @@
 //! The log.
 ghost use Rattle.std.specs.Prelude.{◌≡◌, ℕ, ◌<◌, ◌≤◌, ◌↔◌, List, length, slice_get, IfOk, IfSome, IfNone};
+ghost use Rattle.two_wire.specs.LogSize.{most_log_records};
 ghost use Rattle.sel_log.specs.Clock.{clock_at, ticked};
 ghost use Rattle.sel_log.specs.Reservations.{next_number, is_present};
 ghost use Rattle.sel_log.specs.LogRecord.{id_of};
@@ -8,12 +9,13 @@ ghost use Rattle.sel_log.specs.Log.{IsCapacity, new_log, add_answer, after_add, 
 
 use crate::clock::Clock;
 use crate::info::Info;
-use crate::log_record::LogRecord;
+use crate::log_record::{LogRecord, RECORD_SIZE};
 use crate::reservations::Reservations;
 use std::alloc::Global;
 use std::marker::Model;
 use two_wire::Code;
 use two_wire::code::{OUT_OF_SPACE, RESERVATION_CANCELED};
+use two_wire::log_size::{LEAST_LOG_RECORDS, MOST_LOG_RECORDS};
 
 /// The number that stands for the first record.
 pub const FIRST_RECORD: u16 = 0x0000;
@@ -21,18 +23,12 @@ pub const FIRST_RECORD: u16 = 0x0000;
 /// The number that stands for the last record, and for no record behind it.
 pub const LAST_RECORD: u16 = 0xFFFF;
 
-/// The most records that a log can have.
-const MOST_RECORDS: u16 = 1_024;
-
-/// How many bytes a record takes.
-const RECORD_SIZE: u16 = 16;
-
 /// Why no log is made.
 #[derive(Clone, Copy, Debug, PartialEq, Eq)]
 pub enum SelFault {
     /// Memory was refused.
     Memory,
-    /// The capacity isn't 1 to 1,024.
+    /// A log can't have so few records, or so many.
     Capacity,
 }
 
@@ -77,13 +73,13 @@ impl Model for Sel {
 }
 
 impl Sel {
-    /// A log without records, whose clock shows 0. It can have so many records, from 1 to 1,024.
+    /// A log without records, whose clock shows 0. It can have so many records, from `LEAST_LOG_RECORDS` to `MOST_LOG_RECORDS`.
     pub fn new(alloc: Global, capacity: u16) -> Result<Self, SelFault>
         ensures made { IfOk result (λ s. s ≡ new_log capacity) }
         ensures within { IfOk result (λ _. IsCapacity capacity) }
         ensures capacity { (result ≡ Err SelFault.Capacity) ↔ ¬ IsCapacity capacity }
     {
-        if capacity == 0 || capacity > MOST_RECORDS {
+        if capacity < LEAST_LOG_RECORDS || capacity > MOST_LOG_RECORDS {
             return Err(SelFault::Capacity);
         }
         let Ok(records) = Vec::with_capacity(alloc, usize::from(capacity)) else {
@@ -170,7 +166,7 @@ impl Sel {
         let count = self.records.len() as u16;
         Info {
             count,
-            free_bytes: RECORD_SIZE * (self.capacity - count),
+            free_bytes: RECORD_SIZE as u16 * (self.capacity - count),
             last_add: self.last_add,
             last_clear: self.last_clear,
             overflow: self.overflow,
@@ -214,7 +210,7 @@ fn place_of(records: &[LogRecord], number: u16) -> usize
 /// The id of the record behind the one at this place.
 fn id_behind(records: &[LogRecord], place: usize) -> u16
     requires counted { CountFrom 1 records.now }
-    requires few { length records.now ≤ 1024 }
+    requires few { length records.now ≤ most_log_records }
     requires within { place < length records.now }
     ensures { (r : List ℕ) → slice_get records.now place ≡ Some r
         → result ≡ id_behind records.now (id_of r) }

@@ -1,5 +1,7 @@
 -- The last reading of each sensor (IPMI 2.0, Get Sensor Reading), and the thresholds that it was beyond.
 use Rattle.std.specs.Prelude.{ℕ, ◌+◌, ◌*◌, List, [], ◌∷◌, get_or, set, replicate, slice_index, Bool, false, Option, Some, None, is_none, if◌then◌else◌, refl}
+use Rattle.two_wire.specs.Places.{controller_wire}
+use Rattle.record_base.specs.Requests.{bytes_at}
 use Rattle.record_base.specs.Sensor.EventEnable.{flags_byte, makes_messages, is_scanning, enabled_in}
 use Rattle.record_base.specs.declared.thresholds.ThresholdMasks.{ThresholdMasks}
 use Rattle.sensor_recs.specs.declared.compared.Compared.{Compared}
@@ -36,7 +38,7 @@ taken_after compared last reading = record { raw = reading; beyond = beyond_afte
 abbrev pub compared_of : ThresholdMasks → List ℕ → List ℕ → List ℕ → Compared
 compared_of masks thresholds hysteresis events = record {
   masks = masks;
-  thresholds = slice_index thresholds 0 ∷ slice_index thresholds 1 ∷ slice_index thresholds 2 ∷ slice_index thresholds 3 ∷ slice_index thresholds 4 ∷ slice_index thresholds 5 ∷ [];
+  thresholds = bytes_at 6 thresholds 0;
   hysteresis = record { positive = slice_index hysteresis 0; negative = slice_index hysteresis 1 };
   messages = makes_messages (slice_index events 0);
   enabled = enabled_in events;
@@ -66,9 +68,9 @@ reading_data events last =
 -- ---- the System Event Log
 
 -- the record of an event that a reading of the sensor makes. The log puts in the record's id and time. The record is a system event (02h) of the
--- controller (20h, channel 0), in the format of IPMI 2.0 (04h), of the sensor's type and number, of the generic type of thresholds (01h, with
+-- controller (its address, channel 0), in the format of IPMI 2.0 (04h), of the sensor's type and number, of the generic type of thresholds (01h, with
 -- bit 7 where the event is deasserted), with the offset, the reading and the threshold.
 abbrev pub log_record : ℕ → ℕ → Compared → ℕ → Event → List ℕ
 log_record sensor_type sensor compared reading event =
-    0 ∷ 0 ∷ 0x02 ∷ 0 ∷ 0 ∷ 0 ∷ 0 ∷ 0x20 ∷ 0x00 ∷ 0x04 ∷ sensor_type ∷ sensor ∷ (if event.deasserted then 0x81 else 0x01)
+    0 ∷ 0 ∷ 0x02 ∷ 0 ∷ 0 ∷ 0 ∷ 0 ∷ controller_wire ∷ 0x00 ∷ 0x04 ∷ sensor_type ∷ sensor ∷ (if event.deasserted then 0x81 else 0x01)
     ∷ (0x50 + offset_of event) ∷ reading ∷ slice_index compared.thresholds event.place ∷ []

@@ -10,7 +10,7 @@ use record_base::event_enable::{
 use record_base::mask::has;
 use record_base::{
     Asked, CommandReader, EventChange, EventMasks, Key, Live, Op, RecordData, RecordKind, Sensor,
-    SetEventEnable, Value, byte_at,
+    SetEventEnable, Value, byte_at, bytes_at,
 };
 use two_wire::code::INVALID_DATA_FIELD;
 use two_wire::{Buffer, Code};
@@ -133,8 +133,8 @@ fn event_masks_in(body: &[u8]) -> EventMasks
     ensures { result ≡ event_masks_in body.now }
 {
     EventMasks {
-        assertions: u16::from_le_bytes([byte_at(body, 2), byte_at(body, 3)]),
-        deassertions: u16::from_le_bytes([byte_at(body, 4), byte_at(body, 5)]),
+        assertions: u16::from_le_bytes(bytes_at(body, 2)),
+        deassertions: u16::from_le_bytes(bytes_at(body, 4)),
     }
 }
 

@@ -7,19 +7,17 @@ use crate::compared::{Compared, Event, Taken};
 use crate::readings::Events;
 use record_base::event_enable::{MESSAGES_PLACE, SCANNING_PLACE, flags_byte};
 use record_base::mask::has;
-use record_base::{EventMasks, Hysteresis, ThresholdMasks, byte_at};
+use record_base::{EventMasks, Hysteresis, ThresholdMasks, byte_at, bytes_at};
 use sel_log::LogRecord;
 use std::alloc::{AllocError, Global};
 use std::marker::Model;
+use two_wire::places::CONTROLLER_WIRE;
 
 /// The bit of a Get Sensor Reading reply that says that there is no reading yet.
 const UNAVAILABLE: u8 = 0x20;
 
 /// The type of the log's records of events.
 const SYSTEM_EVENT: u8 = 0x02;
-
-/// The IPMB address of the controller, which makes the events.
-const CONTROLLER: u8 = 0x20;
 
 /// The format of events of IPMI 2.0.
 const EVENT_FORMAT: u8 = 0x04;
@@ -111,22 +109,15 @@ impl Compared {
     {
         Compared {
             masks,
-            thresholds: [
-                byte_at(thresholds, 0),
-                byte_at(thresholds, 1),
-                byte_at(thresholds, 2),
-                byte_at(thresholds, 3),
-                byte_at(thresholds, 4),
-                byte_at(thresholds, 5),
-            ],
+            thresholds: bytes_at(thresholds, 0),
             hysteresis: Hysteresis {
                 positive: byte_at(hysteresis, 0),
                 negative: byte_at(hysteresis, 1),
             },
             messages: has(byte_at(events, 0), MESSAGES_PLACE),
             enabled: EventMasks {
-                assertions: u16::from_le_bytes([byte_at(events, 1), byte_at(events, 2)]),
-                deassertions: u16::from_le_bytes([byte_at(events, 3), byte_at(events, 4)]),
+                assertions: u16::from_le_bytes(bytes_at(events, 1)),
+                deassertions: u16::from_le_bytes(bytes_at(events, 3)),
             },
         }
     }
@@ -159,7 +150,7 @@ impl Compared {
             0,
             0,
             0,
-            CONTROLLER,
+            CONTROLLER_WIRE,
             0x00,
             EVENT_FORMAT,
             sensor_type,

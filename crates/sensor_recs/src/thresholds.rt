@@ -6,7 +6,7 @@ use crate::request::sensor_request;
 use record_base::mask::{has, is_within};
 use record_base::{
     Asked, CommandReader, Key, Live, Op, RecordData, RecordKind, Sensor, SetThresholds,
-    ThresholdMasks, Value, byte_at,
+    ThresholdMasks, Value, byte_at, bytes_at,
 };
 use two_wire::code::INVALID_DATA_FIELD;
 use two_wire::{Buffer, Code};
@@ -60,14 +60,7 @@ fn thresholds_in(body: &[u8]) -> SetThresholds
     SetThresholds {
         sensor: byte_at(body, 0),
         mask: byte_at(body, 1),
-        values: [
-            byte_at(body, 2),
-            byte_at(body, 3),
-            byte_at(body, 4),
-            byte_at(body, 5),
-            byte_at(body, 6),
-            byte_at(body, 7),
-        ],
+        values: bytes_at(body, 2),
     }
 }
 

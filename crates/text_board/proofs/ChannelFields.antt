@@ -3,6 +3,7 @@ use Rattle.std.proofs.Common.{◌≡◌, ℕ, zero, suc, ◌<◌, ◌≤◌, ◌
 use Rattle.std.proofs.lemmas.Bool.{and_parts, cond_both}
 use Rattle.std.proofs.lemmas.Bool.Decides.{nat_tests}
 use Rattle.std.specs.List.{list_all, AllByRecursion}
+use Rattle.record_base.specs.BoardSizes.{most_users}
 use Rattle.toml.specs.Data.{Data, Members}
 use Rattle.toml.specs.View.{view}
 use Rattle.toml.specs.declared.value.Value.{Value}
@@ -107,8 +108,8 @@ each_told users (d ∷ ds) sound =
     (λ is. ((users_told users (table_of d) (with_rows users (table_of d) is sound.0)).0, each_told users ds sound.1))
     (λ is. each_told users ds sound.1)
 
--- each that has sessions says what at most sixteen users may do
-pub few_users : (users : ℕ) (ds : List Data) → users ≤ 16 → EachSound users ds → AllByRecursion FewUsers (with_sessions ds)
+-- each that has sessions says what at most `most_users` users may do
+pub few_users : (users : ℕ) (ds : List Data) → users ≤ most_users → EachSound users ds → AllByRecursion FewUsers (with_sessions ds)
 few_users users ds few sound = weaken (HasUsers users) FewUsers (λ d long. omega (arith, long, few)) (with_sessions ds) (each_told users ds sound)
 
 -- ---- the members with sessions, and those without

@@ -4,6 +4,7 @@ use Rattle.std.proofs.lemmas.List.{length-map, length-append, append-nil, append
 use Rattle.std.proofs.lemmas.List.Kept.{AllPairs-cons}
 use Rattle.std.proofs.lemmas.Slice.Zip.{AllZip-long}
 use Rattle.std.specs.List.{AllZip, AllByRecursion}
+use Rattle.record_base.specs.BoardSizes.{most_users, most_channels, most_accesses}
 use Rattle.toml.specs.Data.{Data}
 use Rattle.record_base.specs.declared.user.UserAccess.{UserAccess}
 use Rattle.record_base.specs.Distinct.{NamesDiffer}
@@ -74,7 +75,7 @@ filter_few p (x ∷ xs) = let few = few_here (p x) x (filter p xs) (length xs) (
 
 -- a file has at most so many users
 abbrev pub FewUsers : Data → Type 0
-FewUsers d = length (members_in field.Users (table_of d)) ≤ 16
+FewUsers d = length (members_in field.Users (table_of d)) ≤ most_users
 
 abbrev num : ℕ × (ℕ × ℕ) → ℕ
 num p = p.0 * 64 + p.1.0
@@ -165,7 +166,7 @@ on_long : (c n : ℕ) (ds : List Data) → length (on_channel c n ds) ≡ length
 on_long c n [] = refl
 on_long c n (d ∷ ds) = ap suc (on_long c (n + 1) ds)
 
-long_in : (ds : List Data) → AllByRecursion FewUsers ds → length (accesses_in ds) ≤ 16 * length ds
+long_in : (ds : List Data) → AllByRecursion FewUsers ds → length (accesses_in ds) ≤ most_users * length ds
 long_in [] few = omega arith
 long_in (d ∷ ds) few =
     let users = members_in field.Users (table_of d) in
@@ -174,8 +175,8 @@ long_in (d ∷ ds) few =
     let more = long_in ds few.1 in
     omega (arith, whole, here, more, few.0)
 
--- there are at most sixteen a channel
-pub accesses_few : (ds : List Data) (accesses : List UserAccess) → AllByRecursion FewUsers ds → length ds ≤ 8 → map parts_of accesses ≡ accesses_in ds → length accesses ≤ 128
+-- there are at most `most_users` a channel
+pub accesses_few : (ds : List Data) (accesses : List UserAccess) → AllByRecursion FewUsers ds → length ds ≤ most_channels → map parts_of accesses ≡ accesses_in ds → length accesses ≤ most_accesses
 accesses_few ds accesses few channels told =
     let long = sym (length-map accesses parts_of) ∙ ap length told in
     let most = long_in ds few in

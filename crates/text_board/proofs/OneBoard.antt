@@ -29,6 +29,8 @@ use Rattle.record_base.specs.NumericEffecter.{IsNumeric}
 use Rattle.record_base.specs.NumericSize.{code_of, numbers_of, bytes_of}
 use Rattle.record_base.specs.UserAccess.{IsUserAccess}
 use Rattle.record_base.specs.ChannelAccess.{IsChannelAccess}
+use Rattle.record_base.specs.UserSizes.{user_name_size}
+use Rattle.two_wire.specs.LogSize.{least_log_records, most_log_records}
 use Rattle.record_base.specs.StateField.{allows}
 use Rattle.record_base.specs.BootParam.{flag_bytes}
 use Rattle.cfg_records.specs.declared.board_file.BoardFile.{BoardFile}
@@ -114,7 +116,7 @@ one_device tree a b p q =
     λ i. record { id = id i; revision = revision i; major = major i; minor = minor i; support = support i; manufacturer = manufacturer i; product = product i }
 
 one_log : (a b : LogCapacity) → a.records ≡ b.records → a ≡ b
-one_log a b e = λ i. record { records = e i; least = from 1 e a.least b.least i; most = up_to 1024 e a.most b.most i }
+one_log a b e = λ i. record { records = e i; least = from least_log_records e a.least b.least i; most = up_to most_log_records e a.most b.most i }
 
 one_enables : (a b : GlobalEnables) → a.byte ≡ b.byte → a ≡ b
 one_enables a b e = λ i. record { byte = e i; valid = is_prop→PathP (λ j. AreGlobalEnables (e j ∷ [])) (λ j. AreGlobalEnables-prop (e j ∷ [])) a.valid b.valid i }
@@ -311,7 +313,7 @@ one_user : (d : Data) (a b : User) → IsNameIn d a → IsNameIn d b → a.numbe
 one_user d a b p q e =
     let number = same_field a.number b.number e in
     let name = one_found (name_of d) a.name b.name p q in
-    λ i. record { number = number i; name = name i; sixteen = is_prop→PathP (λ j. length (name j) ≡ 16) (λ j. hlevel props) a.sixteen b.sixteen i }
+    λ i. record { number = number i; name = name i; sized = is_prop→PathP (λ j. length (name j) ≡ user_name_size) (λ j. hlevel props) a.sized b.sized i }
 
 one_access : (a b : ChannelAccess) → a.access ≡ b.access → a.limit ≡ b.limit → a ≡ b
 one_access a b p q = λ i. record {

@@ -9,12 +9,17 @@ use record_base::board_sizes::{MOST_CHANNELS, MOST_EFFECTERS, MOST_SDRS, MOST_SE
 use text_fields::tree::has_text;
 use text_fields::{BYTE, Field, LanField, Need, Row, Shape};
 use toml::Table;
+use two_wire::log_size::{LEAST_LOG_RECORDS, MOST_LOG_RECORDS};
 
 /// A board file's own fields.
 pub const TOP: [Row; 18] = [
     Row(Field::Tid, BYTE, Need::Always),
     Row(Field::Clock, Shape::Number(0, 0xFFFF_FFFF), Need::Always),
-    Row(Field::Log, Shape::Number(1, 1_024), Need::Always),
+    Row(
+        Field::Log,
+        Shape::Number(LEAST_LOG_RECORDS as u32, MOST_LOG_RECORDS as u32),
+        Need::Always,
+    ),
     Row(Field::Enables, Shape::Enables, Need::Always),
     Row(Field::Policy, Shape::Number(0, 3), Need::Always),
     Row(Field::Users, Shape::Names, Need::Always),

@@ -23,7 +23,7 @@ text_of d = option_and_then short_text (as_str d)
 abbrev pub text_in : Field → Members → Option (List ℕ)
 text_in named tree = option_and_then text_of (in_field named tree)
 
--- the text of at most 1,024 bytes that a value is: what a string can be
+-- the text of at most `most_text` bytes that a value is: what a string can be
 abbrev pub string_of : Data → Option (List ℕ)
 string_of d = option_and_then (text_within most_text) (as_str d)
 

@@ -4,11 +4,12 @@ use Rattle.std.specs.Str.{bytes_eq}
 use Rattle.record_base.specs.declared.channel.AccessStore.{AccessStore}
 use Rattle.record_base.specs.declared.channel.AccessStore.TheVariants.{NonVolatile, Volatile}
 use Rattle.record_base.specs.UserAccess.{is_limit}
+use Rattle.record_base.specs.UserSizes.{has_mode}
 use Rattle.toml.specs.Data.{Data, as_str}
 
--- who gets in over a channel: bits 5:0, of which 2:0, the mode, are at most 3
+-- who gets in over a channel: bits 5:0, of which 2:0 are the mode
 abbrev pub is_access : ℕ → Bool
-is_access n = nat_lt n 64 && nat_le (n % 8) 3
+is_access n = nat_lt n 64 && has_mode n
 
 -- the number of a channel of a board
 abbrev pub is_channel : ℕ → Bool

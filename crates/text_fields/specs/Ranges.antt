@@ -7,6 +7,7 @@ use Rattle.record_base.specs.Sensor.Thresholds.{place_of}
 use Rattle.record_base.specs.Sensor.EventEnable.{are_within}
 use Rattle.record_base.specs.GlobalEnables.{are_enables}
 use Rattle.record_base.specs.UserAccess.{is_limit}
+use Rattle.record_base.specs.UserSizes.{is_privilege}
 use Rattle.record_base.specs.BootParam.{parameter_at}
 use Rattle.record_base.specs.declared.boot_param.BootParameter.{BootParameter}
 use Rattle.record_base.specs.declared.boot_param.BootParameter.TheVariants as parameter
@@ -236,7 +237,7 @@ are_present _ _ = false
 abbrev pub are_changes : List Data → Bool
 are_changes ds = is_between 1 8 (length ds) && list_all (λ d. is_some (change_of d)) ds
 
--- a length that is the most of an item: at most 1,024 bytes, and not below its least
+-- a length that is the most of an item: at most `most_text` bytes, and not below its least
 abbrev pub is_most : Members → ℕ → Bool
 is_most tree n = passes (λ least. is_between least most_text n) (number_in field.Least tree)
 
@@ -287,7 +288,7 @@ is_in_range tree shape.UserLimit d = passes is_limit (natural d)
 is_in_range tree shape.Store d = is_some (store_of d)
 is_in_range tree shape.Access d = passes is_access (natural d)
 is_in_range tree shape.Accesses d = passes (list_all is_access) (bytes_in 2 d)
-is_in_range tree shape.Limits d = passes (list_all (is_between 1 5)) (bytes_in 2 d)
+is_in_range tree shape.Limits d = passes (list_all is_privilege) (bytes_in 2 d)
 is_in_range tree (shape.UserBytes users) d = (length (or_none (members d)) == users) && list_all may_do (or_none (members d))
 is_in_range tree shape.ChannelNumber d = passes is_channel (natural d)
 is_in_range tree shape.StateLists d = are_state_lists (or_none (members d))

@@ -47,7 +47,7 @@ pub fn text_in(table: &Table, field: Field) -> Text
     }
 }
 
-/// The bytes of the text of at most 1,024 bytes that the value is: what a string can be. They lie where the file has them.
+/// The bytes of the text of at most `MOST_TEXT` bytes that the value is: what a string can be. They lie where the file has them.
 fn string(value: &Value) -> Option<&[u8]>
     ensures { option_copied result ≡ string_of (view value.now) }
 {

@@ -3,12 +3,14 @@ ghost use Rattle.std.specs.Prelude.{◌≡◌, ◌==◌, ◌&&◌, true, length,
 ghost use Rattle.std.specs.List.{list_all};
 ghost use Rattle.toml.specs.View.{view, table_view};
 ghost use Rattle.text_fields.specs.Trees.{natural, members, or_none, bytes_in, HasNumber, HasBelow};
-ghost use Rattle.text_fields.specs.Ranges.{passes, is_between, may_do};
+ghost use Rattle.text_fields.specs.Ranges.{passes, may_do};
+ghost use Rattle.record_base.specs.UserSizes.{is_privilege};
 ghost use Rattle.text_fields.specs.Channels.{is_access, is_channel, store_named, store_of};
 
 use crate::field::Field;
 use crate::tree::{byte_in, bytes, members, natural};
 use record_base::user::is_limit;
+use record_base::user_sizes::{MOST_MODE, has_mode, is_privilege};
 use record_base::{AccessStore, ChannelNumber};
 use toml::{Table, Value};
 
@@ -17,7 +19,7 @@ pub fn is_access(value: &Value) -> bool
     ensures { result ≡ passes is_access (natural (view value.now)) }
 {
     match natural(value) {
-        Some(number) => number < 64 && number % 8 <= 3,
+        Some(number) => number < 64 && number % 8 <= u64::from(MOST_MODE),
         None => false,
     }
 }
@@ -32,7 +34,7 @@ pub fn accesses(value: &Value) -> Option<[u8; 2]>
         return None;
     };
     let [first, second] = pair;
-    if first >= 64 || first % 8 > 3 || second >= 64 || second % 8 > 3 {
+    if first >= 64 || !has_mode(first) || second >= 64 || !has_mode(second) {
         return None;
     }
     Some([first, second])
@@ -41,15 +43,15 @@ pub fn accesses(value: &Value) -> Option<[u8; 2]>
 /// Two limits for the stores of a channel.
 pub fn limits(value: &Value) -> Option<[u8; 2]>
     ensures made { is_some result
-        ≡ passes (list_all (is_between 1 5)) (bytes_in 2 (view value.now)) }
+        ≡ passes (list_all is_privilege) (bytes_in 2 (view value.now)) }
     ensures held { IfSome result (λ pair. bytes_in 2 (view value.now) ≡ Some pair) }
-    ensures valid { IfSome result (λ pair. list_all (is_between 1 5) pair ≡ true) }
+    ensures valid { IfSome result (λ pair. list_all is_privilege pair ≡ true) }
 {
     let Some(pair) = bytes::<2>(value) else {
         return None;
     };
     let [first, second] = pair;
-    if first < 1 || first > 5 || second < 1 || second > 5 {
+    if !is_privilege(first) || !is_privilege(second) {
         return None;
     }
     Some([first, second])

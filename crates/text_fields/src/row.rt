@@ -46,9 +46,9 @@ pub enum Shape {
     Offsets,
     /// Bytes, in a list: data of the boot parameter that the item names.
     BootData,
-    /// 1 to 16 bytes, in a list: indexes of an attribute's possible values, where the item has neither `text` nor `number`.
+    /// 1 to `MOST_INDEXES` bytes, in a list: indexes of an attribute's possible values, where the item has neither `text` nor `number`.
     FewIndexes,
-    /// A text of at most 1,024 bytes, where the item has no `number`.
+    /// A text of at most `MOST_TEXT` bytes, where the item has no `number`.
     AttributeText,
     /// A whole number that isn't negative.
     Natural,
@@ -58,15 +58,15 @@ pub enum Shape {
     Upper,
     /// Such a number within the item's bounds.
     Current,
-    /// A text of at most 16 bytes: the name of a user.
+    /// A text of at most `USER_NAME_SIZE` bytes: the name of a user.
     Name,
-    /// 1 to 16 names, in a list of texts, of which the first is empty.
+    /// 1 to `MOST_USERS` names, in a list of texts, of which the first is empty.
     Names,
-    /// A limit of a user's privileges: 1 to 5, or 15 for no access.
+    /// A limit of a user's privileges, or `NO_ACCESS`.
     UserLimit,
     /// A text: `non-volatile` or `volatile`.
     Store,
-    /// A byte with no bits but bits 5:0, of which 2:0 are at most 3: who gets in over a channel.
+    /// A byte with no bits but bits 5:0, of which 2:0 are at most `MOST_MODE`: who gets in over a channel.
     Access,
     /// Two such bytes, in a list: in the non-volatile store and in the volatile one.
     Accesses,
@@ -90,7 +90,7 @@ pub enum Shape {
     Values,
     /// Indexes of the item's values, in a list: at least one, and no more than there are values.
     Indexes,
-    /// A length of at most 1,024 bytes, not below the item's least.
+    /// A length of at most `MOST_TEXT` bytes, not below the item's least.
     MostLength,
     /// A text of a length from the item's least to its most.
     SizedText,

@@ -8,24 +8,26 @@ ghost use Rattle.text_fields.specs.Ranges.{passes};
 ghost use Rattle.text_fields.specs.Users.{padded, name_of, begins_unnamed, are_names};
 
 use crate::tree::{members, natural};
+use record_base::board_sizes::MOST_USERS;
 use record_base::user::is_limit;
+use record_base::user_sizes::USER_NAME_SIZE;
 use toml::Value;
 
 /// The name whose text it is, with 00h behind it.
-fn padded(text: &str) -> Option<[u8; 16]>
+fn padded(text: &str) -> Option<[u8; USER_NAME_SIZE]>
     ensures { result ≡ padded text.now }
 {
     let length = text.len();
-    if length > 16 {
+    if length > USER_NAME_SIZE {
         return None;
     }
-    let mut name = [0; 16];
+    let mut name = [0; USER_NAME_SIZE];
     name[..length].copy_from_slice(text.as_bytes());
     Some(name)
 }
 
 /// The name that the value is.
-pub fn name(value: &Value) -> Option<[u8; 16]>
+pub fn name(value: &Value) -> Option<[u8; USER_NAME_SIZE]>
     ensures { result ≡ name_of (view value.now) }
 {
     match value.as_str() {
@@ -67,7 +69,7 @@ pub fn are_names(value: &Value) -> bool
     ensures { result ≡ are_names (or_none (members (view value.now))) }
 {
     match members(value) {
-        Some(values) => values.len() <= 16 && all_named(values),
+        Some(values) => values.len() <= MOST_USERS && all_named(values),
         None => false,
     }
 }

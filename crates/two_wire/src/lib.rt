@@ -10,8 +10,10 @@ mod checks;
 pub mod code;
 mod data;
 mod laws;
+pub mod log_size;
 mod number;
 mod packet_error;
+pub mod places;
 mod retries;
 pub mod size;
 

@@ -3,6 +3,7 @@ use Rattle.std.specs.Prelude.{ℕ, ◌+◌, ◌≤◌, List, length, if◌then�
 use Rattle.two_wire.specs.Sizes.{most_ipmi_request_data, most_pldm_request_data}
 use Rattle.record_base.specs.declared.message.Asked.{Asked}
 use Rattle.record_base.specs.declared.message.Asked.TheVariants as asked
+use Rattle.record_base.specs.AttributeSizes.{most_data}
 use Rattle.bios_attr.specs.EntryParts.{before_part, most_entry, is_in_parts}
 
 -- the data of a request
@@ -17,7 +18,7 @@ from_nobody (asked.Pldm from kind command body) = asked.Pldm 0 kind command body
 
 -- the most bytes of data of a request that undoes a step over SMBus
 abbrev pub most_undo_data : ℕ
-most_undo_data = 1040
+most_undo_data = most_data
 
 -- how many requests carry a request out at most: one for each part of the longest entry
 abbrev pub most_requests : ℕ

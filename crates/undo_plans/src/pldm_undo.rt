@@ -8,11 +8,12 @@ ghost use Rattle.undo_plans.specs.Fitting.{most_of, most_requests};
 use bios_attr::bios_attribute::{BIOS, SET_CURRENT_VALUE};
 use bios_attr::entry_parts::{BEFORE_PART, MOST_ENTRY, goes_in_parts, part_at};
 use record_base::Asked;
+use record_base::value::DATA_CAPACITY;
 use two_wire::size::MOST_PLDM_REQUEST_DATA;
 use two_wire::{Below, Bytes, Data};
 
 /// The most bytes of data of a request that undoes a step over SMBus.
-pub const MOST_UNDO_DATA: usize = 1_040;
+pub const MOST_UNDO_DATA: usize = DATA_CAPACITY;
 
 /// A request that undoes a step over SMBus: its type, its command and its data. It sets an attribute whose entry goes in parts, or it fits a
 /// message.

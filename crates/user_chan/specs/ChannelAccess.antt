@@ -1,6 +1,6 @@
 -- The access of a channel, in one of its stores, as a kind of record (IPMI 2.0, Set and Get Channel Access). A value has two bytes: the
 -- access in bits 5:0, of which 2:0 are the mode, and the limit of privileges.
-use Rattle.std.specs.Prelude.{◌≡◌, ℕ, ◌+◌, ◌*◌, ◌%◌, ◌<◌, List, [], ◌∷◌, length, slice_index, Bool, nat_le, ◌&&◌, ◌==◌, IsTrue, if◌then◌else◌, Result, Ok, Err, Option, Some, None, refl}
+use Rattle.std.specs.Prelude.{◌≡◌, ℕ, ◌+◌, ◌*◌, ◌%◌, ◌<◌, List, [], ◌∷◌, length, slice_index, Bool, ◌&&◌, ◌==◌, IsTrue, if◌then◌else◌, Result, Ok, Err, Option, Some, None, refl}
 use Rattle.two_wire.specs.Codes.{invalid_data_field}
 use Rattle.record_base.specs.declared.key.Key.{Key}
 use Rattle.record_base.specs.declared.key.Key.TheVariants as key
@@ -16,6 +16,7 @@ use Rattle.record_base.specs.Kind.{KindWords, RecordWords}
 use Rattle.record_base.specs.AllKinds.{Place}
 use Rattle.record_base.specs.Values.{stored}
 use Rattle.record_base.specs.ChannelAccess.{IsChannelAccess}
+use Rattle.record_base.specs.UserSizes.{is_privilege, has_mode}
 use Rattle.record_base.specs.Numbers.{low_bits}
 use Rattle.record_base.specs.Requests.{application, ipmi_request}
 
@@ -28,19 +29,15 @@ get_channel_access = 0x41
 
 -- ---- what a Set makes
 
--- the mode of an access is known
-abbrev pub is_access : ℕ → Bool
-is_access byte = nat_le (byte % 8) 3
-
 -- bits 3:0 of a limit's byte are a limit
 abbrev pub is_limit : ℕ → Bool
-is_limit byte = nat_le 1 (byte % 16) && nat_le (byte % 16) 5
+is_limit byte = is_privilege (byte % 16)
 
 -- a channel can have each part that the change names
 abbrev pub is_change : ChannelChange → Bool
-is_change (Access access) = is_access access.number
+is_change (Access access) = has_mode access.number
 is_change (Limit limit) = is_limit limit.number
-is_change (Both access limit) = is_access access.number && is_limit limit.number
+is_change (Both access limit) = has_mode access.number && is_limit limit.number
 
 -- the value after a change: the parts that the change names become new, and the others stay
 abbrev pub changed : ChannelChange → List ℕ → List ℕ

@@ -13,8 +13,9 @@ use Rattle.record_base.specs.Values.{stored}
 use Rattle.record_base.specs.ChannelAccess.{IsChannelAccess}
 use Rattle.record_base.specs.PartLaws.{IsChannelAccess-prop}
 use Rattle.record_base.specs.AttributeRangeLaws.{le_true, true_le}
+use Rattle.record_base.specs.UserSizes.{least_privilege, most_privilege, most_mode, has_mode}
 use Rattle.user_chan.specs.CommonLaws.{two, true_not_false}
-use Rattle.user_chan.specs.ChannelAccess.{is_access, is_limit, is_change, changed, SetsChannelAccess, undo_change, undo_channel, is_plain_change, words, record_words}
+use Rattle.user_chan.specs.ChannelAccess.{is_limit, is_change, changed, SetsChannelAccess, undo_change, undo_channel, is_plain_change, words, record_words}
 
 -- ---- what a Set makes
 
@@ -45,20 +46,20 @@ keeps_change (Both access limit) old is v =
 six : (n : ℕ) → n < 64 → n % 64 ≡ n
 six n lt = omega arith
 
-four : (n : ℕ) → n ≤ 5 → n % 16 % 64 % 16 ≡ n
+four : (n : ℕ) → n ≤ most_privilege → n % 16 % 64 % 16 ≡ n
 four n le = omega arith
 
-mode_six : (n : ℕ) → n % 8 ≤ 3 → n % 64 % 8 ≤ 3
+mode_six : (n : ℕ) → n % 8 ≤ most_mode → n % 64 % 8 ≤ most_mode
 mode_six n le = omega arith
 
-access_again : (n : ℕ) → n % 8 ≤ 3 → is_access (n % 64) ≡ true
+access_again : (n : ℕ) → n % 8 ≤ most_mode → has_mode (n % 64) ≡ true
 access_again n le = le_true _ _ (mode_six n le)
 
-limit_again : (n : ℕ) → 1 ≤ n → n ≤ 5 → is_limit (n % 16 % 64) ≡ true
+limit_again : (n : ℕ) → least_privilege ≤ n → n ≤ most_privilege → is_limit (n % 16 % 64) ≡ true
 limit_again n least most =
     let same : n % 16 % 64 % 16 ≡ n = four n most in
-    let above : 1 ≤ n % 16 % 64 % 16 = omega arith in
-    let below : n % 16 % 64 % 16 ≤ 5 = omega arith in
+    let above : least_privilege ≤ n % 16 % 64 % 16 = omega arith in
+    let below : n % 16 % 64 % 16 ≤ most_privilege = omega arith in
     both _ _ (le_true _ _ above) (le_true _ _ below)
 
 pairs : (a b c d : ℕ) → a ≡ c → b ≡ d → a ∷ b ∷ [] ≡ c ∷ d ∷ []

@@ -1,5 +1,5 @@
--- The names of users, as a kind of record (IPMI 2.0, Set and Get User Name). A value has the sixteen bytes of a name.
-use Rattle.std.specs.Prelude.{◌≡◌, ◌≢◌, ℕ, ◌%◌, ◌<◌, List, [], ◌∷◌, length, slice_index, ◌==◌, if◌then◌else◌, Result, Ok, Err, Option, Some, None, refl}
+-- The names of users, as a kind of record (IPMI 2.0, Set and Get User Name). A value has the bytes of a name.
+use Rattle.std.specs.Prelude.{◌≡◌, ◌≢◌, ℕ, ◌%◌, ◌<◌, List, [], ◌∷◌, length, ◌==◌, if◌then◌else◌, Result, Ok, Err, Option, Some, None, refl}
 use Rattle.two_wire.specs.Codes.{invalid_data_field}
 use Rattle.record_base.specs.declared.key.Key.{Key}
 use Rattle.record_base.specs.declared.key.Key.TheVariants as key
@@ -9,7 +9,8 @@ use Rattle.record_base.specs.declared.user.SetUserName.{SetUserName}
 use Rattle.record_base.specs.Kind.{KindWords, RecordWords}
 use Rattle.record_base.specs.AllKinds.{Place}
 use Rattle.record_base.specs.Numbers.{UserNumber, user_in}
-use Rattle.record_base.specs.Requests.{application, ipmi_request, byte_at}
+use Rattle.record_base.specs.Requests.{application, ipmi_request, byte_at, bytes_at}
+use Rattle.record_base.specs.UserSizes.{user_name_size}
 
 -- the Set command and the Get command
 abbrev pub set_user_name : ℕ
@@ -37,12 +38,11 @@ name_outcome op = if user_of op == nameless then Err invalid_data_field else Ok 
 
 -- the name that a reply shows
 abbrev pub shown_name : List ℕ → List ℕ
-shown_name reply =
-    slice_index reply 0 ∷ slice_index reply 1 ∷ slice_index reply 2 ∷ slice_index reply 3 ∷ slice_index reply 4 ∷ slice_index reply 5 ∷ slice_index reply 6 ∷ slice_index reply 7 ∷ slice_index reply 8 ∷ slice_index reply 9 ∷ slice_index reply 10 ∷ slice_index reply 11 ∷ slice_index reply 12 ∷ slice_index reply 13 ∷ slice_index reply 14 ∷ slice_index reply 15 ∷ []
+shown_name reply = bytes_at user_name_size reply 0
 
 -- the operation that sets the name of the reply
 abbrev pub undo_name : SetUserName → List ℕ → SetUserName
-undo_name op reply = record { user = user_of op; name = shown_name reply; sixteen = refl }
+undo_name op reply = record { user = user_of op; name = shown_name reply; sized = refl }
 
 -- the data of the request that carries out the operation
 abbrev pub name_body : SetUserName → List ℕ
@@ -52,9 +52,8 @@ name_body op = op.user ∷ op.name
 abbrev pub name_in : List ℕ → SetUserName
 name_in body = record {
   user = byte_at body 0;
-  name =
-      byte_at body 1 ∷ byte_at body 2 ∷ byte_at body 3 ∷ byte_at body 4 ∷ byte_at body 5 ∷ byte_at body 6 ∷ byte_at body 7 ∷ byte_at body 8 ∷ byte_at body 9 ∷ byte_at body 10 ∷ byte_at body 11 ∷ byte_at body 12 ∷ byte_at body 13 ∷ byte_at body 14 ∷ byte_at body 15 ∷ byte_at body 16 ∷ [];
-  sixteen = refl;
+  name = bytes_at user_name_size body 1;
+  sized = refl;
 }
 
 -- ---- the kind
@@ -69,10 +68,10 @@ words = record {
   -- the Set reply has no data
   set_reply = λ op. [];
   next_live = λ op live. live;
-  is_reply = λ op reply. length reply ≡ 16;
+  is_reply = λ op reply. length reply ≡ user_name_size;
   -- each reply is enough
   restorable = λ op reply. Unit {0};
-  inverse = λ op reply. if length reply == 16 then Some (undo_name op reply) else None;
+  inverse = λ op reply. if length reply == user_name_size then Some (undo_name op reply) else None;
   -- a controller ignores bits 7:6 of the user's byte
   is_plain = λ op. op.user < 64;
 }
@@ -80,8 +79,8 @@ words = record {
 abbrev pub record_words : RecordWords UserNumber SetUserName
 record_words = record {
   is_of = λ user. Unit {0};
-  -- any sixteen bytes
-  valid = λ value. length value ≡ 16;
+  -- any bytes of that number
+  valid = λ value. length value ≡ user_name_size;
   sets = λ op old new. SetsUserName op new;
   outcome = λ op old. name_outcome op;
   -- the Get reply has the name, and all of it is configuration

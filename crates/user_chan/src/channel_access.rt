@@ -1,8 +1,9 @@
 //! The access of a channel, in one of its stores, as a kind of record.
 ghost use Rattle.std.specs.Prelude.{◌≡◌, ◌≤◌, length};
-ghost use Rattle.user_chan.specs.ChannelAccess.{is_access, is_limit, is_change, store_bits, in_store, channel_body};
+ghost use Rattle.user_chan.specs.ChannelAccess.{is_limit, is_change, store_bits, in_store, channel_body};
 
 use record_base::net_fn::APPLICATION;
+use record_base::user_sizes::{has_mode, is_privilege};
 use record_base::{
     AccessStore, Asked, ChannelChange, Key, Live, RecordData, RecordKind, SetChannelAccess,
     SixBits, StoredAccess, Value,
@@ -20,19 +21,11 @@ const GET_CHANNEL_ACCESS: u8 = 0x41;
 #[derive(Clone, Copy, Debug, PartialEq, Eq)]
 pub struct ChannelAccessLimits;
 
-/// Whether the mode of an access is known.
-fn is_access(byte: u8) -> bool
-    ensures { result ≡ is_access byte }
-{
-    byte % 8 <= 3
-}
-
 /// Whether bits 3:0 of a limit's byte are a limit.
 fn is_limit(byte: u8) -> bool
     ensures { result ≡ is_limit byte }
 {
-    let limit = byte % 16;
-    1 <= limit && limit <= 5
+    is_privilege(byte % 16)
 }
 
 /// Whether a channel can have each part that the change names.
@@ -40,9 +33,9 @@ fn is_change(change: &ChannelChange) -> bool
     ensures { result ≡ is_change change.now }
 {
     match change {
-        ChannelChange::Access(access) => is_access(access.number),
+        ChannelChange::Access(access) => has_mode(access.number),
         ChannelChange::Limit(limit) => is_limit(limit.number),
-        ChannelChange::Both(access, limit) => is_access(access.number) && is_limit(limit.number),
+        ChannelChange::Both(access, limit) => has_mode(access.number) && is_limit(limit.number),
     }
 }
 

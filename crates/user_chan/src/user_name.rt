@@ -3,9 +3,10 @@ ghost use Rattle.std.specs.Prelude.{◌≡◌, length};
 ghost use Rattle.user_chan.specs.UserNames.{shown_name, undo_name, name_body, name_in};
 
 use record_base::net_fn::APPLICATION;
+use record_base::user_sizes::USER_NAME_SIZE;
 use record_base::{
     Asked, CommandReader, Key, Live, Op, RecordData, RecordKind, SetUserName, UserNumber, Value,
-    byte_at,
+    byte_at, bytes_at,
 };
 use two_wire::code::INVALID_DATA_FIELD;
 use two_wire::{Buffer, Code, NetFn};
@@ -24,27 +25,10 @@ const NAMELESS: u8 = 1;
 pub struct UserNameLimits;
 
 /// The name that a reply shows. Missing bytes are 00h.
-fn shown_name(reply: &[u8]) -> [u8; 16]
+fn shown_name(reply: &[u8]) -> [u8; USER_NAME_SIZE]
     ensures { result ≡ shown_name reply.now }
 {
-    [
-        byte_at(reply, 0),
-        byte_at(reply, 1),
-        byte_at(reply, 2),
-        byte_at(reply, 3),
-        byte_at(reply, 4),
-        byte_at(reply, 5),
-        byte_at(reply, 6),
-        byte_at(reply, 7),
-        byte_at(reply, 8),
-        byte_at(reply, 9),
-        byte_at(reply, 10),
-        byte_at(reply, 11),
-        byte_at(reply, 12),
-        byte_at(reply, 13),
-        byte_at(reply, 14),
-        byte_at(reply, 15),
-    ]
+    bytes_at(reply, 0)
 }
 
 /// The operation that sets the name of the reply.
@@ -63,24 +47,7 @@ fn name_in(body: &[u8]) -> SetUserName
 {
     SetUserName {
         user: byte_at(body, 0),
-        name: [
-            byte_at(body, 1),
-            byte_at(body, 2),
-            byte_at(body, 3),
-            byte_at(body, 4),
-            byte_at(body, 5),
-            byte_at(body, 6),
-            byte_at(body, 7),
-            byte_at(body, 8),
-            byte_at(body, 9),
-            byte_at(body, 10),
-            byte_at(body, 11),
-            byte_at(body, 12),
-            byte_at(body, 13),
-            byte_at(body, 14),
-            byte_at(body, 15),
-            byte_at(body, 16),
-        ],
+        name: bytes_at(body, 1),
     }
 }
 
@@ -152,7 +119,7 @@ impl<'a> RecordKind<'a> for UserNameLimits {
     }
 
     fn inverse(op: &SetUserName, get_data: &'a [u8]) -> Option<SetUserName> {
-        if get_data.len() != 16 {
+        if get_data.len() != USER_NAME_SIZE {
             return None;
         }
         Some(undo_name(op, get_data))

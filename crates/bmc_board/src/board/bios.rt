@@ -3,9 +3,10 @@ ghost use Rattle.std.specs.Prelude.{◌≡◌, ◌+◌, ◌≤◌, ◌++◌, ℕ
 ghost use Rattle.pldm_base.specs.Parts.{part_length};
 ghost use Rattle.record_base.specs.AttributeSizes.{most_value};
 ghost use Rattle.bmc_board.specs.Gives.{Gives};
-ghost use Rattle.bmc_board.specs.BiosTables.{values_in, table_asked, handle_in, asked_part, longest_part, shown_part};
+ghost use Rattle.bmc_board.specs.BiosTables.{values_in, table_asked, asked_part, longest_part, shown_part};
 
 use crate::board::serve::value_at;
+use bios_attr::bios_attribute::transfer_handle;
 use bios_attr::{BiosTable, CurrentValues};
 use cfg_records::{Key, Store, byte_at};
 use pldm_base::{Part, part};
@@ -49,18 +50,6 @@ pub(super) fn table_asked(attributes: &Attributes, number: u8) -> Result<BiosTab
     })
 }
 
-/// The handle that the request gives.
-fn handle_in(body: &[u8]) -> u32
-    ensures { result ≡ handle_in body.now }
-{
-    u32::from_le_bytes([
-        byte_at(body, 0),
-        byte_at(body, 1),
-        byte_at(body, 2),
-        byte_at(body, 3),
-    ])
-}
-
 /// Appends a part, with what a requester needs to ask for the next.
 pub(super) fn push_part<B: Buffer>(part: &Part<'_>, to: &mut B)
     requires room { length (B.bytes to.old) + longest_part ≤ B.capacity }
@@ -77,7 +66,7 @@ pub(super) fn show_part<B: Buffer>(body: &[u8], table: &[u8], to: &mut B) -> Res
     requires room { length (B.bytes to.old) + longest_part ≤ B.capacity }
     ensures { Gives result (B.bytes to.old) (B.bytes to.new) (asked_part body.now table.now) }
 {
-    let part = part(table, byte_at(body, 4), handle_in(body))?;
+    let part = part(table, byte_at(body, 4), transfer_handle(body))?;
     push_part(&part, to);
     Ok(())
 }

@@ -1,7 +1,6 @@
 //! The commands of attributes, with values that are whole or come in parts.
-ghost use Rattle.std.specs.Prelude.{◌≡◌, ◌+◌, ◌≤◌, drop, length, Ok};
+ghost use Rattle.std.specs.Prelude.{◌≡◌, ◌+◌, ◌≤◌, length, Ok};
 ghost use Rattle.two_wire.specs.Sizes.{most_pldm_reply_data};
-ghost use Rattle.bios_attr.specs.EntryParts.{before_part};
 ghost use Rattle.attribute_parts.specs.declared.set_part.SetPart.TheVariants as set_part;
 ghost use Rattle.bmc_board.specs.Gives.{Gives};
 ghost use Rattle.bmc_board.specs.BiosTables.{longest_part};
@@ -11,30 +10,18 @@ use crate::board::Board;
 use crate::board::bios::push_part;
 use crate::board::serve::{show, unknown_code};
 use attribute_parts::{Entry, SetPart, part_in};
-use bios_attr::bios_attribute::{attribute_in, attribute_shown_in};
+use bios_attr::bios_attribute::{START_AND_END, attribute_in, attribute_shown_in};
+use bios_attr::entry_parts::entry_in;
 use bios_attr::{AskedPart, AttributeLimits};
 use cfg_records::{Key, Op, RecordData, RecordKind, Store, byte_at};
-use pldm_base::{GET_NEXT_PART, TransferFlag, entry_part};
+use pldm_base::{GET_NEXT_PART, entry_part};
 use two_wire::{Buffer, Code};
-
-/// The flag of data that are whole.
-const WHOLE: u8 = TransferFlag::StartAndEnd as u8;
 
 /// The attribute that an entry names.
 fn named_in(entry: &[u8]) -> u16
     ensures { result ≡ named_in entry.now }
 {
     u16::from_le_bytes([byte_at(entry, 0), byte_at(entry, 1)])
-}
-
-/// What stands behind the handle and the flag of a reply.
-fn entry_in(shown: &[u8]) -> &[u8]
-    ensures { result.now ≡ drop before_part shown.now }
-{
-    match shown {
-        [_, _, _, _, _, entry @ ..] => entry,
-        _ => &[],
-    }
 }
 
 /// Appends a later part of an entry.
@@ -151,7 +138,7 @@ impl<S: Store> Board<S> {
         ensures { Serves S.records self.old self.new (attribute_set from body.now)
             result (B.bytes to.old) (B.bytes to.new) }
     {
-        if byte_at(body, 4) == WHOLE {
+        if byte_at(body, 4) == START_AND_END {
             self.set_whole(body, to)
         } else {
             self.set_part(from, body, to)

@@ -4,6 +4,7 @@ ghost use Rattle.toml.specs.View.{table_view};
 ghost use Rattle.text_fields.specs.Trees.{HasNumber, HasBelow};
 ghost use Rattle.plan_file.specs.Kinds.ChannelAccess.{HoldsChannelChange, HoldsChannelAccess};
 
+use record_base::user_sizes::{LEAST_PRIVILEGE, MOST_PRIVILEGE};
 use record_base::{ChannelChange, ChannelNumber, SetChannelAccess, SixBits};
 use text_fields::channels::store;
 use text_fields::tree::{byte_in, in_field};
@@ -15,7 +16,11 @@ pub const FIELDS: [Row; 4] = [
     Row(Field::Channel, Shape::Number(0, 15), Need::Always),
     Row(Field::Store, Shape::Store, Need::Always),
     Row(Field::Access, Shape::Access, Need::WithoutLimit),
-    Row(Field::Limit, Shape::Number(1, 5), Need::Never),
+    Row(
+        Field::Limit,
+        Shape::Number(LEAST_PRIVILEGE as u32, MOST_PRIVILEGE as u32),
+        Need::Never,
+    ),
 ];
 
 /// The bits that the step has in the field.

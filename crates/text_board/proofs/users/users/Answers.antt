@@ -1,6 +1,7 @@
 use Rattle.std.proofs.Common.{◌≡◌, ◌≤◌, length, map, true, arith}
 use Rattle.std.proofs.lemmas.List.{length-map}
 use Rattle.std.proofs.lemmas.Slice.Zip.{AllZip-long}
+use Rattle.record_base.specs.BoardSizes.{most_users}
 use Rattle.toml.specs.View.{view}
 use Rattle.text_fields.specs.Users.{are_names}
 use Rattle.text_board.specs.Holds.{IsNameIn}
@@ -24,7 +25,7 @@ unwrap-requires c =
     let ds = map view c.members_of.result.now in
     let users = c.in_ok-users.users.items in
     let are : are_names ds ≡ true = rw (c.requires, ← c.members_of.ensures) at c.value.ensures.within in
-    let few : length users ≤ 16 = rw (AllZip-long IsNameIn ds users c.in_ok-users.ensures.names) (names_are ds are).0 in
+    let few : length users ≤ most_users = rw (AllZip-long IsNameIn ds users c.in_ok-users.ensures.names) (names_are ds are).0 in
     c.new.ensures.made.1 (record {
       unnamed = begin_unnamed ds users (names_are ds are).1.0 c.in_ok-users.ensures.names;
       few = few;

@@ -1,6 +1,6 @@
 //! Where the controller is, as code names it.
 ghost use Rattle.std.specs.Prelude.{◌≡◌};
-ghost use Rattle.model_ports.specs.Places.{controller_wire, controller_eid};
+ghost use Rattle.two_wire.specs.Places.{controller_wire, controller_eid};
 
 /// The controller's two-wire address, on both buses.
 pub const CONTROLLER_WIRE: u8 = 0x20;
