@@ -23,7 +23,7 @@ use Rattle.model_ports.specs.Wires.{asked_from, answered_from}
 use Rattle.model_lab.specs.ManagerSteps.{addresses}
 use Rattle.model_lab.specs.Lab as lab
 use Rattle.model_headline.specs.Each.{Each}
-use Rattle.model_headline.specs.Tied.{F}
+use Rattle.model_headline.specs.Tied.{own_family}
 use Rattle.model_headline.specs.Answers as answers
 use Rattle.model_headline.specs.Theorem as law
 use Rattle.model_headline.proofs.Series.{of_is}
@@ -36,7 +36,7 @@ use Rattle.model_claim.proofs.Labs.{none_orderly, Steps, step_so}
 use Rattle.model_claim.proofs.Honesty.{Runs, runs_so, first_honest, later_honest}
 use Rattle.model_claim.proofs.Grows.{step_grows}
 use Rattle.model_claim.proofs.Meaning.{after_so, stands_so, shows_so, shows_parts}
-use Rattle.model_claim.specs.Seen.{bare, seen_entry, seen_log, words_of, P, W, spell, seen_call, seen_event, seen_why, seen_lab, stage_of, Made}
+use Rattle.model_claim.specs.Seen.{bare, seen_entry, seen_log, words_of, seen_plans, seen_words, spell, seen_call, seen_event, seen_why, seen_lab, stage_of, Made}
 use Rattle.model_claim.proofs.Holds.{Reads as EntryReads, Holds}
 use Rattle.text_schedule.specs.declared.event.Call.TheVariants as lab_call
 use Rattle.model_undo.specs.declared.phase.Phase.TheVariants as undo_phase
@@ -172,15 +172,15 @@ module _ (setup : BoardFile) (names : Names) (plan : List Op) (retries : ℕ) wh
   theorem = headline setup names plan retries
 
   stands : (events : List Event) (all : AllHonest (ours setup) names events start)
-      → plans.Stands (F setup names) plan start.board.records (machine.phase_at (W names) (stage_of names (after setup (ours setup) names plan retries events).manager.phase)) (after setup (ours setup) names plan retries events).board.records
+      → plans.Stands (own_family setup names) plan start.board.records (machine.phase_at (seen_words names) (stage_of names (after setup (ours setup) names plan retries events).manager.phase)) (after setup (ours setup) names plan retries events).board.records
   stands events all =
       let g = ran events all in
-      subst (λ (y : lab.Lab (P names)). plans.Stands (F setup names) plan start.board.records (machine.phase_of (W names) y.manager.machine) y.board.records) g.is
+      subst (λ (y : lab.Lab (seen_plans names)). plans.Stands (own_family setup names) plan start.board.records (machine.phase_of (seen_words names) y.manager.machine) y.board.records) g.is
       (theorem.stands (map seen_event events) (g.honest, g.live))
 
   record Same (x : Lab) : Type 0 where
     pub records : x.board.records ≡ start.board.records
-    pub shows : undo_headline.ShowsSame (F setup names) start.board x.board
+    pub shows : undo_headline.ShowsSame (own_family setup names) start.board x.board
 
   undone : (events later : List Event) → AllHonest (ours setup) names (events ++ later) start → (after setup (ours setup) names plan retries events).manager.phase ≡ Undone → Same (after setup (ours setup) names plan retries (events ++ later))
   undone events later all at_undone =
@@ -189,18 +189,18 @@ module _ (setup : BoardFile) (names : Names) (plan : List Op) (retries : ℕ) wh
       let split_map : map seen_event (events ++ later) ≡ map seen_event events ++ map seen_event later = map-append seen_event events later in
       let trusted : Trusted (map seen_event events ++ map seen_event later) = subst Trusted split_map (g.honest, g.live) in
       let phase_undone : law.phase_after setup names plan retries (map seen_event events) ≡ undo_phase.Undone =
-      ap (λ (y : lab.Lab (P names)). machine.phase_of (W names) y.manager.machine) f.is ∙ ap (λ (p : Phase). machine.phase_at (W names) (stage_of names p)) at_undone in
+      ap (λ (y : lab.Lab (seen_plans names)). machine.phase_of (seen_words names) y.manager.machine) f.is ∙ ap (λ (p : Phase). machine.phase_at (seen_words names) (stage_of names p)) at_undone in
       let end : law.after setup names plan retries (map seen_event events ++ map seen_event later) ≡ seen_lab names g.made_then (after setup (ours setup) names plan retries (events ++ later)) =
       ap (law.after setup names plan retries) (sym split_map) ∙ g.is in
       let told = theorem.undone (map seen_event events) (map seen_event later) trusted phase_undone in
       record {
-        records = ap (λ (y : lab.Lab (P names)). y.board.records) (sym end) ∙ told.0;
-        shows = subst (λ (y : lab.Lab (P names)). undo_headline.ShowsSame (F setup names) start.board y.board) end told.1;
+        records = ap (λ (y : lab.Lab (seen_plans names)). y.board.records) (sym end) ∙ told.0;
+        shows = subst (λ (y : lab.Lab (seen_plans names)). undo_headline.ShowsSame (own_family setup names) start.board y.board) end told.1;
       }
 
   -- ---- causes of a halt
 
-  pub port_log : (on : Bus) (made : Made) (x : Lab) → (lab.port_on (P names) on (seen_lab names made x)).log ≡ seen_log (spell on) (port_on on x).log
+  pub port_log : (on : Bus) (made : Made) (x : Lab) → (lab.port_on (seen_plans names) on (seen_lab names made x)).log ≡ seen_log (spell on) (port_on on x).log
   port_log Ipmb made x = refl
   port_log Smbus made x = refl
 
@@ -215,7 +215,7 @@ module _ (setup : BoardFile) (names : Names) (plan : List Op) (retries : ℕ) wh
     f : Runs setup names earlier nothing_made start
     f = ran earlier (first_honest setup names earlier (here ∷ rest) start all)
 
-    one : Steps setup names (lab.step (P names) setup (seen_lab names f.made_then z) (seen_event here)) (step (ours setup) names z here)
+    one : Steps setup names (lab.step (seen_plans names) setup (seen_lab names f.made_then z) (seen_event here)) (step (ours setup) names z here)
     one = step_so setup names f.made_then z f.holds here (later_honest setup names earlier (here ∷ rest) start all).0
 
     -- what the board answered at the event, as this lab has it
@@ -258,18 +258,18 @@ module _ (setup : BoardFile) (names : Names) (plan : List Op) (retries : ℕ) wh
       let stepped = one s.earlier s.here s.rest all_here in
       let x : Lab = after setup (ours setup) names plan retries s.earlier in
       let before_is : law.after setup names plan retries g.before ≡ seen_lab names ran_so.made_then x = ap (law.after setup names plan retries) s.same_before ∙ ran_so.is in
-      let after_is : lab.step (P names) setup (law.after setup names plan retries g.before) g.event ≡ seen_lab names stepped.made (step (ours setup) names x s.here) =
-      (λ i. lab.step (P names) setup (before_is i) (s.same_event i)) ∙ stepped.is in
+      let after_is : lab.step (seen_plans names) setup (law.after setup names plan retries g.before) g.event ≡ seen_lab names stepped.made (step (ours setup) names x s.here) =
+      (λ i. lab.step (seen_plans names) setup (before_is i) (s.same_event i)) ∙ stepped.is in
       let was : answers.Answers setup names (seen_lab names ran_so.made_then x) (seen_lab names stepped.made (step (ours setup) names x s.here)) (by_manager names asked) a =
-      subst (λ (y : lab.Lab (P names)). answers.Answers setup names (seen_lab names ran_so.made_then x) y (by_manager names asked) a) after_is
-      (subst (λ (y : lab.Lab (P names)). answers.Answers setup names y (lab.step (P names) setup (law.after setup names plan retries g.before) g.event) (by_manager names asked) a) before_is g.answers) in
+      subst (λ (y : lab.Lab (seen_plans names)). answers.Answers setup names (seen_lab names ran_so.made_then x) y (by_manager names asked) a) after_is
+      (subst (λ (y : lab.Lab (seen_plans names)). answers.Answers setup names y (lab.step (seen_plans names) setup (law.after setup names plan retries g.before) g.event) (by_manager names asked) a) before_is g.answers) in
       let is = given s.earlier s.here s.rest all_here (by_manager names asked) a was in
       record {
         before = s.earlier;
         event = s.here;
         later = s.rest;
         all = s.all;
-        at = after_so setup names plan start.board.records k x.board.records (subst (λ (y : lab.Lab (P names)). plans.IsAfter (F setup names) plan start.board.records k y.board.records) before_is g.at);
+        at = after_so setup names plan start.board.records k x.board.records (subst (λ (y : lab.Lab (seen_plans names)). plans.IsAfter (own_family setup names) plan start.board.records k y.board.records) before_is g.at);
         bus = is.on;
         heard = is.heard;
         from_manager = is.from_manager;
@@ -283,7 +283,7 @@ module _ (setup : BoardFile) (names : Names) (plan : List Op) (retries : ℕ) wh
   halts events k why all at_halt =
       let g = ran events all in
       let phase_is : law.phase_after setup names plan retries (map seen_event events) ≡ undo_phase.Halted k (seen_why names why) =
-      ap (λ (y : lab.Lab (P names)). machine.phase_of (W names) y.manager.machine) g.is ∙ ap (λ (p : Phase). machine.phase_at (W names) (stage_of names p)) at_halt in
+      ap (λ (y : lab.Lab (seen_plans names)). machine.phase_of (seen_words names) y.manager.machine) g.is ∙ ap (λ (p : Phase). machine.phase_at (seen_words names) (stage_of names p)) at_halt in
       by_why why (subst (answers.CausedBy setup names (law.GaveIn setup names plan retries (map seen_event events)) (In (lab.Calls lab_call.Stop) (map seen_event events)) plan) phase_is (theorem.halts (map seen_event events) (g.honest, g.live)))
     where
       GaveThere : Asked → UndoAnswered → Type 0

@@ -22,7 +22,7 @@ use Rattle.model_claim.specs.Claim.{ours, open_on, begun, IsDelivered, JoinsLive
 use Rattle.model_claim.proofs.Packets.{Agrees, is_kept}
 use Rattle.model_claim.proofs.Sends.{idles_on_alike}
 use Rattle.model_claim.proofs.Labs.{there, step_so}
-use Rattle.model_claim.specs.Seen.{P, W, seen_value, seen_way, seen_frame, seen_event, seen_lab, Made, part_of, stage_of, counts_of, machine_of}
+use Rattle.model_claim.specs.Seen.{seen_plans, seen_words, seen_value, seen_way, seen_frame, seen_event, seen_lab, Made, part_of, stage_of, counts_of, machine_of}
 use Rattle.model_claim.proofs.Holds.{Holds}
 
 none_same : (asked : Asked) → Some asked ≡ None → ⊥
@@ -31,7 +31,7 @@ none_same asked e = none-some asked (sym e)
 module _ (setup : BoardFile) (names : Names) where
   -- ---- how many requests were begun
 
-  open_asked : (on : Bus) (asked : Asked) (bodies : List (List ℕ)) → cond (machine.same_bus on (machine.bus_at (W names) (part_of names asked bodies))) 1 0 ≡ open_on on (Some asked)
+  open_asked : (on : Bus) (asked : Asked) (bodies : List (List ℕ)) → cond (machine.same_bus on (machine.bus_at (seen_words names) (part_of names asked bodies))) 1 0 ≡ open_on on (Some asked)
   open_asked Ipmb (Ipmi from net_fn lun command body) bodies = refl
   open_asked Ipmb (Pldm from kind command body) bodies = refl
   open_asked Smbus (Ipmi from net_fn lun command body) bodies = refl
@@ -41,7 +41,7 @@ module _ (setup : BoardFile) (names : Names) where
   open_none Ipmb = refl
   open_none Smbus = refl
 
-  open_so : (on : Bus) (phase : Phase) → cond (is_open_bus on (machine.open_bus_at (W names) (stage_of names phase))) 1 0 ≡ open_on on (open_in names phase)
+  open_so : (on : Bus) (phase : Phase) → cond (is_open_bus on (machine.open_bus_at (seen_words names) (stage_of names phase))) 1 0 ≡ open_on on (open_in names phase)
   open_so on Fresh = open_none on
   open_so on (Open heeded task bodies) = open_asked on (asked_for names task bodies) bodies
   open_so on Done = open_none on
@@ -53,14 +53,14 @@ module _ (setup : BoardFile) (names : Names) where
   count_is Ipmb answered = refl
   count_is Smbus answered = refl
 
-  pub begun_so : (on : Bus) (x : Lab) → begun_on (W names) on (machine_of names x.manager) ≡ begun names on x
+  pub begun_so : (on : Bus) (x : Lab) → begun_on (seen_words names) on (machine_of names x.manager) ≡ begun names on x
   begun_so on x = λ i. count_is on x.manager.answered i + open_so on x.manager.phase i
 
   pub span_so : (on : Bus) → span_of on ≡ span on
   span_so Ipmb = refl
   span_so Smbus = refl
 
-  none_open : (phase : Phase) → open_in names phase ≡ None → machine.open_bus_at (W names) (stage_of names phase) ≡ None
+  none_open : (phase : Phase) → open_in names phase ≡ None → machine.open_bus_at (seen_words names) (stage_of names phase) ≡ None
   none_open Fresh e = refl
   none_open (Open heeded task bodies) e = absurd (none_same (asked_for names task bodies) e)
   none_open Done e = refl
@@ -71,7 +71,7 @@ module _ (setup : BoardFile) (names : Names) where
   -- ---- events
 
   module _ (made : Made) (x : Lab) (h : Holds names x) where
-    delivered_so : (way : Way) (place : ℕ) → IsDelivered names way x place → honest.IsDelivered (P names) (seen_way way) (seen_lab names made x) place
+    delivered_so : (way : Way) (place : ℕ) → IsDelivered names way x place → honest.IsDelivered (seen_plans names) (seen_way way) (seen_lab names made x) place
     delivered_so way place is = record {
       frame = seen_frame is.frame;
       sent = there setup names x place is.frame is.sent;
@@ -82,7 +82,7 @@ module _ (setup : BoardFile) (names : Names) where
       };
     }
 
-    pub honest_so : (e : Event) → IsHonest (ours setup) names x e → honest.HasBytes (P names) (seen_event e) → honest.IsHonest (P names) (seen_lab names made x) (seen_event e)
+    pub honest_so : (e : Event) → IsHonest (ours setup) names x e → honest.HasBytes (seen_plans names) (seen_event e) → honest.IsHonest (seen_plans names) (seen_lab names made x) (seen_event e)
     honest_so (Calls call) is bytes = tt
     honest_so (ToBmc place) is bytes = delivered_so ToPort place is.0
     honest_so (ToMgr place) is bytes = delivered_so ToManager place is
@@ -96,7 +96,7 @@ module _ (setup : BoardFile) (names : Names) where
     taken_so true p agrees = refl
     taken_so false p agrees = absurd agrees
 
-    joins_value : (v : Value) → JoinsLive (ours setup) names x v → joins.JoinsLive (P names) (seen_lab names made x) (seen_value v)
+    joins_value : (v : Value) → JoinsLive (ours setup) names x v → joins.JoinsLive (seen_plans names) (seen_lab names made x) (seen_value v)
     joins_value (Asks r) live = tt
     joins_value (Tells r) live = tt
     joins_value (Part p) live = λ no_start goes_there none.
@@ -104,9 +104,9 @@ module _ (setup : BoardFile) (names : Names) where
         (live no_start goes_there (taken_so (is_taken x.smbus.eid p x.smbus.waits) p
         (subst (Agrees p x.smbus.waits made.smbus h.smbus_orderly (is_taken x.smbus.eid p x.smbus.waits)) none (is_kept p x.smbus.waits made.smbus h.smbus_orderly x.smbus.eid).agrees)))
 
-    pub joins_so : (e : Event) → IsHonest (ours setup) names x e → joins.IsJoinLive (P names) (seen_lab names made x) (seen_event e)
+    pub joins_so : (e : Event) → IsHonest (ours setup) names x e → joins.IsJoinLive (seen_plans names) (seen_lab names made x) (seen_event e)
     joins_so (ToBmc place) is =
-        subst (λ (o : Option lab.LabFrame). IfSome o (λ f. joins.JoinsLive (P names) (seen_lab names made x) f.value)) (sym (there setup names x place is.0.frame is.0.sent)) (joins_value is.0.frame.value is.1)
+        subst (λ (o : Option lab.LabFrame). IfSome o (λ f. joins.JoinsLive (seen_plans names) (seen_lab names made x) f.value)) (sym (there setup names x place is.0.frame is.0.sent)) (joins_value is.0.frame.value is.1)
     joins_so (Calls call) is = tt
     joins_so (ToMgr place) is = tt
     joins_so (OtherIpmb r) is = tt
@@ -120,10 +120,10 @@ module _ (setup : BoardFile) (names : Names) where
   -- the model's lab runs as this one does, by honest events whose packets join live ones
   pub record Runs (events : List Event) (made : Made) (x : Lab) : Type 0 where
     pub made_then : Made
-    pub is : lab.run (P names) setup (map seen_event events) (seen_lab names made x) ≡ seen_lab names made_then (run (ours setup) names events x)
+    pub is : lab.run (seen_plans names) setup (map seen_event events) (seen_lab names made x) ≡ seen_lab names made_then (run (ours setup) names events x)
     pub holds : Holds names (run (ours setup) names events x)
-    pub honest : honest.AllHonest (P names) setup (map seen_event events) (seen_lab names made x)
-    pub live : joins.AllJoinLive (P names) setup (map seen_event events) (seen_lab names made x)
+    pub honest : honest.AllHonest (seen_plans names) setup (map seen_event events) (seen_lab names made x)
+    pub live : joins.AllJoinLive (seen_plans names) setup (map seen_event events) (seen_lab names made x)
 
   pub runs_so : (events : List Event) (made : Made) (x : Lab) → Holds names x → AllHonest (ours setup) names events x → Runs events made x
   unfolding lab.run run
@@ -133,10 +133,10 @@ module _ (setup : BoardFile) (names : Names) where
       let rest = runs_so es one.made (step (ours setup) names x e) one.holds all.1 in
       record {
         made_then = rest.made_then;
-        is = ap (lab.run (P names) setup (map seen_event es)) one.is ∙ rest.is;
+        is = ap (lab.run (seen_plans names) setup (map seen_event es)) one.is ∙ rest.is;
         holds = rest.holds;
-        honest = (honest_so made x h e all.0, subst (honest.AllHonest (P names) setup (map seen_event es)) (sym one.is) rest.honest);
-        live = (joins_so made x h e all.0, subst (joins.AllJoinLive (P names) setup (map seen_event es)) (sym one.is) rest.live);
+        honest = (honest_so made x h e all.0, subst (honest.AllHonest (seen_plans names) setup (map seen_event es)) (sym one.is) rest.honest);
+        live = (joins_so made x h e all.0, subst (joins.AllJoinLive (seen_plans names) setup (map seen_event es)) (sym one.is) rest.live);
       }
 
   -- ---- parts of a schedule

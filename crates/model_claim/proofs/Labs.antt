@@ -34,7 +34,7 @@ use Rattle.model_claim.proofs.Sends.{frames_alike, IsSeen, call_lands}
 use Rattle.model_claim.proofs.Series.{task_made}
 use Rattle.model_claim.proofs.Returns.{LowValue, comes}
 use Rattle.model_claim.proofs.Ports.{Does, MayCome, parts_suit, packets_do, does}
-use Rattle.model_claim.specs.Seen.{P, seen_value, seen_way, seen_frame, seen_event, seen_call, seen_port, seen_manager, seen_lab, Made}
+use Rattle.model_claim.specs.Seen.{seen_plans, seen_value, seen_way, seen_frame, seen_event, seen_call, seen_port, seen_manager, seen_lab, Made}
 use Rattle.model_claim.proofs.Holds.{IsOrderly, Suits, IsSound, Holds}
 use Rattle.model_lab.specs.declared.way.Way.TheVariants as lab_way
 
@@ -184,22 +184,22 @@ module _ (setup : BoardFile) (names : Names) where
   -- ---- one event
 
   -- the model's lab is this one, and what holds still holds
-  pub record Steps (y : lab.Lab (P names)) (x : Lab) : Type 0 where
+  pub record Steps (y : lab.Lab (seen_plans names)) (x : Lab) : Type 0 where
     pub made : Made
     pub is : y ≡ seen_lab names made x
     pub holds : Holds names x
 
-  turn_steps : (y : lab.Lab (P names)) (t : Turn) (x : Lab) → Holds names x → IsOrderly t.manager.waits → IsSeen names y (goes_on names t x) → Steps y (goes_on names t x)
+  turn_steps : (y : lab.Lab (seen_plans names)) (t : Turn) (x : Lab) → Holds names x → IsOrderly t.manager.waits → IsSeen names y (goes_on names t x) → Steps y (goes_on names t x)
   turn_steps y t x h orderly seen = record { made = seen.made; is = seen.is; holds = turn_holds t x h orderly }
 
   port_steps : (on : Bus) (way : Way) (request : ℕ) (made : Made) (x : Lab) (d : port.Deed) (t : Deed) → Does names setup on way d t → Holds names x
-      → Steps (lab.port_does (P names) on (seen_way way) request d (seen_lab names made x)) (port_does names on way request t x)
+      → Steps (lab.port_does (seen_plans names) on (seen_way way) request d (seen_lab names made x)) (port_does names on way request t x)
   port_steps Ipmb way request made x d t did h =
       let then : Made = record made { ipmb = did.made } in
       let next : Lab = record x { board = t.board; ipmb = t.port } in
       record {
         made = then;
-        is = ap (λ (d : port.Deed). lab.port_does (P names) Ipmb (seen_way way) request d (seen_lab names made x)) did.is ∙ frames_alike names Ipmb way request t.sent then next;
+        is = ap (λ (d : port.Deed). lab.port_does (seen_plans names) Ipmb (seen_way way) request d (seen_lab names made x)) did.is ∙ frames_alike names Ipmb way request t.sent then next;
         holds = record {
           ipmb_orderly = did.orderly;
           smbus_orderly = h.smbus_orderly;
@@ -214,7 +214,7 @@ module _ (setup : BoardFile) (names : Names) where
       let next : Lab = record x { board = t.board; smbus = t.port } in
       record {
         made = then;
-        is = ap (λ (d : port.Deed). lab.port_does (P names) Smbus (seen_way way) request d (seen_lab names made x)) did.is ∙ frames_alike names Smbus way request t.sent then next;
+        is = ap (λ (d : port.Deed). lab.port_does (seen_plans names) Smbus (seen_way way) request d (seen_lab names made x)) did.is ∙ frames_alike names Smbus way request t.sent then next;
         holds = record {
           ipmb_orderly = h.ipmb_orderly;
           smbus_orderly = did.orderly;
@@ -227,7 +227,7 @@ module _ (setup : BoardFile) (names : Names) where
 
   -- ---- the manager's frames at the port
 
-  opens_alike : (v : Value) (request : ℕ) (made : Made) (x : Lab) → lab.opens (P names) (seen_value v) request (seen_lab names made x) ≡ seen_lab names made (opens v request x)
+  opens_alike : (v : Value) (request : ℕ) (made : Made) (x : Lab) → lab.opens (seen_plans names) (seen_value v) request (seen_lab names made x) ≡ seen_lab names made (opens v request x)
   opens_alike (Asks r) request made x = refl
   opens_alike (Tells r) request made x = refl
   opens_alike (Part p) request made x = at (p.start && is_meant x.smbus.eid p)
@@ -264,15 +264,15 @@ module _ (setup : BoardFile) (names : Names) where
   may_come Smbus (Part p) low = tt
 
   delivered_on : (on : Bus) (v : Value) (request : ℕ) (made : Made) (x : Lab) → Holds names x → MayCome names setup on ToManager v
-      → Steps (lab.port_does (P names) on lab_way.ToManager request (port.hears setup (lab.port_on (P names) on (seen_lab names made x)) x.board (seen_value v)) (lab.opens (P names) (seen_value v) request (seen_lab names made x)))
+      → Steps (lab.port_does (seen_plans names) on lab_way.ToManager request (port.hears setup (lab.port_on (seen_plans names) on (seen_lab names made x)) x.board (seen_value v)) (lab.opens (seen_plans names) (seen_value v) request (seen_lab names made x)))
       (port_does names on ToManager request (hears (ours setup) (port_on on x) x.board v) (opens v request x))
   delivered_on Ipmb v request made x h may =
-      subst (λ (y : lab.Lab (P names)). Steps (lab.port_does (P names) Ipmb lab_way.ToManager request (port.hears setup (seen_port Ipmb made.ipmb x.ipmb) x.board (seen_value v)) y) (port_does names Ipmb ToManager request (hears (ours setup) x.ipmb x.board v) (opens v request x)))
+      subst (λ (y : lab.Lab (seen_plans names)). Steps (lab.port_does (seen_plans names) Ipmb lab_way.ToManager request (port.hears setup (seen_port Ipmb made.ipmb x.ipmb) x.board (seen_value v)) y) (port_does names Ipmb ToManager request (hears (ours setup) x.ipmb x.board v) (opens v request x)))
       (sym (opens_alike v request made x))
       (port_steps Ipmb ToManager request made (opens v request x) (port.hears setup (seen_port Ipmb made.ipmb x.ipmb) x.board (seen_value v)) (hears (ours setup) x.ipmb x.board v)
       (does names setup Ipmb ToManager made.ipmb x.ipmb x.board v h.ipmb_orderly h.ipmb_reads may) (opens_hold v request x h))
   delivered_on Smbus v request made x h may =
-      subst (λ (y : lab.Lab (P names)). Steps (lab.port_does (P names) Smbus lab_way.ToManager request (port.hears setup (seen_port Smbus made.smbus x.smbus) x.board (seen_value v)) y) (port_does names Smbus ToManager request (hears (ours setup) x.smbus x.board v) (opens v request x)))
+      subst (λ (y : lab.Lab (seen_plans names)). Steps (lab.port_does (seen_plans names) Smbus lab_way.ToManager request (port.hears setup (seen_port Smbus made.smbus x.smbus) x.board (seen_value v)) y) (port_does names Smbus ToManager request (hears (ours setup) x.smbus x.board v) (opens v request x)))
       (sym (opens_alike v request made x))
       (port_steps Smbus ToManager request made (opens v request x) (port.hears setup (seen_port Smbus made.smbus x.smbus) x.board (seen_value v)) (hears (ours setup) x.smbus x.board v)
       (does names setup Smbus ToManager made.smbus x.smbus x.board v h.smbus_orderly h.smbus_reads may) (opens_hold v request x h))
@@ -295,22 +295,22 @@ module _ (setup : BoardFile) (names : Names) where
   -- ---- each event
 
   module _ (made : Made) (x : Lab) (h : Holds names x) where
-    to_port : (place : ℕ) → IsDelivered names ToPort x place → Steps (lab.delivered (P names) setup (slice_get (map seen_frame x.frames) place) (seen_lab names made x)) (delivered (ours setup) names (slice_get x.frames place) x)
+    to_port : (place : ℕ) → IsDelivered names ToPort x place → Steps (lab.delivered (seen_plans names) setup (slice_get (map seen_frame x.frames) place) (seen_lab names made x)) (delivered (ours setup) names (slice_get x.frames place) x)
     to_port place is =
         let f = is.frame in
         let sound = each_at (IsSound names) x.frames place f h.frames is.sent in
-        subst (λ (o : Option lab.LabFrame). Steps (lab.delivered (P names) setup o (seen_lab names made x)) (delivered (ours setup) names (slice_get x.frames place) x)) (sym (there x place f is.sent))
-        (subst (λ (o : Option Frame). Steps (lab.delivered (P names) setup (Some (seen_frame f)) (seen_lab names made x)) (delivered (ours setup) names o x)) (sym is.sent)
+        subst (λ (o : Option lab.LabFrame). Steps (lab.delivered (seen_plans names) setup o (seen_lab names made x)) (delivered (ours setup) names (slice_get x.frames place) x)) (sym (there x place f is.sent))
+        (subst (λ (o : Option Frame). Steps (lab.delivered (seen_plans names) setup (Some (seen_frame f)) (seen_lab names made x)) (delivered (ours setup) names o x)) (sym is.sent)
         (delivered_on f.on f.value f.request made x h (may_come f.on f.value (sound_way f ToPort sound is.meant))))
 
-    to_manager : (place : ℕ) → IsDelivered names ToManager x place → Steps (lab.returned (P names) setup (slice_get (map seen_frame x.frames) place) (seen_lab names made x)) (returned (ours setup) names (slice_get x.frames place) x)
+    to_manager : (place : ℕ) → IsDelivered names ToManager x place → Steps (lab.returned (seen_plans names) setup (slice_get (map seen_frame x.frames) place) (seen_lab names made x)) (returned (ours setup) names (slice_get x.frames place) x)
     to_manager place is =
         let f = is.frame in
         let sound = each_at (IsSound names) x.frames place f h.frames is.sent in
         let t = the_manager.hears names f.value x.manager.phase x.manager in
-        subst (λ (o : Option lab.LabFrame). Steps (lab.returned (P names) setup o (seen_lab names made x)) (returned (ours setup) names (slice_get x.frames place) x)) (sym (there x place f is.sent))
-        (subst (λ (o : Option Frame). Steps (lab.returned (P names) setup (Some (seen_frame f)) (seen_lab names made x)) (returned (ours setup) names o x)) (sym is.sent)
-        (turn_steps (lab.returned (P names) setup (Some (seen_frame f)) (seen_lab names made x)) t x h (hears_orderly names f.value x.manager.phase x.manager h.manager_orderly)
+        subst (λ (o : Option lab.LabFrame). Steps (lab.returned (seen_plans names) setup o (seen_lab names made x)) (returned (ours setup) names (slice_get x.frames place) x)) (sym (there x place f is.sent))
+        (subst (λ (o : Option Frame). Steps (lab.returned (seen_plans names) setup (Some (seen_frame f)) (seen_lab names made x)) (returned (ours setup) names o x)) (sym is.sent)
+        (turn_steps (lab.returned (seen_plans names) setup (Some (seen_frame f)) (seen_lab names made x)) t x h (hears_orderly names f.value x.manager.phase x.manager h.manager_orderly)
         (comes names x made x.manager h.manager_orderly f.value (low_value x made f.on f.value (sound_way f ToManager sound is.meant)) x.manager.phase)))
 
     all_come : (m : Message) → Does names setup Smbus ToOthers (port.hears_all setup (seen_port Smbus made.smbus x.smbus) x.board m) (hears_all (ours setup) names m x.smbus x.board)
@@ -325,9 +325,9 @@ module _ (setup : BoardFile) (names : Names) where
         at true = packets
         at false = record { made = made.smbus; is = refl; orderly = h.smbus_orderly; reads = h.smbus_reads; sent = tt }
 
-    pub step_so : (e : Event) → IsHonest (ours setup) names x e → Steps (lab.step (P names) setup (seen_lab names made x) (seen_event e)) (step (ours setup) names x e)
+    pub step_so : (e : Event) → IsHonest (ours setup) names x e → Steps (lab.step (seen_plans names) setup (seen_lab names made x) (seen_event e)) (step (ours setup) names x e)
     unfolding lab.step step
-    step_so (Calls call) honest = turn_steps (lab.call_does (P names) (manager.called (P names) (seen_call call) (seen_manager names made.manager x.manager)) (seen_lab names made x)) (called call x.manager.phase x.manager) x h (call_orderly call x.manager.phase x.manager h.manager_orderly) (call_lands names call made x)
+    step_so (Calls call) honest = turn_steps (lab.call_does (seen_plans names) (manager.called (seen_plans names) (seen_call call) (seen_manager names made.manager x.manager)) (seen_lab names made x)) (called call x.manager.phase x.manager) x h (call_orderly call x.manager.phase x.manager h.manager_orderly) (call_lands names call made x)
     step_so (ToBmc place) honest = to_port place honest.0
     step_so (ToMgr place) honest = to_manager place honest
     step_so (OtherIpmb r) honest =

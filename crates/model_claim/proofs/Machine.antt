@@ -15,13 +15,13 @@ use Rattle.model_undo.specs.Words.{Words}
 use Rattle.model_undo.specs.Machine as machine
 use Rattle.model_lab.specs.ManagerSteps as manager
 use Rattle.model_claim.specs.Manager.{Call, Start, Quiet, Stop, Again, Undo, Stopped, Task, Gets, Sets, Undoes, Phase, Fresh, Open, Done, Halted, Undone, UndoRefused, Manager, Turn, enters, rests, next_step, set_step, undo_step, called, carried_out, refused, one_more, bus_of, joined, Reads, sends, next_after, series_of, by_manager, asked_for}
-use Rattle.model_claim.specs.Seen.{seen_as, words_of, P, W, seen_call, seen_task, part_of, stage_of, counts_of, machine_of}
+use Rattle.model_claim.specs.Seen.{seen_as, words_of, seen_plans, seen_words, seen_call, seen_task, part_of, stage_of, counts_of, machine_of}
 use Rattle.model_claim.proofs.Series.{after_is}
 use Rattle.model_undo.specs.declared.phase.Why.TheVariants as undo_why
 
 module _ (names : Names) where
   abbrev M : Words
-  M = W names
+  M = seen_words names
 
   -- what a turn sends
   abbrev pub sends_of : Turn → Option (machine.Sending M)
@@ -43,7 +43,7 @@ module _ (names : Names) where
   turn_at Again stage m = machine.agains M stage m
   turn_at Undo stage m = machine.undoes M stage m
 
-  pub turns_at : (call : Call) (m : machine.Machine M) → manager.turn_of (P names) (seen_call call) m ≡ turn_at call m.stage m
+  pub turns_at : (call : Call) (m : machine.Machine M) → manager.turn_of (seen_plans names) (seen_call call) m ≡ turn_at call m.stage m
   turns_at Start m = refl
   turns_at Quiet m = refl
   turns_at Stop m = refl
@@ -53,7 +53,7 @@ module _ (names : Names) where
   -- what waits is what the call leaves
   pub record Waits (call : Call) (made : List ℕ) (before after : Manager) : Type 0 where
     pub made_then : List ℕ
-    pub is : manager.waits_after (P names) (seen_call call) (seen_as before.waits made) ≡ seen_as after.waits made_then
+    pub is : manager.waits_after (seen_plans names) (seen_call call) (seen_as before.waits made) ≡ seen_as after.waits made_then
 
   -- the machine's turn is the manager's, or there is none, and nothing changes
   abbrev pub IsTurn : Call → (made : List ℕ) → Option (machine.Turn M) → Manager → Turn → Type 0

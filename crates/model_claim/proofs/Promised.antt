@@ -23,7 +23,7 @@ use Rattle.model_undo.specs.Plan as plans
 use Rattle.model_lab.specs.Meaning.{lab_names}
 use Rattle.model_lab.specs.ManagerSteps.{addresses}
 use Rattle.model_lab.specs.Played.{Told, Ending, Whole, Stops, happens, IsPlayed}
-use Rattle.model_headline.specs.Tied.{F}
+use Rattle.model_headline.specs.Tied.{own_family}
 use Rattle.model_headline.specs.Answers.{CausedBy}
 use Rattle.model_headline.specs.Plays as plays
 use Rattle.model_headline.specs.Plays.{taken_by, told_by, ToldStands, lab_after}
@@ -47,18 +47,18 @@ has_stop (e ∷ es) (inl is) = record { earlier = []; rest = es; all = ap (λ (f
 has_stop (e ∷ es) (inr is) = let more = has_stop es is in record { earlier = e ∷ more.earlier; rest = more.rest; all = ap (λ (fs : List Event). e ∷ fs) more.all }
 
 module _ (file : BoardFile) (plan : List Op) (start : Records) where
-  after_k : (k : ℕ) (now : Records) → plans.IsAfter (F file lab_names) plan start k now → IsAfter file plan start k now
+  after_k : (k : ℕ) (now : Records) → plans.IsAfter (own_family file lab_names) plan start k now → IsAfter file plan start k now
   after_k = after_so file lab_names plan start
 
-  both : (k m : ℕ) (now : Records) → plans.IsAfter (F file lab_names) plan start k now ⊎ plans.IsAfter (F file lab_names) plan start m now → IsAfter file plan start k now ⊎ IsAfter file plan start m now
+  both : (k m : ℕ) (now : Records) → plans.IsAfter (own_family file lab_names) plan start k now ⊎ plans.IsAfter (own_family file lab_names) plan start m now → IsAfter file plan start k now ⊎ IsAfter file plan start m now
   both k m now (inl is) = inl (after_k k now is)
   both k m now (inr is) = inr (after_k m now is)
 
-  swapped : (k m : ℕ) (now : Records) → plans.IsAfter (F file lab_names) plan start k now ⊎ plans.IsAfter (F file lab_names) plan start m now → IsAfter file plan start m now ⊎ IsAfter file plan start k now
+  swapped : (k m : ℕ) (now : Records) → plans.IsAfter (own_family file lab_names) plan start k now ⊎ plans.IsAfter (own_family file lab_names) plan start m now → IsAfter file plan start m now ⊎ IsAfter file plan start k now
   swapped k m now (inl is) = inr (after_k k now is)
   swapped k m now (inr is) = inl (after_k m now is)
 
-  says : (phase : Phase) (now : Records) → plans.Stands (F file lab_names) plan start phase now → Says file plan start phase now
+  says : (phase : Phase) (now : Records) → plans.Stands (own_family file lab_names) plan start phase now → Says file plan start phase now
   says Fresh now is = is
   says (Getting k) now is = after_k k now is
   says (Setting k) now is = both k (suc k) now is

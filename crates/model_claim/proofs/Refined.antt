@@ -20,7 +20,7 @@ use Rattle.model_claim.specs.Frames.{Value, Asks, Tells, Part, span}
 use Rattle.model_claim.specs.Manager.{Start, Quiet, Stop, Again, Undo, Phase, Fresh, Open, Done, Halted, Undone, UndoRefused, asked_for, open_in}
 use Rattle.model_claim.specs.Lab.{Way, ToPort, ToManager, ToOthers, Frame, Event, Calls, ToBmc, ToMgr, OtherIpmb, OtherSmbus, Noise, Idles, OnBench, Lab, step}
 use Rattle.model_claim.specs.Claim.{ours, IsDelivered, JoinsLive, IsHonest, AllHonest, first}
-use Rattle.model_claim.specs.Seen.{P, W, part_of, stage_of, machine_of, seen_as, seen_value, seen_way, seen_frame, seen_event, seen_lab, Made}
+use Rattle.model_claim.specs.Seen.{seen_plans, seen_words, part_of, stage_of, machine_of, seen_as, seen_value, seen_way, seen_frame, seen_event, seen_lab, Made}
 use Rattle.model_claim.proofs.Holds.{Holds}
 use Rattle.model_claim.proofs.Packets.{Agrees, is_kept}
 use Rattle.model_claim.proofs.Sends.{idles_on_alike}
@@ -83,15 +83,15 @@ sent_here x place g e = at (slice_get x.frames place) refl (sym (slice_get-map s
 
 module _ (setup : BoardFile) (names : Names) where
   module _ (made : Made) (x : Lab) (h : Holds names x) where
-    delivered_here : (way : Way) (place : ℕ) → honest.IsDelivered (P names) (seen_way way) (seen_lab names made x) place → IsDelivered names way x place
+    delivered_here : (way : Way) (place : ℕ) → honest.IsDelivered (seen_plans names) (seen_way way) (seen_lab names made x) place → IsDelivered names way x place
     delivered_here way place is =
         let s = sent_here x place is.frame is.sent in
-        let live : honest.IsLive (P names) (seen_lab names made x) (seen_frame s.frame) = subst (honest.IsLive (P names) (seen_lab names made x)) (sym s.same) is.live in
+        let live : honest.IsLive (seen_plans names) (seen_lab names made x) (seen_frame s.frame) = subst (honest.IsLive (seen_plans names) (seen_lab names made x)) (sym s.same) is.live in
         record {
           frame = s.frame;
           sent = s.sent;
           meant = way_here s.frame.way way (ap (λ (f : lab.LabFrame). f.way) s.same ∙ is.meant);
-          recent = subst (λ n. n ≤ s.frame.request + span s.frame.on) (begun_so setup names s.frame.on x) (subst (λ n. begun_on (W names) s.frame.on (machine_of names x.manager) ≤ s.frame.request + n) (span_so setup names s.frame.on) live.recent);
+          recent = subst (λ n. n ≤ s.frame.request + span s.frame.on) (begun_so setup names s.frame.on x) (subst (λ n. begun_on (seen_words names) s.frame.on (machine_of names x.manager) ≤ s.frame.request + n) (span_so setup names s.frame.on) live.recent);
           remembered = live.remembered ∙ idles_on_alike names s.frame.on made x;
         }
 
@@ -99,7 +99,7 @@ module _ (setup : BoardFile) (names : Names) where
     none_dropped None p agrees = refl
     none_dropped (Some cause) p agrees = absurd agrees
 
-    joins_here : (v : Value) → joins.JoinsLive (P names) (seen_lab names made x) (seen_value v) → JoinsLive (ours setup) names x v
+    joins_here : (v : Value) → joins.JoinsLive (seen_plans names) (seen_lab names made x) (seen_value v) → JoinsLive (ours setup) names x v
     joins_here (Asks r) live = tt
     joins_here (Tells r) live = tt
     joins_here (Part p) live = λ no_start goes_there taken.
@@ -107,21 +107,21 @@ module _ (setup : BoardFile) (names : Names) where
         (live no_start goes_there (none_dropped (drop_cause x.smbus.eid (seen_as x.smbus.waits made.smbus) p) p
         (subst (λ (b : Bool). Agrees p x.smbus.waits made.smbus h.smbus_orderly b (drop_cause x.smbus.eid (seen_as x.smbus.waits made.smbus) p)) taken (is_kept p x.smbus.waits made.smbus h.smbus_orderly x.smbus.eid).agrees)))
 
-    none_here : (phase : Phase) → machine.open_bus_at (W names) (stage_of names phase) ≡ None → open_in names phase ≡ None
+    none_here : (phase : Phase) → machine.open_bus_at (seen_words names) (stage_of names phase) ≡ None → open_in names phase ≡ None
     none_here Fresh e = refl
-    none_here (Open heeded task bodies) e = absurd (none-some (machine.bus_at (W names) (part_of names (asked_for names task bodies) bodies)) (sym e))
+    none_here (Open heeded task bodies) e = absurd (none-some (machine.bus_at (seen_words names) (part_of names (asked_for names task bodies) bodies)) (sym e))
     none_here Done e = refl
     none_here (Halted k why) e = refl
     none_here Undone e = refl
     none_here (UndoRefused k code) e = refl
 
-    to_port_here : (place : ℕ) → honest.IsDelivered (P names) lab_way.ToPort (seen_lab names made x) place → joins.IsJoinLive (P names) (seen_lab names made x) (lab.ToBmc place) → IsHonest (ours setup) names x (ToBmc place)
+    to_port_here : (place : ℕ) → honest.IsDelivered (seen_plans names) lab_way.ToPort (seen_lab names made x) place → joins.IsJoinLive (seen_plans names) (seen_lab names made x) (lab.ToBmc place) → IsHonest (ours setup) names x (ToBmc place)
     to_port_here place is live =
         let d = delivered_here ToPort place is in
         let there : slice_get (map seen_frame x.frames) place ≡ Some (seen_frame d.frame) = slice_get-map seen_frame x.frames place ∙ ap (option_map seen_frame) d.sent in
-        (d, joins_here d.frame.value (subst (λ (o : Option lab.LabFrame). IfSome o (λ f. joins.JoinsLive (P names) (seen_lab names made x) f.value)) there live))
+        (d, joins_here d.frame.value (subst (λ (o : Option lab.LabFrame). IfSome o (λ f. joins.JoinsLive (seen_plans names) (seen_lab names made x) f.value)) there live))
 
-    honest_here : (e : Event) → (honest.HasBytes (P names) (seen_event e) → honest.IsHonest (P names) (seen_lab names made x) (seen_event e)) → joins.IsJoinLive (P names) (seen_lab names made x) (seen_event e) → IsHonest (ours setup) names x e
+    honest_here : (e : Event) → (honest.HasBytes (seen_plans names) (seen_event e) → honest.IsHonest (seen_plans names) (seen_lab names made x) (seen_event e)) → joins.IsJoinLive (seen_plans names) (seen_lab names made x) (seen_event e) → IsHonest (ours setup) names x e
     honest_here (Calls call) is live = tt
     honest_here (ToBmc place) is live = to_port_here place (is tt) live
     honest_here (ToMgr place) is live = delivered_here ToManager place (is tt)
@@ -131,12 +131,12 @@ module _ (setup : BoardFile) (names : Names) where
     honest_here (Idles on requester) is live = λ own. none_here x.manager.phase (is tt own)
     honest_here (OnBench activity) is live = tt
 
-  all_honest : (events : List Event) (made : Made) (x : Lab) → Holds names x → honest.AllHonest (P names) setup (map seen_event events) (seen_lab names made x) → joins.AllJoinLive (P names) setup (map seen_event events) (seen_lab names made x) → AllHonest (ours setup) names events x
+  all_honest : (events : List Event) (made : Made) (x : Lab) → Holds names x → honest.AllHonest (seen_plans names) setup (map seen_event events) (seen_lab names made x) → joins.AllJoinLive (seen_plans names) setup (map seen_event events) (seen_lab names made x) → AllHonest (ours setup) names events x
   all_honest [] made x h all live = tt
   all_honest (e ∷ es) made x h all live =
       let is = honest_here made x h e all.0 live.0 in
       let one = step_so setup names made x h e is in
-      (is, all_honest es one.made (step (ours setup) names x e) one.holds (subst (honest.AllHonest (P names) setup (map seen_event es)) one.is all.1) (subst (joins.AllJoinLive (P names) setup (map seen_event es)) one.is live.1))
+      (is, all_honest es one.made (step (ours setup) names x e) one.holds (subst (honest.AllHonest (seen_plans names) setup (map seen_event es)) one.is all.1) (subst (joins.AllJoinLive (seen_plans names) setup (map seen_event es)) one.is live.1))
 
 pub honest_alike : (setup : BoardFile) (names : Names) (plan : List Op) (retries : ℕ) (events : List Event)
     → AllHonest (ours setup) names events (first setup (ours setup) names plan retries) ↔ law.IsTrusted setup names plan retries (map seen_event events)

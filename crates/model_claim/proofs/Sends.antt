@@ -21,7 +21,7 @@ use Rattle.model_claim.specs.Manager.{Call, Phase, Fresh, Open, Done, Halted, Un
 use Rattle.model_claim.specs.Lab.{Entry, Carried, Idled, Way, ToPort, Frame, Lab, idles_of, idles_on, with_frames, sends, goes_on}
 use Rattle.model_claim.proofs.Cuts.{cuts_alike}
 use Rattle.model_claim.proofs.Machine.{sends_of, turns_at, IsTurn, call_turn}
-use Rattle.model_claim.specs.Seen.{seen_log, P, spell, seen_value, seen_way, seen_frame, seen_call, seen_manager, seen_lab, Made, stage_of, counts_of, machine_of}
+use Rattle.model_claim.specs.Seen.{seen_log, seen_plans, spell, seen_value, seen_way, seen_frame, seen_call, seen_manager, seen_lab, Made, stage_of, counts_of, machine_of}
 use Rattle.model_lab.specs.declared.way.Way.TheVariants as lab_way
 
 -- ---- packets
@@ -48,7 +48,7 @@ module _ (names : Names) where
   idles_alike on q (Carried r a ∷ log) = idles_alike on q log
   idles_alike on q (Idled p ∷ log) = ap (λ n. cond (p == q) (n + 1) n) (idles_alike on q log)
 
-  pub idles_on_alike : (on : Bus) (made : Made) (x : Lab) → lab.idles_on (P names) on (seen_lab names made x) ≡ idles_on names on x
+  pub idles_on_alike : (on : Bus) (made : Made) (x : Lab) → lab.idles_on (seen_plans names) on (seen_lab names made x) ≡ idles_on names on x
   idles_on_alike Ipmb made x = idles_alike Ipmb names.own_address x.ipmb.log
   idles_on_alike Smbus made x = idles_alike Smbus names.own_eid x.smbus.log
 
@@ -59,10 +59,10 @@ module _ (names : Names) where
   frames_so on way request m n e (v ∷ vs) = λ i. record { on = on; way = seen_way way; request = request; idles = e i; value = seen_value v } ∷ frames_so on way request m n e vs i
 
   pub frames_alike : (on : Bus) (way : Way) (request : ℕ) (vs : List Value) (made : Made) (x : Lab)
-      → lab.with_frames (P names) on (seen_way way) request (map seen_value vs) (seen_lab names made x) ≡ seen_lab names made (with_frames names on way request vs x)
+      → lab.with_frames (seen_plans names) on (seen_way way) request (map seen_value vs) (seen_lab names made x) ≡ seen_lab names made (with_frames names on way request vs x)
   frames_alike on way request vs made x =
       ap (λ (fs : List lab.LabFrame). record (seen_lab names made x) { frames = fs })
-      (ap (λ (fs : List lab.LabFrame). map seen_frame x.frames ++ fs) (frames_so on way request (lab.idles_on (P names) on (seen_lab names made x)) (idles_on names on x) (idles_on_alike on made x) vs)
+      (ap (λ (fs : List lab.LabFrame). map seen_frame x.frames ++ fs) (frames_so on way request (lab.idles_on (seen_plans names) on (seen_lab names made x)) (idles_on names on x) (idles_on_alike on made x) vs)
       ∙ sym (map-append seen_frame x.frames (map (λ (v : Value). let f : Frame = record { on = on; way = way; request = request; idles = idles_on names on x; value = v } in f) vs)))
 
   -- ---- turns
@@ -72,22 +72,22 @@ module _ (names : Names) where
   count_so Smbus answered = refl
 
   -- the deed of the model that a turn is
-  abbrev pub seen_deed : (made : List ℕ) → Turn → manager.ManagerDeed (P names)
-  seen_deed made t = record { manager = seen_manager names made t.manager; sent = option_map (manager.sent_of (P names) names) (sends_of names t) }
+  abbrev pub seen_deed : (made : List ℕ) → Turn → manager.ManagerDeed (seen_plans names)
+  seen_deed made t = record { manager = seen_manager names made t.manager; sent = option_map (manager.sent_of (seen_plans names) names) (sends_of names t) }
 
-  pub turn_lands : (t : Turn) (made : Made) (x : Lab) → lab.manager_does (P names) (seen_deed made.manager t) (seen_lab names made x) ≡ seen_lab names made (goes_on names t x)
+  pub turn_lands : (t : Turn) (made : Made) (x : Lab) → lab.manager_does (seen_plans names) (seen_deed made.manager t) (seen_lab names made x) ≡ seen_lab names made (goes_on names t x)
   turn_lands t made x = at t.sends t.manager.phase
     where
       sent : (asked : Asked) → (count : ℕ) → count ≡ t.manager.answered (bus_of asked)
-          → lab.with_frames (P names) (bus_of asked) lab_way.ToPort count (manager.values_of names count asked) (seen_lab names made (record x { manager = t.manager }))
+          → lab.with_frames (seen_plans names) (bus_of asked) lab_way.ToPort count (manager.values_of names count asked) (seen_lab names made (record x { manager = t.manager }))
           ≡ seen_lab names made (sends names (Some asked) (record x { manager = t.manager }))
       sent asked count e =
-          ap (λ n. lab.with_frames (P names) (bus_of asked) lab_way.ToPort n (manager.values_of names n asked) (seen_lab names made (record x { manager = t.manager }))) e
-          ∙ ap (λ (vs : List values.Value). lab.with_frames (P names) (bus_of asked) lab_way.ToPort (t.manager.answered (bus_of asked)) vs (seen_lab names made (record x { manager = t.manager }))) (values_alike (t.manager.answered (bus_of asked)) asked)
+          ap (λ n. lab.with_frames (seen_plans names) (bus_of asked) lab_way.ToPort n (manager.values_of names n asked) (seen_lab names made (record x { manager = t.manager }))) e
+          ∙ ap (λ (vs : List values.Value). lab.with_frames (seen_plans names) (bus_of asked) lab_way.ToPort (t.manager.answered (bus_of asked)) vs (seen_lab names made (record x { manager = t.manager }))) (values_alike (t.manager.answered (bus_of asked)) asked)
           ∙ frames_alike (bus_of asked) ToPort (t.manager.answered (bus_of asked)) (frames_of names (t.manager.answered (bus_of asked)) asked) made (record x { manager = t.manager })
 
       at : (b : Bool) (phase : Phase)
-          → lab.sends (P names) (option_map (manager.sent_of (P names) names) (let none : Option (machine.Sending (P names).words) = None in cond b (machine.sends_at (P names).words (stage_of names phase) (counts_of names t.manager.answered)) none)) (seen_lab names made (record x { manager = t.manager }))
+          → lab.sends (seen_plans names) (option_map (manager.sent_of (seen_plans names) names) (let none : Option (machine.Sending (seen_plans names).words) = None in cond b (machine.sends_at (seen_plans names).words (stage_of names phase) (counts_of names t.manager.answered)) none)) (seen_lab names made (record x { manager = t.manager }))
           ≡ seen_lab names made (cond b (sends names (open_in names phase) (record x { manager = t.manager })) (record x { manager = t.manager }))
       at false phase = refl
       at true Fresh = refl
@@ -100,19 +100,19 @@ module _ (names : Names) where
   -- ---- calls
 
   -- the model's lab is this one
-  pub record IsSeen (y : lab.Lab (P names)) (x : Lab) : Type 0 where
+  pub record IsSeen (y : lab.Lab (seen_plans names)) (x : Lab) : Type 0 where
     pub made : Made
     pub is : y ≡ seen_lab names made x
 
   pub call_lands : (call : Call) (made : Made) (x : Lab)
-      → IsSeen (lab.call_does (P names) (manager.called (P names) (seen_call call) (seen_manager names made.manager x.manager)) (seen_lab names made x)) (goes_on names (called call x.manager.phase x.manager) x)
+      → IsSeen (lab.call_does (seen_plans names) (manager.called (seen_plans names) (seen_call call) (seen_manager names made.manager x.manager)) (seen_lab names made x)) (goes_on names (called call x.manager.phase x.manager) x)
   unfolding manager.called
   call_lands call made x =
-      at (manager.turn_of (P names) (seen_call call) (machine_of names x.manager))
-      (subst (λ (o : Option (machine.Turn (P names).words)). IsTurn names call made.manager o x.manager (called call x.manager.phase x.manager)) (sym (turns_at names call (machine_of names x.manager))) (call_turn names made.manager x.manager call x.manager.phase))
+      at (manager.turn_of (seen_plans names) (seen_call call) (machine_of names x.manager))
+      (subst (λ (o : Option (machine.Turn (seen_plans names).words)). IsTurn names call made.manager o x.manager (called call x.manager.phase x.manager)) (sym (turns_at names call (machine_of names x.manager))) (call_turn names made.manager x.manager call x.manager.phase))
     where
-      at : (o : Option (machine.Turn (P names).words)) → IsTurn names call made.manager o x.manager (called call x.manager.phase x.manager)
-          → IsSeen (lab.call_does (P names) (option_map (manager.goes_on (P names) (record (seen_manager names made.manager x.manager) { joined = manager.waits_after (P names) (seen_call call) (seen_manager names made.manager x.manager).joined })) o) (seen_lab names made x))
+      at : (o : Option (machine.Turn (seen_plans names).words)) → IsTurn names call made.manager o x.manager (called call x.manager.phase x.manager)
+          → IsSeen (lab.call_does (seen_plans names) (option_map (manager.goes_on (seen_plans names) (record (seen_manager names made.manager x.manager) { joined = manager.waits_after (seen_plans names) (seen_call call) (seen_manager names made.manager x.manager).joined })) o) (seen_lab names made x))
           (goes_on names (called call x.manager.phase x.manager) x)
       at None e = record { made = made; is = ap (λ (t : Turn). seen_lab names made (goes_on names t x)) (sym e) }
       at (Some T) e =
@@ -120,6 +120,6 @@ module _ (names : Names) where
           let then : Made = record made { manager = e.1.made_then } in
           record {
             made = then;
-            is = (λ i. lab.manager_does (P names) (manager.goes_on (P names) (record (seen_manager names made.manager x.manager) { joined = e.1.is i }) (e.0 i)) (seen_lab names made x))
+            is = (λ i. lab.manager_does (seen_plans names) (manager.goes_on (seen_plans names) (record (seen_manager names made.manager x.manager) { joined = e.1.is i }) (e.0 i)) (seen_lab names made x))
                 ∙ turn_lands t then x;
           }

@@ -12,7 +12,7 @@ use Rattle.model_bus.specs.Answered.{Answered as UndoAnswered}
 use Rattle.model_undo.specs.Words.{IsOf, IsMade, AreAnswered, AllAnswered}
 use Rattle.model_claim.specs.Manager.{Task, Gets, Sets, Undoes, Series, Reads, sends, first_of, next_after, request_after, by_manager, asked_for}
 use Rattle.model_claim.specs.Claim.{AreGiven}
-use Rattle.model_claim.specs.Seen.{W}
+use Rattle.model_claim.specs.Seen.{seen_words}
 
 -- an answer of the undo model, in the words of the board
 abbrev pub board_of : UndoAnswered → Answered
@@ -26,15 +26,15 @@ after_is series (one ∷ bodies) body asked e = ap (λ (o : Option Asked). unwra
 module _ (names : Names) where
   -- ---- a manager makes it
 
-  pub is_of : (series : Series) (bodies : List (List ℕ)) → IsOf (W names) series (by_manager names (request_after series bodies))
+  pub is_of : (series : Series) (bodies : List (List ℕ)) → IsOf (seen_words names) series (by_manager names (request_after series bodies))
   is_of series [] = inl refl
   is_of series (body ∷ bodies) = at (next_after series (body ∷ bodies)) refl
     where
-      at : (o : Option Asked) → next_after series (body ∷ bodies) ≡ o → IsOf (W names) series (by_manager names (unwrap_or o (first_of series)))
+      at : (o : Option Asked) → next_after series (body ∷ bodies) ≡ o → IsOf (seen_words names) series (by_manager names (unwrap_or o (first_of series)))
       at None e = inl refl
       at (Some asked) e = inr (body ∷ bodies, ap (option_map (by_manager names)) e)
 
-  pub task_made : (task : Task) (bodies : List (List ℕ)) → IsMade (W names) (asked_for names task bodies)
+  pub task_made : (task : Task) (bodies : List (List ℕ)) → IsMade (seen_words names) (asked_for names task bodies)
   task_made (Gets k op) bodies = (Reads (key_of op), inl (key_of op, refl), is_of (Reads (key_of op)) bodies)
   task_made (Sets k op back) bodies = (sends op, inr (op, refl), is_of (sends op) bodies)
   task_made (Undoes back rest) bodies = (sends back, inr (back, refl), is_of (sends back) bodies)
@@ -44,7 +44,7 @@ module _ (names : Names) where
   -- an answer to a request of the manager, in the words of the model, was given in those of the statement, and back
   module _ (Given : Asked → UndoAnswered → Type 0) (Said : Asked → Answered → Type 0) (series : Series) where
     abbrev Answered_in : (before bodies : List (List ℕ)) → Type 0
-    Answered_in = AreAnswered (W names) Given series
+    Answered_in = AreAnswered (seen_words names) Given series
 
     abbrev said_so : (body : List ℕ) → Answered
     said_so body = record { code = success; body = body }
@@ -73,7 +73,7 @@ module _ (names : Names) where
           at None e more = absurd (none-some answered.0 e)
           at (Some asked) e more = (so asked body (subst (λ (q : Asked). Given q (given_so body)) (sym (same_Some (by_manager names asked) answered.0 e)) answered.2), more)
 
-      pub all_given : (bodies : List (List ℕ)) → AllAnswered (W names) Given series bodies → AreGiven Said series [] (Some (first_of series)) bodies
+      pub all_given : (bodies : List (List ℕ)) → AllAnswered (seen_words names) Given series bodies → AreGiven Said series [] (Some (first_of series)) bodies
       all_given [] all = absurd (all.some refl)
       all_given (body ∷ bodies) all =
           let one = all.in_order in
@@ -104,7 +104,7 @@ module _ (names : Names) where
                 none = ap (λ (all : List (List ℕ)). option_map (by_manager names) (next_after series all)) (moved first before body bodies) ∙ rest.none;
               }
 
-      pub all_back : (bodies : List (List ℕ)) → AreGiven Said series [] (Some (first_of series)) bodies → AllAnswered (W names) Given series bodies
+      pub all_back : (bodies : List (List ℕ)) → AreGiven Said series [] (Some (first_of series)) bodies → AllAnswered (seen_words names) Given series bodies
       all_back [] given = absurd given
       all_back (body ∷ bodies) given =
           let more = rest_back body [] bodies given.1 in

@@ -30,13 +30,13 @@ use Rattle.model_family.specs.Family.{SetsWithin, conf_within}
 use Rattle.model_family.proofs.IsFamily.{is_family}
 use Rattle.model_family.proofs.Board.{starts_valid}
 use Rattle.model_headline.specs.Each.{Each}
-use Rattle.model_headline.specs.Tied.{F}
+use Rattle.model_headline.specs.Tied.{own_family}
 use Rattle.model_headline.specs.Answers as answers
 use Rattle.model_headline.specs.Theorem as law
 use Rattle.model_claim.specs.Manager.{Stop, Why, Stopped, GetRefused, SetRefused, NotRestorable, Gets, Sets, Undoes, Phase, Fresh, Open, Done, Halted, Undone, UndoRefused, Reads, sends, request_after, by_manager}
 use Rattle.model_claim.specs.Lab.{Event, Calls, Carried, Lab, port_on, step}
 use Rattle.model_claim.specs.Claim.{ours, SetsTo, IsAfter, Stands, ShowsSame, AllHonest, first, after, GaveIn, IsCause, Claim}
-use Rattle.model_claim.specs.Seen.{P, W, spell, seen_log, bare, seen_event, seen_lab, stage_of}
+use Rattle.model_claim.specs.Seen.{seen_plans, seen_words, spell, seen_log, bare, seen_event, seen_lab, stage_of}
 use Rattle.model_claim.proofs.Holds.{Reads as EntryReads}
 use Rattle.model_claim.proofs.Labs.{step_so}
 use Rattle.model_claim.proofs.Honesty.{first_honest, later_honest}
@@ -50,7 +50,7 @@ use Rattle.model_undo.specs.declared.phase.Phase.{Phase as UndoPhase}
 use Rattle.model_undo.specs.declared.phase.Phase.TheVariants as undo_phase
 
 module _ (setup : BoardFile) (names : Names) where
-  sets_back : (op : Op) (old new : Records) → SetsTo setup op old new → undo_family.SetsTo (F setup names) op old new
+  sets_back : (op : Op) (old new : Records) → SetsTo setup op old new → undo_family.SetsTo (own_family setup names) op old new
   sets_back op old new s = record {
     before = s.before;
     after = s.after;
@@ -60,28 +60,28 @@ module _ (setup : BoardFile) (names : Names) where
   }
 
   module _ (plan : List Op) (start : Records) where
-    after_back : (k : ℕ) (r : Records) → IsAfter setup plan start k r → plans.IsAfter (F setup names) plan start k r
+    after_back : (k : ℕ) (r : Records) → IsAfter setup plan start k r → plans.IsAfter (own_family setup names) plan start k r
     after_back zero r is = is
     after_back (suc k) r is = (is.0, is.1, after_back k is.0 is.2, is.3, sets_back is.1 is.0 r is.4)
 
-    both : (k m : ℕ) (r : Records) → IsAfter setup plan start k r ⊎ IsAfter setup plan start m r → plans.IsAfter (F setup names) plan start k r ⊎ plans.IsAfter (F setup names) plan start m r
+    both : (k m : ℕ) (r : Records) → IsAfter setup plan start k r ⊎ IsAfter setup plan start m r → plans.IsAfter (own_family setup names) plan start k r ⊎ plans.IsAfter (own_family setup names) plan start m r
     both k m r (inl is) = inl (after_back k r is)
     both k m r (inr is) = inr (after_back m r is)
 
-    swapped : (k m : ℕ) (r : Records) → IsAfter setup plan start k r ⊎ IsAfter setup plan start m r → plans.IsAfter (F setup names) plan start m r ⊎ plans.IsAfter (F setup names) plan start k r
+    swapped : (k m : ℕ) (r : Records) → IsAfter setup plan start k r ⊎ IsAfter setup plan start m r → plans.IsAfter (own_family setup names) plan start m r ⊎ plans.IsAfter (own_family setup names) plan start k r
     swapped k m r (inl is) = inr (after_back k r is)
     swapped k m r (inr is) = inl (after_back m r is)
 
-    stands_back : (phase : Phase) (r : Records) → Stands setup plan start phase r → plans.Stands (F setup names) plan start (machine.phase_at (W names) (stage_of names phase)) r
+    stands_back : (phase : Phase) (r : Records) → Stands setup plan start phase r → plans.Stands (own_family setup names) plan start (machine.phase_at (seen_words names) (stage_of names phase)) r
     stands_back Fresh r is = is
     stands_back (Open true (Gets k op) bodies) r is = after_back k r is
     stands_back (Open false (Gets k op) bodies) r is = both k (suc k) r is
     stands_back (Open true (Sets k op back) bodies) r is = both k (suc k) r is
     stands_back (Open false (Sets k op back) bodies) r is = both k (suc k) r is
     stands_back (Open true (Undoes back rest) bodies) r is =
-        subst (λ n. plans.IsAfter (F setup names) plan start (suc n) r ⊎ plans.IsAfter (F setup names) plan start n r) (sym (length-map rest sends)) (swapped (length rest) (suc (length rest)) r is)
+        subst (λ n. plans.IsAfter (own_family setup names) plan start (suc n) r ⊎ plans.IsAfter (own_family setup names) plan start n r) (sym (length-map rest sends)) (swapped (length rest) (suc (length rest)) r is)
     stands_back (Open false (Undoes back rest) bodies) r is =
-        subst (λ n. plans.IsAfter (F setup names) plan start n r ⊎ plans.IsAfter (F setup names) plan start (suc n) r) (sym (length-map rest sends)) (both (length rest) (suc (length rest)) r is)
+        subst (λ n. plans.IsAfter (own_family setup names) plan start n r ⊎ plans.IsAfter (own_family setup names) plan start (suc n) r) (sym (length-map rest sends)) (both (length rest) (suc (length rest)) r is)
     stands_back Done r is = after_back (length plan) r is
     stands_back (Halted k why) r is = after_back k r is
     stands_back Undone r is = is
@@ -95,7 +95,7 @@ module _ (setup : BoardFile) (names : Names) where
   is_given : (before : State) (asked : Asked) (a : Answered) (after : State) → Row setup before asked a after → (answer_of setup before asked).0 ≡ a
   is_given before asked a after row = ap (λ (g : Given). g.0) (sym (has_one_answer setup before asked a after row))
 
-  shows_back : (b c : State) → ShowsSame setup (ours setup) b c → undo_headline.ShowsSame (F setup names) b c
+  shows_back : (b c : State) → ShowsSame setup (ours setup) b c → undo_headline.ShowsSame (own_family setup names) b c
   shows_back b c same key one other gets again_gets shown again left left_again row again_row =
       let told : Alike key (board_of shown) (board_of again) =
       subst (λ (s : Answered). Alike key s (board_of again)) (is_given b one (board_of shown) left row)
@@ -123,8 +123,8 @@ module _ (setup : BoardFile) (names : Names) (plan : List Op) (retries : ℕ) wh
       let f = ran setup names plan retries g.before (first_honest setup names g.before (g.event ∷ g.later) start all_here) in
       let one = step_so setup names f.made_then x f.holds g.event (later_honest setup names g.before (g.event ∷ g.later) start all_here).0 in
       let y : Lab = step (ours setup) names x g.event in
-      let after_is : lab.step (P names) setup (law.after setup names plan retries (map seen_event g.before)) (seen_event g.event) ≡ seen_lab names one.made y =
-      ap (λ (l : lab.Lab (P names)). lab.step (P names) setup l (seen_event g.event)) f.is ∙ one.is in
+      let after_is : lab.step (seen_plans names) setup (law.after setup names plan retries (map seen_event g.before)) (seen_event g.event) ≡ seen_lab names one.made y =
+      ap (λ (l : lab.Lab (seen_plans names)). lab.step (seen_plans names) setup l (seen_event g.event)) f.is ∙ one.is in
       let reads : Each (EntryReads names g.bus) (Carried g.heard (board_of a) ∷ (port_on g.bus x).log) = subst (Each (EntryReads names g.bus)) g.carried (holds_reads setup names plan retries g.bus y one.holds) in
       let was : answers.Answers setup names (seen_lab names f.made_then x) (seen_lab names one.made y) (by_manager names asked) a = record {
         bus = g.bus;
@@ -142,9 +142,9 @@ module _ (setup : BoardFile) (names : Names) (plan : List Op) (retries : ℕ) wh
         event = seen_event g.event;
         later = map seen_event g.later;
         all = ap (map seen_event) g.all ∙ map-append seen_event g.before (g.event ∷ g.later);
-        answers = subst (λ (l : lab.Lab (P names)). answers.Answers setup names l (lab.step (P names) setup (law.after setup names plan retries (map seen_event g.before)) (seen_event g.event)) (by_manager names asked) a) (sym f.is)
-            (subst (λ (l : lab.Lab (P names)). answers.Answers setup names (seen_lab names f.made_then x) l (by_manager names asked) a) (sym after_is) was);
-        at = subst (λ (l : lab.Lab (P names)). plans.IsAfter (F setup names) plan start.board.records k l.board.records) (sym f.is) (after_back setup names plan start.board.records k x.board.records g.at);
+        answers = subst (λ (l : lab.Lab (seen_plans names)). answers.Answers setup names l (lab.step (seen_plans names) setup (law.after setup names plan retries (map seen_event g.before)) (seen_event g.event)) (by_manager names asked) a) (sym f.is)
+            (subst (λ (l : lab.Lab (seen_plans names)). answers.Answers setup names (seen_lab names f.made_then x) l (by_manager names asked) a) (sym after_is) was);
+        at = subst (λ (l : lab.Lab (seen_plans names)). plans.IsAfter (own_family setup names) plan start.board.records k l.board.records) (sym f.is) (after_back setup names plan start.board.records k x.board.records g.at);
       }
 
   module _ (claim : Claim setup (ours setup) names plan retries) where
@@ -160,10 +160,10 @@ module _ (setup : BoardFile) (names : Names) (plan : List Op) (retries : ℕ) wh
     stands_there : (events : List Event) → Trusted (map seen_event events) → law.StandsAfter setup names plan retries (map seen_event events)
     stands_there events trusted =
         let all = honest_of events trusted in
-        subst (λ (l : lab.Lab (P names)). plans.Stands (F setup names) plan start.board.records (machine.phase_of (W names) l.manager.machine) l.board.records) (sym (ran setup names plan retries events all).is)
+        subst (λ (l : lab.Lab (seen_plans names)). plans.Stands (own_family setup names) plan start.board.records (machine.phase_of (seen_words names) l.manager.machine) l.board.records) (sym (ran setup names plan retries events all).is)
         (stands_back setup names plan start.board.records (after setup (ours setup) names plan retries events).manager.phase (after setup (ours setup) names plan retries events).board.records (claim.stands events all))
 
-    caused : (events : List Event) → AllHonest (ours setup) names events start → (phase : Phase) → ((k : ℕ) (why : Why) → phase ≡ Halted k why → IsCause setup (ours setup) names plan retries events k why) → Caused events (machine.phase_at (W names) (stage_of names phase))
+    caused : (events : List Event) → AllHonest (ours setup) names events start → (phase : Phase) → ((k : ℕ) (why : Why) → phase ≡ Halted k why → IsCause setup (ours setup) names plan retries events k why) → Caused events (machine.phase_at (seen_words names) (stage_of names phase))
     caused events all Fresh c = tt
     caused events all (Open true (Gets k op) bodies) c = tt
     caused events all (Open true (Sets k op back) bodies) c = tt
@@ -192,10 +192,10 @@ module _ (setup : BoardFile) (names : Names) (plan : List Op) (retries : ℕ) wh
     halts_there : (events : List Event) → Trusted (map seen_event events) → Caused events (law.phase_after setup names plan retries (map seen_event events))
     halts_there events trusted =
         let all = honest_of events trusted in
-        subst (Caused events) (sym (ap (λ (l : lab.Lab (P names)). machine.phase_of (W names) l.manager.machine) (ran setup names plan retries events all).is))
+        subst (Caused events) (sym (ap (λ (l : lab.Lab (seen_plans names)). machine.phase_of (seen_words names) l.manager.machine) (ran setup names plan retries events all).is))
         (caused events all (after setup (ours setup) names plan retries events).manager.phase (λ k why at_halt. claim.halts events k why all at_halt))
 
-    undone_phase : (phase : Phase) → machine.phase_at (W names) (stage_of names phase) ≡ undo_phase.Undone → phase ≡ Undone
+    undone_phase : (phase : Phase) → machine.phase_at (seen_words names) (stage_of names phase) ≡ undo_phase.Undone → phase ≡ Undone
     undone_phase Fresh e = absurd cc
     undone_phase (Open true (Gets k op) bodies) e = absurd cc
     undone_phase (Open true (Sets k op back) bodies) e = absurd cc
@@ -208,7 +208,7 @@ module _ (setup : BoardFile) (names : Names) (plan : List Op) (retries : ℕ) wh
 
     -- the board has the records of the start, and shows what it showed then
     abbrev IsSame : State → Type 0
-    IsSame now = (now.records ≡ start.board.records) × undo_headline.ShowsSame (F setup names) start.board now × undo_headline.PartsShowSame (F setup names) start.board now
+    IsSame now = (now.records ≡ start.board.records) × undo_headline.ShowsSame (own_family setup names) start.board now × undo_headline.PartsShowSame (own_family setup names) start.board now
 
     undone_there : (events later : List Event) → Trusted (map seen_event events ++ map seen_event later) → law.phase_after setup names plan retries (map seen_event events) ≡ undo_phase.Undone
         → IsSame (law.after setup names plan retries (map seen_event events ++ map seen_event later)).board
@@ -217,12 +217,12 @@ module _ (setup : BoardFile) (names : Names) (plan : List Op) (retries : ℕ) wh
         let all = honest_of (events ++ later) (subst Trusted (sym split_map) trusted) in
         let f = ran setup names plan retries events (first_honest setup names events later start all) in
         let g = ran setup names plan retries (events ++ later) all in
-        let here : (after setup (ours setup) names plan retries events).manager.phase ≡ Undone = undone_phase (after setup (ours setup) names plan retries events).manager.phase (ap (λ (l : lab.Lab (P names)). machine.phase_of (W names) l.manager.machine) (sym f.is) ∙ at_undone) in
+        let here : (after setup (ours setup) names plan retries events).manager.phase ≡ Undone = undone_phase (after setup (ours setup) names plan retries events).manager.phase (ap (λ (l : lab.Lab (seen_plans names)). machine.phase_of (seen_words names) l.manager.machine) (sym f.is) ∙ at_undone) in
         let told = claim.undone events later all here in
         let end : seen_lab names g.made_then (after setup (ours setup) names plan retries (events ++ later)) ≡ law.after setup names plan retries (map seen_event events ++ map seen_event later) = sym g.is ∙ ap (law.after setup names plan retries) split_map in
         let now = (after setup (ours setup) names plan retries (events ++ later)).board in
         let valid = (starts_valid setup (addresses names)).opened_valid in
-        subst (λ (l : lab.Lab (P names)). IsSame l.board) end (told.0, shows_back setup names start.board now told.1, parts_show_same (F setup names) (is_family setup (addresses names)) start.board now valid told.0)
+        subst (λ (l : lab.Lab (seen_plans names)). IsSame l.board) end (told.0, shows_back setup names start.board now told.1, parts_show_same (own_family setup names) (is_family setup (addresses names)) start.board now valid told.0)
 
     abbrev UndoneThere : List lab.Event → List lab.Event → Type 0
     UndoneThere es ls = Trusted (es ++ ls) → law.phase_after setup names plan retries es ≡ undo_phase.Undone

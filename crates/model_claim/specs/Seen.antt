@@ -117,11 +117,11 @@ pub record Made : Type 0 where
   pub manager : List ℕ
 
 module _ (names : Names) where
-  abbrev pub P : Plans
-  P = board_plans names
+  abbrev pub seen_plans : Plans
+  seen_plans = board_plans names
 
-  abbrev pub W : Words
-  W = P.words
+  abbrev pub seen_words : Words
+  seen_words = seen_plans.words
 
   -- ---- the manager
 
@@ -131,16 +131,16 @@ module _ (names : Names) where
   seen_why (SetRefused code) = undo_why.Refused code
   seen_why NotRestorable = undo_why.NotRestorable
 
-  abbrev pub seen_task : Task → machine.Task W
+  abbrev pub seen_task : Task → machine.Task seen_words
   seen_task (Gets k op) = machine.Gets k op
   seen_task (Sets k op back) = machine.Sets k op back
   seen_task (Undoes back rest) = machine.Undoes (sends back) (map sends rest)
 
   -- its open request, after replies with these data
-  abbrev pub part_of : Asked → List (List ℕ) → machine.Part W
+  abbrev pub part_of : Asked → List (List ℕ) → machine.Part seen_words
   part_of asked bodies = record { asked = asked; before = bodies }
 
-  abbrev pub stage_of : Phase → machine.Stage W
+  abbrev pub stage_of : Phase → machine.Stage seen_words
   stage_of Fresh = machine.AtStart
   stage_of (Open heeded task bodies) = machine.Opened heeded (seen_task task) (part_of (asked_for names task bodies) bodies)
   stage_of Done = machine.AtEnd
@@ -151,7 +151,7 @@ module _ (names : Names) where
   abbrev pub counts_of : (Bus → ℕ) → machine.Counts
   counts_of answered = record { ipmb = answered Ipmb; smbus = answered Smbus }
 
-  abbrev pub machine_of : Manager → machine.Machine W
+  abbrev pub machine_of : Manager → machine.Machine seen_words
   machine_of m = record {
     plan = m.plan;
     retries = m.retries;
@@ -162,12 +162,12 @@ module _ (names : Names) where
     counts = counts_of m.answered;
   }
 
-  abbrev pub seen_manager : (made : List ℕ) → Manager → manager.ManagerState P
+  abbrev pub seen_manager : (made : List ℕ) → Manager → manager.ManagerState seen_plans
   seen_manager made m = record { machine = machine_of m; names = names; listed = Some names; joined = seen_as m.waits made }
 
   -- ---- the lab
 
-  abbrev pub seen_lab : Made → Lab → lab.Lab P
+  abbrev pub seen_lab : Made → Lab → lab.Lab seen_plans
   seen_lab made x = record {
     board = x.board;
     ipmb = seen_port Ipmb made.ipmb x.ipmb;

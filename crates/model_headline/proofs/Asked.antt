@@ -48,7 +48,7 @@ use Rattle.model_lab.specs.Lab.{LabFrame, Lab, port_does, frame_now, with_port}
 use Rattle.model_lab.specs.Honest.{IsAnother}
 use Rattle.model_ports.proofs.Spelling.{are_the_models}
 use Rattle.model_headline.specs.Each.{Each}
-use Rattle.model_headline.specs.Tied.{P, F, L, W, ipmb_bus, rules_on, requests, HoldsAsked, IsHeldBy, IsHeld, IsAnswer, EntryAnswers, IsTied, world_of, IsGiven, Goes}
+use Rattle.model_headline.specs.Tied.{own_plans, own_family, own_lines, own_wires, ipmb_bus, rules_on, requests, HoldsAsked, IsHeldBy, IsHeld, IsAnswer, EntryAnswers, IsTied, world_of, IsGiven, Goes}
 use Rattle.model_headline.specs.Follows.{Holds}
 use Rattle.model_headline.proofs.Each.{each_append}
 use Rattle.model_headline.proofs.Frames.{all_held}
@@ -97,7 +97,7 @@ module _ (setup : BoardFile) (names : Names) (bus : Bus) where
 -- ---- a request on IPMB
 
 module _ (setup : BoardFile) (names : Names) (plan : List Op) (start : Records) where
-  module _ (x : Lab (P setup names)) (on : States (L setup names)) (tied : IsTied setup names x on) (h : Holds setup names plan start (world_of setup names x on)) (r : Request) where
+  module _ (x : Lab (own_plans setup names)) (on : States (own_lines setup names)) (tied : IsTied setup names x on) (h : Holds setup names plan start (world_of setup names x on)) (r : Request) where
     -- what the board would answer, and what a port would keep
     abbrev given : BoardAnswer × State
     given = answer_of setup x.board (asked_in r)
@@ -120,12 +120,12 @@ module _ (setup : BoardFile) (names : Names) (plan : List Op) (start : Records) 
     deed_is = turned ∙ ap (λ (log : List Entry). deed_at log (outcome (is_above 64) (heard_in r) log)) (sym tied.ipmb_log)
 
     -- the port and the board go on so, and the reply is sent
-    abbrev left_lab : Way → ℕ → Outcome → Lab (P setup names)
-    left_lab way request o = port_does (P setup names) Ipmb way request (deed_at (on Ipmb).log o) x
+    abbrev left_lab : Way → ℕ → Outcome → Lab (own_plans setup names)
+    left_lab way request o = port_does (own_plans setup names) Ipmb way request (deed_at (on Ipmb).log o) x
 
     -- the lab, before the reply is sent
-    abbrev before_sent : Outcome → Lab (P setup names)
-    before_sent o = with_port (P setup names) Ipmb (deed_at (on Ipmb).log o).port (record x { board = (deed_at (on Ipmb).log o).board })
+    abbrev before_sent : Outcome → Lab (own_plans setup names)
+    before_sent o = with_port (own_plans setup names) Ipmb (deed_at (on Ipmb).log o).port (record x { board = (deed_at (on Ipmb).log o).board })
 
     log_answers : (o : Outcome) → Each (EntryAnswers setup names Ipmb) (log_after o kept (on Ipmb).log)
     log_answers (Repeats reply) = tied.answered Ipmb
@@ -141,8 +141,8 @@ module _ (setup : BoardFile) (names : Names) (plan : List Op) (start : Records) 
       more : Grows (on Ipmb).frames s.frames
 
     port_tied : (way : Way) (request : ℕ) (o : Outcome) (s : BusState) → Goes_on o s
-        → IsHeldBy setup names way Ipmb (update (L setup names) Ipmb s on) (frame_now (P setup names) Ipmb way request (before_sent o) (response_after r (reply_after o kept)))
-        → IsTied setup names (left_lab way request o) (update (L setup names) Ipmb s on)
+        → IsHeldBy setup names way Ipmb (update (own_lines setup names) Ipmb s on) (frame_now (own_plans setup names) Ipmb way request (before_sent o) (response_after r (reply_after o kept)))
+        → IsTied setup names (left_lab way request o) (update (own_lines setup names) Ipmb s on)
     port_tied way request o s g held = record {
       named = tied.named;
       ipmb_wire = tied.ipmb_wire;
@@ -155,12 +155,12 @@ module _ (setup : BoardFile) (names : Names) (plan : List Op) (start : Records) 
       written = by (λ any b. AreWritten any (rules_on setup names any) b) tied.written g.written;
       answered = by (λ any b. Each (EntryAnswers setup names any) b.log) tied.answered (subst (Each (EntryAnswers setup names Ipmb)) (sym g.log) (log_answers o));
       made = tied.made;
-      frames = each_append (IsHeld setup names (update (L setup names) Ipmb s on)) x.frames (frame_now (P setup names) Ipmb way request (before_sent o) (response_after r (reply_after o kept)) ∷ [])
-          (all_held setup names on (update (L setup names) Ipmb s on) x.frames (by (λ any b. Grows (requests setup names on any).frames b.frames) (λ any n f e. e) g.more) tied.frames) (held, tt);
+      frames = each_append (IsHeld setup names (update (own_lines setup names) Ipmb s on)) x.frames (frame_now (own_plans setup names) Ipmb way request (before_sent o) (response_after r (reply_after o kept)) ∷ [])
+          (all_held setup names on (update (own_lines setup names) Ipmb s on) x.frames (by (λ any b. Grows (requests setup names on any).frames b.frames) (λ any n f e. e) g.more) tied.frames) (held, tt);
       opened = tied.opened;
     }
       where
-        by : (Q : Bus → BusState → Type 0) → ((any : Bus) → Q any (requests setup names on any)) → Q Ipmb s → (any : Bus) → Q any (requests setup names (update (L setup names) Ipmb s on) any)
+        by : (Q : Bus → BusState → Type 0) → ((any : Bus) → Q any (requests setup names on any)) → Q Ipmb s → (any : Bus) → Q any (requests setup names (update (own_lines setup names) Ipmb s on) any)
         by Q all here Ipmb = here
         by Q all here Smbus = all Smbus
 
@@ -186,7 +186,7 @@ module _ (setup : BoardFile) (names : Names) (plan : List Op) (start : Records) 
         → Goes setup names x on (left_lab ToOthers 0 done)
     other_asks quiet another = record {
       happenings = OnBus Ipmb asks (left_by done given.1 x.board) ∷ [];
-      left = update (L setup names) Ipmb other_on on;
+      left = update (own_lines setup names) Ipmb other_on on;
       may = (((tt, another), refl, kept_by setup (addresses names) x.board (left_by done given.1 x.board) (records_stay done quiet) (stagings_stay done quiet)), tt);
       reaches = refl;
       gives = tt;
@@ -196,13 +196,13 @@ module _ (setup : BoardFile) (names : Names) (plan : List Op) (start : Records) 
 
     -- a request of another comes to the port, if it goes to its address
     pub other_goes : is_changing (asked_in r) ≡ false → IsAnother Ipmb x.manager.names r.header.requester.address
-        → Goes setup names x on (port_does (P setup names) Ipmb ToOthers 0 (hears setup x.ipmb x.board (Asks r)) x)
+        → Goes setup names x on (port_does (own_plans setup names) Ipmb ToOthers 0 (hears setup x.ipmb x.board (Asks r)) x)
     other_goes quiet another = by (r.header.responder.address == x.ipmb.wire)
       where
         there : r.header.requester.address ≢ names.own_address
         there e = another.0 (e ∙ ap (λ n. n.own_address) (sym tied.named))
 
-        nothing : Goes setup names x on (port_does (P setup names) Ipmb ToOthers 0 (stays x.ipmb x.board) x)
+        nothing : Goes setup names x on (port_does (own_plans setup names) Ipmb ToOthers 0 (stays x.ipmb x.board) x)
         nothing = record {
           happenings = [];
           left = on;
@@ -226,8 +226,8 @@ module _ (setup : BoardFile) (names : Names) (plan : List Op) (start : Records) 
           };
         }
 
-        by : (t : Bool) → Goes setup names x on (port_does (P setup names) Ipmb ToOthers 0 (cond t (hears_request setup x.ipmb x.board r) (stays x.ipmb x.board)) x)
-        by true = subst (λ d. Goes setup names x on (port_does (P setup names) Ipmb ToOthers 0 d x)) (sym deed_is) (other_asks quiet there)
+        by : (t : Bool) → Goes setup names x on (port_does (own_plans setup names) Ipmb ToOthers 0 (cond t (hears_request setup x.ipmb x.board r) (stays x.ipmb x.board)) x)
+        by true = subst (λ d. Goes setup names x on (port_does (own_plans setup names) Ipmb ToOthers 0 d x)) (sym deed_is) (other_asks quiet there)
         by false = nothing
 
     -- ---- the manager asks
@@ -296,7 +296,7 @@ module _ (setup : BoardFile) (names : Names) (plan : List Op) (start : Records) 
       )
       says IsNew e = responds (family_answer given.0) ∙ ap (λ (b : List ℕ). reply_to Ipmb b (family_answer given.0)) (sym bytes_so)
 
-      held_reply : IsHeldBy setup names ToManager Ipmb (update (L setup names) Ipmb model_after on) (frame_now (P setup names) Ipmb ToManager f.request (before_sent done) (response_after r (reply_after done kept)))
+      held_reply : IsHeldBy setup names ToManager Ipmb (update (own_lines setup names) Ipmb model_after on) (frame_now (own_plans setup names) Ipmb ToManager f.request (before_sent done) (response_after r (reply_after done kept)))
       held_reply = record {
         which = length (on Ipmb).frames;
         frame = record { request = hold.frame.request; idles = idles_of names.own_address (log_after done kept (on Ipmb).log); content = Reply kept.request.number (reply_after done kept) };
@@ -312,27 +312,27 @@ module _ (setup : BoardFile) (names : Names) (plan : List Op) (start : Records) 
             (eq-eqb _ _ (ap (λ (q : Request). q.header.requester.address) (sym same) ∙ hold.from_manager)) (eq-eqb _ _ (ap (λ (q : Request). q.header.responder.address) (sym same) ∙ hold.to_port));
       }
 
-      honest_there : ((L setup names) Ipmb).IsHonest (on Ipmb) reaches_port
+      honest_there : ((own_lines setup names) Ipmb).IsHonest (on Ipmb) reaches_port
       honest_there = subst (λ o. IfSome o (IsLiveThere (ipmb_bus setup names) (on Ipmb))) (sym hold.is_of.sent) live
 
-      carried_so : ((L setup names) Ipmb).carries (on Ipmb) reaches_port ≡ exchange (new_bytes done hold.bytes) (answer_to setup x.board r)
+      carried_so : ((own_lines setup names) Ipmb).carries (on Ipmb) reaches_port ≡ exchange (new_bytes done hold.bytes) (answer_to setup x.board r)
       carried_so =
           ap (λ (o : Option Frame). exchange (carried_now (ipmb_bus setup names) o (on Ipmb)) (answer_to setup x.board r)) hold.is_of.sent
           ∙ ap (λ (c : Content). exchange (carried_content (ipmb_bus setup names) hold.frame.request c (on Ipmb)) (answer_to setup x.board r)) hold.asks
           ∙ ap (λ (q : Heard). exchange (new_bytes (outcome (is_above 64) q (on Ipmb).log) hold.bytes) (answer_to setup x.board r)) (sym heard_so)
 
-      board_may : (o : Outcome) → world.BoardMay (F setup names) (L setup names) (W setup names) Ipmb (exchange (new_bytes o hold.bytes) (answer_to setup x.board r)) x.board (left_by o given.1 x.board)
+      board_may : (o : Outcome) → world.BoardMay (own_family setup names) (own_lines setup names) (own_wires setup names) Ipmb (exchange (new_bytes o hold.bytes) (answer_to setup x.board r)) x.board (left_by o given.1 x.board)
       board_may (Repeats reply) = (refl, λ series bodies ready. ready)
       board_may IsBusy = (refl, λ series bodies ready. ready)
       board_may IsNew = (
         family_answer given.0,
         ap (λ (b : List ℕ). reply_to Ipmb b (family_answer given.0)) bytes_so,
-        subst (λ a. (F setup names).Row x.board a (family_answer given.0) given.1) (sym read_so) (has_answer setup x.board (asked_in r)),
+        subst (λ a. (own_family setup names).Row x.board a (family_answer given.0) given.1) (sym read_so) (has_answer setup x.board (asked_in r)),
       )
 
       -- the answer is the lab's
       gave : (o : Outcome) → Each (IsGiven setup names x (left_lab ToManager f.request o))
-          (given_by (F setup names) (L setup names) (W setup names) Ipmb (exchange (new_bytes o hold.bytes) (answer_to setup x.board r)) x.board (left_by o given.1 x.board) ++ [])
+          (given_by (own_family setup names) (own_lines setup names) (own_wires setup names) Ipmb (exchange (new_bytes o hold.bytes) (answer_to setup x.board r)) x.board (left_by o given.1 x.board) ++ [])
       gave (Repeats reply) = tt
       gave IsBusy = tt
       gave IsNew = (
@@ -345,7 +345,7 @@ module _ (setup : BoardFile) (names : Names) (plan : List Op) (start : Records) 
             from_manager = ap (λ (q : Heard). q.requester) heard_so;
             asks = ap (asked_from (addresses names) Ipmb) bytes_so;
             replies = refl;
-            row = subst (λ a. (F setup names).Row x.board a (family_answer given.0) given.1) (sym read_so) (has_answer setup x.board (asked_in r));
+            row = subst (λ a. (own_family setup names).Row x.board a (family_answer given.0) given.1) (sym read_so) (has_answer setup x.board (asked_in r));
           };
         },
         tt,
@@ -354,16 +354,16 @@ module _ (setup : BoardFile) (names : Names) (plan : List Op) (start : Records) 
       manager_asks : Goes setup names x on (left_lab ToManager f.request done)
       manager_asks = record {
         happenings = OnBus Ipmb reaches_port (left_by done given.1 x.board) ∷ [];
-        left = update (L setup names) Ipmb model_after on;
-        may = (((tt, honest_there), refl, subst (λ o. world.BoardMay (F setup names) (L setup names) (W setup names) Ipmb o x.board (left_by done given.1 x.board)) (sym carried_so) (board_may done)), tt);
-        reaches = ap (λ (s : BusState). let w : World (F setup names) (L setup names) = record { machine = x.manager.machine; on = update (L setup names) Ipmb s on; board = left_by done given.1 x.board } in w) happens_so;
-        gives = subst (λ o. Each (IsGiven setup names x (left_lab ToManager f.request done)) (given_by (F setup names) (L setup names) (W setup names) Ipmb o x.board (left_by done given.1 x.board) ++ [])) (sym carried_so) (gave done);
+        left = update (own_lines setup names) Ipmb model_after on;
+        may = (((tt, honest_there), refl, subst (λ o. world.BoardMay (own_family setup names) (own_lines setup names) (own_wires setup names) Ipmb o x.board (left_by done given.1 x.board)) (sym carried_so) (board_may done)), tt);
+        reaches = ap (λ (s : BusState). let w : World (own_family setup names) (own_lines setup names) = record { machine = x.manager.machine; on = update (own_lines setup names) Ipmb s on; board = left_by done given.1 x.board } in w) happens_so;
+        gives = subst (λ o. Each (IsGiven setup names x (left_lab ToManager f.request done)) (given_by (own_family setup names) (own_lines setup names) (own_wires setup names) Ipmb o x.board (left_by done given.1 x.board) ++ [])) (sym carried_so) (gave done);
         tied = port_tied ToManager f.request done model_after goes_on held_reply;
       }
 
       -- a frame of the manager comes to the port on IPMB
-      pub asked_goes : Goes setup names x on (port_does (P setup names) Ipmb ToManager f.request (hears setup x.ipmb x.board (Asks r)) x)
+      pub asked_goes : Goes setup names x on (port_does (own_plans setup names) Ipmb ToManager f.request (hears setup x.ipmb x.board (Asks r)) x)
       asked_goes =
           let there : (r.header.responder.address == x.ipmb.wire) ≡ true = eq-eqb _ _ (ap (λ (q : Request). q.header.responder.address) (sym same) ∙ hold.to_port ∙ sym tied.ipmb_wire) in
-          subst (λ (t : Bool). Goes setup names x on (port_does (P setup names) Ipmb ToManager f.request (cond t (hears_request setup x.ipmb x.board r) (stays x.ipmb x.board)) x)) (sym there)
-          (subst (λ d. Goes setup names x on (port_does (P setup names) Ipmb ToManager f.request d x)) (sym deed_is) manager_asks)
+          subst (λ (t : Bool). Goes setup names x on (port_does (own_plans setup names) Ipmb ToManager f.request (cond t (hears_request setup x.ipmb x.board r) (stays x.ipmb x.board)) x)) (sym there)
+          (subst (λ d. Goes setup names x on (port_does (own_plans setup names) Ipmb ToManager f.request d x)) (sym deed_is) manager_asks)

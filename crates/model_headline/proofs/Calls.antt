@@ -31,28 +31,28 @@ use Rattle.model_bus.proofs.Lists.{Grows}
 use Rattle.model_headline.specs.Each.{Each}
 use Rattle.model_headline.proofs.Frames.{all_held}
 use Rattle.model_headline.specs.Follows.{Holds}
-use Rattle.model_headline.specs.Tied.{P, F, L, W, rules_on, requests, EntryAnswers, IsTied, world_of, IsGiven, Goes}
+use Rattle.model_headline.specs.Tied.{own_plans, own_family, own_lines, own_wires, rules_on, requests, EntryAnswers, IsTied, world_of, IsGiven, Goes}
 use Rattle.model_headline.proofs.Begun.{own, words, NoneOpen, enter_tied, again_tied, same_world}
 
 module _ (setup : BoardFile) (names : Names) (plan : List Op) (start : Records) where
   -- ---- what is open
 
-  pub none_open : (x : Lab (P setup names)) (on : States (L setup names)) → Holds setup names plan start (world_of setup names x on) → ((bus : Bus) → IsClosed (requests setup names on bus)) → NoneOpen setup names on
+  pub none_open : (x : Lab (own_plans setup names)) (on : States (own_lines setup names)) → Holds setup names plan start (world_of setup names x on) → ((bus : Bus) → IsClosed (requests setup names on bus)) → NoneOpen setup names on
   none_open x on h closed bus =
       let order = h.joined.orderly bus in let a = order.answered in let b = order.below in let c = closed bus in omega arith
 
   -- ---- a call that enters a stage
 
   -- the lab after a call, by what the call makes of the machine
-  abbrev pub done_by : Assemblies → Option (Turn (words setup names)) → Lab (P setup names) → Lab (P setup names)
-  done_by joined o x = call_does (P setup names) (option_map (goes_on (P setup names) (record (x.manager) { joined = joined })) o) x
+  abbrev pub done_by : Assemblies → Option (Turn (words setup names)) → Lab (own_plans setup names) → Lab (own_plans setup names)
+  done_by joined o x = call_does (own_plans setup names) (option_map (goes_on (own_plans setup names) (record (x.manager) { joined = joined })) o) x
 
   -- with this machine, and these packets that wait
-  abbrev pub managed : Machine (words setup names) → Assemblies → Lab (P setup names) → Lab (P setup names)
+  abbrev pub managed : Machine (words setup names) → Assemblies → Lab (own_plans setup names) → Lab (own_plans setup names)
   managed m joined x = record x { manager = record (x.manager) { machine = m; joined = joined } }
 
   -- the machine's counts stay, and so does what waits
-  pub managed_tied : (m : Machine (words setup names)) (x : Lab (P setup names)) (on : States (L setup names)) → m.counts ≡ x.manager.machine.counts → MachineMade (own setup names) m
+  pub managed_tied : (m : Machine (words setup names)) (x : Lab (own_plans setup names)) (on : States (own_lines setup names)) → m.counts ≡ x.manager.machine.counts → MachineMade (own setup names) m
       → IsTied setup names x on → IsTied setup names (managed m x.manager.joined x) on
   managed_tied m x on same made tied = record {
     named = tied.named;
@@ -72,13 +72,13 @@ module _ (setup : BoardFile) (names : Names) (plan : List Op) (start : Records) 
 
   -- ---- start
 
-  module _ (x : Lab (P setup names)) (on : States (L setup names)) (tied : IsTied setup names x on) (h : Holds setup names plan start (world_of setup names x on)) where
+  module _ (x : Lab (own_plans setup names)) (on : States (own_lines setup names)) (tied : IsTied setup names x on) (h : Holds setup names plan start (world_of setup names x on)) where
     abbrev machine : Machine (words setup names)
     machine = x.manager.machine
 
     record Follows (o : Option (Turn (words setup names))) : Type 0 where
-      left : States (L setup names)
-      reaches : world.opens (F setup names) (L setup names) (W setup names) o (world_of setup names x on) ≡ world_of setup names (done_by x.manager.joined o x) left
+      left : States (own_lines setup names)
+      reaches : world.opens (own_family setup names) (own_lines setup names) (own_wires setup names) o (world_of setup names x on) ≡ world_of setup names (done_by x.manager.joined o x) left
       ties : IsTied setup names (done_by x.manager.joined o x) left
 
     -- nothing changes
@@ -92,8 +92,8 @@ module _ (setup : BoardFile) (names : Names) (plan : List Op) (start : Records) 
         let y = managed t.machine x.manager.joined x in
         let ok = enter_tied setup names stage y on (managed_tied t.machine x on refl all tied) made none in
         record {
-          left = world.begins (F setup names) (L setup names) (W setup names) t.sends on;
-          reaches = same_world setup names (option_map (manager.sent_of (P setup names) x.manager.names) t.sends) y (world.begins (F setup names) (L setup names) (W setup names) t.sends on);
+          left = world.begins (own_family setup names) (own_lines setup names) (own_wires setup names) t.sends on;
+          reaches = same_world setup names (option_map (manager.sent_of (own_plans setup names) x.manager.names) t.sends) y (world.begins (own_family setup names) (own_lines setup names) (own_wires setup names) t.sends on);
           ties = ok;
         }
 
@@ -101,31 +101,31 @@ module _ (setup : BoardFile) (names : Names) (plan : List Op) (start : Records) 
     starts_so AtStart at =
         let made = starts_made (own setup names) AtStart machine tied.made.undo in
         enters_so (first_stage (words setup names) (slice_get machine.plan 0)) made.stage made
-        (none_open x on h (subst (λ s. (bus : Bus) → AreOpen (F setup names) (W setup names) (λ b. 0) s bus (requests setup names on bus)) (sym at) h.joined.are_open))
+        (none_open x on h (subst (λ s. (bus : Bus) → AreOpen (own_family setup names) (own_wires setup names) (λ b. 0) s bus (requests setup names on bus)) (sym at) h.joined.are_open))
     starts_so (Opened heeded task part) at = rests
     starts_so AtEnd at = rests
     starts_so (AtHalt k why) at = rests
     starts_so AtUndone at = rests
     starts_so (AtRefused k code) at = rests
 
-    goes_by : (call : Happening (F setup names) (L setup names)) (y : Lab (P setup names)) (o : Option (Turn (words setup names)))
-        → world.May (F setup names) (L setup names) (W setup names) (world_of setup names x on) call
-        → world.happens (F setup names) (L setup names) (W setup names) (world_of setup names x on) call ≡ world.opens (F setup names) (L setup names) (W setup names) o (world_of setup names x on)
-        → given_at (F setup names) (L setup names) (W setup names) (world_of setup names x on) call ≡ [] → y ≡ done_by x.manager.joined o x → Follows o → Goes setup names x on y
+    goes_by : (call : Happening (own_family setup names) (own_lines setup names)) (y : Lab (own_plans setup names)) (o : Option (Turn (words setup names)))
+        → world.May (own_family setup names) (own_lines setup names) (own_wires setup names) (world_of setup names x on) call
+        → world.happens (own_family setup names) (own_lines setup names) (own_wires setup names) (world_of setup names x on) call ≡ world.opens (own_family setup names) (own_lines setup names) (own_wires setup names) o (world_of setup names x on)
+        → given_at (own_family setup names) (own_lines setup names) (own_wires setup names) (world_of setup names x on) call ≡ [] → y ≡ done_by x.manager.joined o x → Follows o → Goes setup names x on y
     goes_by call y o may is none same f = record {
       happenings = call ∷ [];
       left = f.left;
       may = (may, tt);
       reaches = is ∙ f.reaches ∙ ap (λ z. world_of setup names z f.left) (sym same);
-      gives = subst (λ (gs : List (Giving (F setup names))). Each (IsGiven setup names x y) (gs ++ [])) (sym none) tt;
+      gives = subst (λ (gs : List (Giving (own_family setup names))). Each (IsGiven setup names x y) (gs ++ [])) (sym none) tt;
       tied = subst (λ z. IsTied setup names z f.left) (sym same) f.ties;
     }
 
-    start_is : call_does (P setup names) (called (P setup names) calls.Start x.manager) x ≡ done_by x.manager.joined (starts (words setup names) machine.stage machine) x
+    start_is : call_does (own_plans setup names) (called (own_plans setup names) calls.Start x.manager) x ≡ done_by x.manager.joined (starts (words setup names) machine.stage machine) x
     unfolding called
     start_is = refl
 
-    pub start_goes : Goes setup names x on (call_does (P setup names) (called (P setup names) calls.Start x.manager) x)
+    pub start_goes : Goes setup names x on (call_does (own_plans setup names) (called (own_plans setup names) calls.Start x.manager) x)
     start_goes = goes_by Start _ (starts (words setup names) machine.stage machine) tt refl refl start_is (starts_so machine.stage refl)
 
     -- ---- stop
@@ -141,18 +141,18 @@ module _ (setup : BoardFile) (names : Names) (plan : List Op) (start : Records) 
     stops_so AtUndone = rests
     stops_so (AtRefused k code) = rests
 
-    stop_is : call_does (P setup names) (called (P setup names) calls.Stop x.manager) x ≡ done_by x.manager.joined (stops (words setup names) machine.stage machine) x
+    stop_is : call_does (own_plans setup names) (called (own_plans setup names) calls.Stop x.manager) x ≡ done_by x.manager.joined (stops (words setup names) machine.stage machine) x
     unfolding called
     stop_is = refl
 
-    pub stop_goes : Goes setup names x on (call_does (P setup names) (called (P setup names) calls.Stop x.manager) x)
+    pub stop_goes : Goes setup names x on (call_does (own_plans setup names) (called (own_plans setup names) calls.Stop x.manager) x)
     stop_goes = goes_by Stop _ (stops (words setup names) machine.stage machine) tt refl refl stop_is (stops_so machine.stage)
 
     -- ---- quiet and again
 
     record Repeats (o : Option (Turn (words setup names))) : Type 0 where
-      left : States (L setup names)
-      reaches : world.repeats (F setup names) (L setup names) (W setup names) o (world_of setup names x on) ≡ world_of setup names (done_by x.manager.joined o x) left
+      left : States (own_lines setup names)
+      reaches : world.repeats (own_family setup names) (own_lines setup names) (own_wires setup names) o (world_of setup names x on) ≡ world_of setup names (done_by x.manager.joined o x) left
       ties : IsTied setup names (done_by x.manager.joined o x) left
 
     resting : Repeats None
@@ -164,10 +164,10 @@ module _ (setup : BoardFile) (names : Names) (plan : List Op) (start : Records) 
         → Repeats (Some (record { machine = m; sends = Some (sending (words setup names) part m.counts) }))
     sends_again m heeded task part same all at made =
         let y = managed m x.manager.joined x in
-        let opened = subst (λ s. (bus : Bus) → AreOpen (F setup names) (W setup names) (λ b. 0) s bus (requests setup names on bus)) (sym at) h.joined.are_open in
+        let opened = subst (λ s. (bus : Bus) → AreOpen (own_family setup names) (own_wires setup names) (λ b. 0) s bus (requests setup names on bus)) (sym at) h.joined.are_open in
         record {
-          left = world.sends_again (F setup names) (L setup names) (W setup names) (Some (sending (words setup names) part m.counts)) on;
-          reaches = same_world setup names (Some (manager.sent_of (P setup names) x.manager.names (sending (words setup names) part m.counts))) y (world.sends_again (F setup names) (L setup names) (W setup names) (Some (sending (words setup names) part m.counts)) on);
+          left = world.sends_again (own_family setup names) (own_lines setup names) (own_wires setup names) (Some (sending (words setup names) part m.counts)) on;
+          reaches = same_world setup names (Some (manager.sent_of (own_plans setup names) x.manager.names (sending (words setup names) part m.counts))) y (world.sends_again (own_family setup names) (own_lines setup names) (own_wires setup names) (Some (sending (words setup names) part m.counts)) on);
           ties = again_tied setup names part y on (managed_tied m x on same all tied) made.0 ((opened (bus_of part.asked)).0 refl);
         }
 
@@ -197,40 +197,40 @@ module _ (setup : BoardFile) (names : Names) (plan : List Op) (start : Records) 
     agains_so AtUndone at = resting
     agains_so (AtRefused k code) at = resting
 
-    repeats_by : (call : Happening (F setup names) (L setup names)) (y : Lab (P setup names)) (o : Option (Turn (words setup names)))
-        → world.May (F setup names) (L setup names) (W setup names) (world_of setup names x on) call
-        → world.happens (F setup names) (L setup names) (W setup names) (world_of setup names x on) call ≡ world.repeats (F setup names) (L setup names) (W setup names) o (world_of setup names x on)
-        → given_at (F setup names) (L setup names) (W setup names) (world_of setup names x on) call ≡ [] → y ≡ done_by x.manager.joined o x → Repeats o → Goes setup names x on y
+    repeats_by : (call : Happening (own_family setup names) (own_lines setup names)) (y : Lab (own_plans setup names)) (o : Option (Turn (words setup names)))
+        → world.May (own_family setup names) (own_lines setup names) (own_wires setup names) (world_of setup names x on) call
+        → world.happens (own_family setup names) (own_lines setup names) (own_wires setup names) (world_of setup names x on) call ≡ world.repeats (own_family setup names) (own_lines setup names) (own_wires setup names) o (world_of setup names x on)
+        → given_at (own_family setup names) (own_lines setup names) (own_wires setup names) (world_of setup names x on) call ≡ [] → y ≡ done_by x.manager.joined o x → Repeats o → Goes setup names x on y
     repeats_by call y o may is none same f = record {
       happenings = call ∷ [];
       left = f.left;
       may = (may, tt);
       reaches = is ∙ f.reaches ∙ ap (λ z. world_of setup names z f.left) (sym same);
-      gives = subst (λ (gs : List (Giving (F setup names))). Each (IsGiven setup names x y) (gs ++ [])) (sym none) tt;
+      gives = subst (λ (gs : List (Giving (own_family setup names))). Each (IsGiven setup names x y) (gs ++ [])) (sym none) tt;
       tied = subst (λ z. IsTied setup names z f.left) (sym same) f.ties;
     }
 
-    quiet_is : call_does (P setup names) (called (P setup names) calls.Quiet x.manager) x ≡ done_by x.manager.joined (quiets (words setup names) machine.stage machine) x
+    quiet_is : call_does (own_plans setup names) (called (own_plans setup names) calls.Quiet x.manager) x ≡ done_by x.manager.joined (quiets (words setup names) machine.stage machine) x
     unfolding called
     quiet_is = refl
 
-    pub quiet_goes : Goes setup names x on (call_does (P setup names) (called (P setup names) calls.Quiet x.manager) x)
+    pub quiet_goes : Goes setup names x on (call_does (own_plans setup names) (called (own_plans setup names) calls.Quiet x.manager) x)
     quiet_goes = repeats_by Quiet _ (quiets (words setup names) machine.stage machine) tt refl refl quiet_is (quiets_so machine.stage refl)
 
-    again_is : call_does (P setup names) (called (P setup names) calls.Again x.manager) x ≡ done_by x.manager.joined (agains (words setup names) machine.stage machine) x
+    again_is : call_does (own_plans setup names) (called (own_plans setup names) calls.Again x.manager) x ≡ done_by x.manager.joined (agains (words setup names) machine.stage machine) x
     unfolding called
     again_is = refl
 
-    pub again_goes : Goes setup names x on (call_does (P setup names) (called (P setup names) calls.Again x.manager) x)
+    pub again_goes : Goes setup names x on (call_does (own_plans setup names) (called (own_plans setup names) calls.Again x.manager) x)
     again_goes = repeats_by Again _ (agains (words setup names) machine.stage machine) tt refl refl again_is (agains_so machine.stage refl)
 
     -- ---- undo
 
     -- what waited at the manager is dropped
-    abbrev cleared : States (L setup names)
-    cleared = update (L setup names) Smbus (record (on Smbus) { manager = λ name. [] }) on
+    abbrev cleared : States (own_lines setup names)
+    cleared = update (own_lines setup names) Smbus (record (on Smbus) { manager = λ name. [] }) on
 
-    abbrev fresh : Lab (P setup names)
+    abbrev fresh : Lab (own_plans setup names)
     fresh = managed machine nothing x
 
     cleared_tied : IsTied setup names fresh cleared
@@ -268,15 +268,15 @@ module _ (setup : BoardFile) (names : Names) (plan : List Op) (start : Records) 
         let y = managed t.machine nothing x in
         let made : MachineMade (own setup names) t.machine = record { stage = undo_made (own setup names) machine.undo tied.made.undo; undo = tied.made.undo } in
         let ok = enter_tied setup names (undo_stage (words setup names) machine.undo) y cleared (managed_tied t.machine fresh cleared refl made cleared_tied) made.stage (cleared_closed closed) in
-        let sent = option_map (manager.sent_of (P setup names) x.manager.names) t.sends in
-        let now = world.begins (F setup names) (L setup names) (W setup names) t.sends cleared in
-        let same : done_by nothing (undoes (words setup names) stage machine) x ≡ sends (P setup names) sent y = ap (λ o. done_by nothing o x) is in
-        let w : World (F setup names) (L setup names) = record { machine = machine; on = cleared; board = x.board } in
+        let sent = option_map (manager.sent_of (own_plans setup names) x.manager.names) t.sends in
+        let now = world.begins (own_family setup names) (own_lines setup names) (own_wires setup names) t.sends cleared in
+        let same : done_by nothing (undoes (words setup names) stage machine) x ≡ sends (own_plans setup names) sent y = ap (λ o. done_by nothing o x) is in
+        let w : World (own_family setup names) (own_lines setup names) = record { machine = machine; on = cleared; board = x.board } in
         record {
           happenings = OnBus Smbus Clears x.board ∷ Undo ∷ [];
           left = now;
           may = (((tt, tt), refl, (refl, λ series bodies ready. ready)), (tt, tt));
-          reaches = ap (λ o. world.opens (F setup names) (L setup names) (W setup names) o w) (ap (λ s. undoes (words setup names) s machine) (sym at) ∙ is)
+          reaches = ap (λ o. world.opens (own_family setup names) (own_lines setup names) (own_wires setup names) o w) (ap (λ s. undoes (words setup names) s machine) (sym at) ∙ is)
               ∙ same_world setup names sent y now ∙ ap (λ z. world_of setup names z now) (sym same);
           gives = tt;
           tied = subst (λ z. IsTied setup names z now) (sym same) ok;
@@ -285,8 +285,8 @@ module _ (setup : BoardFile) (names : Names) (plan : List Op) (start : Records) 
     undo_rests : Goes setup names x on x
     undo_rests = record { happenings = []; left = on; may = tt; reaches = refl; gives = tt; tied = tied }
 
-    pub are_closed : (stage : Stage (words setup names)) → stage ≡ machine.stage → (bus : Bus) → AreOpen (F setup names) (W setup names) (λ b. 0) stage bus (requests setup names on bus)
-    are_closed stage at = subst (λ s. (bus : Bus) → AreOpen (F setup names) (W setup names) (λ b. 0) s bus (requests setup names on bus)) (sym at) h.joined.are_open
+    pub are_closed : (stage : Stage (words setup names)) → stage ≡ machine.stage → (bus : Bus) → AreOpen (own_family setup names) (own_wires setup names) (λ b. 0) stage bus (requests setup names on bus)
+    are_closed stage at = subst (λ s. (bus : Bus) → AreOpen (own_family setup names) (own_wires setup names) (λ b. 0) s bus (requests setup names on bus)) (sym at) h.joined.are_open
 
     undo_so : (stage : Stage (words setup names)) → stage ≡ machine.stage → Goes setup names x on (done_by nothing (undoes (words setup names) stage machine) x)
     undo_so AtEnd at = undo_from AtEnd at refl (are_closed AtEnd at)
@@ -296,16 +296,16 @@ module _ (setup : BoardFile) (names : Names) (plan : List Op) (start : Records) 
     undo_so AtUndone at = undo_rests
     undo_so (AtRefused k code) at = undo_rests
 
-    undo_is : done_by nothing (undoes (words setup names) machine.stage machine) x ≡ call_does (P setup names) (called (P setup names) calls.Undo x.manager) x
+    undo_is : done_by nothing (undoes (words setup names) machine.stage machine) x ≡ call_does (own_plans setup names) (called (own_plans setup names) calls.Undo x.manager) x
     unfolding called
     undo_is = refl
 
-    pub undo_goes : Goes setup names x on (call_does (P setup names) (called (P setup names) calls.Undo x.manager) x)
+    pub undo_goes : Goes setup names x on (call_does (own_plans setup names) (called (own_plans setup names) calls.Undo x.manager) x)
     undo_goes = subst (λ y. Goes setup names x on y) undo_is (undo_so machine.stage refl)
 
     -- ---- any call
 
-    pub call_goes : (call : Call) → Goes setup names x on (call_does (P setup names) (called (P setup names) call x.manager) x)
+    pub call_goes : (call : Call) → Goes setup names x on (call_does (own_plans setup names) (called (own_plans setup names) call x.manager) x)
     call_goes calls.Start = start_goes
     call_goes calls.Quiet = quiet_goes
     call_goes calls.Stop = stop_goes

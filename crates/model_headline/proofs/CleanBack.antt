@@ -28,7 +28,7 @@ use Rattle.model_family.proofs.IsFamily.{is_family}
 use Rattle.model_family.proofs.Board.{starts_valid}
 use Rattle.model_lab.specs.ManagerSteps.{addresses}
 use Rattle.undo_plans.specs.declared.names.Names.{Names}
-use Rattle.model_headline.specs.Tied.{F}
+use Rattle.model_headline.specs.Tied.{own_family}
 use Rattle.model_headline.specs.CleanLink.{IsOfOne}
 use Rattle.model_headline.specs.CleanParts.{parts_of, get_count, set_count, parts_at, step_parts, back_parts}
 use Rattle.model_headline.proofs.CleanParts.{set_counted}
@@ -92,7 +92,7 @@ summed n a more p r e f g = omega (arith, e, f, g)
 
 module _ (setup : BoardFile) (names : Names) where
   abbrev B : Family
-  B = F setup names
+  B = own_family setup names
 
   answers_sound : (series : Series) (before bodies : List (List ℕ)) (b c : State) → Answers B (answer setup) series before bodies b c → IsSound setup b.records → IsSound setup c.records
   answers_sound series before [] b c h sound = subst (λ (s : State). IsSound setup s.records) (sym h) sound

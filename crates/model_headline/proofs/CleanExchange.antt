@@ -34,7 +34,7 @@ use Rattle.model_ports.specs.PortSteps.{PortState, Deed, Turn as PortTurn, hears
 use Rattle.model_lab.specs.ManagerSteps.{addresses, ManagerState, ManagerDeed, sent_of, goes_on, rests, taken_or, hears_reply, hears_response}
 use Rattle.model_lab.specs.declared.way.Way.TheVariants.{ToManager}
 use Rattle.model_ports.proofs.Turning.{turns_by}
-use Rattle.model_headline.specs.Tied.{P, F, rules_on, ipmb_bus}
+use Rattle.model_headline.specs.Tied.{own_plans, own_family, rules_on, ipmb_bus}
 use Rattle.model_headline.proofs.Sending.{from_zero}
 use Rattle.model_headline.proofs.CleanQueue.{due, Link, dues_of, port_goes, manager_goes, settles}
 use Rattle.model_headline.proofs.CleanTest.{accepts}
@@ -55,17 +55,17 @@ module _ (setup : BoardFile) (names : Names) where
   abbrev pub smbus_port : Assemblies → List Entry → PortState
   smbus_port kept log = record { wire = names.peer_wire; eid = names.peer_eid; kept = kept; log = log }
 
-  abbrev pub manager_with : Assemblies → Machine (F setup names).words → ManagerState (P setup names)
+  abbrev pub manager_with : Assemblies → Machine (own_family setup names).words → ManagerState (own_plans setup names)
   manager_with joined m = record { machine = m; names = names; listed = Some names; joined = joined }
 
   -- the link, with a request just sent or nothing
-  abbrev pub link_at : Turn (F setup names).words → State → Rest → Link (P setup names)
+  abbrev pub link_at : Turn (own_family setup names).words → State → Rest → Link (own_plans setup names)
   link_at t b r = record {
     board = b;
     ipmb = ipmb_port r.ipmb_log;
     smbus = smbus_port r.kept r.smbus_log;
     manager = manager_with r.joined t.machine;
-    queue = dues_of (P setup names) (option_map (sent_of (P setup names) names) t.sends);
+    queue = dues_of (own_plans setup names) (option_map (sent_of (own_plans setup names) names) t.sends);
   }
 
   -- both logs have what was answered, and no packet waits
@@ -75,7 +75,7 @@ module _ (setup : BoardFile) (names : Names) where
     pub kept : r.kept.open_count ≡ 0
     pub joined : r.joined.open_count ≡ 0
 
-  pub clear_idles : (c : Counts) (t : Turn (F setup names).words) (b : State) (r : Rest) → IsClear c r → NoIdles (P setup names) (link_at t b r)
+  pub clear_idles : (c : Counts) (t : Turn (own_family setup names).words) (b : State) (r : Rest) → IsClear c r → NoIdles (own_plans setup names) (link_at t b r)
   clear_idles c t b r clear q = (none_idle (rules_on setup names Ipmb) c.ipmb r.ipmb_log q clear.ipmb, none_idle (rules_on setup names Smbus) c.smbus r.smbus_log q clear.smbus)
 
   pub not_busy : (b : State) (asked : Asked) → is_busy (answer setup b asked).0.code ≡ false
@@ -101,7 +101,7 @@ module _ (setup : BoardFile) (names : Names) where
       (4 * (sym (upper net_fn lun none) i + 1) + sym (lower number 0 refl) i) ∷ (4 * sym (upper number 0 refl) i + sym (lower net_fn lun none) i) ∷ command ∷ a.code ∷ a.body
 
   -- the port carries the request out
-  module _ (count from net_fn lun command : ℕ) (body : List ℕ) (made : IsMade (F setup names).words (Ipmi from net_fn lun command body)) (b : State) (log : List Entry) (is_log : IsLogOf (rules_on setup names Ipmb) count log) where
+  module _ (count from net_fn lun command : ℕ) (body : List ℕ) (made : IsMade (own_family setup names).words (Ipmi from net_fn lun command body)) (b : State) (log : List Entry) (is_log : IsLogOf (rules_on setup names Ipmb) count log) where
     abbrev asked : Asked
     asked = Ipmi from net_fn lun command body
 
@@ -136,15 +136,15 @@ module _ (setup : BoardFile) (names : Names) where
     pub log_grows : IsLogOf (rules_on setup names Ipmb) (suc count) (entry ∷ log)
     log_grows = (record { request = heard_in r; reply = reply_to Ipmb bytes (answer setup b asked).0 }, log, refl, heard_is, is_log)
 
-  abbrev pub part_of : Asked → List (List ℕ) → TaskPart (F setup names).words
+  abbrev pub part_of : Asked → List (List ℕ) → TaskPart (own_family setup names).words
   part_of asked before = record { asked = asked; before = before }
 
   -- the manager takes the reply
-  module _ (joined : Assemblies) (task : Task (F setup names).words) (before : List (List ℕ)) (m : Machine (F setup names).words) (from net_fn lun command : ℕ) (body : List ℕ) (made : IsMade (F setup names).words (Ipmi from net_fn lun command body)) (b : State) where
+  module _ (joined : Assemblies) (task : Task (own_family setup names).words) (before : List (List ℕ)) (m : Machine (own_family setup names).words) (from net_fn lun command : ℕ) (body : List ℕ) (made : IsMade (own_family setup names).words (Ipmi from net_fn lun command body)) (b : State) where
     abbrev wanted : Asked
     wanted = Ipmi from net_fn lun command body
 
-    abbrev open_machine : Machine (F setup names).words
+    abbrev open_machine : Machine (own_family setup names).words
     open_machine = record m { stage = Opened true task (part_of wanted before); resent = 0 }
 
     abbrev given : Answered
@@ -153,66 +153,66 @@ module _ (setup : BoardFile) (names : Names) where
     abbrev wanted_bytes : List ℕ
     wanted_bytes = bytes_of (number_of Ipmb m.counts.ipmb) wanted
 
-    abbrev manager : ManagerState (P setup names)
+    abbrev manager : ManagerState (own_plans setup names)
     manager = manager_with joined open_machine
 
     passes : answers Ipmb wanted_bytes (reply_to Ipmb wanted_bytes given) ≡ true
     passes = accepts Ipmb given.code wanted_bytes (reply_to Ipmb wanted_bytes given) (not_busy b wanted) ((are_spelled (addresses names)).replies m.counts.ipmb wanted given made)
 
-    taken_is : (code : ℕ) (data_of : List ℕ) → is_busy code ≡ false → reply_of (F setup names).words (record { code = code; body = data_of }) open_machine ≡ Some (takes (F setup names).words (record { code = code; body = data_of }) task (part_of wanted before) open_machine)
-    taken_is code data_of free = ap (λ (t : Bool). cond t None (Some (takes (F setup names).words (record { code = code; body = data_of }) task (part_of wanted before) open_machine))) free
+    taken_is : (code : ℕ) (data_of : List ℕ) → is_busy code ≡ false → reply_of (own_family setup names).words (record { code = code; body = data_of }) open_machine ≡ Some (takes (own_family setup names).words (record { code = code; body = data_of }) task (part_of wanted before) open_machine)
+    taken_is code data_of free = ap (λ (t : Bool). cond t None (Some (takes (own_family setup names).words (record { code = code; body = data_of }) task (part_of wanted before) open_machine))) free
 
-    replied : hears_reply (P setup names) Ipmb (reply_to Ipmb wanted_bytes given) manager ≡ goes_on (P setup names) manager (takes (F setup names).words given task (part_of wanted before) open_machine)
+    replied : hears_reply (own_plans setup names) Ipmb (reply_to Ipmb wanted_bytes given) manager ≡ goes_on (own_plans setup names) manager (takes (own_family setup names).words given task (part_of wanted before) open_machine)
     replied =
-        ap (λ (t : Bool). cond t (taken_or (P setup names) manager (reply_of (F setup names).words given open_machine)) (rests (P setup names) manager)) passes
-        ∙ ap (taken_or (P setup names) manager) (taken_is given.code given.body (not_busy b wanted))
+        ap (λ (t : Bool). cond t (taken_or (own_plans setup names) manager (reply_of (own_family setup names).words given open_machine)) (rests (own_plans setup names) manager)) passes
+        ∙ ap (taken_or (own_plans setup names) manager) (taken_is given.code given.body (not_busy b wanted))
 
-    pub manager_takes : hears_response (P setup names) (response_to (ipmb_request m.counts.ipmb net_fn lun command body) given) manager ≡ goes_on (P setup names) manager (takes (F setup names).words given task (part_of wanted before) open_machine)
+    pub manager_takes : hears_response (own_plans setup names) (response_to (ipmb_request m.counts.ipmb net_fn lun command body) given) manager ≡ goes_on (own_plans setup names) manager (takes (own_family setup names).words given task (part_of wanted before) open_machine)
     unfolding hears_response
     manager_takes =
         let response = response_to (ipmb_request m.counts.ipmb net_fn lun command body) given in
-        ap (λ (t : Bool). cond t (hears_reply (P setup names) Ipmb (response_bytes response) manager) (rests (P setup names) manager))
+        ap (λ (t : Bool). cond t (hears_reply (own_plans setup names) Ipmb (response_bytes response) manager) (rests (own_plans setup names) manager))
         (and_from (names.own_address == names.own_address) (names.peer_address == names.peer_address) (eq-eqb _ _ refl) (eq-eqb _ _ refl))
-        ∙ ap (λ (bytes : List ℕ). hears_reply (P setup names) Ipmb bytes manager) (responded net_fn lun (number_of Ipmb m.counts.ipmb) command body (managers (addresses names) wanted made).1 given)
+        ∙ ap (λ (bytes : List ℕ). hears_reply (own_plans setup names) Ipmb bytes manager) (responded net_fn lun (number_of Ipmb m.counts.ipmb) command body (managers (addresses names) wanted made).1 given)
         ∙ replied
 
   -- ---- any request
 
-  abbrev moment : Stage (F setup names).words → Machine (F setup names).words → State → Moment (F setup names)
-  moment stage m b = record { turn = enters (F setup names).words stage m; board = b }
+  abbrev moment : Stage (own_family setup names).words → Machine (own_family setup names).words → State → Moment (own_family setup names)
+  moment stage m b = record { turn = enters (own_family setup names).words stage m; board = b }
 
   -- the machine after the reply
-  abbrev pub after_reply : Task (F setup names).words → TaskPart (F setup names).words → Machine (F setup names).words → State → Turn (F setup names).words
-  after_reply task part m b = takes (F setup names).words (answer setup b part.asked).0 task part (record m { stage = Opened true task part; resent = 0 })
+  abbrev pub after_reply : Task (own_family setup names).words → TaskPart (own_family setup names).words → Machine (own_family setup names).words → State → Turn (own_family setup names).words
+  after_reply task part m b = takes (own_family setup names).words (answer setup b part.asked).0 task part (record m { stage = Opened true task part; resent = 0 })
 
-  pub record Exchanged (task : Task (F setup names).words) (part : TaskPart (F setup names).words) (m : Machine (F setup names).words) (b : State) (r : Rest) : Type 0 where
+  pub record Exchanged (task : Task (own_family setup names).words) (part : TaskPart (own_family setup names).words) (m : Machine (own_family setup names).words) (b : State) (r : Rest) : Type 0 where
     pub count : ℕ
     pub rest : Rest
     pub clear : IsClear (after_reply task part m b).machine.counts rest
-    pub calm : Calm (P setup names) setup count (link_at (enters (F setup names).words (Opened true task part) m) b r)
+    pub calm : Calm (own_plans setup names) setup count (link_at (enters (own_family setup names).words (Opened true task part) m) b r)
     pub few : count ≤ 8
-    pub is : settles (P setup names) setup count (link_at (enters (F setup names).words (Opened true task part) m) b r) ≡ link_at (after_reply task part m b) (answer setup b part.asked).1 rest
+    pub is : settles (own_plans setup names) setup count (link_at (enters (own_family setup names).words (Opened true task part) m) b r) ≡ link_at (after_reply task part m b) (answer setup b part.asked).1 rest
 
-  pub ipmb_exchange : (task : Task (F setup names).words) (from net_fn lun command : ℕ) (body : List ℕ) (before : List (List ℕ)) (m : Machine (F setup names).words) (b : State) (r : Rest)
-      → IsMade (F setup names).words (Ipmi from net_fn lun command body) → IsClear m.counts r → Exchanged task (part_of (Ipmi from net_fn lun command body) before) m b r
+  pub ipmb_exchange : (task : Task (own_family setup names).words) (from net_fn lun command : ℕ) (body : List ℕ) (before : List (List ℕ)) (m : Machine (own_family setup names).words) (b : State) (r : Rest)
+      → IsMade (own_family setup names).words (Ipmi from net_fn lun command body) → IsClear m.counts r → Exchanged task (part_of (Ipmi from net_fn lun command body) before) m b r
   ipmb_exchange task from net_fn lun command body before m b r made clear =
       let asked : Asked = Ipmi from net_fn lun command body in
       let part = part_of asked before in
       let request = ipmb_request m.counts.ipmb net_fn lun command body in
-      let l = link_at (enters (F setup names).words (Opened true task part) m) b r in
+      let l = link_at (enters (own_family setup names).words (Opened true task part) m) b r in
       let e = Carried (record { request = heard_in request; reply = reply_to Ipmb (bytes_of (number_of Ipmb m.counts.ipmb) asked) (answer setup b asked).0 }) in
       let told = Tells (response_to request (answer setup b asked).0) in
-      let mid : Link (P setup names) = record l { board = (answer setup b asked).1; ipmb = ipmb_port (e ∷ r.ipmb_log); queue = due Ipmb ToManager told ∷ [] } in
+      let mid : Link (own_plans setup names) = record l { board = (answer setup b asked).1; ipmb = ipmb_port (e ∷ r.ipmb_log); queue = due Ipmb ToManager told ∷ [] } in
       let heard = port_answers m.counts.ipmb from net_fn lun command body made b r.ipmb_log clear.ipmb in
       let taken = manager_takes r.joined task before m from net_fn lun command body made b in
       let turn = after_reply task part m b in
-      let quiet : NoIdles (P setup names) mid = (λ q. (none_idle (rules_on setup names Ipmb) (suc m.counts.ipmb) (e ∷ r.ipmb_log) q (log_grows m.counts.ipmb from net_fn lun command body made b r.ipmb_log clear.ipmb), none_idle (rules_on setup names Smbus) m.counts.smbus r.smbus_log q clear.smbus)) in
-      let newest : SendsNewest (P setup names) (goes_on (P setup names) mid.manager turn) =
-      sends_newest (P setup names) mid.manager (stage_after (F setup names).words m.stopped m.plan (answer setup b asked).0 task part) (record m { stage = Opened true task part; resent = 0; undo = undo_after (F setup names).words (answer setup b asked).0 task part m.undo; counts = one_answered Ipmb m.counts }) in
-      let last : SendsNewest (P setup names) (hears_response (P setup names) (response_to request (answer setup b asked).0) mid.manager) = subst (SendsNewest (P setup names)) (sym taken) newest in
+      let quiet : NoIdles (own_plans setup names) mid = (λ q. (none_idle (rules_on setup names Ipmb) (suc m.counts.ipmb) (e ∷ r.ipmb_log) q (log_grows m.counts.ipmb from net_fn lun command body made b r.ipmb_log clear.ipmb), none_idle (rules_on setup names Smbus) m.counts.smbus r.smbus_log q clear.smbus)) in
+      let newest : SendsNewest (own_plans setup names) (goes_on (own_plans setup names) mid.manager turn) =
+      sends_newest (own_plans setup names) mid.manager (stage_after (own_family setup names).words m.stopped m.plan (answer setup b asked).0 task part) (record m { stage = Opened true task part; resent = 0; undo = undo_after (own_family setup names).words (answer setup b asked).0 task part m.undo; counts = one_answered Ipmb m.counts }) in
+      let last : SendsNewest (own_plans setup names) (hears_response (own_plans setup names) (response_to request (answer setup b asked).0) mid.manager) = subst (SendsNewest (own_plans setup names)) (sym taken) newest in
       record {
         count = 2;
-        calm = (clear_idles m.counts (enters (F setup names).words (Opened true task part) m) b r clear, (omega arith, tt), subst (λ (d : Deed). Calm (P setup names) setup 1 (port_goes (P setup names) Ipmb d [] l)) (sym heard) (quiet, (omega arith, inr (refl, last)), quiet));
+        calm = (clear_idles m.counts (enters (own_family setup names).words (Opened true task part) m) b r clear, (omega arith, tt), subst (λ (d : Deed). Calm (own_plans setup names) setup 1 (port_goes (own_plans setup names) Ipmb d [] l)) (sym heard) (quiet, (omega arith, inr (refl, last)), quiet));
         few = omega arith;
         rest = record r { ipmb_log = e ∷ r.ipmb_log };
         clear = record {
@@ -221,6 +221,6 @@ module _ (setup : BoardFile) (names : Names) where
           kept = clear.kept;
           joined = clear.joined;
         };
-        is = ap (λ (d : Deed). settles (P setup names) setup 1 (port_goes (P setup names) Ipmb d [] l)) heard
-            ∙ ap (λ (d : ManagerDeed (P setup names)). manager_goes (P setup names) d [] mid) taken;
+        is = ap (λ (d : Deed). settles (own_plans setup names) setup 1 (port_goes (own_plans setup names) Ipmb d [] l)) heard
+            ∙ ap (λ (d : ManagerDeed (own_plans setup names)). manager_goes (own_plans setup names) d [] mid) taken;
       }

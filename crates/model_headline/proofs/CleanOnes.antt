@@ -19,7 +19,7 @@ use Rattle.model_undo.specs.CleanSeries.{AnswersAll, GoAll, Sticks, EndsIn}
 use Rattle.model_family.specs.Family.{answer}
 use Rattle.model_lab.specs.ManagerSteps.{addresses}
 use Rattle.undo_plans.specs.declared.names.Names.{Names}
-use Rattle.model_headline.specs.Tied.{F}
+use Rattle.model_headline.specs.Tied.{own_family}
 use Rattle.model_headline.specs.CleanLink.{IsOfOne, AreOfOne, count_at}
 use Rattle.model_headline.specs.CleanParts.{set_count, parts_at, step_parts, back_parts}
 use Rattle.model_headline.proofs.CleanParts.{was_next, alone_none, alone_count, refused_alone}
@@ -52,7 +52,7 @@ one_more p r n e f = omega (arith, e, f)
 
 module _ (setup : BoardFile) (names : Names) where
   abbrev B : Family
-  B = F setup names
+  B = own_family setup names
 
   pub steps_two : (steps : List Op) (n : ℕ) (b c : State) (go : GoAll B (answer setup) steps n b c) → AreOfOne steps → step_parts setup names steps n b c go ≡ length steps + length steps
   steps_two [] n b c go all = refl

@@ -20,7 +20,7 @@ use Rattle.text_schedule.specs.declared.event.Event.{Event}
 use Rattle.text_schedule.specs.declared.event.Event.TheVariants as event
 use Rattle.model_lab.specs.Meaning.{lab_names, event_of}
 use Rattle.model_lab.specs.Played.{plans, Ending, Whole, happens, after, AreTaken, told_of, IsPlayed}
-use Rattle.model_headline.specs.Tied.{F}
+use Rattle.model_headline.specs.Tied.{own_family}
 use Rattle.model_headline.specs.CleanLink.{RunsOnCleanLink}
 use Rattle.model_headline.specs.CleanPlays.{events_from, first, EndsClean, PlaysRunClean}
 use Rattle.model_headline.proofs.CleanLink.{runs_on_clean_link}
@@ -97,7 +97,7 @@ module _ (file : BoardFile) (plan : List Op) (retries : ℕ) where
   abbrev HasRun : Lab plans → Type 0
   HasRun y =
       (phase_of plans.words y.manager.machine ≡ law.phase) × (begun_on plans.words Ipmb y.manager.machine + begun_on plans.words Smbus y.manager.machine ≡ law.requests + law.more)
-      × IsAfter (F file lab_names) plan x0.board.records (length law.steps) y.board.records
+      × IsAfter (own_family file lab_names) plan x0.board.records (length law.steps) y.board.records
 
   abbrev HasUndone : Lab plans → Type 0
   HasUndone y =

@@ -58,7 +58,7 @@ use Rattle.model_ports.specs.PortSteps.{Deed, Turn as PortTurn, hears_message, h
 use Rattle.model_lab.specs.ManagerSteps.{addresses, ManagerState, ManagerDeed, goes_on, rests, taken_or, hears_reply, is_part}
 use Rattle.model_ports.proofs.Turning.{turns_by}
 use Rattle.model_ports.proofs.Parts.{parts_are_cuts}
-use Rattle.model_headline.specs.Tied.{P, F, rules_on, smbus_bus}
+use Rattle.model_headline.specs.Tied.{own_plans, own_family, rules_on, smbus_bus}
 use Rattle.model_headline.proofs.Series.{mapped, part_is, alone_is, IsOfAll, made_so}
 use Rattle.model_headline.proofs.Sending.{made_type, from_zero}
 use Rattle.model_headline.proofs.CleanQueue.{Link, port_goes, manager_goes, settles, settles_more}
@@ -148,7 +148,7 @@ module _ (setup : BoardFile) (names : Names) where
   below_32 : (n : ℕ) → n % 32 < 32
   below_32 n = omega arith
 
-  module _ (count from kind command : ℕ) (body : List ℕ) (made : IsMade (F setup names).words (Pldm from kind command body)) (b : State) where
+  module _ (count from kind command : ℕ) (body : List ℕ) (made : IsMade (own_family setup names).words (Pldm from kind command body)) (b : State) where
     abbrev asked : Asked
     asked = Pldm from kind command body
 
@@ -203,11 +203,11 @@ module _ (setup : BoardFile) (names : Names) where
       port_answers = ap (hears_pldm setup (smbus_port setup names kept log) b message) (request-in_back q ((128 + count % 32) ∷ kind ∷ command ∷ body) spells) ∙ ap deed_of turn_is
 
   -- the manager takes the reply
-  module _ (joined : Assemblies) (task : Task (F setup names).words) (before : List (List ℕ)) (m : Machine (F setup names).words) (from kind command : ℕ) (body : List ℕ) (made : IsMade (F setup names).words (Pldm from kind command body)) (b : State) where
+  module _ (joined : Assemblies) (task : Task (own_family setup names).words) (before : List (List ℕ)) (m : Machine (own_family setup names).words) (from kind command : ℕ) (body : List ℕ) (made : IsMade (own_family setup names).words (Pldm from kind command body)) (b : State) where
     abbrev wanted : Asked
     wanted = Pldm from kind command body
 
-    abbrev open_machine : Machine (F setup names).words
+    abbrev open_machine : Machine (own_family setup names).words
     open_machine = record m { stage = Opened true task (part_of setup names wanted before); resent = 0 }
 
     abbrev given : Answered
@@ -216,20 +216,20 @@ module _ (setup : BoardFile) (names : Names) where
     abbrev wanted_bytes : List ℕ
     wanted_bytes = bytes_of (number_of Smbus m.counts.smbus) wanted
 
-    abbrev manager : ManagerState (P setup names)
+    abbrev manager : ManagerState (own_plans setup names)
     manager = manager_with setup names joined open_machine
 
     passes : answers Smbus wanted_bytes (reply_to Smbus wanted_bytes given) ≡ true
     passes = accepts Smbus given.code wanted_bytes (reply_to Smbus wanted_bytes given) (not_busy setup names b wanted) ((are_spelled (addresses names)).replies m.counts.smbus wanted given made)
 
     taken_is : (code : ℕ) (data_of : List ℕ) → is_busy code ≡ false
-        → reply_of (F setup names).words (record { code = code; body = data_of }) open_machine ≡ Some (takes (F setup names).words (record { code = code; body = data_of }) task (part_of setup names wanted before) open_machine)
-    taken_is code data_of free = ap (λ (t : Bool). cond t None (Some (takes (F setup names).words (record { code = code; body = data_of }) task (part_of setup names wanted before) open_machine))) free
+        → reply_of (own_family setup names).words (record { code = code; body = data_of }) open_machine ≡ Some (takes (own_family setup names).words (record { code = code; body = data_of }) task (part_of setup names wanted before) open_machine)
+    taken_is code data_of free = ap (λ (t : Bool). cond t None (Some (takes (own_family setup names).words (record { code = code; body = data_of }) task (part_of setup names wanted before) open_machine))) free
 
-    manager_takes : hears_reply (P setup names) Smbus (reply_to Smbus wanted_bytes given) manager ≡ goes_on (P setup names) manager (takes (F setup names).words given task (part_of setup names wanted before) open_machine)
+    manager_takes : hears_reply (own_plans setup names) Smbus (reply_to Smbus wanted_bytes given) manager ≡ goes_on (own_plans setup names) manager (takes (own_family setup names).words given task (part_of setup names wanted before) open_machine)
     manager_takes =
-        ap (λ (t : Bool). cond t (taken_or (P setup names) manager (reply_of (F setup names).words given open_machine)) (rests (P setup names) manager)) passes
-        ∙ ap (taken_or (P setup names) manager) (taken_is given.code given.body (not_busy setup names b wanted))
+        ap (λ (t : Bool). cond t (taken_or (own_plans setup names) manager (reply_of (own_family setup names).words given open_machine)) (rests (own_plans setup names) manager)) passes
+        ∙ ap (taken_or (own_plans setup names) manager) (taken_is given.code given.body (not_busy setup names b wanted))
 
   at_most : (ps : List Packet) → length (map piece ps) ≤ 4 → length ps ≤ 4
   at_most ps few = let same = length-map ps piece in omega arith
@@ -240,13 +240,13 @@ module _ (setup : BoardFile) (names : Names) where
       ap (λ (e : Envelope). (e.destination == names.own_wire && e.source == names.peer_wire) && (e.source_eid == names.peer_eid && (not e.tag_owner && e.tag == count % 8))) is
       ∙ and_from _ _ (and_from _ _ (eq-eqb names.own_wire names.own_wire refl) (eq-eqb names.peer_wire names.peer_wire refl)) (and_from _ _ (eq-eqb names.peer_eid names.peer_eid refl) (and_from _ _ refl (eq-eqb (count % 8) (count % 8) refl)))
 
-  pub smbus_exchange : (task : Task (F setup names).words) (from kind command : ℕ) (body : List ℕ) (before : List (List ℕ)) (m : Machine (F setup names).words) (b : State) (r : Rest setup names)
-      → IsMade (F setup names).words (Pldm from kind command body) → IsClear setup names m.counts r → IsSound setup b.records → Exchanged setup names task (part_of setup names (Pldm from kind command body) before) m b r
+  pub smbus_exchange : (task : Task (own_family setup names).words) (from kind command : ℕ) (body : List ℕ) (before : List (List ℕ)) (m : Machine (own_family setup names).words) (b : State) (r : Rest setup names)
+      → IsMade (own_family setup names).words (Pldm from kind command body) → IsClear setup names m.counts r → IsSound setup b.records → Exchanged setup names task (part_of setup names (Pldm from kind command body) before) m b r
   smbus_exchange task from kind command body before m b r made clear sound =
       let n = m.counts.smbus in
       let wanted : Asked = Pldm from kind command body in
       let part = part_of setup names wanted before in
-      let l = link_at setup names (enters (F setup names).words (Opened true task part) m) b r in
+      let l = link_at setup names (enters (own_family setup names).words (Opened true task part) m) b r in
       let ask = message n from kind command body made b in
       let tell = answering n from kind command body made b in
       let ps = parts_of ask in
@@ -262,22 +262,22 @@ module _ (setup : BoardFile) (names : Names) where
       let goes : ComesBack names.own_eid r.joined qs tell = come_back names.own_eid r.joined tell some_told fits_told refl clear.joined in
       let kept = kept_after_parts names.peer_eid r.kept ps in
       let joined = kept_after_parts names.own_eid r.joined qs in
-      let mid : Link (P setup names) = record l { board = (answer setup b wanted).1; smbus = smbus_port setup names kept (e ∷ r.smbus_log); queue = dues_back qs } in
-      let port : settles (P setup names) setup (length ps) l ≡ mid =
-      port_hears (P setup names) setup ps l ask comes asked_in refl
-      ∙ ap (λ (d : Deed). port_goes (P setup names) Smbus d [] l) (port_answers n from kind command body made b kept r.smbus_log clear.smbus) in
+      let mid : Link (own_plans setup names) = record l { board = (answer setup b wanted).1; smbus = smbus_port setup names kept (e ∷ r.smbus_log); queue = dues_back qs } in
+      let port : settles (own_plans setup names) setup (length ps) l ≡ mid =
+      port_hears (own_plans setup names) setup ps l ask comes asked_in refl
+      ∙ ap (λ (d : Deed). port_goes (own_plans setup names) Smbus d [] l) (port_answers n from kind command body made b kept r.smbus_log clear.smbus) in
       let few_asked : length ps ≤ 4 = at_most ps (parts_are_cuts.cut ask some_asked fits_asked).cut.few in
       let few_told : length qs ≤ 4 = at_most qs (parts_are_cuts.cut tell some_told fits_told).cut.few in
-      let quiet : NoIdles (P setup names) mid = (λ i. (none_idle (rules_on setup names Ipmb) m.counts.ipmb r.ipmb_log i clear.ipmb, none_idle (rules_on setup names Smbus) n r.smbus_log i clear.smbus)) in
+      let quiet : NoIdles (own_plans setup names) mid = (λ i. (none_idle (rules_on setup names Ipmb) m.counts.ipmb r.ipmb_log i clear.ipmb, none_idle (rules_on setup names Smbus) n r.smbus_log i clear.smbus)) in
       let taken = manager_takes joined task before m from kind command body made b in
-      let newest = sends_newest (P setup names) (manager_with setup names joined (enters (F setup names).words (Opened true task part) m).machine) (stage_after (F setup names).words m.stopped m.plan (answer setup b wanted).0 task part)
-      (record m { stage = Opened true task part; resent = 0; undo = undo_after (F setup names).words (answer setup b wanted).0 task part m.undo; counts = one_answered Smbus m.counts }) in
+      let newest = sends_newest (own_plans setup names) (manager_with setup names joined (enters (own_family setup names).words (Opened true task part) m).machine) (stage_after (own_family setup names).words m.stopped m.plan (answer setup b wanted).0 task part)
+      (record m { stage = Opened true task part; resent = 0; undo = undo_after (own_family setup names).words (answer setup b wanted).0 task part m.undo; counts = one_answered Smbus m.counts }) in
       record {
         count = length ps + length qs;
-        calm = calm_more (P setup names) setup (length ps) (length qs) l
-            (port_calm (P setup names) setup ps l ask comes asked_in refl few_asked (clear_idles setup names m.counts (enters (F setup names).words (Opened true task part) m) b r clear)
-            (subst (λ (d : Deed). NoIdles (P setup names) (port_goes (P setup names) Smbus d [] l)) (sym (port_answers n from kind command body made b kept r.smbus_log clear.smbus)) quiet))
-            (subst (Calm (P setup names) setup (length qs)) (sym port) (manager_calm (P setup names) setup qs mid tell part refl goes told_in (is_mine n) few_told quiet (subst (SendsNewest (P setup names)) (sym taken) newest)));
+        calm = calm_more (own_plans setup names) setup (length ps) (length qs) l
+            (port_calm (own_plans setup names) setup ps l ask comes asked_in refl few_asked (clear_idles setup names m.counts (enters (own_family setup names).words (Opened true task part) m) b r clear)
+            (subst (λ (d : Deed). NoIdles (own_plans setup names) (port_goes (own_plans setup names) Smbus d [] l)) (sym (port_answers n from kind command body made b kept r.smbus_log clear.smbus)) quiet))
+            (subst (Calm (own_plans setup names) setup (length qs)) (sym port) (manager_calm (own_plans setup names) setup qs mid tell part refl goes told_in (is_mine n) few_told quiet (subst (SendsNewest (own_plans setup names)) (sym taken) newest)));
         few = omega (arith, few_asked, few_told);
         rest = record r { smbus_log = e ∷ r.smbus_log; kept = kept; joined = joined };
         clear = record {
@@ -286,8 +286,8 @@ module _ (setup : BoardFile) (names : Names) where
           kept = closes names.peer_eid ps r.kept ask comes asked_in (none_beside r.kept (name_of (asking n)) clear.kept);
           joined = closes names.own_eid qs r.joined tell goes told_in (none_beside r.joined (name_of (telling n)) clear.joined);
         };
-        is = settles_more (P setup names) setup (length ps) (length qs) l
-            ∙ ap (settles (P setup names) setup (length qs)) port
-            ∙ manager_joins (P setup names) setup qs mid tell part refl goes told_in (is_mine n)
-            ∙ ap (λ (d : ManagerDeed (P setup names)). manager_goes (P setup names) d [] mid) taken;
+        is = settles_more (own_plans setup names) setup (length ps) (length qs) l
+            ∙ ap (settles (own_plans setup names) setup (length qs)) port
+            ∙ manager_joins (own_plans setup names) setup qs mid tell part refl goes told_in (is_mine n)
+            ∙ ap (λ (d : ManagerDeed (own_plans setup names)). manager_goes (own_plans setup names) d [] mid) taken;
       }

@@ -12,19 +12,19 @@ use Rattle.model_lab.specs.declared.way.Way.TheVariants.{ToPort, ToManager, ToOt
 use Rattle.model_lab.specs.Lab.{LabFrame}
 use Rattle.model_headline.specs.Each.{Each}
 use Rattle.model_headline.proofs.Each.{each_imply}
-use Rattle.model_headline.specs.Tied.{L, IsHeldBy, IsHeld, IsOf, requests}
+use Rattle.model_headline.specs.Tied.{own_lines, IsHeldBy, IsHeld, IsOf, requests}
 
 -- ---- what holds a frame holds it on
 
 module _ (setup : BoardFile) (names : Names) where
   -- what was sent stays there
-  abbrev pub Sends : States (L setup names) → States (L setup names) → Type 0
+  abbrev pub Sends : States (own_lines setup names) → States (own_lines setup names) → Type 0
   Sends on now = (bus : Bus) → Grows (requests setup names on bus).frames (requests setup names now bus).frames
 
   of_grows : (old new : List Frame) (f : LabFrame) (which : ℕ) (g : Frame) → Grows old new → IsOf setup names old f which g → IsOf setup names new f which g
   of_grows old new f which g more is = record { sent = more which g is.sent; request = is.request; idles = is.idles }
 
-  held_by : (way : Way) (bus : Bus) (on now : States (L setup names)) (f : LabFrame) → Sends on now → IsHeldBy setup names way bus on f → IsHeldBy setup names way bus now f
+  held_by : (way : Way) (bus : Bus) (on now : States (own_lines setup names)) (f : LabFrame) → Sends on now → IsHeldBy setup names way bus on f → IsHeldBy setup names way bus now f
   held_by ToPort Ipmb on now f more h = record {
     which = h.which;
     frame = h.frame;
@@ -86,5 +86,5 @@ module _ (setup : BoardFile) (names : Names) where
   held_by ToManager Smbus on now f more (inr another) = inr another
   held_by ToOthers bus on now f more h = tt
 
-  pub all_held : (on now : States (L setup names)) (fs : List LabFrame) → Sends on now → Each (IsHeld setup names on) fs → Each (IsHeld setup names now) fs
+  pub all_held : (on now : States (own_lines setup names)) (fs : List LabFrame) → Sends on now → Each (IsHeld setup names on) fs → Each (IsHeld setup names now) fs
   all_held on now fs more all = each_imply (IsHeld setup names on) (IsHeld setup names now) fs (λ f h. held_by f.way f.on on now f more h) all

@@ -31,14 +31,14 @@ use Rattle.model_lab.specs.Own.{JoinsOwn, IsOwn}
 use Rattle.model_lab.specs.Joins.{JoinsLive, IsJoinLive}
 use Rattle.model_lab.specs.declared.way.Way.TheVariants.{ToPort}
 use Rattle.model_lab.specs.Lab.{ToBmc, LabFrame, Lab}
-use Rattle.model_headline.specs.Tied.{P, L, smbus_bus, rules_on, HoldsAskedPart, IsHeld, IsHeldBy, IsTied, world_of}
+use Rattle.model_headline.specs.Tied.{own_plans, own_lines, smbus_bus, rules_on, HoldsAskedPart, IsHeld, IsHeldBy, IsTied, world_of}
 use Rattle.model_headline.specs.Follows.{Holds}
 use Rattle.model_headline.proofs.Each.{each_at}
 use Rattle.model_headline.proofs.Sending.{from_zero}
 use Rattle.model_headline.proofs.Live.{smbus_holds, live_there, most_begun}
 
 module _ (setup : BoardFile) (names : Names) (plan : List Op) (start : Records) where
-  module _ (x : Lab (P setup names)) (on : States (L setup names)) (tied : IsTied setup names x on) (h : Holds setup names plan start (world_of setup names x on)) where
+  module _ (x : Lab (own_plans setup names)) (on : States (own_lines setup names)) (tied : IsTied setup names x on) (h : Holds setup names plan start (world_of setup names x on)) where
     module _ (f : LabFrame) (hold : HoldsAskedPart setup names (on Smbus) f) where
       abbrev p : Packet
       p = hold.packet
@@ -72,7 +72,7 @@ module _ (setup : BoardFile) (names : Names) (plan : List Op) (start : Records) 
           slice_get_within (on Smbus).bus.begun hold.part.frame.request hold.part.bytes fits
 
       -- so what it joins is of its own request
-      own_by : IsLiveThere (rules_on setup names Smbus) (on Smbus).bus hold.part.frame → begun_on (P setup names).words Smbus x.manager.machine ≤ x.opened p.envelope.tag + 8
+      own_by : IsLiveThere (rules_on setup names Smbus) (on Smbus).bus hold.part.frame → begun_on (own_plans setup names).words Smbus x.manager.machine ≤ x.opened p.envelope.tag + 8
           → (ts : List Sent) → waits ≡ ts → (length waits == 0) ≡ false → x.opened p.envelope.tag ≡ f.request
       own_by live recent [] none some = absurd (false≢true (sym some ∙ ap (λ (l : List Sent). length l == 0) none))
       own_by live recent (t ∷ ts) there some =
@@ -90,36 +90,36 @@ module _ (setup : BoardFile) (names : Names) (plan : List Op) (start : Records) 
           let waited : length (on Smbus).bus.begun ≤ t.request + 8 = omega (arith, recent, opened, most) in
           sym opened ∙ one_tag 0 t.request m (length (on Smbus).bus.begun) below was_begun waited live.0 tags ∙ hold.request
 
-      pub joins_own : IsLiveThere (rules_on setup names Smbus) (on Smbus).bus hold.part.frame → JoinsLive (P setup names) x (Part p) → JoinsOwn (P setup names) x f.request (Part p)
+      pub joins_own : IsLiveThere (rules_on setup names Smbus) (on Smbus).bus hold.part.frame → JoinsLive (own_plans setup names) x (Part p) → JoinsOwn (own_plans setup names) x f.request (Part p)
       joins_own live recent more none =
           let there : p.envelope.destination ≡ x.smbus.wire = hold.to_port ∙ sym tied.smbus_wire in
           own_by live (recent more there none) waits refl (some_waits more none)
 
     module _ (f : LabFrame) where
       abbrev Own : Value → Type 0
-      Own v = JoinsOwn (P setup names) x f.request v
+      Own v = JoinsOwn (own_plans setup names) x f.request v
 
       abbrev Live : Value → Type 0
-      Live v = JoinsLive (P setup names) x v
+      Live v = JoinsLive (own_plans setup names) x v
 
-      own_on : (bus : Bus) → f.on ≡ bus → IsLive (P setup names) x f → IsHeldBy setup names ToPort bus on f → Live f.value → Own f.value
+      own_on : (bus : Bus) → f.on ≡ bus → IsLive (own_plans setup names) x f → IsHeldBy setup names ToPort bus on f → Live f.value → Own f.value
       own_on Ipmb at live hold joins = subst Own (sym hold.value) tt
       own_on Smbus at live hold joins =
           let there = live_there setup names plan start x on tied h f hold.part.frame Smbus at live hold.request hold.idles in
           subst Own (sym hold.value) (joins_own f hold there (subst Live hold.value joins))
 
       -- a packet that joins one of its own request, and is live, joins a recent one
-      recent_too : begun_on (P setup names).words Smbus x.manager.machine ≤ f.request + 8 → (v : Value) → Own v → Live v
+      recent_too : begun_on (own_plans setup names).words Smbus x.manager.machine ≤ f.request + 8 → (v : Value) → Own v → Live v
       recent_too recent (Asks r) own = tt
       recent_too recent (Tells r) own = tt
       recent_too recent (Part p) own = λ more there none. let same : x.opened p.envelope.tag ≡ f.request = own more none in omega (arith, recent, same)
 
-      live_on : (bus : Bus) → f.on ≡ bus → IsLive (P setup names) x f → IsHeldBy setup names ToPort bus on f → Own f.value → Live f.value
+      live_on : (bus : Bus) → f.on ≡ bus → IsLive (own_plans setup names) x f → IsHeldBy setup names ToPort bus on f → Own f.value → Live f.value
       live_on Ipmb at live hold joins = subst Live (sym hold.value) tt
       live_on Smbus at live hold joins =
-          recent_too (subst (λ (b : Bus). begun_on (P setup names).words b x.manager.machine ≤ f.request + span_of b) at live.recent) f.value joins
+          recent_too (subst (λ (b : Bus). begun_on (own_plans setup names).words b x.manager.machine ≤ f.request + span_of b) at live.recent) f.value joins
 
-    module _ (number : ℕ) (d : IsDelivered (P setup names) ToPort x number) where
+    module _ (number : ℕ) (d : IsDelivered (own_plans setup names) ToPort x number) where
       held : IsHeldBy setup names ToPort d.frame.on on d.frame
       held = subst (λ way. IsHeldBy setup names way d.frame.on on d.frame) d.meant (each_at (IsHeld setup names on) x.frames number d.frame tied.frames d.sent)
 
@@ -132,8 +132,8 @@ module _ (setup : BoardFile) (names : Names) (plan : List Op) (start : Records) 
       from_frame : (Q : LabFrame → Type 0) → Q d.frame → At Q
       from_frame Q here = subst (λ (o : Option LabFrame). IfSome o Q) (sym d.sent) here
 
-      pub is_own : IsJoinLive (P setup names) x (ToBmc number) → IsOwn (P setup names) x (ToBmc number)
-      is_own joins = from_frame (λ f. JoinsOwn (P setup names) x f.request f.value) (own_on d.frame d.frame.on refl d.live held (at_frame (λ f. JoinsLive (P setup names) x f.value) joins))
+      pub is_own : IsJoinLive (own_plans setup names) x (ToBmc number) → IsOwn (own_plans setup names) x (ToBmc number)
+      is_own joins = from_frame (λ f. JoinsOwn (own_plans setup names) x f.request f.value) (own_on d.frame d.frame.on refl d.live held (at_frame (λ f. JoinsLive (own_plans setup names) x f.value) joins))
 
-      pub is_live : IsOwn (P setup names) x (ToBmc number) → IsJoinLive (P setup names) x (ToBmc number)
-      is_live joins = from_frame (λ f. JoinsLive (P setup names) x f.value) (live_on d.frame d.frame.on refl d.live held (at_frame (λ f. JoinsOwn (P setup names) x f.request f.value) joins))
+      pub is_live : IsOwn (own_plans setup names) x (ToBmc number) → IsJoinLive (own_plans setup names) x (ToBmc number)
+      is_live joins = from_frame (λ f. JoinsLive (own_plans setup names) x f.value) (live_on d.frame d.frame.on refl d.live held (at_frame (λ f. JoinsOwn (own_plans setup names) x f.request f.value) joins))

@@ -23,7 +23,7 @@ use Rattle.undo_plans.specs.declared.names.Names.{Names}
 use Rattle.model_lab.specs.Lab.{LabFrame, Lab, idles_on}
 use Rattle.model_lab.specs.Faults.{is_open_bus, begun_on}
 use Rattle.model_lab.specs.Honest.{IsLive}
-use Rattle.model_headline.specs.Tied.{P, F, L, W, ipmb_bus, smbus_bus, rules_on, requests, IsTied, world_of}
+use Rattle.model_headline.specs.Tied.{own_plans, own_family, own_lines, own_wires, ipmb_bus, smbus_bus, rules_on, requests, IsTied, world_of}
 use Rattle.model_headline.proofs.Begun.{words}
 use Rattle.model_headline.proofs.Sent.{idles_alike}
 use Rattle.model_headline.specs.Follows.{Holds}
@@ -35,15 +35,15 @@ module _ (setup : BoardFile) (names : Names) (plan : List Op) (start : Records) 
 
   -- ---- the invariants of the buses
 
-  pub ipmb_holds : (x : Lab (P setup names)) (on : States (L setup names)) → Holds setup names plan start (world_of setup names x on) → BusHolds (ipmb_bus setup names) (on Ipmb)
+  pub ipmb_holds : (x : Lab (own_plans setup names)) (on : States (own_lines setup names)) → Holds setup names plan start (world_of setup names x on) → BusHolds (ipmb_bus setup names) (on Ipmb)
   unfolding packet_lines whole_is_line
   ipmb_holds x on h = h.holds Ipmb
 
-  pub smbus_holds : (x : Lab (P setup names)) (on : States (L setup names)) → Holds setup names plan start (world_of setup names x on) → AllHold (smbus_bus setup names) packets_cut (on Smbus)
+  pub smbus_holds : (x : Lab (own_plans setup names)) (on : States (own_lines setup names)) → Holds setup names plan start (world_of setup names x on) → AllHold (smbus_bus setup names) packets_cut (on Smbus)
   unfolding packet_lines packets_are_line
   smbus_holds x on h = h.holds Smbus
 
-  module _ (x : Lab (P setup names)) (on : States (L setup names)) (tied : IsTied setup names x on) (h : Holds setup names plan start (world_of setup names x on)) where
+  module _ (x : Lab (own_plans setup names)) (on : States (own_lines setup names)) (tied : IsTied setup names x on) (h : Holds setup names plan start (world_of setup names x on)) where
     pub ipmb_agrees : TestsAgree Ipmb (ipmb_bus setup names) (on Ipmb)
     ipmb_agrees = tests_agree Ipmb (ipmb_bus setup names) (numbering Ipmb) (on Ipmb) (ipmb_holds x on h) (tied.written Ipmb)
 
@@ -61,7 +61,7 @@ module _ (setup : BoardFile) (names : Names) (plan : List Op) (start : Records) 
         let below : length (requests setup names on bus).begun ≤ length (requests setup names on bus).taken = closed in
         let same = tied.counted bus in omega arith
 
-    begun_by : (stage : Stage (words setup names)) (bus : Bus) → AreOpen (F setup names) (W setup names) (λ b. 0) stage bus (requests setup names on bus)
+    begun_by : (stage : Stage (words setup names)) (bus : Bus) → AreOpen (own_family setup names) (own_wires setup names) (λ b. 0) stage bus (requests setup names on bus)
         → length (requests setup names on bus).begun ≤ count_of bus x.manager.machine.counts + (cond (is_open_bus bus (open_bus_at (words setup names) stage)) 1 0)
     begun_by (Opened heeded task part) bus opened = elim (cases_bus bus (bus_at (words setup names) part)) [
       | inl same ↦
@@ -87,10 +87,10 @@ module _ (setup : BoardFile) (names : Names) (plan : List Op) (start : Records) 
     spans_alike Smbus = refl
 
     -- a live frame of the lab is live in the model
-    pub live_there : (f : LabFrame) (g : Frame) (bus : Bus) → f.on ≡ bus → IsLive (P setup names) x f → g.request ≡ f.request → g.idles ≡ f.idles → IsLiveThere (rules_on setup names bus) (requests setup names on bus) g
+    pub live_there : (f : LabFrame) (g : Frame) (bus : Bus) → f.on ≡ bus → IsLive (own_plans setup names) x f → g.request ≡ f.request → g.idles ≡ f.idles → IsLiveThere (rules_on setup names bus) (requests setup names on bus) g
     live_there f g bus at live request idles =
         let most = begun_by x.manager.machine.stage bus (h.joined.are_open bus) in
         let recent : begun_on (words setup names) bus x.manager.machine ≤ f.request + span_of bus = subst (λ (b : Bus). begun_on (words setup names) b x.manager.machine ≤ f.request + span_of b) at live.recent in
         let span = spans_alike bus in
-        let remembered : f.idles ≡ idles_on (P setup names) bus x = subst (λ (b : Bus). f.idles ≡ idles_on (P setup names) b x) at live.remembered in
+        let remembered : f.idles ≡ idles_on (own_plans setup names) bus x = subst (λ (b : Bus). f.idles ≡ idles_on (own_plans setup names) b x) at live.remembered in
         (omega (arith, request), idles ∙ remembered ∙ sym (idles_alike setup names bus x on tied))

@@ -50,7 +50,7 @@ use Rattle.model_ports.specs.Cuts.{is_for, has_slot, kept_with_parts}
 use Rattle.model_ports.proofs.PortEvents.{parts_leave_log}
 use Rattle.model_ports.proofs.Parts.{parts_are_heard}
 use Rattle.model_headline.specs.Each.{Each}
-use Rattle.model_headline.specs.Tied.{P, L, smbus_bus, rules_on, requests, IsHeld, IsAnswer, EntryAnswers, IsTied, Goes}
+use Rattle.model_headline.specs.Tied.{own_plans, own_lines, smbus_bus, rules_on, requests, IsHeld, IsAnswer, EntryAnswers, IsTied, Goes}
 use Rattle.model_headline.proofs.Each.{each_append, each_map, each_by_place}
 use Rattle.model_headline.proofs.Frames.{all_held}
 use Rattle.model_headline.proofs.Sending.{part_envelope, small_part}
@@ -207,7 +207,7 @@ module _ (setup : BoardFile) (before : State) where
 -- ---- one packet of another
 
 module _ (setup : BoardFile) (names : Names) where
-  module _ (x : Lab (P setup names)) (on : States (L setup names)) (tied : IsTied setup names x on) (before : State) (p : Packet) (small : length p.payload ≤ unit_size) (another : p.envelope.source_eid ≢ names.own_eid) where
+  module _ (x : Lab (own_plans setup names)) (on : States (own_lines setup names)) (tied : IsTied setup names x on) (before : State) (p : Packet) (small : length p.payload ≤ unit_size) (another : p.envelope.source_eid ≢ names.own_eid) where
     abbrev b : PacketBus
     b = smbus_bus setup names
 
@@ -226,7 +226,7 @@ module _ (setup : BoardFile) (names : Names) where
     abbrev port : PortState
     port = (hears_part setup x.smbus before p).port
 
-    abbrev left_lab : Lab (P setup names)
+    abbrev left_lab : Lab (own_plans setup names)
     left_lab = record x { smbus = port }
 
     fits : Fits setup names before x.smbus (hears_part setup x.smbus before p)
@@ -248,7 +248,7 @@ module _ (setup : BoardFile) (names : Names) where
       more : Grows ends.bus.frames e.bus.frames
       mine : (n : ℕ) → e.port (request_name b n) ≡ ends.port (request_name b n)
 
-    tied_at : (e : Ends) → IsPortOf e port → Stays e → IsTied setup names left_lab (update (L setup names) Smbus e on)
+    tied_at : (e : Ends) → IsPortOf e port → Stays e → IsTied setup names left_lab (update (own_lines setup names) Smbus e on)
     tied_at e is s = record {
       named = tied.named;
       ipmb_wire = tied.ipmb_wire;
@@ -261,11 +261,11 @@ module _ (setup : BoardFile) (names : Names) where
       written = by (λ any c. AreWritten any (rules_on setup names any) c) tied.written s.written;
       answered = by (λ any c. Each (EntryAnswers setup names any) c.log) tied.answered (subst (Each (EntryAnswers setup names Smbus)) (sym is.log) fits.answered);
       made = tied.made;
-      frames = all_held setup names on (update (L setup names) Smbus e on) x.frames (by (λ any c. Grows (requests setup names on any).frames c.frames) (λ any n f at. at) s.more) tied.frames;
+      frames = all_held setup names on (update (own_lines setup names) Smbus e on) x.frames (by (λ any c. Grows (requests setup names on any).frames c.frames) (λ any n f at. at) s.more) tied.frames;
       opened = λ n t at. tied.opened n t (subst (λ (ss : List Sent). In t ss) (s.mine n) at);
     }
       where
-        by : (Q : Bus → BusState → Type 0) → ((any : Bus) → Q any (requests setup names on any)) → Q Smbus e.bus → (any : Bus) → Q any (requests setup names (update (L setup names) Smbus e on) any)
+        by : (Q : Bus → BusState → Type 0) → ((any : Bus) → Q any (requests setup names on any)) → Q Smbus e.bus → (any : Bus) → Q any (requests setup names (update (own_lines setup names) Smbus e on) any)
         by Q all here Ipmb = all Ipmb
         by Q all here Smbus = here
 
@@ -295,7 +295,7 @@ module _ (setup : BoardFile) (names : Names) where
     is_taken is = record {
       went = record {
         happenings = OnBus Smbus event x.board ∷ [];
-        left = update (L setup names) Smbus (packet_happens b ends event) on;
+        left = update (own_lines setup names) Smbus (packet_happens b ends event) on;
         may = (((tt, another), refl, (refl, λ series bodies ready. ready)), tt);
         reaches = refl;
         tied = tied_at (packet_happens b ends event) is (asks_stays (other_request (name_in p) taken.0) taken.1);
@@ -307,7 +307,7 @@ module _ (setup : BoardFile) (names : Names) where
     is_closed is = record {
       went = record {
         happenings = OnBus Smbus (Closes (name_in p)) x.board ∷ [];
-        left = update (L setup names) Smbus (packet_happens b ends (Closes (name_in p))) on;
+        left = update (own_lines setup names) Smbus (packet_happens b ends (Closes (name_in p))) on;
         may = (((tt, tt), refl, (refl, λ series bodies ready. ready)), tt);
         reaches = refl;
         tied = tied_at (packet_happens b ends (Closes (name_in p))) is (record { manager = refl; taken = refl; written = tied.written Smbus; more = λ n f at. at; mine = set_beside [] });
@@ -360,32 +360,32 @@ module _ (setup : BoardFile) (names : Names) where
   abbrev IsOthers : Packet → Type 0
   IsOthers p = (length p.payload ≤ unit_size) × (p.envelope.source_eid ≢ names.own_eid)
 
-  parts_go : (ps : List Packet) → Each IsOthers ps → (x : Lab (P setup names)) (on : States (L setup names)) → IsTied setup names x on → (before : State)
+  parts_go : (ps : List Packet) → Each IsOthers ps → (x : Lab (own_plans setup names)) (on : States (own_lines setup names)) → IsTied setup names x on → (before : State)
       → Quietly setup names x on (record x { smbus = (hears_parts setup x.smbus before ps).port })
   unfolding hears_parts
   parts_go [] all x on tied before = quiet_there setup names x on tied
   parts_go (p ∷ ps) all x on tied before =
       let d = hears_part setup x.smbus before p in
-      let next : Lab (P setup names) = record x { smbus = d.port } in
+      let next : Lab (own_plans setup names) = record x { smbus = d.port } in
       let first = part_goes x on tied before p all.0.0 all.0.1 in
       quietly_on setup names x next (record next { smbus = (hears_parts setup d.port d.board ps).port }) on first (parts_go ps all.1 next first.went.left first.went.tied d.board)
 
   all_others : (m : Message) → m.envelope.source_eid ≢ names.own_eid → Each IsOthers (parts_of m)
   all_others m another = each_by_place IsOthers (parts_of m) (λ n p at. (small_part m n p at, λ same. another (ap (λ (e : Envelope). e.source_eid) (sym (part_envelope m n p at)) ∙ same)))
 
-  module _ (x : Lab (P setup names)) (on : States (L setup names)) (tied : IsTied setup names x on) where
+  module _ (x : Lab (own_plans setup names)) (on : States (own_lines setup names)) (tied : IsTied setup names x on) where
     -- the lab after the deed, before its frames are sent
-    abbrev unsent : Deed → Lab (P setup names)
-    unsent d = with_port (P setup names) Smbus d.port (record x { board = d.board })
+    abbrev unsent : Deed → Lab (own_plans setup names)
+    unsent d = with_port (own_plans setup names) Smbus d.port (record x { board = d.board })
 
-    held : (now : States (L setup names)) (d : Deed) → Each (IsHeld setup names now) (map (frame_now (P setup names) Smbus ToOthers 0 (unsent d)) d.sent)
-    held now d = each_map (frame_now (P setup names) Smbus ToOthers 0 (unsent d)) (IsHeld setup names now) d.sent (each_by_place _ d.sent (λ n v at. tt))
+    held : (now : States (own_lines setup names)) (d : Deed) → Each (IsHeld setup names now) (map (frame_now (own_plans setup names) Smbus ToOthers 0 (unsent d)) d.sent)
+    held now d = each_map (frame_now (own_plans setup names) Smbus ToOthers 0 (unsent d)) (IsHeld setup names now) d.sent (each_by_place _ d.sent (λ n v at. tt))
 
-    ends_so : (d : Deed) → Keeps setup x.board d → Quietly setup names x on (record x { smbus = d.port }) → Goes setup names x on (port_does (P setup names) Smbus ToOthers 0 d x)
+    ends_so : (d : Deed) → Keeps setup x.board d → Quietly setup names x on (record x { smbus = d.port }) → Goes setup names x on (port_does (own_plans setup names) Smbus ToOthers 0 d x)
     ends_so d leaves first =
         let now = first.went.left in
         let t = first.went.tied in
-        goes_quietly setup names x (port_does (P setup names) Smbus ToOthers 0 d x) on (quietly_on setup names x (record x { smbus = d.port }) (port_does (P setup names) Smbus ToOthers 0 d x) on first (record {
+        goes_quietly setup names x (port_does (own_plans setup names) Smbus ToOthers 0 d x) on (quietly_on setup names x (record x { smbus = d.port }) (port_does (own_plans setup names) Smbus ToOthers 0 d x) on first (record {
           went = record {
             happenings = OnBench d.board ∷ [];
             left = now;
@@ -403,7 +403,7 @@ module _ (setup : BoardFile) (names : Names) where
               written = t.written;
               answered = t.answered;
               made = t.made;
-              frames = each_append (IsHeld setup names now) x.frames (map (frame_now (P setup names) Smbus ToOthers 0 (unsent d)) d.sent) t.frames (held now d);
+              frames = each_append (IsHeld setup names now) x.frames (map (frame_now (own_plans setup names) Smbus ToOthers 0 (unsent d)) d.sent) t.frames (held now d);
               opened = t.opened;
             };
           };
@@ -412,12 +412,12 @@ module _ (setup : BoardFile) (names : Names) where
 
     -- a message of another comes, if it goes to the port's address
     pub message_goes : (m : Message) → ChangesNothing m.envelope.source_eid m.body → IsAnother Smbus x.manager.names m.envelope.source_eid
-        → Goes setup names x on (port_does (P setup names) Smbus ToOthers 0 (hears_all setup x.smbus x.board m) x)
+        → Goes setup names x on (port_does (own_plans setup names) Smbus ToOthers 0 (hears_all setup x.smbus x.board m) x)
     message_goes m quiet another = by (m.envelope.destination == x.smbus.wire)
       where
         there : m.envelope.source_eid ≢ names.own_eid
         there e = another.0 (e ∙ ap (λ n. n.own_eid) (sym tied.named))
 
-        by : (t : Bool) → Goes setup names x on (port_does (P setup names) Smbus ToOthers 0 (cond t (hears_parts setup x.smbus x.board (parts_of m)) (stays x.smbus x.board)) x)
+        by : (t : Bool) → Goes setup names x on (port_does (own_plans setup names) Smbus ToOthers 0 (cond t (hears_parts setup x.smbus x.board (parts_of m)) (stays x.smbus x.board)) x)
         by true = ends_so (hears_parts setup x.smbus x.board (parts_of m)) (parts_keep setup x.board x.smbus m quiet) (parts_go (parts_of m) (all_others m there) x on tied x.board)
         by false = ends_so (stays x.smbus x.board) (refl, refl) (quiet_there setup names x on tied)

@@ -22,15 +22,15 @@ use Rattle.model_ports.specs.PortSteps.{idles}
 use Rattle.model_lab.specs.ManagerSteps.{own_on}
 use Rattle.model_lab.specs.Lab.{Lab, with_port, port_on}
 use Rattle.model_headline.specs.Each.{Each}
-use Rattle.model_headline.specs.Tied.{P, F, L, W, rules_on, requests, EntryAnswers, IsTied, world_of, Goes}
+use Rattle.model_headline.specs.Tied.{own_plans, own_family, own_lines, own_wires, rules_on, requests, EntryAnswers, IsTied, world_of, Goes}
 use Rattle.model_headline.specs.Follows.{Holds}
 use Rattle.model_headline.proofs.Frames.{all_held}
 use Rattle.model_headline.proofs.Begun.{words}
 
 module _ (setup : BoardFile) (names : Names) (plan : List Op) (start : Records) where
-  module _ (x : Lab (P setup names)) (on : States (L setup names)) (tied : IsTied setup names x on) (h : Holds setup names plan start (world_of setup names x on)) where
+  module _ (x : Lab (own_plans setup names)) (on : States (own_lines setup names)) (tied : IsTied setup names x on) (h : Holds setup names plan start (world_of setup names x on)) where
     -- where no request is open, none is open on the bus
-    none_open_on : (stage : Stage (words setup names)) (bus : Bus) → open_bus_at (words setup names) stage ≡ None → AreOpen (F setup names) (W setup names) (λ b. 0) stage bus (requests setup names on bus) → IsClosed (requests setup names on bus)
+    none_open_on : (stage : Stage (words setup names)) (bus : Bus) → open_bus_at (words setup names) stage ≡ None → AreOpen (own_family setup names) (own_wires setup names) (λ b. 0) stage bus (requests setup names on bus) → IsClosed (requests setup names on bus)
     none_open_on (Opened heeded task part) bus none opened = absurd (none-some _ (sym none))
     none_open_on AtStart bus none closed = closed
     none_open_on AtEnd bus none closed = closed
@@ -49,10 +49,10 @@ module _ (setup : BoardFile) (names : Names) (plan : List Op) (start : Records) 
     abbrev idle_smbus : ℕ → BusState
     idle_smbus requester = record ((on Smbus).bus) { log = Idled requester ∷ (on Smbus).bus.log }
 
-    ipmb_idles : (requester : ℕ) → (requester ≡ own_on Ipmb x.manager.names → open_bus (words setup names) x.manager.machine ≡ None) → Goes setup names x on (with_port (P setup names) Ipmb (idles requester x.ipmb) x)
+    ipmb_idles : (requester : ℕ) → (requester ≡ own_on Ipmb x.manager.names → open_bus (words setup names) x.manager.machine ≡ None) → Goes setup names x on (with_port (own_plans setup names) Ipmb (idles requester x.ipmb) x)
     ipmb_idles requester honest = record {
       happenings = OnBus Ipmb (IsIdle requester) x.board ∷ [];
-      left = update (L setup names) Ipmb (idle_ipmb requester) on;
+      left = update (own_lines setup names) Ipmb (idle_ipmb requester) on;
       may = (((tt, λ e. closed_on Ipmb (honest (e ∙ ap (λ n. n.own_address) (sym tied.named)))), refl, (refl, λ series bodies ready. ready)), tt);
       reaches = refl;
       gives = tt;
@@ -68,19 +68,19 @@ module _ (setup : BoardFile) (names : Names) (plan : List Op) (start : Records) 
         written = by (λ any b. AreWritten any (rules_on setup names any) b) tied.written (record { requests = (tied.written Ipmb).requests; replies = (tied.written Ipmb).replies });
         answered = by (λ any b. Each (EntryAnswers setup names any) b.log) tied.answered (tt, tied.answered Ipmb);
         made = tied.made;
-        frames = all_held setup names on (update (L setup names) Ipmb (idle_ipmb requester) on) x.frames (by (λ any b. Grows (requests setup names on any).frames b.frames) (λ any n f e. e) (λ n f e. e)) tied.frames;
+        frames = all_held setup names on (update (own_lines setup names) Ipmb (idle_ipmb requester) on) x.frames (by (λ any b. Grows (requests setup names on any).frames b.frames) (λ any n f e. e) (λ n f e. e)) tied.frames;
         opened = tied.opened;
       };
     }
       where
-        by : (Q : Bus → BusState → Type 0) → ((any : Bus) → Q any (requests setup names on any)) → Q Ipmb (idle_ipmb requester) → (any : Bus) → Q any (requests setup names (update (L setup names) Ipmb (idle_ipmb requester) on) any)
+        by : (Q : Bus → BusState → Type 0) → ((any : Bus) → Q any (requests setup names on any)) → Q Ipmb (idle_ipmb requester) → (any : Bus) → Q any (requests setup names (update (own_lines setup names) Ipmb (idle_ipmb requester) on) any)
         by Q all here Ipmb = here
         by Q all here Smbus = all Smbus
 
-    smbus_idles : (requester : ℕ) → (requester ≡ own_on Smbus x.manager.names → open_bus (words setup names) x.manager.machine ≡ None) → Goes setup names x on (with_port (P setup names) Smbus (idles requester x.smbus) x)
+    smbus_idles : (requester : ℕ) → (requester ≡ own_on Smbus x.manager.names → open_bus (words setup names) x.manager.machine ≡ None) → Goes setup names x on (with_port (own_plans setup names) Smbus (idles requester x.smbus) x)
     smbus_idles requester honest = record {
       happenings = OnBus Smbus (Plain (IsIdle requester)) x.board ∷ [];
-      left = update (L setup names) Smbus (record (on Smbus) { bus = idle_smbus requester }) on;
+      left = update (own_lines setup names) Smbus (record (on Smbus) { bus = idle_smbus requester }) on;
       may = (((tt, (tt, λ e. closed_on Smbus (honest (e ∙ ap (λ n. n.own_eid) (sym tied.named))))), refl, (refl, λ series bodies ready. ready)), tt);
       reaches = refl;
       gives = tt;
@@ -96,16 +96,16 @@ module _ (setup : BoardFile) (names : Names) (plan : List Op) (start : Records) 
         written = by (λ any b. AreWritten any (rules_on setup names any) b) tied.written (record { requests = (tied.written Smbus).requests; replies = (tied.written Smbus).replies });
         answered = by (λ any b. Each (EntryAnswers setup names any) b.log) tied.answered (tt, tied.answered Smbus);
         made = tied.made;
-        frames = all_held setup names on (update (L setup names) Smbus (record (on Smbus) { bus = idle_smbus requester }) on) x.frames (by (λ any b. Grows (requests setup names on any).frames b.frames) (λ any n f e. e) (λ n f e. e)) tied.frames;
+        frames = all_held setup names on (update (own_lines setup names) Smbus (record (on Smbus) { bus = idle_smbus requester }) on) x.frames (by (λ any b. Grows (requests setup names on any).frames b.frames) (λ any n f e. e) (λ n f e. e)) tied.frames;
         opened = tied.opened;
       };
     }
       where
-        by : (Q : Bus → BusState → Type 0) → ((any : Bus) → Q any (requests setup names on any)) → Q Smbus (idle_smbus requester) → (any : Bus) → Q any (requests setup names (update (L setup names) Smbus (record (on Smbus) { bus = idle_smbus requester }) on) any)
+        by : (Q : Bus → BusState → Type 0) → ((any : Bus) → Q any (requests setup names on any)) → Q Smbus (idle_smbus requester) → (any : Bus) → Q any (requests setup names (update (own_lines setup names) Smbus (record (on Smbus) { bus = idle_smbus requester }) on) any)
         by Q all here Ipmb = all Ipmb
         by Q all here Smbus = here
 
-    pub idle_goes : (bus : Bus) (requester : ℕ) → (requester ≡ own_on bus x.manager.names → open_bus (words setup names) x.manager.machine ≡ None) → Goes setup names x on (with_port (P setup names) bus (idles requester (port_on (P setup names) bus x)) x)
+    pub idle_goes : (bus : Bus) (requester : ℕ) → (requester ≡ own_on bus x.manager.names → open_bus (words setup names) x.manager.machine ≡ None) → Goes setup names x on (with_port (own_plans setup names) bus (idles requester (port_on (own_plans setup names) bus x)) x)
     idle_goes Ipmb requester honest = ipmb_idles requester honest
     idle_goes Smbus requester honest = smbus_idles requester honest
 

@@ -30,14 +30,14 @@ use Rattle.model_ports.specs.PortEvents.{name_in, part_answer_to, PartsAreEvents
 use Rattle.model_lab.specs.Own.{JoinsOwn}
 use Rattle.model_lab.specs.Lab.{LabFrame, Lab, opens}
 use Rattle.model_ports.proofs.PortEvents.{parts_leave_log}
-use Rattle.model_headline.specs.Tied.{P, L, smbus_bus, rules_on, HoldsAskedPart, IsTied, world_of}
+use Rattle.model_headline.specs.Tied.{own_plans, own_lines, smbus_bus, rules_on, HoldsAskedPart, IsTied, world_of}
 use Rattle.model_headline.specs.Follows.{Holds}
 use Rattle.model_headline.proofs.Sending.{from_zero}
 use Rattle.model_headline.proofs.Live.{smbus_holds}
 
 module _ (setup : BoardFile) (names : Names) (plan : List Op) (start : Records) where
-  module _ (x : Lab (P setup names)) (on : States (L setup names)) (tied : IsTied setup names x on) (h : Holds setup names plan start (world_of setup names x on)) (f : LabFrame) (hold : HoldsAskedPart setup names (on Smbus) f)
-      (live : IsLiveThere (rules_on setup names Smbus) (on Smbus).bus hold.part.frame) (mine : JoinsOwn (P setup names) x f.request (Part hold.packet)) where
+  module _ (x : Lab (own_plans setup names)) (on : States (own_lines setup names)) (tied : IsTied setup names x on) (h : Holds setup names plan start (world_of setup names x on)) (f : LabFrame) (hold : HoldsAskedPart setup names (on Smbus) f)
+      (live : IsLiveThere (rules_on setup names Smbus) (on Smbus).bus hold.part.frame) (mine : JoinsOwn (own_plans setup names) x f.request (Part hold.packet)) where
     abbrev pub b : PacketBus
     b = smbus_bus setup names
 
@@ -138,25 +138,25 @@ module _ (setup : BoardFile) (names : Names) (plan : List Op) (start : Records) 
     -- ---- what is opened under each tag
 
     abbrev pub opened_after : ℕ → ℕ
-    opened_after = (opens (P setup names) (Part p) f.request x).opened
+    opened_after = (opens (own_plans setup names) (Part p) f.request x).opened
 
     pub opened_at : (tag : ℕ) (s o : Bool) → p.start ≡ s → is_ours x.smbus.eid p ≡ o → opened_after tag ≡ cond (s && o && (tag == p.envelope.tag)) f.request (x.opened tag)
     opened_at tag s o e m = by (p.start && is_ours x.smbus.eid p) refl
       where
         by : (t : Bool) → (p.start && is_ours x.smbus.eid p) ≡ t → opened_after tag ≡ cond (s && o && (tag == p.envelope.tag)) f.request (x.opened tag)
-        by true t = ap (λ (u : Bool). (let z : Lab (P setup names) = cond u (record x { opened = λ k. cond (k == p.envelope.tag) f.request (x.opened k) }) x in z).opened tag) t
+        by true t = ap (λ (u : Bool). (let z : Lab (own_plans setup names) = cond u (record x { opened = λ k. cond (k == p.envelope.tag) f.request (x.opened k) }) x in z).opened tag) t
             ∙ ap (λ (u : Bool). cond (u && (tag == p.envelope.tag)) f.request (x.opened tag)) (sym t ∙ ap (λ (u : Bool). u && is_ours x.smbus.eid p) e ∙ ap (λ (u : Bool). s && u) m)
-        by false t = ap (λ (u : Bool). (let z : Lab (P setup names) = cond u (record x { opened = λ k. cond (k == p.envelope.tag) f.request (x.opened k) }) x in z).opened tag) t
+        by false t = ap (λ (u : Bool). (let z : Lab (own_plans setup names) = cond u (record x { opened = λ k. cond (k == p.envelope.tag) f.request (x.opened k) }) x in z).opened tag) t
             ∙ ap (λ (u : Bool). cond (u && (tag == p.envelope.tag)) f.request (x.opened tag)) (sym t ∙ ap (λ (u : Bool). u && is_ours x.smbus.eid p) e ∙ ap (λ (u : Bool). s && u) m)
 
     -- ---- the tie after it
 
     -- what is opened is all that a packet changes of a lab before the port has it
-    pub opens_is : opens (P setup names) (Part p) f.request x ≡ record x { opened = opened_after }
+    pub opens_is : opens (own_plans setup names) (Part p) f.request x ≡ record x { opened = opened_after }
     opens_is = by (p.start && is_ours x.smbus.eid p)
       where
-        by : (t : Bool) → (let z : Lab (P setup names) = cond t (record x { opened = λ k. cond (k == p.envelope.tag) f.request (x.opened k) }) x in z)
-            ≡ record x { opened = (let z : Lab (P setup names) = cond t (record x { opened = λ k. cond (k == p.envelope.tag) f.request (x.opened k) }) x in z).opened }
+        by : (t : Bool) → (let z : Lab (own_plans setup names) = cond t (record x { opened = λ k. cond (k == p.envelope.tag) f.request (x.opened k) }) x in z)
+            ≡ record x { opened = (let z : Lab (own_plans setup names) = cond t (record x { opened = λ k. cond (k == p.envelope.tag) f.request (x.opened k) }) x in z).opened }
         by true = refl
         by false = refl
 

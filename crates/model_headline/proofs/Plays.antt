@@ -25,7 +25,7 @@ use Rattle.text_schedule.specs.declared.event.Event.{Event}
 use Rattle.text_schedule.specs.declared.event.Event.TheVariants as event
 use Rattle.model_lab.specs.Meaning.{lab_names, event_of}
 use Rattle.model_lab.specs.Played.{plans, Ending, Whole, Stops, happens, after, AreTaken, told_of, IsPlayed}
-use Rattle.model_headline.specs.Tied.{F}
+use Rattle.model_headline.specs.Tied.{own_family}
 use Rattle.model_headline.specs.Answers.{Answers, CausedBy}
 use Rattle.model_headline.specs.Theorem as law
 use Rattle.model_headline.specs.Theorem.{IsHonestAndOwn}
@@ -112,7 +112,7 @@ module _ (file : BoardFile) where
 
     -- the board has the records of the start, and shows what it showed then
     abbrev IsSame : State → Type 0
-    IsSame now = (now.records ≡ first.board.records) × ShowsSame (F file lab_names) first.board now × PartsShowSame (F file lab_names) first.board now
+    IsSame now = (now.records ≡ first.board.records) × ShowsSame (own_family file lab_names) first.board now × PartsShowSame (own_family file lab_names) first.board now
 
     -- once undone, for good
     for_good : (es later : List Event) → Good (events_from (es ++ later) first) → phase_of plans.words (after file es first).manager.machine ≡ Undone → IsSame (after file (es ++ later) first).board
@@ -138,7 +138,7 @@ module _ (file : BoardFile) where
           all = s.all;
           answers = subst (λ (e : lab.Event). Answers file lab_names y (step plans file y e) asked a) (sym s.is)
               (subst (λ (z : Lab plans). Answers file lab_names z (step plans file z g.event) asked a) there g.answers);
-          at = subst (λ (z : Lab plans). IsAfter (F file lab_names) plan first.board.records k z.board.records) there g.at;
+          at = subst (λ (z : Lab plans). IsAfter (own_family file lab_names) plan first.board.records k z.board.records) there g.at;
         }
 
     -- and so is the cause of a halt
@@ -148,7 +148,7 @@ module _ (file : BoardFile) where
     caused_so es (Halted k (Refused code)) c = (c.0, c.1, c.2, c.3, c.4, gave_so es k _ _ c.5, c.6)
     caused_so es (Halted k (GetRefused code)) c = (c.0, c.1, c.2, c.3, c.4, gave_so es k _ _ c.5, c.6)
     caused_so es (Halted k NotRestorable) c =
-        let words = (F file lab_names).words in
+        let words = (own_family file lab_names).words in
         let given = law.GaveIn file lab_names plan retries (events_from es first) k in
         (c.0, c.1, c.2, all_answered_as words (words.getting (words.key_of c.0)) given (GaveIn file plan retries es k) (gave_so es k) c.1 c.3, c.4)
     caused_so es Fresh c = tt
@@ -169,7 +169,7 @@ module _ (file : BoardFile) where
         let x = run plans file events first in
         subst (λ (y : Lab plans). ToldStands file plan retries es (told_of file first y)) (runs_so es first) (record {
           stands = here;
-          undone = λ at. subst (λ (p : Phase). Stands (F file lab_names) plan first.board.records p x.board.records) at here;
+          undone = λ at. subst (λ (p : Phase). Stands (own_family file lab_names) plan first.board.records p x.board.records) at here;
           for_good = λ before later rest split at.
               for_good before later (prefix_good (before ++ later) rest (subst (λ (all : List Event). Good (events_from all first)) split good)) at;
           halts = caused_so es (phase_of plans.words x.manager.machine) causes;

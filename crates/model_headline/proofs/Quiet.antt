@@ -33,7 +33,7 @@ use Rattle.model_lab.specs.Own.{JoinsOwn}
 use Rattle.model_lab.specs.declared.way.Way.TheVariants.{ToManager}
 use Rattle.model_lab.specs.Lab.{LabFrame, Lab, with_port, frame_now, port_does}
 use Rattle.model_headline.specs.Each.{Each}
-use Rattle.model_headline.specs.Tied.{P, F, L, W, rules_on, requests, HoldsAskedPart, IsHeld, EntryAnswers, IsTied, world_of, IsGiven, Goes}
+use Rattle.model_headline.specs.Tied.{own_plans, own_family, own_lines, own_wires, rules_on, requests, HoldsAskedPart, IsHeld, EntryAnswers, IsTied, world_of, IsGiven, Goes}
 use Rattle.model_headline.specs.Follows.{Holds}
 use Rattle.model_headline.proofs.Each.{each_append}
 use Rattle.model_headline.proofs.Frames.{all_held}
@@ -54,8 +54,8 @@ is_not true h = absurd cc
 is_not false h = refl
 
 module _ (setup : BoardFile) (names : Names) (plan : List Op) (start : Records) where
-  module _ (x : Lab (P setup names)) (on : States (L setup names)) (tied : IsTied setup names x on) (h : Holds setup names plan start (world_of setup names x on)) (f : LabFrame) (hold : HoldsAskedPart setup names (on Smbus) f)
-      (live : IsLiveThere (rules_on setup names Smbus) (on Smbus).bus hold.part.frame) (mine : JoinsOwn (P setup names) x f.request (Part hold.packet)) where
+  module _ (x : Lab (own_plans setup names)) (on : States (own_lines setup names)) (tied : IsTied setup names x on) (h : Holds setup names plan start (world_of setup names x on)) (f : LabFrame) (hold : HoldsAskedPart setup names (on Smbus) f)
+      (live : IsLiveThere (rules_on setup names Smbus) (on Smbus).bus hold.part.frame) (mine : JoinsOwn (own_plans setup names) x f.request (Part hold.packet)) where
     abbrev p : Packet
     p = hold.packet
 
@@ -68,18 +68,18 @@ module _ (setup : BoardFile) (names : Names) (plan : List Op) (start : Records) 
     abbrev opened_after : ℕ → ℕ
     opened_after = part.opened_after setup names plan start x on tied h f hold live mine
 
-    abbrev pub with_opened : Lab (P setup names)
+    abbrev pub with_opened : Lab (own_plans setup names)
     with_opened = record x { opened = opened_after }
 
-    abbrev pub now : Ends → States (L setup names)
-    now e = update (L setup names) Smbus e on
+    abbrev pub now : Ends → States (own_lines setup names)
+    now e = update (own_lines setup names) Smbus e on
 
     -- the lab after the deed, before the reply is sent, and then
-    abbrev pub unsent : Deed → Lab (P setup names)
-    unsent d = with_port (P setup names) Smbus d.port (record with_opened { board = d.board })
+    abbrev pub unsent : Deed → Lab (own_plans setup names)
+    unsent d = with_port (own_plans setup names) Smbus d.port (record with_opened { board = d.board })
 
-    abbrev pub done_by : Deed → Lab (P setup names)
-    done_by d = port_does (P setup names) Smbus ToManager f.request d with_opened
+    abbrev pub done_by : Deed → Lab (own_plans setup names)
+    done_by d = port_does (own_plans setup names) Smbus ToManager f.request d with_opened
 
     -- these ends are those of the lab after the deed
     pub record Leaves (d : Deed) (e : Ends) : Type 0 where
@@ -91,7 +91,7 @@ module _ (setup : BoardFile) (names : Names) (plan : List Op) (start : Records) 
       pub more : Grows ends.bus.frames e.bus.frames
       pub answered : Each (EntryAnswers setup names Smbus) e.bus.log
       pub opened : (n : ℕ) (t : Sent) → In t (e.port (request_name (part.b setup names plan start x on tied h f hold live mine) n)) → t.request ≡ opened_after (n % 8)
-      pub held : Each (IsHeld setup names (now e)) (map (frame_now (P setup names) Smbus ToManager f.request (unsent d)) d.sent)
+      pub held : Each (IsHeld setup names (now e)) (map (frame_now (own_plans setup names) Smbus ToManager f.request (unsent d)) d.sent)
 
     pub leaves_tied : (d : Deed) (e : Ends) → Leaves d e → IsTied setup names (done_by d) (now e)
     leaves_tied d e l = record {
@@ -106,7 +106,7 @@ module _ (setup : BoardFile) (names : Names) (plan : List Op) (start : Records) 
       written = by (λ any b. AreWritten any (rules_on setup names any) b) tied.written l.written;
       answered = by (λ any b. Each (EntryAnswers setup names any) b.log) tied.answered l.answered;
       made = tied.made;
-      frames = each_append (IsHeld setup names (now e)) x.frames (map (frame_now (P setup names) Smbus ToManager f.request (unsent d)) d.sent)
+      frames = each_append (IsHeld setup names (now e)) x.frames (map (frame_now (own_plans setup names) Smbus ToManager f.request (unsent d)) d.sent)
           (all_held setup names on (now e) x.frames (by (λ any b. Grows (requests setup names on any).frames b.frames) (λ any n g at. at) l.more) tied.frames) l.held;
       opened = l.opened;
     }
@@ -142,7 +142,7 @@ module _ (setup : BoardFile) (names : Names) (plan : List Op) (start : Records) 
     }
 
     -- what the packet has carried out
-    pub carried_so : ((L setup names) Smbus).carries ends (part.arrives setup names plan start x on tied h f hold live mine)
+    pub carried_so : ((own_lines setup names) Smbus).carries ends (part.arrives setup names plan start x on tied h f hold live mine)
         ≡ exchange (carried_of (rules_on setup names Smbus) (whole_request (rules_on setup names Smbus) hold.part.frame.request (part.taken setup names plan start x on tied h f hold live mine).0) ends.bus) (part.answer setup names plan start x on tied h f hold live mine)
     carried_so =
         let b = part.b setup names plan start x on tied h f hold live mine in
@@ -244,14 +244,14 @@ module _ (setup : BoardFile) (names : Names) (plan : List Op) (start : Records) 
         let port : IsPortOf left next =
         subst (λ y. IsPortOf y next) happened
         (quiet_port c e same (packet_happens b ends arrives) (subst (λ o. IsPortOf (happens_if b o ends) (hears_part setup x.smbus x.board p).port) event (manager_after c e ours slot))) in
-        let carried : ((L setup names) Smbus).carries ends arrives ≡ None =
+        let carried : ((own_lines setup names) Smbus).carries ends arrives ≡ None =
         carried_so ∙ ap (λ (r : Step × List Sent). exchange (carried_of (rules_on setup names Smbus) (whole_request (rules_on setup names Smbus) hold.part.frame.request r.0) ends.bus) (part.answer setup names plan start x on tied h f hold live mine)) taken
         ∙ ap (λ o. exchange (carried_of (rules_on setup names Smbus) o ends.bus) (part.answer setup names plan start x on tied h f hold live mine)) none in
         finish quiet (same ∙ sym (deed_is c e)) (record {
           happenings = OnBus Smbus arrives x.board ∷ [];
           left = now left;
-          may = (((tt, part.honest_part setup names plan start x on tied h f hold live mine ours slot), refl, subst (λ o. world.BoardMay (F setup names) (L setup names) (W setup names) Smbus o x.board x.board) (sym carried) (refl, λ series bodies ready. ready)), tt);
-          reaches = ap (λ (y : Ends). let w : World (F setup names) (L setup names) = record { machine = x.manager.machine; on = now y; board = x.board } in w) happened;
-          gives = subst (λ o. Each (IsGiven setup names x (done_by quiet)) (given_by (F setup names) (L setup names) (W setup names) Smbus o x.board x.board ++ [])) (sym carried) tt;
+          may = (((tt, part.honest_part setup names plan start x on tied h f hold live mine ours slot), refl, subst (λ o. world.BoardMay (own_family setup names) (own_lines setup names) (own_wires setup names) Smbus o x.board x.board) (sym carried) (refl, λ series bodies ready. ready)), tt);
+          reaches = ap (λ (y : Ends). let w : World (own_family setup names) (own_lines setup names) = record { machine = x.manager.machine; on = now y; board = x.board } in w) happened;
+          gives = subst (λ o. Each (IsGiven setup names x (done_by quiet)) (given_by (own_family setup names) (own_lines setup names) (own_wires setup names) Smbus o x.board x.board ++ [])) (sym carried) tt;
           tied = leaves_tied quiet left (quiet_leaves (set_at (name_in p) after ends.port) port (part.still_opened setup names plan start x on tied h f hold live mine after waits));
         })

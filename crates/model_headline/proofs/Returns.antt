@@ -37,7 +37,7 @@ use Rattle.model_lab.specs.Honest.{IsLive, IsDelivered}
 use Rattle.model_lab.specs.declared.way.Way.TheVariants.{ToManager as ToTheManager}
 use Rattle.model_lab.specs.Lab.{LabFrame, Lab, manager_does, returned}
 use Rattle.model_lab.proofs.ManagerEvents.{replies_are_brought}
-use Rattle.model_headline.specs.Tied.{P, F, L, W, ipmb_bus, smbus_bus, rules_on, requests, HoldsTold, HoldsToldPart, ComesFromAnother, IsHeldBy, IsHeld, EntryAnswers, IsTied, world_of, Goes}
+use Rattle.model_headline.specs.Tied.{own_plans, own_family, own_lines, own_wires, ipmb_bus, smbus_bus, rules_on, requests, HoldsTold, HoldsToldPart, ComesFromAnother, IsHeldBy, IsHeld, EntryAnswers, IsTied, world_of, Goes}
 use Rattle.model_headline.specs.Each.{Each}
 use Rattle.model_headline.proofs.Each.{each_at}
 use Rattle.model_headline.proofs.Frames.{all_held}
@@ -50,25 +50,25 @@ use Rattle.model_headline.proofs.Only.{SameButTaken, taking, only_manager}
 use Rattle.model_headline.proofs.Taken.{Took, turn as taken_turn, taken_after, reply_is}
 
 module _ (setup : BoardFile) (names : Names) (plan : List Op) (start : Records) where
-  module _ (x : Lab (P setup names)) (on : States (L setup names)) (tied : IsTied setup names x on) (h : Holds setup names plan start (world_of setup names x on)) where
-    abbrev m : ManagerState (P setup names)
+  module _ (x : Lab (own_plans setup names)) (on : States (own_lines setup names)) (tied : IsTied setup names x on) (h : Holds setup names plan start (world_of setup names x on)) where
+    abbrev m : ManagerState (own_plans setup names)
     m = x.manager
 
-    abbrev w : World (F setup names) (L setup names)
+    abbrev w : World (own_family setup names) (own_lines setup names)
     w = world_of setup names x on
 
     -- nothing comes of it
-    rest_goes : (d : ManagerDeed (P setup names)) → d ≡ rests (P setup names) m → Goes setup names x on (manager_does (P setup names) d x)
+    rest_goes : (d : ManagerDeed (own_plans setup names)) → d ≡ rests (own_plans setup names) m → Goes setup names x on (manager_does (own_plans setup names) d x)
     rest_goes d is =
-        subst (λ e. Goes setup names x on (manager_does (P setup names) e x)) (sym is)
+        subst (λ e. Goes setup names x on (manager_does (own_plans setup names) e x)) (sym is)
         (let quiet : Goes setup names x on x = record { happenings = []; left = on; may = tt; reaches = refl; gives = tt; tied = tied } in quiet)
 
     -- ---- a reply is taken
 
-    module _ (bus : Bus) (e : ((L setup names) bus).Event) (task : Task (words setup names)) (part : TaskPart (words setup names)) (at : Opened true task part ≡ m.machine.stage) (same : bus ≡ bus_at (words setup names) part)
-        (outside : ((L setup names) bus).IsOutside e) (told : ((L setup names) bus).is_to_manager e ≡ true) (honest : ((L setup names) bus).IsHonest (on bus) e) where
-      abbrev now : States (L setup names)
-      now = world.moved (F setup names) (L setup names) (W setup names) bus e w
+    module _ (bus : Bus) (e : ((own_lines setup names) bus).Event) (task : Task (words setup names)) (part : TaskPart (words setup names)) (at : Opened true task part ≡ m.machine.stage) (same : bus ≡ bus_at (words setup names) part)
+        (outside : ((own_lines setup names) bus).IsOutside e) (told : ((own_lines setup names) bus).is_to_manager e ≡ true) (honest : ((own_lines setup names) bus).IsHonest (on bus) e) where
+      abbrev now : States (own_lines setup names)
+      now = world.moved (own_family setup names) (own_lines setup names) (own_wires setup names) bus e w
 
       same_bus-same : (a b : Bus) → a ≡ b → same_bus a b ≡ true
       same_bus-same a b is = subst (λ (c : Bus). same_bus a c ≡ true) is (self a)
@@ -78,36 +78,36 @@ module _ (setup : BoardFile) (names : Names) (plan : List Op) (start : Records) 
           self Smbus = refl
 
       -- the model's manager looks at it
-      looked : world.happens (F setup names) (L setup names) (W setup names) w (ToManager bus e) ≡ world.brought (F setup names) (L setup names) (W setup names) bus e (((L setup names) bus).brings (on bus) e) w
+      looked : world.happens (own_family setup names) (own_lines setup names) (own_wires setup names) w (ToManager bus e) ≡ world.brought (own_family setup names) (own_lines setup names) (own_wires setup names) bus e (((own_lines setup names) bus).brings (on bus) e) w
       looked =
-          ap (λ s. world.returns (F setup names) (L setup names) (W setup names) bus e s w) (sym at)
-          ∙ ap (λ (t : Bool). world.looks (F setup names) (L setup names) (W setup names) bus e t w) (same_bus-same bus (bus_at (words setup names) part) same)
+          ap (λ s. world.returns (own_family setup names) (own_lines setup names) (own_wires setup names) bus e s w) (sym at)
+          ∙ ap (λ (t : Bool). world.looks (own_family setup names) (own_lines setup names) (own_wires setup names) bus e t w) (same_bus-same bus (bus_at (words setup names) part) same)
 
-      goes_taken : (reply : List ℕ) (joined : Assemblies) → ((L setup names) bus).brings (on bus) e ≡ Some reply → Took setup names plan start x on now tied h bus reply joined
-          → Goes setup names x on (manager_does (P setup names) (taken_or (P setup names) (record m { joined = joined }) (reply_of (words setup names) (answered_from bus reply) m.machine)) x)
+      goes_taken : (reply : List ℕ) (joined : Assemblies) → ((own_lines setup names) bus).brings (on bus) e ≡ Some reply → Took setup names plan start x on now tied h bus reply joined
+          → Goes setup names x on (manager_does (own_plans setup names) (taken_or (own_plans setup names) (record m { joined = joined }) (reply_of (words setup names) (answered_from bus reply) m.machine)) x)
       goes_taken reply joined brings took_here =
           let took = subst (λ (b : Bus). Took setup names plan start x on now tied h b reply joined) same took_here in
           let after = taken_after setup names plan start x on now tied h task part reply joined at took in
           let turn = taken_turn setup names plan start x on now tied h task part reply joined at took in
           let is : reply_of (words setup names) (answered_from bus reply) m.machine ≡ Some turn =
           ap (λ (b : Bus). reply_of (words setup names) (answered_from b reply) m.machine) same ∙ reply_is setup names plan start x on now tied h task part reply joined at took in
-          let deed : taken_or (P setup names) (record m { joined = joined }) (reply_of (words setup names) (answered_from bus reply) m.machine) ≡ goes_on (P setup names) (record m { joined = joined }) turn =
-          ap (taken_or (P setup names) (record m { joined = joined })) is in
+          let deed : taken_or (own_plans setup names) (record m { joined = joined }) (reply_of (words setup names) (answered_from bus reply) m.machine) ≡ goes_on (own_plans setup names) (record m { joined = joined }) turn =
+          ap (taken_or (own_plans setup names) (record m { joined = joined })) is in
           record {
             happenings = ToManager bus e ∷ [];
             left = after.left;
             may = (((outside, honest), told), tt);
             gives = tt;
             reaches = looked
-                ∙ ap (λ o. world.brought (F setup names) (L setup names) (W setup names) bus e o w) brings
-                ∙ ap (λ o. world.answered (F setup names) (L setup names) (W setup names) bus e o w) is
-                ∙ ap (λ (s : States (L setup names)). let z : World (F setup names) (L setup names) = record { machine = turn.machine; on = s; board = x.board } in z) (sym after.is_left)
+                ∙ ap (λ o. world.brought (own_family setup names) (own_lines setup names) (own_wires setup names) bus e o w) brings
+                ∙ ap (λ o. world.answered (own_family setup names) (own_lines setup names) (own_wires setup names) bus e o w) is
+                ∙ ap (λ (s : States (own_lines setup names)). let z : World (own_family setup names) (own_lines setup names) = record { machine = turn.machine; on = s; board = x.board } in z) (sym after.is_left)
                 ∙ after.reaches
-                ∙ ap (λ d. world_of setup names (manager_does (P setup names) d x) after.left) (sym deed);
-            tied = subst (λ d. IsTied setup names (manager_does (P setup names) d x) after.left) (sym deed) after.ties;
+                ∙ ap (λ d. world_of setup names (manager_does (own_plans setup names) d x) after.left) (sym deed);
+            tied = subst (λ d. IsTied setup names (manager_does (own_plans setup names) d x) after.left) (sym deed) after.ties;
           }
 
-      effect_is : MatchOption (((L setup names) bus).brings (on bus) e) (SameRequests (requests setup names on bus) (((L setup names) bus).requests (((L setup names) bus).happens (on bus) e))) (IsTaken (requests setup names on bus) (((L setup names) bus).requests (((L setup names) bus).happens (on bus) e)))
+      effect_is : MatchOption (((own_lines setup names) bus).brings (on bus) e) (SameRequests (requests setup names on bus) (((own_lines setup names) bus).requests (((own_lines setup names) bus).happens (on bus) e))) (IsTaken (requests setup names on bus) (((own_lines setup names) bus).requests (((own_lines setup names) bus).happens (on bus) e)))
       effect_is = (packet_lines (own setup names) packets_of packets_cut bus).to_manager (on bus) e (h.holds bus) outside told honest
 
     -- ---- what is heeded
@@ -125,17 +125,17 @@ module _ (setup : BoardFile) (names : Names) (plan : List Op) (start : Records) 
     same_false Smbus Ipmb ne = refl
     same_false Smbus Smbus ne = absurd (ne refl)
 
-    heeds : (bus : Bus) (task : Task (words setup names)) (part : TaskPart (words setup names)) → Opened true task part ≡ m.machine.stage → bus ≡ bus_at (words setup names) part → heeded_on (P setup names) bus m.machine.stage ≡ Some part
+    heeds : (bus : Bus) (task : Task (words setup names)) (part : TaskPart (words setup names)) → Opened true task part ≡ m.machine.stage → bus ≡ bus_at (words setup names) part → heeded_on (own_plans setup names) bus m.machine.stage ≡ Some part
     heeds bus task part at is =
-        ap (heeded_on (P setup names) bus) (sym at) ∙ ap (λ (t : Bool). let none : Option (TaskPart (words setup names)) = None in cond t (Some part) none) (same_true bus part is)
+        ap (heeded_on (own_plans setup names) bus) (sym at) ∙ ap (λ (t : Bool). let none : Option (TaskPart (words setup names)) = None in cond t (Some part) none) (same_true bus part is)
 
-    heeds_not : (bus : Bus) (task : Task (words setup names)) (part : TaskPart (words setup names)) → Opened true task part ≡ m.machine.stage → (bus ≡ bus_at (words setup names) part → ⊥) → heeded_on (P setup names) bus m.machine.stage ≡ None
+    heeds_not : (bus : Bus) (task : Task (words setup names)) (part : TaskPart (words setup names)) → Opened true task part ≡ m.machine.stage → (bus ≡ bus_at (words setup names) part → ⊥) → heeded_on (own_plans setup names) bus m.machine.stage ≡ None
     heeds_not bus task part at other =
-        ap (heeded_on (P setup names) bus) (sym at) ∙ ap (λ (t : Bool). let none : Option (TaskPart (words setup names)) = None in cond t (Some part) none) (same_false bus (bus_at (words setup names) part) other)
+        ap (heeded_on (own_plans setup names) bus) (sym at) ∙ ap (λ (t : Bool). let none : Option (TaskPart (words setup names)) = None in cond t (Some part) none) (same_false bus (bus_at (words setup names) part) other)
 
     -- the model's open request has the manager's bytes
     open_there : (bus : Bus) (task : Task (words setup names)) (part : TaskPart (words setup names)) → Opened true task part ≡ m.machine.stage → bus ≡ bus_at (words setup names) part
-        → slice_get (requests setup names on bus).begun (length (requests setup names on bus).taken) ≡ Some (open_bytes (P setup names) bus m part)
+        → slice_get (requests setup names on bus).begun (length (requests setup names on bus).taken) ≡ Some (open_bytes (own_plans setup names) bus m part)
     open_there bus task part at is =
         (are_closed setup names plan start x on tied h (Opened true task part) at bus).0 is
         ∙ ap (λ (n : ℕ). Some (bytes_of (number_of bus n) part.asked)) (sym (from_zero _) ∙ sym (tied.counted bus))
@@ -152,11 +152,11 @@ module _ (setup : BoardFile) (names : Names) (plan : List Op) (start : Records) 
       abbrev after_it : BusState
       after_it = takes_reply (taken_now (ipmb_bus setup names) (slice_get (on Ipmb).frames hold.which) (on Ipmb)) (on Ipmb)
 
-      honest_there : ((L setup names) Ipmb).IsHonest (on Ipmb) comes
+      honest_there : ((own_lines setup names) Ipmb).IsHonest (on Ipmb) comes
       honest_there = subst (λ o. IfSome o (IsLiveThere (ipmb_bus setup names) (on Ipmb))) (sym hold.is_of.sent) live
 
       took_ipmb : (reply : List ℕ) → IsTaken (on Ipmb) after_it reply
-          → Took setup names plan start x on (update (L setup names) Ipmb after_it on) tied h Ipmb reply m.joined
+          → Took setup names plan start x on (update (own_lines setup names) Ipmb after_it on) tied h Ipmb reply m.joined
       took_ipmb reply taken =
           let s = takes_reply (taken_now (ipmb_bus setup names) (slice_get (on Ipmb).frames hold.which) (on Ipmb)) (on Ipmb) in
           let same : SameButTaken (on Ipmb) s = taking (taken_now (ipmb_bus setup names) (slice_get (on Ipmb).frames hold.which) (on Ipmb)) (on Ipmb) in
@@ -174,62 +174,62 @@ module _ (setup : BoardFile) (names : Names) (plan : List Op) (start : Records) 
           not_smbus : Ipmb ≡ Smbus → ⊥
           not_smbus e = absurd cc
 
-          still : OthersStill Ipmb (requests setup names on) (requests setup names (update (L setup names) Ipmb after_it on))
+          still : OthersStill Ipmb (requests setup names on) (requests setup names (update (own_lines setup names) Ipmb after_it on))
           still Ipmb ne = absurd (ne refl)
           still Smbus ne = record { begun = refl; carried = refl; taken = refl }
 
           by : (Q : BusState → BusState → Type 0) → Q (on Ipmb) after_it → Q (on Smbus).bus (on Smbus).bus
-              → (any : Bus) → Q (requests setup names on any) (requests setup names (update (L setup names) Ipmb after_it on) any)
+              → (any : Bus) → Q (requests setup names on any) (requests setup names (update (own_lines setup names) Ipmb after_it on) any)
           by Q here there Ipmb = here
           by Q here there Smbus = there
 
       by_brought : (task : Task (words setup names)) (part : TaskPart (words setup names)) → Opened true task part ≡ m.machine.stage → Ipmb ≡ bus_at (words setup names) part
-          → (o : Option (List ℕ)) → brings_whole (ipmb_bus setup names) (on Ipmb) comes ≡ o → Goes setup names x on (manager_does (P setup names) (takes_if (P setup names) Ipmb o m) x)
-      by_brought task part at same None e = rest_goes (rests (P setup names) m) refl
+          → (o : Option (List ℕ)) → brings_whole (ipmb_bus setup names) (on Ipmb) comes ≡ o → Goes setup names x on (manager_does (own_plans setup names) (takes_if (own_plans setup names) Ipmb o m) x)
+      by_brought task part at same None e = rest_goes (rests (own_plans setup names) m) refl
       by_brought task part at same (Some reply) e =
           goes_taken Ipmb comes task part at same tt refl honest_there reply m.joined e
           (took_ipmb reply (subst (λ o. MatchOption o (SameRequests (on Ipmb) after_it) (IsTaken (on Ipmb) after_it)) e (effect_is Ipmb comes task part at same tt refl honest_there)))
 
-      by_stage : (stage : Stage (words setup names)) → stage ≡ m.machine.stage → Goes setup names x on (manager_does (P setup names) (hears_response (P setup names) hold.told m) x)
+      by_stage : (stage : Stage (words setup names)) → stage ≡ m.machine.stage → Goes setup names x on (manager_does (own_plans setup names) (hears_response (own_plans setup names) hold.told m) x)
       by_stage (Opened true task part) at = elim (cases_bus Ipmb (bus_at (words setup names) part)) [
         | inl same ↦
-            let opened : IsOpenOn (P setup names) Ipmb m part (on Ipmb) = record { heeded = heeds Ipmb task part at same; opened = open_there Ipmb task part at same } in
-            let is = (replies_are_brought (P setup names)).responses m part (ipmb_bus setup names) (on Ipmb) hold.which hold.told (ipmb_agrees setup names plan start x on tied h) opened told_is in
-            subst (λ d. Goes setup names x on (manager_does (P setup names) d x)) (sym is) (by_brought task part at same (brings_whole (ipmb_bus setup names) (on Ipmb) comes) refl)
-        | inr other ↦ rest_goes _ ((replies_are_brought (P setup names)).unheeded_response m hold.told (heeds_not Ipmb task part at other))
+            let opened : IsOpenOn (own_plans setup names) Ipmb m part (on Ipmb) = record { heeded = heeds Ipmb task part at same; opened = open_there Ipmb task part at same } in
+            let is = (replies_are_brought (own_plans setup names)).responses m part (ipmb_bus setup names) (on Ipmb) hold.which hold.told (ipmb_agrees setup names plan start x on tied h) opened told_is in
+            subst (λ d. Goes setup names x on (manager_does (own_plans setup names) d x)) (sym is) (by_brought task part at same (brings_whole (ipmb_bus setup names) (on Ipmb) comes) refl)
+        | inr other ↦ rest_goes _ ((replies_are_brought (own_plans setup names)).unheeded_response m hold.told (heeds_not Ipmb task part at other))
       ]
-      by_stage (Opened false task part) at = rest_goes _ ((replies_are_brought (P setup names)).unheeded_response m hold.told (ap (heeded_on (P setup names) Ipmb) (sym at)))
-      by_stage AtStart at = rest_goes _ ((replies_are_brought (P setup names)).unheeded_response m hold.told (ap (heeded_on (P setup names) Ipmb) (sym at)))
-      by_stage AtEnd at = rest_goes _ ((replies_are_brought (P setup names)).unheeded_response m hold.told (ap (heeded_on (P setup names) Ipmb) (sym at)))
-      by_stage (AtHalt k why) at = rest_goes _ ((replies_are_brought (P setup names)).unheeded_response m hold.told (ap (heeded_on (P setup names) Ipmb) (sym at)))
-      by_stage AtUndone at = rest_goes _ ((replies_are_brought (P setup names)).unheeded_response m hold.told (ap (heeded_on (P setup names) Ipmb) (sym at)))
-      by_stage (AtRefused k code) at = rest_goes _ ((replies_are_brought (P setup names)).unheeded_response m hold.told (ap (heeded_on (P setup names) Ipmb) (sym at)))
+      by_stage (Opened false task part) at = rest_goes _ ((replies_are_brought (own_plans setup names)).unheeded_response m hold.told (ap (heeded_on (own_plans setup names) Ipmb) (sym at)))
+      by_stage AtStart at = rest_goes _ ((replies_are_brought (own_plans setup names)).unheeded_response m hold.told (ap (heeded_on (own_plans setup names) Ipmb) (sym at)))
+      by_stage AtEnd at = rest_goes _ ((replies_are_brought (own_plans setup names)).unheeded_response m hold.told (ap (heeded_on (own_plans setup names) Ipmb) (sym at)))
+      by_stage (AtHalt k why) at = rest_goes _ ((replies_are_brought (own_plans setup names)).unheeded_response m hold.told (ap (heeded_on (own_plans setup names) Ipmb) (sym at)))
+      by_stage AtUndone at = rest_goes _ ((replies_are_brought (own_plans setup names)).unheeded_response m hold.told (ap (heeded_on (own_plans setup names) Ipmb) (sym at)))
+      by_stage (AtRefused k code) at = rest_goes _ ((replies_are_brought (own_plans setup names)).unheeded_response m hold.told (ap (heeded_on (own_plans setup names) Ipmb) (sym at)))
 
-      pub told_goes : Goes setup names x on (manager_does (P setup names) (manager_hears (P setup names) f.value m) x)
-      told_goes = subst (λ v. Goes setup names x on (manager_does (P setup names) (manager_hears (P setup names) v m) x)) (sym hold.value) (by_stage m.machine.stage refl)
+      pub told_goes : Goes setup names x on (manager_does (own_plans setup names) (manager_hears (own_plans setup names) f.value m) x)
+      told_goes = subst (λ v. Goes setup names x on (manager_does (own_plans setup names) (manager_hears (own_plans setup names) v m) x)) (sym hold.value) (by_stage m.machine.stage refl)
 
     -- ---- SMBus
 
     -- a packet that isn't the controller's is nothing to the manager
-    others_part : (f : LabFrame) → ComesFromAnother setup names f → Goes setup names x on (manager_does (P setup names) (manager_hears (P setup names) f.value m) x)
+    others_part : (f : LabFrame) → ComesFromAnother setup names f → Goes setup names x on (manager_does (own_plans setup names) (manager_hears (own_plans setup names) f.value m) x)
     unfolding hears_packet
     others_part f other =
-        subst (λ v. Goes setup names x on (manager_does (P setup names) (manager_hears (P setup names) v m) x)) (sym other.value)
-        (rest_goes (hears_packet (P setup names) other.packet m) (by (heeded_on (P setup names) Smbus m.machine.stage) refl))
+        subst (λ v. Goes setup names x on (manager_does (own_plans setup names) (manager_hears (own_plans setup names) v m) x)) (sym other.value)
+        (rest_goes (hears_packet (own_plans setup names) other.packet m) (by (heeded_on (own_plans setup names) Smbus m.machine.stage) refl))
       where
         middle : (a b c : Bool) → b ≡ false → (a && (b && c)) ≡ false
         middle true b c e = ap (λ (t : Bool). t && c) e
         middle false b c e = refl
 
-        not_part : is_part m.names (open_count (P setup names) Smbus m) other.packet ≡ false
+        not_part : is_part m.names (open_count (own_plans setup names) Smbus m) other.packet ≡ false
         not_part = middle (other.packet.envelope.destination == m.names.own_wire && other.packet.envelope.source == m.names.peer_wire) (other.packet.envelope.source_eid == m.names.peer_eid)
-            (not other.packet.envelope.tag_owner && other.packet.envelope.tag == open_count (P setup names) Smbus m % 8) (ap (λ n. other.packet.envelope.source_eid == n.peer_eid) tied.named ∙ other.source)
+            (not other.packet.envelope.tag_owner && other.packet.envelope.tag == open_count (own_plans setup names) Smbus m % 8) (ap (λ n. other.packet.envelope.source_eid == n.peer_eid) tied.named ∙ other.source)
 
-        by : (o : Option (TaskPart (words setup names))) → heeded_on (P setup names) Smbus m.machine.stage ≡ o → hears_packet (P setup names) other.packet m ≡ rests (P setup names) m
-        by None e = ap (joins_for (P setup names) other.packet m) e
+        by : (o : Option (TaskPart (words setup names))) → heeded_on (own_plans setup names) Smbus m.machine.stage ≡ o → hears_packet (own_plans setup names) other.packet m ≡ rests (own_plans setup names) m
+        by None e = ap (joins_for (own_plans setup names) other.packet m) e
         by (Some part) e =
-            ap (joins_for (P setup names) other.packet m) e
-            ∙ ap (λ (t : Bool). cond t (joins (P setup names) other.packet m) (rests (P setup names) m)) not_part
+            ap (joins_for (own_plans setup names) other.packet m) e
+            ∙ ap (λ (t : Bool). cond t (joins (own_plans setup names) other.packet m) (rests (own_plans setup names) m)) not_part
 
     module _ (f : LabFrame) (hold : HoldsToldPart setup names (on Smbus).bus.frames f) (live : IsLiveThere (rules_on setup names Smbus) (on Smbus).bus hold.frame) where
       part_is : IsRepliesPart m.names (smbus_bus setup names) (on Smbus) hold.which hold.place hold.packet
@@ -250,8 +250,8 @@ module _ (setup : BoardFile) (names : Names) (plan : List Op) (start : Records) 
       abbrev ends_after : Ends
       ends_after = packet_happens (smbus_bus setup names) (on Smbus) arrives
 
-      abbrev moved : States (L setup names)
-      moved = update (L setup names) Smbus ends_after on
+      abbrev moved : States (own_lines setup names)
+      moved = update (own_lines setup names) Smbus ends_after on
 
       honest_part : IsPacketHonest RecentWhereWhole (smbus_bus setup names) (on Smbus) arrives
       honest_part = subst (λ o. IfSome o (IsLiveThere (rules_on setup names Smbus) (on Smbus).bus)) (sym hold.is_of.sent) live
@@ -259,10 +259,10 @@ module _ (setup : BoardFile) (names : Names) (plan : List Op) (start : Records) 
       effect_of_part : HasPacketEffect (smbus_bus setup names) (on Smbus) arrives
       effect_of_part = effect (smbus_bus setup names) packets_cut (on Smbus) arrives (smbus_holds setup names plan start x on h) honest_part
 
-      manager_is : IsManagerOf (P setup names) m (smbus_bus setup names) (on Smbus)
+      manager_is : IsManagerOf (own_plans setup names) m (smbus_bus setup names) (on Smbus)
       manager_is = record {
         waits = tied.waits;
-        alone = ap (λ n. open_beside (name_awaited n (open_count (P setup names) Smbus m)) m.joined) tied.named ∙ tied.alone;
+        alone = ap (λ n. open_beside (name_awaited n (open_count (own_plans setup names) Smbus m)) m.joined) tied.named ∙ tied.alone;
         counted = tied.counted Smbus ∙ from_zero _;
         controller = ap (λ n. n.peer_eid) (sym tied.named);
       }
@@ -293,7 +293,7 @@ module _ (setup : BoardFile) (names : Names) (plan : List Op) (start : Records) 
 
       -- no reply is whole yet
       waits_tied : (joined : Assemblies) → SameRequests (on Smbus).bus ends_after.bus → WaitsAlike ends_after.manager joined
-          → open_beside (name_awaited m.names (open_count (P setup names) Smbus m)) joined ≡ 0 → IsTied setup names (record x { manager = record m { joined = joined } }) moved
+          → open_beside (name_awaited m.names (open_count (own_plans setup names) Smbus m)) joined ≡ 0 → IsTied setup names (record x { manager = record m { joined = joined } }) moved
       waits_tied joined same waits alone =
           let only = only_manager (smbus_bus setup names) (on Smbus) hold.which hold.place in
           record {
@@ -307,7 +307,7 @@ module _ (setup : BoardFile) (names : Names) (plan : List Op) (start : Records) 
               sound = tied.smbus_port.sound;
             };
             waits = waits;
-            alone = ap (λ n. open_beside (name_awaited n (open_count (P setup names) Smbus m)) joined) (sym tied.named) ∙ alone;
+            alone = ap (λ n. open_beside (name_awaited n (open_count (own_plans setup names) Smbus m)) joined) (sym tied.named) ∙ alone;
             counted = counted;
             written = written;
             answered = answered;
@@ -332,8 +332,8 @@ module _ (setup : BoardFile) (names : Names) (plan : List Op) (start : Records) 
           }
 
       by_brought_part : (task : Task (words setup names)) (part : TaskPart (words setup names)) (at : Opened true task part ≡ m.machine.stage) (same : Smbus ≡ bus_at (words setup names) part)
-          → (r : BringsPart (P setup names) m (smbus_bus setup names) (on Smbus) hold.which hold.place hold.packet) → (o : Option (List ℕ)) → brings_packets (smbus_bus setup names) (on Smbus) arrives ≡ o
-          → Goes setup names x on (manager_does (P setup names) (takes_if (P setup names) Smbus o (record m { joined = r.joined })) x)
+          → (r : BringsPart (own_plans setup names) m (smbus_bus setup names) (on Smbus) hold.which hold.place hold.packet) → (o : Option (List ℕ)) → brings_packets (smbus_bus setup names) (on Smbus) arrives ≡ o
+          → Goes setup names x on (manager_does (own_plans setup names) (takes_if (own_plans setup names) Smbus o (record m { joined = r.joined })) x)
       by_brought_part task part at same r None e =
           let still = subst (λ o. MatchOption o (SameRequests (on Smbus).bus ends_after.bus) (IsTaken (on Smbus).bus ends_after.bus)) e (effect_is Smbus arrives task part at same tt refl honest_part) in
           record {
@@ -341,7 +341,7 @@ module _ (setup : BoardFile) (names : Names) (plan : List Op) (start : Records) 
             left = moved;
             may = (((tt, honest_part), refl), tt);
             gives = tt;
-            reaches = looked Smbus arrives task part at same tt refl honest_part ∙ ap (λ o. world.brought (F setup names) (L setup names) (W setup names) Smbus arrives o w) e;
+            reaches = looked Smbus arrives task part at same tt refl honest_part ∙ ap (λ o. world.brought (own_family setup names) (own_lines setup names) (own_wires setup names) Smbus arrives o w) e;
             tied = waits_tied r.joined still r.waits r.alone;
           }
       by_brought_part task part at same r (Some reply) e =
@@ -349,34 +349,34 @@ module _ (setup : BoardFile) (names : Names) (plan : List Op) (start : Records) 
           let none = subst (λ o. IfSome o (λ reply. r.joined.open_count ≡ 0)) e r.none_left in
           goes_taken Smbus arrives task part at same tt refl honest_part reply r.joined e (took_part reply r.joined taken r.waits none)
 
-      part_by_stage : (stage : Stage (words setup names)) → stage ≡ m.machine.stage → Goes setup names x on (manager_does (P setup names) (hears_packet (P setup names) hold.packet m) x)
+      part_by_stage : (stage : Stage (words setup names)) → stage ≡ m.machine.stage → Goes setup names x on (manager_does (own_plans setup names) (hears_packet (own_plans setup names) hold.packet m) x)
       part_by_stage (Opened true task part) at = elim (cases_bus Smbus (bus_at (words setup names) part)) [
         | inl same ↦
-            let opened : IsOpenOn (P setup names) Smbus m part (on Smbus).bus = record { heeded = heeds Smbus task part at same; opened = open_there Smbus task part at same } in
-            let r = (replies_are_brought (P setup names)).parts m part (smbus_bus setup names) (on Smbus) hold.which hold.place hold.packet (smbus_agrees setup names plan start x on tied h) effect_of_part opened manager_is part_is in
-            subst (λ d. Goes setup names x on (manager_does (P setup names) d x)) (sym r.deed) (by_brought_part task part at same r (brings_packets (smbus_bus setup names) (on Smbus) arrives) refl)
-        | inr other ↦ rest_goes _ ((replies_are_brought (P setup names)).unheeded_part m hold.packet (heeds_not Smbus task part at other))
+            let opened : IsOpenOn (own_plans setup names) Smbus m part (on Smbus).bus = record { heeded = heeds Smbus task part at same; opened = open_there Smbus task part at same } in
+            let r = (replies_are_brought (own_plans setup names)).parts m part (smbus_bus setup names) (on Smbus) hold.which hold.place hold.packet (smbus_agrees setup names plan start x on tied h) effect_of_part opened manager_is part_is in
+            subst (λ d. Goes setup names x on (manager_does (own_plans setup names) d x)) (sym r.deed) (by_brought_part task part at same r (brings_packets (smbus_bus setup names) (on Smbus) arrives) refl)
+        | inr other ↦ rest_goes _ ((replies_are_brought (own_plans setup names)).unheeded_part m hold.packet (heeds_not Smbus task part at other))
       ]
-      part_by_stage (Opened false task part) at = rest_goes _ ((replies_are_brought (P setup names)).unheeded_part m hold.packet (ap (heeded_on (P setup names) Smbus) (sym at)))
-      part_by_stage AtStart at = rest_goes _ ((replies_are_brought (P setup names)).unheeded_part m hold.packet (ap (heeded_on (P setup names) Smbus) (sym at)))
-      part_by_stage AtEnd at = rest_goes _ ((replies_are_brought (P setup names)).unheeded_part m hold.packet (ap (heeded_on (P setup names) Smbus) (sym at)))
-      part_by_stage (AtHalt k why) at = rest_goes _ ((replies_are_brought (P setup names)).unheeded_part m hold.packet (ap (heeded_on (P setup names) Smbus) (sym at)))
-      part_by_stage AtUndone at = rest_goes _ ((replies_are_brought (P setup names)).unheeded_part m hold.packet (ap (heeded_on (P setup names) Smbus) (sym at)))
-      part_by_stage (AtRefused k code) at = rest_goes _ ((replies_are_brought (P setup names)).unheeded_part m hold.packet (ap (heeded_on (P setup names) Smbus) (sym at)))
+      part_by_stage (Opened false task part) at = rest_goes _ ((replies_are_brought (own_plans setup names)).unheeded_part m hold.packet (ap (heeded_on (own_plans setup names) Smbus) (sym at)))
+      part_by_stage AtStart at = rest_goes _ ((replies_are_brought (own_plans setup names)).unheeded_part m hold.packet (ap (heeded_on (own_plans setup names) Smbus) (sym at)))
+      part_by_stage AtEnd at = rest_goes _ ((replies_are_brought (own_plans setup names)).unheeded_part m hold.packet (ap (heeded_on (own_plans setup names) Smbus) (sym at)))
+      part_by_stage (AtHalt k why) at = rest_goes _ ((replies_are_brought (own_plans setup names)).unheeded_part m hold.packet (ap (heeded_on (own_plans setup names) Smbus) (sym at)))
+      part_by_stage AtUndone at = rest_goes _ ((replies_are_brought (own_plans setup names)).unheeded_part m hold.packet (ap (heeded_on (own_plans setup names) Smbus) (sym at)))
+      part_by_stage (AtRefused k code) at = rest_goes _ ((replies_are_brought (own_plans setup names)).unheeded_part m hold.packet (ap (heeded_on (own_plans setup names) Smbus) (sym at)))
 
-      pub told_part_goes : Goes setup names x on (manager_does (P setup names) (manager_hears (P setup names) f.value m) x)
-      told_part_goes = subst (λ v. Goes setup names x on (manager_does (P setup names) (manager_hears (P setup names) v m) x)) (sym hold.value) (part_by_stage m.machine.stage refl)
+      pub told_part_goes : Goes setup names x on (manager_does (own_plans setup names) (manager_hears (own_plans setup names) f.value m) x)
+      told_part_goes = subst (λ v. Goes setup names x on (manager_does (own_plans setup names) (manager_hears (own_plans setup names) v m) x)) (sym hold.value) (part_by_stage m.machine.stage refl)
 
     -- ---- any frame to the manager
 
-    by_bus : (f : LabFrame) (bus : Bus) → f.on ≡ bus → IsLive (P setup names) x f → IsHeldBy setup names ToTheManager bus on f → Goes setup names x on (manager_does (P setup names) (manager_hears (P setup names) f.value m) x)
+    by_bus : (f : LabFrame) (bus : Bus) → f.on ≡ bus → IsLive (own_plans setup names) x f → IsHeldBy setup names ToTheManager bus on f → Goes setup names x on (manager_does (own_plans setup names) (manager_hears (own_plans setup names) f.value m) x)
     by_bus f Ipmb at live hold = told_goes f hold (live_there setup names plan start x on tied h f hold.frame Ipmb at live hold.is_of.request hold.is_of.idles)
     by_bus f Smbus at live (inl hold) = told_part_goes f hold (live_there setup names plan start x on tied h f hold.frame Smbus at live hold.is_of.request hold.is_of.idles)
     by_bus f Smbus at live (inr other) = others_part f other
 
     -- a frame comes to the manager
-    pub returned_goes : (number : ℕ) → IsDelivered (P setup names) ToTheManager x number → Goes setup names x on (returned (P setup names) setup (slice_get x.frames number) x)
+    pub returned_goes : (number : ℕ) → IsDelivered (own_plans setup names) ToTheManager x number → Goes setup names x on (returned (own_plans setup names) setup (slice_get x.frames number) x)
     returned_goes number d =
         let held = each_at (IsHeld setup names on) x.frames number d.frame tied.frames d.sent in
         let here = subst (λ way. IsHeldBy setup names way d.frame.on on d.frame) d.meant held in
-        subst (λ o. Goes setup names x on (returned (P setup names) setup o x)) (sym d.sent) (by_bus d.frame d.frame.on refl d.live here)
+        subst (λ o. Goes setup names x on (returned (own_plans setup names) setup o x)) (sym d.sent) (by_bus d.frame d.frame.on refl d.live here)

@@ -50,7 +50,7 @@ use Rattle.model_ports.proofs.Parts.{parts_are_cuts}
 use Rattle.model_headline.specs.Each.{Each}
 use Rattle.model_headline.proofs.Each.{each_map, each_by_place}
 use Rattle.model_headline.proofs.Series.{mapped, alone_is, IsOfAll, made_so}
-use Rattle.model_headline.specs.Tied.{L, smbus_bus, IsHeld, requests}
+use Rattle.model_headline.specs.Tied.{own_lines, smbus_bus, IsHeld, requests}
 
 -- ---- types of PLDM
 
@@ -171,7 +171,7 @@ responded : (net_fn lun number command : ℕ) (body : List ℕ) → lun ≡ 0 �
 responded net_fn lun number command body none a = λ i.
     (4 * (sym (upper net_fn lun none) i + 1) + sym (lower number 0 refl) i) ∷ (4 * sym (upper number 0 refl) i + sym (lower net_fn lun none) i) ∷ command ∷ a.code ∷ a.body
 
-module _ (setup : BoardFile) (names : Names) (now : States (L setup names)) (which count idles : ℕ) (g : Frame) where
+module _ (setup : BoardFile) (names : Names) (now : States (own_lines setup names)) (which count idles : ℕ) (g : Frame) where
   -- a frame of the lab that is sent to the port with the request
   abbrev pub to_port : Bus → Value → LabFrame
   to_port on value = record { on = on; way = ToPort; request = count; idles = idles; value = value }

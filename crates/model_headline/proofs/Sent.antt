@@ -26,7 +26,7 @@ use Rattle.model_lab.specs.declared.way.Way.TheVariants.{ToPort}
 use Rattle.model_lab.specs.Lab.{Lab, idles_on, with_frames}
 use Rattle.model_headline.specs.Each.{Each}
 use Rattle.model_headline.proofs.Each.{each_append}
-use Rattle.model_headline.specs.Tied.{P, L, smbus_bus, rules_on, requests, IsHeld, EntryAnswers, IsTied}
+use Rattle.model_headline.specs.Tied.{own_plans, own_lines, smbus_bus, rules_on, requests, IsHeld, EntryAnswers, IsTied}
 use Rattle.model_headline.proofs.Frames.{Sends, all_held}
 use Rattle.model_headline.proofs.Sending.{request_held}
 
@@ -34,18 +34,18 @@ use Rattle.model_headline.proofs.Sending.{request_held}
 
 module _ (setup : BoardFile) (names : Names) where
   -- the manager's requests on a bus are these; what waits on SMBus is left
-  abbrev pub put : Bus → BusState → States (L setup names) → States (L setup names)
-  put Ipmb s on = update (L setup names) Ipmb s on
-  put Smbus s on = update (L setup names) Smbus (record (on Smbus) { bus = s }) on
+  abbrev pub put : Bus → BusState → States (own_lines setup names) → States (own_lines setup names)
+  put Ipmb s on = update (own_lines setup names) Ipmb s on
+  put Smbus s on = update (own_lines setup names) Smbus (record (on Smbus) { bus = s }) on
 
-  pub each_put : (bus : Bus) (s : BusState) (on : States (L setup names)) (Q : Bus → BusState → Type 0) → ((any : Bus) → Q any (requests setup names on any)) → Q bus s
+  pub each_put : (bus : Bus) (s : BusState) (on : States (own_lines setup names)) (Q : Bus → BusState → Type 0) → ((any : Bus) → Q any (requests setup names on any)) → Q bus s
       → (any : Bus) → Q any (requests setup names (put bus s on) any)
   each_put Ipmb s on Q all here Ipmb = here
   each_put Ipmb s on Q all here Smbus = all Smbus
   each_put Smbus s on Q all here Ipmb = all Ipmb
   each_put Smbus s on Q all here Smbus = here
 
-  pub put_here : (bus : Bus) (s : BusState) (on : States (L setup names)) → requests setup names (put bus s on) bus ≡ s
+  pub put_here : (bus : Bus) (s : BusState) (on : States (own_lines setup names)) → requests setup names (put bus s on) bus ≡ s
   put_here Ipmb s on = refl
   put_here Smbus s on = refl
 
@@ -59,30 +59,30 @@ module _ (setup : BoardFile) (names : Names) where
     pub frames : new.frames ≡ old.frames ++ record { request = count; idles = idles_of (rules_on setup names bus).manager old.log; content = Ask bytes } ∷ []
     pub requests : (n : ℕ) (b : List ℕ) → slice_get new.begun n ≡ Some b → IsRequestOn bus ((rules_on setup names bus).number_of n) b
 
-  port_put : (bus : Bus) (s : BusState) (x : Lab (P setup names)) (on : States (L setup names)) → s.log ≡ (requests setup names on bus).log → IsPortOf (on Smbus) x.smbus → IsPortOf (put bus s on Smbus) x.smbus
+  port_put : (bus : Bus) (s : BusState) (x : Lab (own_plans setup names)) (on : States (own_lines setup names)) → s.log ≡ (requests setup names on bus).log → IsPortOf (on Smbus) x.smbus → IsPortOf (put bus s on Smbus) x.smbus
   port_put Ipmb s x on same is = is
   port_put Smbus s x on same is = record { log = same ∙ is.log; waits = is.waits; sound = is.sound }
 
-  log_put : (bus : Bus) (s : BusState) (x : Lab (P setup names)) (on : States (L setup names)) → s.log ≡ (requests setup names on bus).log → (on Ipmb).log ≡ x.ipmb.log → (put bus s on Ipmb).log ≡ x.ipmb.log
+  log_put : (bus : Bus) (s : BusState) (x : Lab (own_plans setup names)) (on : States (own_lines setup names)) → s.log ≡ (requests setup names on bus).log → (on Ipmb).log ≡ x.ipmb.log → (put bus s on Ipmb).log ≡ x.ipmb.log
   log_put Ipmb s x on same is = same ∙ is
   log_put Smbus s x on same is = is
 
   -- how often the manager's window was forgotten is the same in the model
-  pub idles_alike : (bus : Bus) (x : Lab (P setup names)) (on : States (L setup names)) → IsTied setup names x on → idles_of (rules_on setup names bus).manager (requests setup names on bus).log ≡ idles_on (P setup names) bus x
+  pub idles_alike : (bus : Bus) (x : Lab (own_plans setup names)) (on : States (own_lines setup names)) → IsTied setup names x on → idles_of (rules_on setup names bus).manager (requests setup names on bus).log ≡ idles_on (own_plans setup names) bus x
   idles_alike Ipmb x on tied = ap (idles_of names.own_address) tied.ipmb_log ∙ ap (λ n. idles_of (own_on Ipmb n) x.ipmb.log) (sym tied.named)
   idles_alike Smbus x on tied = ap (idles_of names.own_eid) tied.smbus_port.log ∙ ap (λ n. idles_of (own_on Smbus n) x.smbus.log) (sym tied.named)
 
-  waits_put : (bus : Bus) (s : BusState) (on : States (L setup names)) (Q : Ends → Type 0) → ((e : Ends) (b : BusState) → Q e → Q (record e { bus = b })) → Q (on Smbus) → Q (put bus s on Smbus)
+  waits_put : (bus : Bus) (s : BusState) (on : States (own_lines setup names)) (Q : Ends → Type 0) → ((e : Ends) (b : BusState) → Q e → Q (record e { bus = b })) → Q (on Smbus) → Q (put bus s on Smbus)
   waits_put Ipmb s on Q keeps q = q
   waits_put Smbus s on Q keeps q = keeps (on Smbus) s q
 
-  pub sent_tied : (x : Lab (P setup names)) (on : States (L setup names)) (asked : Asked) (count : ℕ) (s : BusState) → IsTied setup names x on → IsMade (manager_words (addresses names)) asked
+  pub sent_tied : (x : Lab (own_plans setup names)) (on : States (own_lines setup names)) (asked : Asked) (count : ℕ) (s : BusState) → IsTied setup names x on → IsMade (manager_words (addresses names)) asked
       → IsSentTo (bus_of asked) (requests setup names on (bus_of asked)) s (bytes_of (number_of (bus_of asked) count) asked) count
-      → IsTied setup names (with_frames (P setup names) (bus_of asked) ToPort count (values_of names count asked) x) (put (bus_of asked) s on)
+      → IsTied setup names (with_frames (own_plans setup names) (bus_of asked) ToPort count (values_of names count asked) x) (put (bus_of asked) s on)
   sent_tied x on asked count s tied made is =
       let bus : Bus = bus_of asked in
       let old : BusState = requests setup names on bus in
-      let now : States (L setup names) = put bus s on in
+      let now : States (own_lines setup names) = put bus s on in
       let g : Frame = record { request = count; idles = idles_of (rules_on setup names bus).manager old.log; content = Ask (bytes_of (number_of bus count) asked) } in
       let more : Grows old.frames s.frames = subst (Grows old.frames) (sym is.frames) (grows old.frames (g ∷ [])) in
       let there : slice_get (requests setup names now bus).frames (length old.frames) ≡ Some g =
@@ -102,7 +102,7 @@ module _ (setup : BoardFile) (names : Names) where
         answered = each_put bus s on (λ any b. Each (EntryAnswers setup names any) b.log) tied.answered (subst (Each (EntryAnswers setup names bus)) (sym is.log) (tied.answered bus));
         made = tied.made;
         frames = each_append (IsHeld setup names now) x.frames _ (all_held setup names on now x.frames sends tied.frames)
-            (request_held setup names now (length old.frames) count (idles_on (P setup names) bus x) g asked made there refl (idles_alike bus x on tied) refl);
+            (request_held setup names now (length old.frames) count (idles_on (own_plans setup names) bus x) g asked made there refl (idles_alike bus x on tied) refl);
         opened = waits_put bus s on
             (λ e. (n : ℕ) (t : Sent) → In t (e.port (request_name (smbus_bus setup names) n)) → t.request ≡ x.opened (n % 8))
             (λ e b q. q) tied.opened;

@@ -17,7 +17,7 @@ use Rattle.model_ports.specs.Values.{Asks}
 use Rattle.model_ports.specs.PortSteps.{hears, hears_all, idles}
 use Rattle.model_lab.specs.declared.way.Way.TheVariants.{ToOthers}
 use Rattle.model_lab.specs.Lab.{Calls, ToBmc, ToMgr, OtherIpmb, OtherSmbus, Noise, Idles, OnBench, Lab, step, call_does, port_does, with_port, port_on, delivered, returned}
-use Rattle.model_headline.specs.Tied.{P, Goes}
+use Rattle.model_headline.specs.Tied.{own_plans, Goes}
 use Rattle.model_headline.specs.Follows.{CallsAreFollowed, RepliesAreFollowed, RequestsAreFollowed, OthersAreFollowed}
 use Rattle.model_headline.proofs.Calls.{call_goes}
 use Rattle.model_headline.proofs.Returns.{returned_goes}
@@ -27,35 +27,35 @@ use Rattle.model_headline.proofs.OtherParts.{message_goes}
 use Rattle.model_headline.proofs.Others.{idle_goes, noise_goes, bench_goes}
 
 module _ (setup : BoardFile) (names : Names) where
-  call_step : (x : Lab (P setup names)) (call : Call) → call_does (P setup names) (called (P setup names) call x.manager) x ≡ step (P setup names) setup x (Calls call)
+  call_step : (x : Lab (own_plans setup names)) (call : Call) → call_does (own_plans setup names) (called (own_plans setup names) call x.manager) x ≡ step (own_plans setup names) setup x (Calls call)
   unfolding step
   call_step x call = refl
 
-  return_step : (x : Lab (P setup names)) (number : ℕ) → returned (P setup names) setup (slice_get x.frames number) x ≡ step (P setup names) setup x (ToMgr number)
+  return_step : (x : Lab (own_plans setup names)) (number : ℕ) → returned (own_plans setup names) setup (slice_get x.frames number) x ≡ step (own_plans setup names) setup x (ToMgr number)
   unfolding step
   return_step x number = refl
 
-  deliver_step : (x : Lab (P setup names)) (number : ℕ) → delivered (P setup names) setup (slice_get x.frames number) x ≡ step (P setup names) setup x (ToBmc number)
+  deliver_step : (x : Lab (own_plans setup names)) (number : ℕ) → delivered (own_plans setup names) setup (slice_get x.frames number) x ≡ step (own_plans setup names) setup x (ToBmc number)
   unfolding step
   deliver_step x number = refl
 
-  other_step : (x : Lab (P setup names)) (r : Request) → port_does (P setup names) Ipmb ToOthers 0 (hears setup x.ipmb x.board (Asks r)) x ≡ step (P setup names) setup x (OtherIpmb r)
+  other_step : (x : Lab (own_plans setup names)) (r : Request) → port_does (own_plans setup names) Ipmb ToOthers 0 (hears setup x.ipmb x.board (Asks r)) x ≡ step (own_plans setup names) setup x (OtherIpmb r)
   unfolding step
   other_step x r = refl
 
-  message_step : (x : Lab (P setup names)) (m : Message) → port_does (P setup names) Smbus ToOthers 0 (hears_all setup x.smbus x.board m) x ≡ step (P setup names) setup x (OtherSmbus m)
+  message_step : (x : Lab (own_plans setup names)) (m : Message) → port_does (own_plans setup names) Smbus ToOthers 0 (hears_all setup x.smbus x.board m) x ≡ step (own_plans setup names) setup x (OtherSmbus m)
   unfolding step
   message_step x m = refl
 
-  noise_step : (x : Lab (P setup names)) (bus : Bus) (bytes : List ℕ) → x ≡ step (P setup names) setup x (Noise bus bytes)
+  noise_step : (x : Lab (own_plans setup names)) (bus : Bus) (bytes : List ℕ) → x ≡ step (own_plans setup names) setup x (Noise bus bytes)
   unfolding step
   noise_step x bus bytes = refl
 
-  idle_step : (x : Lab (P setup names)) (bus : Bus) (requester : ℕ) → with_port (P setup names) bus (idles requester (port_on (P setup names) bus x)) x ≡ step (P setup names) setup x (Idles bus requester)
+  idle_step : (x : Lab (own_plans setup names)) (bus : Bus) (requester : ℕ) → with_port (own_plans setup names) bus (idles requester (port_on (own_plans setup names) bus x)) x ≡ step (own_plans setup names) setup x (Idles bus requester)
   unfolding step
   idle_step x bus requester = refl
 
-  bench_step : (x : Lab (P setup names)) (activity : Activity) → record x { board = on_bench x.board activity } ≡ step (P setup names) setup x (OnBench activity)
+  bench_step : (x : Lab (own_plans setup names)) (activity : Activity) → record x { board = on_bench x.board activity } ≡ step (own_plans setup names) setup x (OnBench activity)
   unfolding step
   bench_step x activity = refl
 

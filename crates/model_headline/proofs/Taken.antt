@@ -33,14 +33,14 @@ use Rattle.model_lab.specs.Lab.{Lab, manager_does}
 use Rattle.model_headline.specs.Each.{Each}
 use Rattle.model_headline.specs.Made.{MachineMade, StageMade}
 use Rattle.model_headline.proofs.Made.{takes_made}
-use Rattle.model_headline.specs.Tied.{P, F, L, W, smbus_bus, requests, EntryAnswers, IsTied, world_of}
+use Rattle.model_headline.specs.Tied.{own_plans, own_family, own_lines, own_wires, smbus_bus, requests, EntryAnswers, IsTied, world_of}
 use Rattle.model_headline.proofs.Frames.{Sends, all_held}
 use Rattle.model_headline.proofs.Begun.{own, words, NoneOpen, enter_tied, same_world}
 use Rattle.model_headline.specs.Follows.{Holds}
 use Rattle.model_headline.proofs.Calls.{managed, are_closed}
 
 module _ (setup : BoardFile) (names : Names) (plan : List Op) (start : Records) where
-  module _ (x : Lab (P setup names)) (on now : States (L setup names)) (tied : IsTied setup names x on) (h : Holds setup names plan start (world_of setup names x on)) where
+  module _ (x : Lab (own_plans setup names)) (on now : States (own_lines setup names)) (tied : IsTied setup names x on) (h : Holds setup names plan start (world_of setup names x on)) where
     -- what the model's event leaves: the open request's reply was taken on this bus, and these packets wait at the manager
     pub record Took (bus : Bus) (reply : List ℕ) (joined : Assemblies) : Type 0 where
       pub taken : IsTaken (requests setup names on bus) (requests setup names now bus) reply
@@ -64,7 +64,7 @@ module _ (setup : BoardFile) (names : Names) (plan : List Op) (start : Records) 
       turn = takes (words setup names) a task part x.manager.machine
 
       -- the lab, before the next request is sent
-      abbrev y : Lab (P setup names)
+      abbrev y : Lab (own_plans setup names)
       y = managed setup names plan start turn.machine joined x
 
       begun_same : (any : Bus) → (requests setup names now any).begun ≡ (requests setup names on any).begun
@@ -97,7 +97,7 @@ module _ (setup : BoardFile) (names : Names) (plan : List Op) (start : Records) 
       no_more : (n : Name) (j : Assemblies) → j.open_count ≡ 0 → open_beside n j ≡ 0
       no_more n j is = omega (arith, is)
 
-      alone : open_beside (name_awaited names (open_count (P setup names) Smbus y.manager)) joined ≡ 0
+      alone : open_beside (name_awaited names (open_count (own_plans setup names) Smbus y.manager)) joined ≡ 0
       alone = elim (took.alone 0) [
         | inl other ↦
             subst (λ (j : Assemblies). open_beside (name_awaited names (count_of Smbus (one_answered bus x.manager.machine.counts))) j ≡ 0) (sym (took.beside other))
@@ -134,15 +134,15 @@ module _ (setup : BoardFile) (names : Names) (plan : List Op) (start : Records) 
 
       -- the lab and the model's world after it
       pub record After : Type 0 where
-        pub left : States (L setup names)
-        pub is_left : left ≡ world.begins (F setup names) (L setup names) (W setup names) turn.sends now
-        pub ties : IsTied setup names (manager_does (P setup names) (goes_on (P setup names) (record (x.manager) { joined = joined }) turn) x) left
-        pub reaches : (record { machine = turn.machine; on = left; board = x.board }) ≡ world_of setup names (manager_does (P setup names) (goes_on (P setup names) (record (x.manager) { joined = joined }) turn) x) left
+        pub left : States (own_lines setup names)
+        pub is_left : left ≡ world.begins (own_family setup names) (own_lines setup names) (own_wires setup names) turn.sends now
+        pub ties : IsTied setup names (manager_does (own_plans setup names) (goes_on (own_plans setup names) (record (x.manager) { joined = joined }) turn) x) left
+        pub reaches : (record { machine = turn.machine; on = left; board = x.board }) ≡ world_of setup names (manager_does (own_plans setup names) (goes_on (own_plans setup names) (record (x.manager) { joined = joined }) turn) x) left
 
       pub taken_after : After
       taken_after =
-          let left = world.begins (F setup names) (L setup names) (W setup names) turn.sends now in
-          let sent = option_map (sent_of (P setup names) x.manager.names) turn.sends in
+          let left = world.begins (own_family setup names) (own_lines setup names) (own_wires setup names) turn.sends now in
+          let sent = option_map (sent_of (own_plans setup names) x.manager.names) turn.sends in
           record {
             left = left;
             is_left = refl;
@@ -153,8 +153,8 @@ module _ (setup : BoardFile) (names : Names) (plan : List Op) (start : Records) 
       -- the reply isn't one of a busy controller, so the machine takes it
       pub not_busy : is_busy a.code ≡ false
       not_busy =
-          let opened = subst (λ s. Joined (F setup names) (is_family setup (own setup names)) (W setup names) (λ b. 0) plan start x.manager.machine.plan s x.manager.machine.stopped x.manager.machine.undo (requests setup names on) x.board) (sym at) h.joined in
-          (told (F setup names) (is_family setup (own setup names)) (W setup names) (λ b. 0) plan start x.manager.machine.plan true task part x.manager.machine.stopped x.manager.machine.undo (requests setup names on) x.board (requests setup names now bus) reply opened took.taken).1
+          let opened = subst (λ s. Joined (own_family setup names) (is_family setup (own setup names)) (own_wires setup names) (λ b. 0) plan start x.manager.machine.plan s x.manager.machine.stopped x.manager.machine.undo (requests setup names on) x.board) (sym at) h.joined in
+          (told (own_family setup names) (is_family setup (own setup names)) (own_wires setup names) (λ b. 0) plan start x.manager.machine.plan true task part x.manager.machine.stopped x.manager.machine.undo (requests setup names on) x.board (requests setup names now bus) reply opened took.taken).1
 
       pub reply_is : reply_of (words setup names) a x.manager.machine ≡ Some turn
       reply_is =

@@ -44,7 +44,7 @@ use Rattle.model_lab.specs.Own.{IsOwn, AllOwn}
 use Rattle.model_lab.specs.Joins.{IsJoinLive, AllJoinLive}
 use Rattle.model_lab.proofs.Breaches.{faults_are_breaches}
 use Rattle.model_headline.specs.Each.{Each}
-use Rattle.model_headline.specs.Tied.{P, F, L, W, rules_on, requests, EntryAnswers, IsTied, IsGiven, world_of, Goes}
+use Rattle.model_headline.specs.Tied.{own_plans, own_family, own_lines, own_wires, rules_on, requests, EntryAnswers, IsTied, IsGiven, world_of, Goes}
 use Rattle.model_headline.specs.Follows.{Holds, IsFollowed}
 use Rattle.model_headline.specs.Answers.{CausedBy}
 use Rattle.model_headline.specs.Theorem.{first, after, phase_after, IsTrusted, IsHonestAndOwn, IsTakenAndOwn, AlwaysStands, UndoneForGood, GaveIn, HaltsByAnswers, Headline, PremisesAgree}
@@ -58,7 +58,7 @@ use Rattle.model_headline.proofs.Steps.{calls_followed, replies_followed, reques
 
 module _ (setup : BoardFile) (names : Names) (plan : List Op) (start : Records) where
   -- an event that is honest, and joins no other request's assembly, is followed
-  pub event_followed : (x : Lab (P setup names)) (e : Event) → (HasBytes (P setup names) e → IsHonest (P setup names) x e) → IsOwn (P setup names) x e → IsFollowed setup names plan start x e
+  pub event_followed : (x : Lab (own_plans setup names)) (e : Event) → (HasBytes (own_plans setup names) e → IsHonest (own_plans setup names) x e) → IsOwn (own_plans setup names) x e → IsFollowed setup names plan start x e
   event_followed x (Calls call) honest own = calls_followed setup names plan start x call
   event_followed x (ToBmc number) honest own = requests_followed setup names plan start x number (honest tt) own
   event_followed x (ToMgr number) honest own = replies_followed setup names plan start x number (honest tt)
@@ -70,57 +70,57 @@ module _ (setup : BoardFile) (names : Names) (plan : List Op) (start : Records) 
 
   -- ---- all events
 
-  no_events : (x : Lab (P setup names)) → x ≡ run (P setup names) setup [] x
+  no_events : (x : Lab (own_plans setup names)) → x ≡ run (own_plans setup names) setup [] x
   unfolding run
   no_events x = refl
 
-  more_events : (e : Event) (es : List Event) (x : Lab (P setup names)) → run (P setup names) setup es (step (P setup names) setup x e) ≡ run (P setup names) setup (e ∷ es) x
+  more_events : (e : Event) (es : List Event) (x : Lab (own_plans setup names)) → run (own_plans setup names) setup es (step (own_plans setup names) setup x e) ≡ run (own_plans setup names) setup (e ∷ es) x
   unfolding run
   more_events e es x = refl
 
   -- where the world holds, it holds after what the lab does
-  pub still_holds : (x y : Lab (P setup names)) (on : States (L setup names)) → Holds setup names plan start (world_of setup names x on) → (g : Went setup names x on y) → Holds setup names plan start (world_of setup names y g.left)
+  pub still_holds : (x y : Lab (own_plans setup names)) (on : States (own_lines setup names)) → Holds setup names plan start (world_of setup names x on) → (g : Went setup names x on y) → Holds setup names plan start (world_of setup names y g.left)
   still_holds x y on h g = subst (Holds setup names plan start) g.reaches
-      (run_holds (F setup names) (is_family setup (addresses names)) (L setup names) (packet_lines (addresses names) packets_of packets_cut) (W setup names) (λ bus. 0) plan start g.happenings (world_of setup names x on) h g.may)
+      (run_holds (own_family setup names) (is_family setup (addresses names)) (own_lines setup names) (packet_lines (addresses names) packets_of packets_cut) (own_wires setup names) (λ bus. 0) plan start g.happenings (world_of setup names x on) h g.may)
 
   -- the answer was given at an event
-  pub record GivenIn (es : List Event) (x : Lab (P setup names)) (g : Giving (F setup names)) : Type 0 where
+  pub record GivenIn (es : List Event) (x : Lab (own_plans setup names)) (g : Giving (own_family setup names)) : Type 0 where
     pub before : List Event
     pub event : Event
     pub later : List Event
     pub all : es ≡ before ++ event ∷ later
-    pub given : IsGiven setup names (run (P setup names) setup before x) (step (P setup names) setup (run (P setup names) setup before x) event) g
+    pub given : IsGiven setup names (run (own_plans setup names) setup before x) (step (own_plans setup names) setup (run (own_plans setup names) setup before x) event) g
 
   -- the model's world goes on to the lab's after all events, and gives no answer but those that are given at them
-  pub record Ran (es : List Event) (x : Lab (P setup names)) (on : States (L setup names)) : Type 0 where
-    pub went : Went setup names x on (run (P setup names) setup es x)
-    pub gives : Each (GivenIn es x) (given_on setup names x on (run (P setup names) setup es x) went)
+  pub record Ran (es : List Event) (x : Lab (own_plans setup names)) (on : States (own_lines setup names)) : Type 0 where
+    pub went : Went setup names x on (run (own_plans setup names) setup es x)
+    pub gives : Each (GivenIn es x) (given_on setup names x on (run (own_plans setup names) setup es x) went)
 
-  given_first : (e : Event) (es : List Event) (x : Lab (P setup names)) (g : Giving (F setup names)) → IsGiven setup names x (step (P setup names) setup x e) g → GivenIn (e ∷ es) x g
+  given_first : (e : Event) (es : List Event) (x : Lab (own_plans setup names)) (g : Giving (own_family setup names)) → IsGiven setup names x (step (own_plans setup names) setup x e) g → GivenIn (e ∷ es) x g
   given_first e es x g is = record {
     before = [];
     event = e;
     later = es;
     all = refl;
-    given = subst (λ (y : Lab (P setup names)). IsGiven setup names y (step (P setup names) setup y e) g) (no_events x) is;
+    given = subst (λ (y : Lab (own_plans setup names)). IsGiven setup names y (step (own_plans setup names) setup y e) g) (no_events x) is;
   }
 
-  given_later : (e : Event) (es : List Event) (x : Lab (P setup names)) (g : Giving (F setup names)) → GivenIn es (step (P setup names) setup x e) g → GivenIn (e ∷ es) x g
+  given_later : (e : Event) (es : List Event) (x : Lab (own_plans setup names)) (g : Giving (own_family setup names)) → GivenIn es (step (own_plans setup names) setup x e) g → GivenIn (e ∷ es) x g
   given_later e es x g is = record {
     before = e ∷ is.before;
     event = is.event;
     later = is.later;
     all = ap (λ (l : List Event). e ∷ l) is.all;
-    given = subst (λ (y : Lab (P setup names)). IsGiven setup names y (step (P setup names) setup y is.event) g) (more_events e is.before x) is.given;
+    given = subst (λ (y : Lab (own_plans setup names)). IsGiven setup names y (step (own_plans setup names) setup y is.event) g) (more_events e is.before x) is.given;
   }
 
-  pub all_followed : (events : List Event) (x : Lab (P setup names)) (on : States (L setup names)) → IsTied setup names x on → Holds setup names plan start (world_of setup names x on)
-      → AllHonest (P setup names) setup events x → AllOwn (P setup names) setup events x → Ran events x on
+  pub all_followed : (events : List Event) (x : Lab (own_plans setup names)) (on : States (own_lines setup names)) → IsTied setup names x on → Holds setup names plan start (world_of setup names x on)
+      → AllHonest (own_plans setup names) setup events x → AllOwn (own_plans setup names) setup events x → Ran events x on
   unfolding run
   all_followed [] x on tied h honest own = record { went = stays_there setup names x on tied; gives = tt }
   all_followed (e ∷ es) x on tied h honest own =
-      let next : Lab (P setup names) = step (P setup names) setup x e in
-      let last : Lab (P setup names) = run (P setup names) setup es next in
+      let next : Lab (own_plans setup names) = step (own_plans setup names) setup x e in
+      let last : Lab (own_plans setup names) = run (own_plans setup names) setup es next in
       let one : Goes setup names x on next = event_followed x e honest.0 own.0 on tied h in
       let first = went_there setup names x next on one in
       let rest = all_followed es next one.left one.tied (still_holds x next on h first) honest.1 own.1 in
@@ -135,8 +135,8 @@ module _ (setup : BoardFile) (names : Names) (plan : List Op) (start : Records) 
   -- ---- one premise for another
 
   -- what an honest event joins
-  event_own : (x : Lab (P setup names)) (on : States (L setup names)) → IsTied setup names x on → Holds setup names plan start (world_of setup names x on)
-      → (e : Event) → (HasBytes (P setup names) e → IsHonest (P setup names) x e) → IsJoinLive (P setup names) x e → IsOwn (P setup names) x e
+  event_own : (x : Lab (own_plans setup names)) (on : States (own_lines setup names)) → IsTied setup names x on → Holds setup names plan start (world_of setup names x on)
+      → (e : Event) → (HasBytes (own_plans setup names) e → IsHonest (own_plans setup names) x e) → IsJoinLive (own_plans setup names) x e → IsOwn (own_plans setup names) x e
   event_own x on tied h (ToBmc number) honest joins = is_own setup names plan start x on tied h number (honest tt) joins
   event_own x on tied h (Calls call) honest joins = tt
   event_own x on tied h (ToMgr number) honest joins = tt
@@ -146,8 +146,8 @@ module _ (setup : BoardFile) (names : Names) (plan : List Op) (start : Records) 
   event_own x on tied h (Idles bus requester) honest joins = tt
   event_own x on tied h (OnBench activity) honest joins = tt
 
-  event_live : (x : Lab (P setup names)) (on : States (L setup names)) → IsTied setup names x on → Holds setup names plan start (world_of setup names x on)
-      → (e : Event) → (HasBytes (P setup names) e → IsHonest (P setup names) x e) → IsOwn (P setup names) x e → IsJoinLive (P setup names) x e
+  event_live : (x : Lab (own_plans setup names)) (on : States (own_lines setup names)) → IsTied setup names x on → Holds setup names plan start (world_of setup names x on)
+      → (e : Event) → (HasBytes (own_plans setup names) e → IsHonest (own_plans setup names) x e) → IsOwn (own_plans setup names) x e → IsJoinLive (own_plans setup names) x e
   event_live x on tied h (ToBmc number) honest joins = is_live setup names plan start x on tied h number (honest tt) joins
   event_live x on tied h (Calls call) honest joins = tt
   event_live x on tied h (ToMgr number) honest joins = tt
@@ -157,33 +157,33 @@ module _ (setup : BoardFile) (names : Names) (plan : List Op) (start : Records) 
   event_live x on tied h (Idles bus requester) honest joins = tt
   event_live x on tied h (OnBench activity) honest joins = tt
 
-  pub all_own : (events : List Event) (x : Lab (P setup names)) (on : States (L setup names)) → IsTied setup names x on → Holds setup names plan start (world_of setup names x on)
-      → AllHonest (P setup names) setup events x → AllJoinLive (P setup names) setup events x → AllOwn (P setup names) setup events x
+  pub all_own : (events : List Event) (x : Lab (own_plans setup names)) (on : States (own_lines setup names)) → IsTied setup names x on → Holds setup names plan start (world_of setup names x on)
+      → AllHonest (own_plans setup names) setup events x → AllJoinLive (own_plans setup names) setup events x → AllOwn (own_plans setup names) setup events x
   all_own [] x on tied h honest joins = tt
   all_own (e ∷ es) x on tied h honest joins =
-      let next : Lab (P setup names) = step (P setup names) setup x e in
+      let next : Lab (own_plans setup names) = step (own_plans setup names) setup x e in
       let own = event_own x on tied h e honest.0 joins.0 in
       let one : Goes setup names x on next = event_followed x e honest.0 own on tied h in
       (own, all_own es next one.left one.tied (still_holds x next on h (went_there setup names x next on one)) honest.1 joins.1)
 
-  pub all_live : (events : List Event) (x : Lab (P setup names)) (on : States (L setup names)) → IsTied setup names x on → Holds setup names plan start (world_of setup names x on)
-      → AllHonest (P setup names) setup events x → AllOwn (P setup names) setup events x → AllJoinLive (P setup names) setup events x
+  pub all_live : (events : List Event) (x : Lab (own_plans setup names)) (on : States (own_lines setup names)) → IsTied setup names x on → Holds setup names plan start (world_of setup names x on)
+      → AllHonest (own_plans setup names) setup events x → AllOwn (own_plans setup names) setup events x → AllJoinLive (own_plans setup names) setup events x
   all_live [] x on tied h honest own = tt
   all_live (e ∷ es) x on tied h honest own =
-      let next : Lab (P setup names) = step (P setup names) setup x e in
+      let next : Lab (own_plans setup names) = step (own_plans setup names) setup x e in
       let one : Goes setup names x on next = event_followed x e honest.0 own.0 on tied h in
       (event_live x on tied h e honest.0 own.0, all_live es next one.left one.tied (still_holds x next on h (went_there setup names x next on one)) honest.1 own.1)
 
   -- what a lab takes is honest
-  pub taken_honest : (events : List Event) (x : Lab (P setup names)) → AllTaken (P setup names) setup events x → AllHonest (P setup names) setup events x
+  pub taken_honest : (events : List Event) (x : Lab (own_plans setup names)) → AllTaken (own_plans setup names) setup events x → AllHonest (own_plans setup names) setup events x
   taken_honest [] x taken = tt
-  taken_honest (e ∷ es) x taken = (λ bytes. (faults_are_breaches (P setup names)).taken x e bytes taken.0, taken_honest es (step (P setup names) setup x e) taken.1)
+  taken_honest (e ∷ es) x taken = (λ bytes. (faults_are_breaches (own_plans setup names)).taken x e bytes taken.0, taken_honest es (step (own_plans setup names) setup x e) taken.1)
 
 -- ---- the start
 
 module _ (setup : BoardFile) (names : Names) (plan : List Op) (retries : ℕ) where
   -- nothing has happened on either bus
-  abbrev quiet : States (L setup names)
+  abbrev quiet : States (own_lines setup names)
   quiet Ipmb = opening_bus []
   quiet Smbus = opening_ends []
 
@@ -222,15 +222,15 @@ module _ (setup : BoardFile) (names : Names) (plan : List Op) (retries : ℕ) wh
     opened = λ n t is. absurd is;
   }
 
-  starts : (bus : Bus) → ((L setup names) bus).IsStart (quiet bus)
+  starts : (bus : Bus) → ((own_lines setup names) bus).IsStart (quiet bus)
   starts Ipmb = (nothing_yet, refl)
   starts Smbus = (nothing_yet, record { port = λ n e. refl; manager = λ n e. refl }, refl)
 
-  is_start : IsStart (F setup names) (L setup names) (W setup names) quiet (first setup names plan retries).board
+  is_start : IsStart (own_family setup names) (own_lines setup names) (own_wires setup names) quiet (first setup names plan retries).board
   is_start = record { on_bus = starts; valid = (starts_valid setup (addresses names)).opened_valid; ready = starts_ready setup (addresses names) }
 
   first_holds : Holds setup names plan (first setup names plan retries).board.records (world_of setup names (first setup names plan retries) quiet)
-  first_holds = opening_holds (F setup names) (is_family setup (addresses names)) (L setup names) (packet_lines (addresses names) packets_of packets_cut) (W setup names) plan retries quiet (first setup names plan retries).board is_start
+  first_holds = opening_holds (own_family setup names) (is_family setup (addresses names)) (own_lines setup names) (packet_lines (addresses names) packets_of packets_cut) (own_wires setup names) plan retries quiet (first setup names plan retries).board is_start
 
   -- ---- the theorem
 
@@ -243,51 +243,51 @@ module _ (setup : BoardFile) (names : Names) (plan : List Op) (retries : ℕ) wh
       let g = (goes events good).went in
       let y = after setup names plan retries events in
       let h = still_holds setup names plan x0.board.records x0 y quiet first_holds g in
-      stands_at (F setup names) (is_family setup (addresses names)) (L setup names) (packet_lines (addresses names) packets_of packets_cut) (W setup names) plan x0.board.records (world_of setup names y g.left) h
+      stands_at (own_family setup names) (is_family setup (addresses names)) (own_lines setup names) (packet_lines (addresses names) packets_of packets_cut) (own_wires setup names) plan x0.board.records (world_of setup names y g.left) h
 
   -- the part of a schedule that comes first, and the rest
-  pub first_honest : (events later : List Event) (x : Lab (P setup names)) → AllHonest (P setup names) setup (events ++ later) x → AllHonest (P setup names) setup events x
+  pub first_honest : (events later : List Event) (x : Lab (own_plans setup names)) → AllHonest (own_plans setup names) setup (events ++ later) x → AllHonest (own_plans setup names) setup events x
   first_honest [] later x all = tt
-  first_honest (e ∷ es) later x all = (all.0, first_honest es later (step (P setup names) setup x e) all.1)
+  first_honest (e ∷ es) later x all = (all.0, first_honest es later (step (own_plans setup names) setup x e) all.1)
 
-  pub first_own : (events later : List Event) (x : Lab (P setup names)) → AllOwn (P setup names) setup (events ++ later) x → AllOwn (P setup names) setup events x
+  pub first_own : (events later : List Event) (x : Lab (own_plans setup names)) → AllOwn (own_plans setup names) setup (events ++ later) x → AllOwn (own_plans setup names) setup events x
   first_own [] later x all = tt
-  first_own (e ∷ es) later x all = (all.0, first_own es later (step (P setup names) setup x e) all.1)
+  first_own (e ∷ es) later x all = (all.0, first_own es later (step (own_plans setup names) setup x e) all.1)
 
-  later_honest : (events later : List Event) (x : Lab (P setup names)) → AllHonest (P setup names) setup (events ++ later) x → AllHonest (P setup names) setup later (run (P setup names) setup events x)
+  later_honest : (events later : List Event) (x : Lab (own_plans setup names)) → AllHonest (own_plans setup names) setup (events ++ later) x → AllHonest (own_plans setup names) setup later (run (own_plans setup names) setup events x)
   unfolding run
   later_honest [] later x all = all
-  later_honest (e ∷ es) later x all = later_honest es later (step (P setup names) setup x e) all.1
+  later_honest (e ∷ es) later x all = later_honest es later (step (own_plans setup names) setup x e) all.1
 
-  later_own : (events later : List Event) (x : Lab (P setup names)) → AllOwn (P setup names) setup (events ++ later) x → AllOwn (P setup names) setup later (run (P setup names) setup events x)
+  later_own : (events later : List Event) (x : Lab (own_plans setup names)) → AllOwn (own_plans setup names) setup (events ++ later) x → AllOwn (own_plans setup names) setup later (run (own_plans setup names) setup events x)
   unfolding run
   later_own [] later x all = all
-  later_own (e ∷ es) later x all = later_own es later (step (P setup names) setup x e) all.1
+  later_own (e ∷ es) later x all = later_own es later (step (own_plans setup names) setup x e) all.1
 
-  both_run : (events later : List Event) (x : Lab (P setup names)) → run (P setup names) setup later (run (P setup names) setup events x) ≡ run (P setup names) setup (events ++ later) x
+  both_run : (events later : List Event) (x : Lab (own_plans setup names)) → run (own_plans setup names) setup later (run (own_plans setup names) setup events x) ≡ run (own_plans setup names) setup (events ++ later) x
   unfolding run
   both_run [] later x = refl
-  both_run (e ∷ es) later x = both_run es later (step (P setup names) setup x e)
+  both_run (e ∷ es) later x = both_run es later (step (own_plans setup names) setup x e)
 
   -- the board has the records of the start, and shows what it showed then
   abbrev IsSame : State → Type 0
   IsSame now =
       let board = (first setup names plan retries).board in
-      (now.records ≡ board.records) × ShowsSame (F setup names) board now × PartsShowSame (F setup names) board now
+      (now.records ≡ board.records) × ShowsSame (own_family setup names) board now × PartsShowSame (own_family setup names) board now
 
   undone_stays : UndoneForGood setup names plan retries (IsHonestAndOwn setup names plan retries)
   undone_stays events later good undone =
       let x0 = first setup names plan retries in
       let y = after setup names plan retries events in
-      let z = run (P setup names) setup later y in
+      let z = run (own_plans setup names) setup later y in
       let g = (goes events (first_honest events later x0 good.0, first_own events later x0 good.1)).went in
       let h = still_holds setup names plan x0.board.records x0 y quiet first_holds g in
       let more : Went setup names y g.left z = (all_followed setup names plan x0.board.records later y g.left g.tied h (later_honest events later x0 good.0) (later_own events later x0 good.1)).went in
-      let at : phase_of (F setup names).words (world.run (F setup names) (L setup names) (W setup names) g.happenings (world_of setup names x0 quiet)).machine ≡ Undone =
-      ap (λ (w : World (F setup names) (L setup names)). phase_of (F setup names).words w.machine) g.reaches ∙ undone in
-      let told = undone_for_good (F setup names) (is_family setup (addresses names)) (L setup names) (packet_lines (addresses names) packets_of packets_cut) (W setup names) plan retries quiet x0.board is_start g.happenings more.happenings (goes_may setup names x0 y z quiet g more) at in
-      subst (λ (l : Lab (P setup names)). IsSame l.board) (both_run events later x0)
-      (subst (λ (w : World (F setup names) (L setup names)). IsSame w.board) (goes_reach setup names x0 y z quiet g more) told)
+      let at : phase_of (own_family setup names).words (world.run (own_family setup names) (own_lines setup names) (own_wires setup names) g.happenings (world_of setup names x0 quiet)).machine ≡ Undone =
+      ap (λ (w : World (own_family setup names) (own_lines setup names)). phase_of (own_family setup names).words w.machine) g.reaches ∙ undone in
+      let told = undone_for_good (own_family setup names) (is_family setup (addresses names)) (own_lines setup names) (packet_lines (addresses names) packets_of packets_cut) (own_wires setup names) plan retries quiet x0.board is_start g.happenings more.happenings (goes_may setup names x0 y z quiet g more) at in
+      subst (λ (l : Lab (own_plans setup names)). IsSame l.board) (both_run events later x0)
+      (subst (λ (w : World (own_family setup names) (own_lines setup names)). IsSame w.board) (goes_reach setup names x0 y z quiet g more) told)
 
   -- ---- causes of a halt
 
@@ -298,17 +298,17 @@ module _ (setup : BoardFile) (names : Names) (plan : List Op) (retries : ℕ) wh
       let y = after setup names plan retries events in
       let g = (goes events good).went in
       let h = still_holds setup names plan x0.board.records x0 y quiet first_holds g in
-      let told : Halts (F setup names) y.manager.machine.stopped plan (Halted k Stop) y.board.records =
-      subst (λ (p : Phase). Halts (F setup names) y.manager.machine.stopped plan p y.board.records) halted
-      (halts_at (F setup names) (is_family setup (addresses names)) (L setup names) (packet_lines (addresses names) packets_of packets_cut) (W setup names) plan x0.board.records (world_of setup names y g.left) h) in
-      told_to_stop (P setup names) setup events x0 refl told
+      let told : Halts (own_family setup names) y.manager.machine.stopped plan (Halted k Stop) y.board.records =
+      subst (λ (p : Phase). Halts (own_family setup names) y.manager.machine.stopped plan p y.board.records) halted
+      (halts_at (own_family setup names) (is_family setup (addresses names)) (own_lines setup names) (packet_lines (addresses names) packets_of packets_cut) (own_wires setup names) plan x0.board.records (world_of setup names y g.left) h) in
+      told_to_stop (own_plans setup names) setup events x0 refl told
 
   -- an answer that is one of a run's was given at an event of it
-  gave_in : (events : List Event) (given : List (Giving (F setup names))) → Each (GivenIn setup names plan (first setup names plan retries).board.records events (first setup names plan retries)) given
-      → (k : ℕ) (asked : Asked) (a : Answered) → Gave (F setup names) (L setup names) (W setup names) given plan (first setup names plan retries).board.records k asked a → GaveIn setup names plan retries events k asked a
+  gave_in : (events : List Event) (given : List (Giving (own_family setup names))) → Each (GivenIn setup names plan (first setup names plan retries).board.records events (first setup names plan retries)) given
+      → (k : ℕ) (asked : Asked) (a : Answered) → Gave (own_family setup names) (own_lines setup names) (own_wires setup names) given plan (first setup names plan retries).board.records k asked a → GaveIn setup names plan retries events k asked a
   gave_in events given all k asked a g =
       let x0 = first setup names plan retries in
-      let one : Giving (F setup names) = record { before = g.before; asked = asked; answered = a; after = g.after } in
+      let one : Giving (own_family setup names) = record { before = g.before; asked = asked; answered = a; after = g.after } in
       let is = each_at (GivenIn setup names plan x0.board.records events x0) given g.is_one.0 one all (slice_get_read given (length given) g.is_one.0 one refl g.is_one.1 (sym g.is_one.2)) in
       record {
         before = is.before;
@@ -316,31 +316,31 @@ module _ (setup : BoardFile) (names : Names) (plan : List Op) (retries : ℕ) wh
         later = is.later;
         all = is.all;
         answers = is.given.answers;
-        at = subst (λ (b : State). IsAfter (F setup names) plan x0.board.records k b.records) is.given.before g.at;
+        at = subst (λ (b : State). IsAfter (own_family setup names) plan x0.board.records k b.records) is.given.before g.at;
       }
 
-  caused : (events : List Event) (happenings : List (Happening (F setup names) (L setup names)))
-      → Each (GivenIn setup names plan (first setup names plan retries).board.records events (first setup names plan retries)) (given_in (F setup names) (L setup names) (W setup names) happenings (world_of setup names (first setup names plan retries) quiet))
+  caused : (events : List Event) (happenings : List (Happening (own_family setup names) (own_lines setup names)))
+      → Each (GivenIn setup names plan (first setup names plan retries).board.records events (first setup names plan retries)) (given_in (own_family setup names) (own_lines setup names) (own_wires setup names) happenings (world_of setup names (first setup names plan retries) quiet))
       → (phase : Phase) → ((k : ℕ) → phase ≡ Halted k Stop → In (Calls StopCall) events)
-      → CausedIn (F setup names) (L setup names) (W setup names) happenings (world_of setup names (first setup names plan retries) quiet) plan (first setup names plan retries).board.records phase
+      → CausedIn (own_family setup names) (own_lines setup names) (own_wires setup names) happenings (world_of setup names (first setup names plan retries) quiet) plan (first setup names plan retries).board.records phase
       → CausedBy setup names (GaveIn setup names plan retries events) (In (Calls StopCall) events) plan phase
   caused events hs all (Halted k Stop) told c = told k refl
   caused events hs all (Halted k (Refused code)) told c =
       let op = c.2.op in
-      let given = given_in (F setup names) (L setup names) (W setup names) hs (world_of setup names (first setup names plan retries) quiet) in
+      let given = given_in (own_family setup names) (own_lines setup names) (own_wires setup names) hs (world_of setup names (first setup names plan retries) quiet) in
       let answered : Answered = record { code = code; body = c.1 } in
       (op, c.2.asked, c.1, c.2.step, c.2.is_of, gave_in events given all k c.2.asked answered c.2.gave, c.0)
   caused events hs all (Halted k (GetRefused code)) told c =
       let op = c.2.op in
-      let given = given_in (F setup names) (L setup names) (W setup names) hs (world_of setup names (first setup names plan retries) quiet) in
+      let given = given_in (own_family setup names) (own_lines setup names) (own_wires setup names) hs (world_of setup names (first setup names plan retries) quiet) in
       let answered : Answered = record { code = code; body = c.1 } in
       (op, c.2.asked, c.1, c.2.step, c.2.is_of, gave_in events given all k c.2.asked answered c.2.gave, c.0)
   caused events hs all (Halted k NotRestorable) told c =
       let op = c.1.op in
-      let given = given_in (F setup names) (L setup names) (W setup names) hs (world_of setup names (first setup names plan retries) quiet) in
-      let get = (F setup names).words.getting ((F setup names).words.key_of op) in
-      let gave = Gave (F setup names) (L setup names) (W setup names) given plan (first setup names plan retries).board.records k in
-      (op, c.0, c.1.step, all_answered_as (F setup names).words get gave (GaveIn setup names plan retries events k) (gave_in events given all k) c.0 c.1.gave, c.1.not_restorable)
+      let given = given_in (own_family setup names) (own_lines setup names) (own_wires setup names) hs (world_of setup names (first setup names plan retries) quiet) in
+      let get = (own_family setup names).words.getting ((own_family setup names).words.key_of op) in
+      let gave = Gave (own_family setup names) (own_lines setup names) (own_wires setup names) given plan (first setup names plan retries).board.records k in
+      (op, c.0, c.1.step, all_answered_as (own_family setup names).words get gave (GaveIn setup names plan retries events k) (gave_in events given all k) c.0 c.1.gave, c.1.not_restorable)
   caused events hs all Fresh told c = tt
   caused events hs all (Getting k) told c = tt
   caused events hs all (Setting k) told c = tt
@@ -356,12 +356,12 @@ module _ (setup : BoardFile) (names : Names) (plan : List Op) (retries : ℕ) wh
       let y = after setup names plan retries events in
       let ran = goes events good in
       let g = ran.went in
-      let may = subst (λ (hs : List (Happening (F setup names) (L setup names))). world.AllMay (F setup names) (L setup names) (W setup names) hs (world_of setup names x0 quiet)) (sym (append-nil g.happenings)) g.may in
-      let there = halts_by_answers (F setup names) (is_family setup (addresses names)) (L setup names) (packet_lines (addresses names) packets_of packets_cut) (W setup names) plan retries quiet x0.board is_start g.happenings [] may in
-      let phase_is : phase_of (F setup names).words (world.run (F setup names) (L setup names) (W setup names) g.happenings (world_of setup names x0 quiet)).machine ≡ phase_after setup names plan retries events =
-      ap (λ (w : World (F setup names) (L setup names)). phase_of (F setup names).words w.machine) g.reaches in
+      let may = subst (λ (hs : List (Happening (own_family setup names) (own_lines setup names))). world.AllMay (own_family setup names) (own_lines setup names) (own_wires setup names) hs (world_of setup names x0 quiet)) (sym (append-nil g.happenings)) g.may in
+      let there = halts_by_answers (own_family setup names) (is_family setup (addresses names)) (own_lines setup names) (packet_lines (addresses names) packets_of packets_cut) (own_wires setup names) plan retries quiet x0.board is_start g.happenings [] may in
+      let phase_is : phase_of (own_family setup names).words (world.run (own_family setup names) (own_lines setup names) (own_wires setup names) g.happenings (world_of setup names x0 quiet)).machine ≡ phase_after setup names plan retries events =
+      ap (λ (w : World (own_family setup names) (own_lines setup names)). phase_of (own_family setup names).words w.machine) g.reaches in
       caused events g.happenings ran.gives (phase_after setup names plan retries events) (λ k halted. stopped_by events k good halted)
-      (subst (CausedIn (F setup names) (L setup names) (W setup names) g.happenings (world_of setup names x0 quiet) plan x0.board.records) phase_is there)
+      (subst (CausedIn (own_family setup names) (own_lines setup names) (own_wires setup names) g.happenings (world_of setup names x0 quiet) plan x0.board.records) phase_is there)
 
   -- ---- of each premise that comes to this one
 

@@ -49,7 +49,7 @@ use Rattle.model_lab.specs.declared.way.Way.TheVariants.{ToManager}
 use Rattle.model_lab.specs.Lab.{LabFrame, Lab, frame_now, port_does, opens}
 use Rattle.model_ports.proofs.Spelling.{are_the_models}
 use Rattle.model_headline.specs.Each.{Each}
-use Rattle.model_headline.specs.Tied.{P, F, L, W, rules_on, HoldsAskedPart, IsHeld, IsHeldBy, EntryAnswers, IsTied, world_of, IsGiven, Goes}
+use Rattle.model_headline.specs.Tied.{own_plans, own_family, own_lines, own_wires, rules_on, HoldsAskedPart, IsHeld, IsHeldBy, EntryAnswers, IsTied, world_of, IsGiven, Goes}
 use Rattle.model_headline.specs.Follows.{Holds}
 use Rattle.model_headline.proofs.Each.{each_map, each_by_place}
 use Rattle.model_headline.proofs.Sending.{from_zero, part_seen, part_envelope}
@@ -58,8 +58,8 @@ use Rattle.model_headline.proofs.Parts as part
 use Rattle.model_headline.proofs.Quiet as quiet
 
 module _ (setup : BoardFile) (names : Names) (plan : List Op) (start : Records) where
-  module _ (x : Lab (P setup names)) (on : States (L setup names)) (tied : IsTied setup names x on) (h : Holds setup names plan start (world_of setup names x on)) (f : LabFrame) (hold : HoldsAskedPart setup names (on Smbus) f)
-      (live : IsLiveThere (rules_on setup names Smbus) (on Smbus).bus hold.part.frame) (mine : JoinsOwn (P setup names) x f.request (Part hold.packet)) where
+  module _ (x : Lab (own_plans setup names)) (on : States (own_lines setup names)) (tied : IsTied setup names x on) (h : Holds setup names plan start (world_of setup names x on)) (f : LabFrame) (hold : HoldsAskedPart setup names (on Smbus) f)
+      (live : IsLiveThere (rules_on setup names Smbus) (on Smbus).bus hold.part.frame) (mine : JoinsOwn (own_plans setup names) x f.request (Part hold.packet)) where
     abbrev b : PacketBus
     b = part.b setup names plan start x on tied h f hold live mine
 
@@ -231,13 +231,13 @@ module _ (setup : BoardFile) (names : Names) (plan : List Op) (start : Records) 
       reply_frame = record { request = g.request; idles = idles_of names.own_eid (log_after done kept ends.bus.log); content = Reply r.number (reply_after done kept) }
 
       held_part : (n : ℕ) (k : Packet) → slice_get (parts_of (reply_of (reply_after done kept))) n ≡ Some k
-          → IsHeldBy setup names ToManager Smbus (quiet.now setup names plan start x on tied h f hold live mine left) (frame_now (P setup names) Smbus ToManager f.request (quiet.unsent setup names plan start x on tied h f hold live mine deed) (Part k))
+          → IsHeldBy setup names ToManager Smbus (quiet.now setup names plan start x on tied h f hold live mine left) (frame_now (own_plans setup names) Smbus ToManager f.request (quiet.unsent setup names plan start x on tied h f hold live mine deed) (Part k))
       held_part n k at = by (x.smbus.eid == names.peer_eid) refl
         where
           in_envelope : k.envelope ≡ reply_envelope next p.envelope
           in_envelope = part_envelope (reply_of (reply_after done kept)) n k at
 
-          by : (t : Bool) → (x.smbus.eid == names.peer_eid) ≡ t → IsHeldBy setup names ToManager Smbus (quiet.now setup names plan start x on tied h f hold live mine left) (frame_now (P setup names) Smbus ToManager f.request (quiet.unsent setup names plan start x on tied h f hold live mine deed) (Part k))
+          by : (t : Bool) → (x.smbus.eid == names.peer_eid) ≡ t → IsHeldBy setup names ToManager Smbus (quiet.now setup names plan start x on tied h f hold live mine left) (frame_now (own_plans setup names) Smbus ToManager f.request (quiet.unsent setup names plan start x on tied h f hold live mine deed) (Part k))
           by false e = inr (record { packet = k; value = refl; source = ap (λ (v : Envelope). v.source_eid == names.peer_eid) in_envelope ∙ e })
           by true e = inl (record {
             which = length ends.bus.frames;
@@ -269,21 +269,21 @@ module _ (setup : BoardFile) (names : Names) (plan : List Op) (start : Records) 
         more = grows ends.bus.frames (reply_frame ∷ []);
         answered = log_answers done;
         opened = part.still_opened setup names plan start x on tied h f hold live mine [] (λ t is. absurd is);
-        held = each_map (frame_now (P setup names) Smbus ToManager f.request (quiet.unsent setup names plan start x on tied h f hold live mine deed)) (IsHeld setup names (quiet.now setup names plan start x on tied h f hold live mine left)) (map Part (parts_of (reply_of (reply_after done kept))))
-            (each_map Part (λ (v : Value). IsHeld setup names (quiet.now setup names plan start x on tied h f hold live mine left) (frame_now (P setup names) Smbus ToManager f.request (quiet.unsent setup names plan start x on tied h f hold live mine deed) v)) (parts_of (reply_of (reply_after done kept)))
-            (each_by_place (λ (k : Packet). IsHeld setup names (quiet.now setup names plan start x on tied h f hold live mine left) (frame_now (P setup names) Smbus ToManager f.request (quiet.unsent setup names plan start x on tied h f hold live mine deed) (Part k))) (parts_of (reply_of (reply_after done kept))) held_part));
+        held = each_map (frame_now (own_plans setup names) Smbus ToManager f.request (quiet.unsent setup names plan start x on tied h f hold live mine deed)) (IsHeld setup names (quiet.now setup names plan start x on tied h f hold live mine left)) (map Part (parts_of (reply_of (reply_after done kept))))
+            (each_map Part (λ (v : Value). IsHeld setup names (quiet.now setup names plan start x on tied h f hold live mine left) (frame_now (own_plans setup names) Smbus ToManager f.request (quiet.unsent setup names plan start x on tied h f hold live mine deed) v)) (parts_of (reply_of (reply_after done kept)))
+            (each_by_place (λ (k : Packet). IsHeld setup names (quiet.now setup names plan start x on tied h f hold live mine left) (frame_now (own_plans setup names) Smbus ToManager f.request (quiet.unsent setup names plan start x on tied h f hold live mine deed) (Part k))) (parts_of (reply_of (reply_after done kept))) held_part));
       }
 
-      board_may : (o : Outcome) → world.BoardMay (F setup names) (L setup names) (W setup names) Smbus (exchange (new_bytes o r.bytes) kept.reply) x.board (left_by o given.1 x.board)
+      board_may : (o : Outcome) → world.BoardMay (own_family setup names) (own_lines setup names) (own_wires setup names) Smbus (exchange (new_bytes o r.bytes) kept.reply) x.board (left_by o given.1 x.board)
       board_may (Repeats reply) = (refl, λ series bodies ready. ready)
       board_may IsBusy = (refl, λ series bodies ready. ready)
       board_may IsNew = (
         family_answer given.0,
         refl,
-        subst (λ a. (F setup names).Row x.board a (family_answer given.0) given.1) (sym (ap (asked_from (addresses names) Smbus) bytes_so ∙ hold.reads)) (has_answer setup x.board (pldm_asked names.own_eid q)),
+        subst (λ a. (own_family setup names).Row x.board a (family_answer given.0) given.1) (sym (ap (asked_from (addresses names) Smbus) bytes_so ∙ hold.reads)) (has_answer setup x.board (pldm_asked names.own_eid q)),
       )
 
-      carried : ((L setup names) Smbus).carries ends (part.arrives setup names plan start x on tied h f hold live mine) ≡ exchange (new_bytes done r.bytes) kept.reply
+      carried : ((own_lines setup names) Smbus).carries ends (part.arrives setup names plan start x on tied h f hold live mine) ≡ exchange (new_bytes done r.bytes) kept.reply
       carried =
           quiet.carried_so setup names plan start x on tied h f hold live mine
           ∙ ap (λ (y : Step × List Sent). exchange (carried_of rules (whole_request rules g.request y.0) ends.bus) (part.answer setup names plan start x on tied h f hold live mine)) taken_whole
@@ -292,7 +292,7 @@ module _ (setup : BoardFile) (names : Names) (plan : List Op) (start : Records) 
 
       -- the answer is the lab's
       gave : (o : Outcome) → Each (IsGiven setup names x (quiet.done_by setup names plan start x on tied h f hold live mine (deed_as o)))
-          (given_by (F setup names) (L setup names) (W setup names) Smbus (exchange (new_bytes o r.bytes) kept.reply) x.board (left_by o given.1 x.board) ++ [])
+          (given_by (own_family setup names) (own_lines setup names) (own_wires setup names) Smbus (exchange (new_bytes o r.bytes) kept.reply) x.board (left_by o given.1 x.board) ++ [])
       gave (Repeats reply) = tt
       gave IsBusy = tt
       gave IsNew = (
@@ -305,7 +305,7 @@ module _ (setup : BoardFile) (names : Names) (plan : List Op) (start : Records) 
             from_manager = refl;
             asks = refl;
             replies = refl;
-            row = subst (λ a. (F setup names).Row x.board a (family_answer given.0) given.1) (sym (ap (asked_from (addresses names) Smbus) bytes_so ∙ hold.reads)) (has_answer setup x.board (pldm_asked names.own_eid q));
+            row = subst (λ a. (own_family setup names).Row x.board a (family_answer given.0) given.1) (sym (ap (asked_from (addresses names) Smbus) bytes_so ∙ hold.reads)) (has_answer setup x.board (pldm_asked names.own_eid q));
           };
         },
         tt,
@@ -315,9 +315,9 @@ module _ (setup : BoardFile) (names : Names) (plan : List Op) (start : Records) 
       whole_goes = quiet.finish setup names plan start x on tied h f hold live mine deed (sym deed_so) (record {
         happenings = OnBus Smbus (part.arrives setup names plan start x on tied h f hold live mine) (left_by done given.1 x.board) ∷ [];
         left = quiet.now setup names plan start x on tied h f hold live mine left;
-        may = (((tt, part.honest_part setup names plan start x on tied h f hold live mine ours slot), refl, subst (λ o. world.BoardMay (F setup names) (L setup names) (W setup names) Smbus o x.board (left_by done given.1 x.board)) (sym carried) (board_may done)), tt);
-        reaches = ap (λ (y : Ends). let w : World (F setup names) (L setup names) = record { machine = x.manager.machine; on = quiet.now setup names plan start x on tied h f hold live mine y; board = left_by done given.1 x.board } in w) happened;
-        gives = subst (λ o. Each (IsGiven setup names x (quiet.done_by setup names plan start x on tied h f hold live mine deed)) (given_by (F setup names) (L setup names) (W setup names) Smbus o x.board (left_by done given.1 x.board) ++ [])) (sym carried) (gave done);
+        may = (((tt, part.honest_part setup names plan start x on tied h f hold live mine ours slot), refl, subst (λ o. world.BoardMay (own_family setup names) (own_lines setup names) (own_wires setup names) Smbus o x.board (left_by done given.1 x.board)) (sym carried) (board_may done)), tt);
+        reaches = ap (λ (y : Ends). let w : World (own_family setup names) (own_lines setup names) = record { machine = x.manager.machine; on = quiet.now setup names plan start x on tied h f hold live mine y; board = left_by done given.1 x.board } in w) happened;
+        gives = subst (λ o. Each (IsGiven setup names x (quiet.done_by setup names plan start x on tied h f hold live mine deed)) (given_by (own_family setup names) (own_lines setup names) (own_wires setup names) Smbus o x.board (left_by done given.1 x.board) ++ [])) (sym carried) (gave done);
         tied = quiet.leaves_tied setup names plan start x on tied h f hold live mine deed left leaves;
       })
 
@@ -345,8 +345,8 @@ module _ (setup : BoardFile) (names : Names) (plan : List Op) (start : Records) 
     by_cause None e a = by_end p.end refl e
 
     -- a packet of the manager comes to the port
-    pub part_goes : Goes setup names x on (port_does (P setup names) Smbus ToManager f.request (hears setup x.smbus x.board (Part p)) (opens (P setup names) (Part p) f.request x))
+    pub part_goes : Goes setup names x on (port_does (own_plans setup names) Smbus ToManager f.request (hears setup x.smbus x.board (Part p)) (opens (own_plans setup names) (Part p) f.request x))
     part_goes =
         let there : (p.envelope.destination == x.smbus.wire) ≡ true = eq-eqb _ _ (hold.to_port ∙ sym tied.smbus_wire) in
-        subst (λ (t : Bool). Goes setup names x on (port_does (P setup names) Smbus ToManager f.request (cond t (hears_part setup x.smbus x.board p) (stays x.smbus x.board)) (opens (P setup names) (Part p) f.request x))) (sym there)
-        (subst (λ (y : Lab (P setup names)). Goes setup names x on (port_does (P setup names) Smbus ToManager f.request (hears_part setup x.smbus x.board p) y)) (sym (part.opens_is setup names plan start x on tied h f hold live mine)) (by_cause cause refl (part.agrees setup names plan start x on tied h f hold live mine)))
+        subst (λ (t : Bool). Goes setup names x on (port_does (own_plans setup names) Smbus ToManager f.request (cond t (hears_part setup x.smbus x.board p) (stays x.smbus x.board)) (opens (own_plans setup names) (Part p) f.request x))) (sym there)
+        (subst (λ (y : Lab (own_plans setup names)). Goes setup names x on (port_does (own_plans setup names) Smbus ToManager f.request (hears_part setup x.smbus x.board p) y)) (sym (part.opens_is setup names plan start x on tied h f hold live mine)) (by_cause cause refl (part.agrees setup names plan start x on tied h f hold live mine)))

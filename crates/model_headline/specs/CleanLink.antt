@@ -19,7 +19,7 @@ use Rattle.undo_plans.specs.Steps.{most_steps}
 use Rattle.model_lab.specs.Lab.{Event}
 use Rattle.model_lab.specs.Faults.{begun_on, AllTaken}
 use Rattle.model_lab.specs.Clean.{IsCleanRun, IsCleanUndo}
-use Rattle.model_headline.specs.Tied.{P, F}
+use Rattle.model_headline.specs.Tied.{own_plans, own_family}
 use Rattle.model_headline.specs.CleanParts.{step_parts, back_parts}
 use Rattle.model_headline.specs.Theorem.{first, after, phase_after}
 
@@ -41,13 +41,13 @@ count_at _ = 0
 module _ (setup : BoardFile) (names : Names) (plan : List Op) (retries : ℕ) where
   -- so many requests of the manager were begun, on both buses
   abbrev pub begun_after : List Event → ℕ
-  begun_after events = let m = (after setup names plan retries events).manager.machine in begun_on (F setup names).words Ipmb m + begun_on (F setup names).words Smbus m
+  begun_after events = let m = (after setup names plan retries events).manager.machine in begun_on (own_family setup names).words Ipmb m + begun_on (own_family setup names).words Smbus m
 
   -- the manager is in the phase, so many requests of it were begun, and none is open
   pub record HasEnded (events : List Event) (phase : Phase) (requests : ℕ) : Type 0 where
     pub phase_is : phase_after setup names plan retries events ≡ phase
     pub begun : begun_after events ≡ requests
-    pub closed : open_bus (F setup names).words (after setup names plan retries events).manager.machine ≡ None
+    pub closed : open_bus (own_family setup names).words (after setup names plan retries events).manager.machine ≡ None
 
   -- A plan takes as many requests as the Gets and Sets have of its first steps, which the board accepts and which can be undone. It is done after the
   -- last, or halts at the first other step, as soon as a request of the step's Get is refused, all its Get shows can't be restored, or a request of
@@ -59,31 +59,31 @@ module _ (setup : BoardFile) (names : Names) (plan : List Op) (retries : ℕ) wh
     pub whole : plan ≡ steps ++ rest
     pub at : State
     pub requests : ℕ
-    pub go : GoAll (F setup names) (answer setup) steps requests (first setup names plan retries).board at
+    pub go : GoAll (own_family setup names) (answer setup) steps requests (first setup names plan retries).board at
     pub phase : Phase
     pub more : ℕ
-    pub ends : EndsIn (F setup names) (answer setup) (length steps) rest at phase more
+    pub ends : EndsIn (own_family setup names) (answer setup) (length steps) rest at phase more
     -- what the manager keeps, the board after the plan, and the board after the undo, which answers so many requests
     pub undo : List Series
     pub rested : State
-    pub leads_back : CanUndo (F setup names) plan (first setup names plan retries).board.records (length steps) undo rested.records
+    pub leads_back : CanUndo (own_family setup names) plan (first setup names plan retries).board.records (length steps) undo rested.records
     pub back : ℕ
     pub left : State
-    pub goes_back : AnswersEach (F setup names) (answer setup) undo back rested left
+    pub goes_back : AnswersEach (own_family setup names) (answer setup) undo back rested left
     -- a step takes a request for each part of the entry that it finds, and one for each part of its own; its undo one for each of the entry found
     pub by_parts : (requests ≡ step_parts setup names steps requests (first setup names plan retries).board at go)
         × (back ≡ back_parts setup names plan (first setup names plan retries).board.records (length steps) undo rested.records leads_back)
     -- where each step is of one request for its Get and one for its Set, there are two for each step, and one for each that is undone
     pub of_one : AreOfOne plan → (requests ≡ length steps + length steps) × (more ≡ count_at phase) × (back ≡ length steps)
     -- a clean schedule of a plan of at most `most_steps` exists, and a lab takes each event of any
-    pub can_run : length plan ≤ most_steps → (events : List Event) × IsCleanRun (P setup names) setup events (first setup names plan retries)
-    pub can_undo : length plan ≤ most_steps → (events : List Event) × IsCleanUndo (P setup names) setup events (first setup names plan retries)
-    pub run_taken : length plan ≤ most_steps → (events : List Event) → IsCleanRun (P setup names) setup events (first setup names plan retries) → AllTaken (P setup names) setup events (first setup names plan retries)
-    pub undo_taken : length plan ≤ most_steps → (events : List Event) → IsCleanUndo (P setup names) setup events (first setup names plan retries) → AllTaken (P setup names) setup events (first setup names plan retries)
-    pub ran : (events : List Event) → IsCleanRun (P setup names) setup events (first setup names plan retries)
+    pub can_run : length plan ≤ most_steps → (events : List Event) × IsCleanRun (own_plans setup names) setup events (first setup names plan retries)
+    pub can_undo : length plan ≤ most_steps → (events : List Event) × IsCleanUndo (own_plans setup names) setup events (first setup names plan retries)
+    pub run_taken : length plan ≤ most_steps → (events : List Event) → IsCleanRun (own_plans setup names) setup events (first setup names plan retries) → AllTaken (own_plans setup names) setup events (first setup names plan retries)
+    pub undo_taken : length plan ≤ most_steps → (events : List Event) → IsCleanUndo (own_plans setup names) setup events (first setup names plan retries) → AllTaken (own_plans setup names) setup events (first setup names plan retries)
+    pub ran : (events : List Event) → IsCleanRun (own_plans setup names) setup events (first setup names plan retries)
         → HasEnded events phase (requests + more)
-        × IsAfter (F setup names) plan (first setup names plan retries).board.records (length steps) (after setup names plan retries events).board.records
+        × IsAfter (own_family setup names) plan (first setup names plan retries).board.records (length steps) (after setup names plan retries events).board.records
         × ((after setup names plan retries events).manager.machine.undo ≡ undo) × ((after setup names plan retries events).board ≡ rested)
-    pub undone : (events : List Event) → IsCleanUndo (P setup names) setup events (first setup names plan retries)
+    pub undone : (events : List Event) → IsCleanUndo (own_plans setup names) setup events (first setup names plan retries)
         → HasEnded events Undone (requests + more + back)
         × ((after setup names plan retries events).board.records ≡ (first setup names plan retries).board.records) × ((after setup names plan retries events).board ≡ left)

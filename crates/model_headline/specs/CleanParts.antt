@@ -18,7 +18,7 @@ use Rattle.model_undo.specs.Undoable.{CanUndo}
 use Rattle.model_undo.specs.CleanSeries.{AnswersAll, GoAll}
 use Rattle.model_family.specs.Family.{answer}
 use Rattle.undo_plans.specs.declared.names.Names.{Names}
-use Rattle.model_headline.specs.Tied.{F}
+use Rattle.model_headline.specs.Tied.{own_family}
 
 -- how many parts an entry has: one, or its length divided by that of a part, rounded up
 abbrev pub parts_of : List ℕ → ℕ
@@ -39,12 +39,12 @@ module _ (setup : BoardFile) (names : Names) where
   parts_at records key = get_count (limits_at setup key) (records key)
 
   -- how many these steps take, from this board on: each gets what it finds, and sets its own
-  abbrev pub step_parts : (steps : List Op) (requests : ℕ) (board after : State) → GoAll (F setup names) (answer setup) steps requests board after → ℕ
+  abbrev pub step_parts : (steps : List Op) (requests : ℕ) (board after : State) → GoAll (own_family setup names) (answer setup) steps requests board after → ℕ
   step_parts [] requests board after go = 0
   step_parts (op ∷ ops) requests board after go = parts_at board.records (key_of op) + set_count (set_whole op) + step_parts ops go.2 go.0 after go.4
 
   -- how many these series take, the last step's first: each sets what its step found
-  abbrev pub back_parts : (plan : List Op) (start : Records) (steps : ℕ) (undo : List Series) (records : Records) → CanUndo (F setup names) plan start steps undo records → ℕ
+  abbrev pub back_parts : (plan : List Op) (start : Records) (steps : ℕ) (undo : List Series) (records : Records) → CanUndo (own_family setup names) plan start steps undo records → ℕ
   back_parts plan start zero [] records can = 0
   back_parts plan start zero (series ∷ more) records can = absurd can
   back_parts plan start (suc step) [] records can = absurd can
@@ -52,6 +52,6 @@ module _ (setup : BoardFile) (names : Names) where
 
 -- where a board of valid records answers all requests of a Get or of a Set, they are so many
 pub record TakesParts (setup : BoardFile) (names : Names) : Type 0 where
-  pub gets : (key : Key) (bodies : List (List ℕ)) (board after : State) → AllValid (F setup names) board.records → AnswersAll (F setup names) (answer setup) (Reads key) bodies board after
+  pub gets : (key : Key) (bodies : List (List ℕ)) (board after : State) → AllValid (own_family setup names) board.records → AnswersAll (own_family setup names) (answer setup) (Reads key) bodies board after
       → length bodies ≡ get_count (limits_at setup key) (board.records key)
-  pub sets : (op : Op) (bodies : List (List ℕ)) (board after : State) → AnswersAll (F setup names) (answer setup) (sends op) bodies board after → length bodies ≡ set_count (set_whole op)
+  pub sets : (op : Op) (bodies : List (List ℕ)) (board after : State) → AnswersAll (own_family setup names) (answer setup) (sends op) bodies board after → length bodies ≡ set_count (set_whole op)

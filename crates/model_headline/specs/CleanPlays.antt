@@ -12,7 +12,7 @@ use Rattle.model_lab.specs.Clean.{IsCleanRun, IsCleanUndo}
 use Rattle.text_schedule.specs.declared.event.Event.{Event}
 use Rattle.model_lab.specs.Meaning.{lab_names, event_of}
 use Rattle.model_lab.specs.Played.{plans, Told, Ending, Whole, happens, after, IsPlayed}
-use Rattle.model_headline.specs.Tied.{F}
+use Rattle.model_headline.specs.Tied.{own_family}
 use Rattle.model_headline.specs.CleanLink.{RunsOnCleanLink}
 
 module _ (file : BoardFile) where
@@ -33,7 +33,7 @@ module _ (file : BoardFile) (plan : List Op) (retries : ℕ) where
   abbrev pub TellsRun : RunsOnCleanLink file lab_names plan retries → List Event → Ending → Type 0
   TellsRun runs events ending =
       (told : Told) × (ending ≡ Whole told) × (told.phase ≡ runs.phase) × (begun_by events ≡ runs.requests + runs.more)
-      × IsAfter (F file lab_names) plan told.start (length runs.steps) told.records
+      × IsAfter (own_family file lab_names) plan told.start (length runs.steps) told.records
 
   -- the play took all events, and tells that the plan is undone, and the records of the start
   abbrev pub TellsUndo : RunsOnCleanLink file lab_names plan retries → List Event → Ending → Type 0

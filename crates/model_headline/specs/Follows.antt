@@ -20,33 +20,33 @@ use Rattle.model_lab.specs.Own.{IsOwn}
 use Rattle.model_lab.specs.Honest.{IsDelivered, IsHonest}
 use Rattle.model_lab.specs.declared.way.Way.TheVariants.{ToPort, ToManager}
 use Rattle.model_lab.specs.Lab.{Event, Calls, ToBmc, ToMgr, OtherIpmb, OtherSmbus, Noise, Idles, OnBench, Lab, step}
-use Rattle.model_headline.specs.Tied.{P, F, L, W, IsTied, world_of, Goes}
+use Rattle.model_headline.specs.Tied.{own_plans, own_family, own_lines, own_wires, IsTied, world_of, Goes}
 
 module _ (setup : BoardFile) (names : Names) (plan : List Op) (start : Records) where
   -- what holds of the model's world at every moment
-  abbrev pub Holds : World (F setup names) (L setup names) → Type 0
-  Holds world = WorldHolds (F setup names) (is_family setup (addresses names)) (L setup names) (packet_lines (addresses names) packets_of packets_cut) (W setup names) (λ bus. 0) plan start world
+  abbrev pub Holds : World (own_family setup names) (own_lines setup names) → Type 0
+  Holds world = WorldHolds (own_family setup names) (is_family setup (addresses names)) (own_lines setup names) (packet_lines (addresses names) packets_of packets_cut) (own_wires setup names) (λ bus. 0) plan start world
 
   -- The premises on an event are enough: where a lab shows a world, the lab after the event shows a world to which that world goes.
-  abbrev pub IsFollowed : Lab (P setup names) → Event → Type 0
-  IsFollowed lab event = (on : States (L setup names)) → IsTied setup names lab on → Holds (world_of setup names lab on) → Goes setup names lab on (step (P setup names) setup lab event)
+  abbrev pub IsFollowed : Lab (own_plans setup names) → Event → Type 0
+  IsFollowed lab event = (on : States (own_lines setup names)) → IsTied setup names lab on → Holds (world_of setup names lab on) → Goes setup names lab on (step (own_plans setup names) setup lab event)
 
   -- each call of the manager is followed
   abbrev pub CallsAreFollowed : Type 0
-  CallsAreFollowed = (lab : Lab (P setup names)) (call : Call) → IsFollowed lab (Calls call)
+  CallsAreFollowed = (lab : Lab (own_plans setup names)) (call : Call) → IsFollowed lab (Calls call)
 
   -- each live frame that comes to the manager is followed
   abbrev pub RepliesAreFollowed : Type 0
-  RepliesAreFollowed = (lab : Lab (P setup names)) (number : ℕ) → IsDelivered (P setup names) ToManager lab number → IsFollowed lab (ToMgr number)
+  RepliesAreFollowed = (lab : Lab (own_plans setup names)) (number : ℕ) → IsDelivered (own_plans setup names) ToManager lab number → IsFollowed lab (ToMgr number)
 
   -- each live frame of the manager that comes to the port is followed, unless it joins another request's assembly
   abbrev pub RequestsAreFollowed : Type 0
-  RequestsAreFollowed = (lab : Lab (P setup names)) (number : ℕ) → IsDelivered (P setup names) ToPort lab number → IsOwn (P setup names) lab (ToBmc number) → IsFollowed lab (ToBmc number)
+  RequestsAreFollowed = (lab : Lab (own_plans setup names)) (number : ℕ) → IsDelivered (own_plans setup names) ToPort lab number → IsOwn (own_plans setup names) lab (ToBmc number) → IsFollowed lab (ToBmc number)
 
   -- each honest event that isn't the manager's is followed
   pub record OthersAreFollowed : Type 0 where
-    pub requests : (lab : Lab (P setup names)) (request : Request) → IsHonest (P setup names) lab (OtherIpmb request) → IsFollowed lab (OtherIpmb request)
-    pub messages : (lab : Lab (P setup names)) (message : Message) → IsHonest (P setup names) lab (OtherSmbus message) → IsFollowed lab (OtherSmbus message)
-    pub noise : (lab : Lab (P setup names)) (bus : Bus) (bytes : List ℕ) → IsFollowed lab (Noise bus bytes)
-    pub idles : (lab : Lab (P setup names)) (bus : Bus) (requester : ℕ) → IsHonest (P setup names) lab (Idles bus requester) → IsFollowed lab (Idles bus requester)
-    pub bench : (lab : Lab (P setup names)) (activity : Activity) → IsFollowed lab (OnBench activity)
+    pub requests : (lab : Lab (own_plans setup names)) (request : Request) → IsHonest (own_plans setup names) lab (OtherIpmb request) → IsFollowed lab (OtherIpmb request)
+    pub messages : (lab : Lab (own_plans setup names)) (message : Message) → IsHonest (own_plans setup names) lab (OtherSmbus message) → IsFollowed lab (OtherSmbus message)
+    pub noise : (lab : Lab (own_plans setup names)) (bus : Bus) (bytes : List ℕ) → IsFollowed lab (Noise bus bytes)
+    pub idles : (lab : Lab (own_plans setup names)) (bus : Bus) (requester : ℕ) → IsHonest (own_plans setup names) lab (Idles bus requester) → IsFollowed lab (Idles bus requester)
+    pub bench : (lab : Lab (own_plans setup names)) (activity : Activity) → IsFollowed lab (OnBench activity)

@@ -9,26 +9,26 @@ use Rattle.model_undo.specs.Machine.{Task, Gets, Sets, Undoes, Stage, Opened, Ma
 use Rattle.model_lab.specs.ManagerWords.{manager_words}
 
 module _ (at : Bus → Addresses) where
-  abbrev pub M : Words
-  M = manager_words at
+  abbrev pub own_words : Words
+  own_words = manager_words at
 
   -- a manager makes each of these series
   abbrev pub AllSeries : List Series → Type 0
   AllSeries [] = Unit {0}
-  AllSeries (series ∷ more) = IsSeries M series × AllSeries more
+  AllSeries (series ∷ more) = IsSeries own_words series × AllSeries more
 
   -- a manager makes the series that a task goes over, now and later
-  abbrev pub TaskMade : Task M → Type 0
+  abbrev pub TaskMade : Task own_words → Type 0
   TaskMade (Gets step op) = Unit {0}
   TaskMade (Sets step op back) = Unit {0}
-  TaskMade (Undoes first rest) = IsSeries M first × AllSeries rest
+  TaskMade (Undoes first rest) = IsSeries own_words first × AllSeries rest
 
   -- a manager makes the request that is open
-  abbrev pub StageMade : Stage M → Type 0
-  StageMade (Opened heeded task part) = IsMade M part.asked × TaskMade task
+  abbrev pub StageMade : Stage own_words → Type 0
+  StageMade (Opened heeded task part) = IsMade own_words part.asked × TaskMade task
   StageMade _ = Unit {0}
 
   -- a manager makes the open request and the requests that undo
-  pub record MachineMade (machine : Machine M) : Type 0 where
+  pub record MachineMade (machine : Machine own_words) : Type 0 where
     pub stage : StageMade machine.stage
     pub undo : AllSeries machine.undo

@@ -19,7 +19,7 @@ use Rattle.text_schedule.specs.declared.event.Event.TheVariants.{Calls}
 use Rattle.model_lab.specs.Meaning.{lab_names, event_of}
 use Rattle.model_lab.specs.Played.{plans, Told, Ending, Whole, Stops, happens, after, IsPlayed}
 use Rattle.model_headline.specs.Answers.{Answers, CausedBy}
-use Rattle.model_headline.specs.Tied.{F}
+use Rattle.model_headline.specs.Tied.{own_family}
 
 -- the events that a play took: all, or the events before the first that has a fault
 abbrev pub taken_by : List Event → Ending → List Event
@@ -66,7 +66,7 @@ module _ (file : BoardFile) (plan : List Op) (retries : ℕ) where
   abbrev pub UndoneForGood : List Event → Type 0
   UndoneForGood taken = (events later rest : List Event) → taken ≡ (events ++ later) ++ rest → phase_after events ≡ Undone
       → let now = (lab_after (events ++ later)).board in
-      (now.records ≡ (lab_after []).board.records) × ShowsSame (F file lab_names) (lab_after []).board now × PartsShowSame (F file lab_names) (lab_after []).board now
+      (now.records ≡ (lab_after []).board.records) × ShowsSame (own_family file lab_names) (lab_after []).board now × PartsShowSame (own_family file lab_names) (lab_after []).board now
 
   -- at an event that was taken the board answered the manager so, at the records after the plan's first `step` steps
   pub record GaveIn (taken : List Event) (step : ℕ) (asked : Asked) (answered : Answered) : Type 0 where
@@ -75,13 +75,13 @@ module _ (file : BoardFile) (plan : List Op) (retries : ℕ) where
     pub later : List Event
     pub all : taken ≡ before ++ event ∷ later
     pub answers : Answers file lab_names (lab_after before) (happens file event (lab_after before)) asked answered
-    pub at : IsAfter (F file lab_names) plan (lab_after []).board.records step (lab_after before).board.records
+    pub at : IsAfter (own_family file lab_names) plan (lab_after []).board.records step (lab_after before).board.records
 
   -- The phase says what the records are, so an undone plan leaves those of the start, and UndoRefused isn't told. So it does at each
   -- event from the one on at which the plan was undone. A plan that halted has its cause in the events that were taken: the answer that
   -- was given there, or a call of `stop`.
   pub record ToldStands (taken : List Event) (told : Told) : Type 0 where
-    pub stands : Stands (F file lab_names) plan told.start told.phase told.records
+    pub stands : Stands (own_family file lab_names) plan told.start told.phase told.records
     pub undone : told.phase ≡ Undone → told.records ≡ told.start
     pub for_good : UndoneForGood taken
     pub halts : CausedBy file lab_names (GaveIn taken) (In (Calls Stop) taken) plan told.phase

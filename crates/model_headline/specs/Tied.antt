@@ -47,17 +47,17 @@ use Rattle.model_lab.specs.declared.way.Way.TheVariants.{ToPort, ToManager, ToOt
 use Rattle.model_lab.specs.Lab.{LabFrame, Lab}
 
 module _ (setup : BoardFile) (names : Names) where
-  abbrev pub P : Plans
-  P = board_plans names
+  abbrev pub own_plans : Plans
+  own_plans = board_plans names
 
-  abbrev pub F : Family
-  F = family setup (addresses names)
+  abbrev pub own_family : Family
+  own_family = family setup (addresses names)
 
-  abbrev pub L : Bus → Line
-  L = with_packets (addresses names) packets_of
+  abbrev pub own_lines : Bus → Line
+  own_lines = with_packets (addresses names) packets_of
 
-  abbrev pub W : Wires F.words
-  W = wires (addresses names)
+  abbrev pub own_wires : Wires own_family.words
+  own_wires = wires (addresses names)
 
   -- IPMB, and SMBus in packets
   abbrev pub ipmb_bus : Rules
@@ -72,8 +72,8 @@ module _ (setup : BoardFile) (names : Names) where
   rules_on Smbus = rules_of smbus_bus
 
   -- the manager's requests on a bus
-  abbrev pub requests : States L → Bus → BusState
-  requests on bus = (L bus).requests (on bus)
+  abbrev pub requests : States own_lines → Bus → BusState
+  requests on bus = (own_lines bus).requests (on bus)
 
   -- ---- frames
 
@@ -154,14 +154,14 @@ module _ (setup : BoardFile) (names : Names) where
     pub source : (packet.envelope.source_eid == names.peer_eid) ≡ false
 
   -- the frame is one of the model's, by the end to which it goes
-  abbrev pub IsHeldBy : Way → Bus → States L → LabFrame → Type 0
+  abbrev pub IsHeldBy : Way → Bus → States own_lines → LabFrame → Type 0
   IsHeldBy ToPort Ipmb on frame = HoldsAsked (on Ipmb).frames frame
   IsHeldBy ToPort Smbus on frame = HoldsAskedPart (on Smbus) frame
   IsHeldBy ToManager Ipmb on frame = HoldsTold (on Ipmb).frames frame
   IsHeldBy ToManager Smbus on frame = HoldsToldPart (on Smbus).bus.frames frame ⊎ ComesFromAnother frame
   IsHeldBy ToOthers bus on frame = Unit {0}
 
-  abbrev pub IsHeld : States L → LabFrame → Type 0
+  abbrev pub IsHeld : States own_lines → LabFrame → Type 0
   IsHeld on frame = IsHeldBy frame.way frame.on on frame
 
   -- ---- what the ports did
@@ -176,14 +176,14 @@ module _ (setup : BoardFile) (names : Names) where
 
   -- ---- the tie
 
-  pub record IsTied (lab : Lab P) (on : States L) : Type 0 where
+  pub record IsTied (lab : Lab own_plans) (on : States own_lines) : Type 0 where
     pub named : lab.manager.names ≡ names
     pub ipmb_wire : lab.ipmb.wire ≡ names.peer_address
     pub smbus_wire : lab.smbus.wire ≡ names.peer_wire
     pub ipmb_log : (on Ipmb).log ≡ lab.ipmb.log
     pub smbus_port : IsPortOf (on Smbus) lab.smbus
     pub waits : WaitsAlike (on Smbus).manager lab.manager.joined
-    pub alone : open_beside (name_awaited names (open_count P Smbus lab.manager)) lab.manager.joined ≡ 0
+    pub alone : open_beside (name_awaited names (open_count own_plans Smbus lab.manager)) lab.manager.joined ≡ 0
     pub counted : (bus : Bus) → count_of bus lab.manager.machine.counts ≡ length (requests on bus).taken
     pub written : (bus : Bus) → AreWritten bus (rules_on bus) (requests on bus)
     pub answered : (bus : Bus) → Each (EntryAnswers bus) (requests on bus).log
@@ -193,19 +193,19 @@ module _ (setup : BoardFile) (names : Names) where
     pub opened : (count : ℕ) (sent : Sent) → In sent ((on Smbus).port (request_name smbus_bus count)) → sent.request ≡ lab.opened (count % tags)
 
   -- the model's world of a lab
-  abbrev pub world_of : Lab P → States L → World F L
+  abbrev pub world_of : Lab own_plans → States own_lines → World own_family own_lines
   world_of lab on = record { machine = lab.manager.machine; on = on; board = lab.board }
 
   -- the lab gave the manager the answer as it went from the one state to the other
-  pub record IsGiven (lab next : Lab P) (given : Giving F) : Type 0 where
+  pub record IsGiven (lab next : Lab own_plans) (given : Giving own_family) : Type 0 where
     pub before : given.before ≡ lab.board
     pub answers : Answers setup names lab next given.asked given.answered
 
   -- the model's world does in these steps what the lab does, and gives no answer but the lab's
-  pub record Goes (lab : Lab P) (on : States L) (next : Lab P) : Type 0 where
-    pub happenings : List (Happening F L)
-    pub left : States L
-    pub may : AllMay F L W happenings (world_of lab on)
-    pub reaches : run F L W happenings (world_of lab on) ≡ world_of next left
-    pub gives : Each (IsGiven lab next) (given_in F L W happenings (world_of lab on))
+  pub record Goes (lab : Lab own_plans) (on : States own_lines) (next : Lab own_plans) : Type 0 where
+    pub happenings : List (Happening own_family own_lines)
+    pub left : States own_lines
+    pub may : AllMay own_family own_lines own_wires happenings (world_of lab on)
+    pub reaches : run own_family own_lines own_wires happenings (world_of lab on) ≡ world_of next left
+    pub gives : Each (IsGiven lab next) (given_in own_family own_lines own_wires happenings (world_of lab on))
     pub tied : IsTied next left
