@@ -18,7 +18,9 @@ pub const SENSOR_KINDS: usize = 3;
 /// its id, and the value of a BIOS attribute by the attribute's handle.
 #[derive(Clone, Copy, Debug, PartialEq, Eq, PartialOrd, Ord)]
 pub enum Key {
+    /// The thresholds of a sensor.
     Thresholds(u8),
+    /// The margins around a sensor's thresholds.
     Hysteresis(u8),
     /// Which events of a sensor are enabled.
     EventEnable(u8),
@@ -40,6 +42,7 @@ pub enum Key {
     UserAccess(UserOnChannel),
     /// The access of a channel, in one of its stores.
     ChannelAccess(StoredAccess),
+    /// The value of a BIOS attribute.
     BiosAttribute(u16),
     /// A LAN parameter of a channel.
     LanParam(ParameterOnChannel),
