@@ -14,6 +14,10 @@ use Rattle.bmc_ports.specs.Senders.{IsFrom}
 abbrev pub silent_turns : Silence → (who : ℕ) → ℕ
 silent_turns silence who = slice_index silence.turns who
 
+-- nobody was silent in any turn up to now
+abbrev pub NobodySilent : Silence → Type 0
+NobodySilent silence = (who : ℕ) → who < requester_bytes → silent_turns silence who ≡ 0
+
 -- each requester's turns are counted on by these turns of a port on this bus
 abbrev pub CountsAll : Bus → (before : Silence) → List Hearing → (after : Silence) → Type 0
 CountsAll on before heard after = (who : ℕ) → who < requester_bytes → CountsOn (IsFrom on who) (silent_turns before who) heard (silent_turns after who)

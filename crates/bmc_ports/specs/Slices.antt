@@ -11,6 +11,7 @@ use Rattle.bmc_worker.specs.declared.worker.End.TheVariants.{Turns, Full}
 use Rattle.bmc_worker.specs.Serving.{MakesTurn}
 use Rattle.bmc_ports.specs.declared.lane.Lane.{Lane}
 use Rattle.bmc_ports.specs.declared.lane.Lanes.{Lanes}
+use Rattle.bmc_ports.specs.declared.slices.Lent.{Lent}
 use Rattle.bmc_ports.specs.declared.timed.TimedEnd.{TimedEnd}
 use Rattle.bmc_ports.specs.declared.timed.TimedEnd.TheVariants as timed
 use Rattle.bmc_ports.specs.Since.{CountsOn, Hearing}
@@ -109,3 +110,7 @@ pub record IsBack {J : Type 0} {g h : _} {L : Type 0} (counts_of : L → Counts)
   pub marked : end ≡ Full → after.refused ≡ true
   pub mark : end ≡ Turns → after.refused ≡ seat.refused
   pub goes : GoesOn counts_of end seat.calls.items after.calls.items lane left
+
+-- so does all that a worker was lent
+abbrev pub GivesBack : {J L : Type 0} {g h : _} → (counts_of : L → Counts) → (lent : Lent J L g) → (after : Lent J L h) → End → Type 0
+GivesBack counts_of lent after end = IsBack counts_of lent.seat lent.lane after.seat after.lane end

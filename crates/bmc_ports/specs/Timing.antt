@@ -4,6 +4,8 @@ use Rattle.std.specs.List.{AllZip}
 use Rattle.bmc_history.specs.declared.event.Call.{Call}
 use Rattle.bmc_shared.specs.declared.seat.Seat.{Seat}
 use Rattle.bmc_ports.specs.Scanning.{Happens}
+use Rattle.bmc_ports.specs.declared.scanned.Script.{Script}
+use Rattle.bmc_ports.specs.declared.scanned.Played.{Played}
 use Rattle.bmc_ports.specs.declared.timed.Timed.{Timed}
 use Rattle.bmc_ports.specs.declared.timed.TimedEnd.{TimedEnd}
 use Rattle.bmc_ports.specs.declared.timed.TimedEnd.TheVariants.{Over, Full}
@@ -23,3 +25,7 @@ pub record IsPlayed {J : Type 0} {g h : _} (list : List Timed) (from to : ℕ) (
   pub mark : end ≢ Full → after.refused ≡ seat.refused
   pub over : (end ≡ Over) ↔ (length list ≤ to)
   pub gains : Gains list from to seat.calls.items after.calls.items
+
+-- so it is of a scanner that was lent this, and gave that back
+abbrev pub Plays : {J : Type 0} {g h : _} → (script : Script J g) → (played : Played J h) → Type 0
+Plays script played = IsPlayed script.table.list.now script.table.next played.next script.seat played.seat played.end

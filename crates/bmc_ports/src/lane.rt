@@ -1,7 +1,6 @@
 //! Ports that workers are lent, each with its link and its turns.
-ghost use Rattle.std.specs.Prelude.{◌≡◌, ◌<◌, ◌↔◌, ℕ, IsTrue};
-ghost use Rattle.model_bus.specs.Request.{requester_bytes};
-ghost use Rattle.bmc_ports.specs.Silence.{silent_turns};
+ghost use Rattle.std.specs.Prelude.{◌≡◌, ◌↔◌, IsTrue};
+ghost use Rattle.bmc_ports.specs.Silence.{NobodySilent};
 ghost use Rattle.bmc_ports.specs.Slices.{IsQuietFor, EndsAt};
 
 use crate::silence::Silence;
@@ -46,7 +45,7 @@ impl<L: Drop> Lane<L> {
         ensures turns { result.turns ≡ turns }
         ensures quiet { result.quiet ≡ 0 }
         ensures forget { result.forget ≡ forget }
-        ensures silence { (who : ℕ) → who < requester_bytes → silent_turns result.silence who ≡ 0 }
+        ensures silence { NobodySilent result.silence }
     {
         Lane {
             port,

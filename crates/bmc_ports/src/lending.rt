@@ -3,9 +3,9 @@ ghost use Rattle.std.specs.Prelude.{◌≡◌, ◌↔◌, IsTrue, IfOk};
 ghost use Rattle.bmc_ports.specs.Slices.{IsBack, IsDone, NoRoom};
 ghost use Rattle.bmc_ports.specs.Timing.{IsPlayed};
 
+use crate::at_once::NoThread;
 use crate::bell::Bell;
 use crate::lane::Lanes;
-use crate::run::NoThread;
 use crate::scanned::{Played, Script, run_beside};
 use crate::slices::{Both, Lent};
 use crate::timed::{TimedEnd, Timetable};
@@ -139,8 +139,8 @@ impl<J: Opening, A: Drop, B: Drop> Sliced<J, A, B> {
     }
 }
 
-/// Serves both ports of a board, each in a thread of its own, and gives back what it was lent. Each worker makes its turns in slices of one.
-/// While both serve, what is left of the timetable happens, each at its time, in a third thread where something is left. It ends once a
+/// Serves both ports of a board at once, one of them in this thread and one in a thread of its own, and gives back what it was lent. Each worker makes its turns in slices of one.
+/// While both serve, what is left of the timetable happens, each at its time, in another thread where something is left. It ends once a
 /// worker or the scanner finds the history full, once both workers made all their turns, or once both links were quiet for the least number of
 /// turns in a row, where there is one; what happens on the board by the timetable is not heard over a link. Where one of the three ends so, the
 /// workers end with their slices, and have the turns that they didn't make, and of the timetable the rest is left. So a caller can go on

@@ -1,6 +1,7 @@
 //! Workers that serve a board's ports in threads of their own, under one lock. It passes on names of `bmc_worker`, `bmc_history` and `bmc_links`.
 #![tactic(auto)]
 
+mod at_once;
 mod bell;
 pub mod lane;
 pub mod lending;
@@ -12,6 +13,7 @@ pub mod silence;
 pub mod slices;
 pub mod timed;
 
+pub use at_once::NoThread;
 pub use bmc_links::{Counts, Heard, Link, LinkFault, MOST_KEPT, MemFault, MemLink};
 pub use bmc_shared::{
     Call, Calls, CloseFault, Event, Events, Held, History, Locked, MOST_EVENTS, OpenFault, Opening,
@@ -20,6 +22,6 @@ pub use bmc_shared::{
 pub use bmc_worker::{End, Gate, serve_port};
 pub use lane::{Lane, Lanes};
 pub use lending::{Sliced, run_slices};
-pub use run::{NoThread, run_two};
+pub use run::run_two;
 pub use silence::Silence;
 pub use timed::{Stops, Timed, TimedEnd, Timetable, happen_in_time};

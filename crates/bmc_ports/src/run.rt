@@ -1,7 +1,8 @@
 //! Two port workers and a scanner, at once.
-ghost use Rattle.std.specs.Prelude.{◌≡◌, IfOk};
+ghost use Rattle.std.specs.Prelude.{IfOk};
 ghost use Rattle.bmc_ports.specs.Seated.{ComesBack, AllComeBack};
 
+use crate::at_once::{NoThread, run_at_once};
 use crate::scanner::scan;
 use bmc_board::{Bench, Records};
 use bmc_core::Port;
@@ -10,12 +11,7 @@ use bmc_shared::{Opening, Seat, Seats, Shared};
 use bmc_worker::{End, Gate, serve_port};
 use std::snapshot::Snapshot;
 use std::sync::Wait;
-use std::thread;
 use std::thread::{Promise, Threads};
-
-/// No thread could be started, for want of memory or of the system's leave. The seats are gone then.
-#[derive(Clone, Copy, Debug, PartialEq, Eq)]
-pub struct NoThread;
 
 /// What a thread gives back: the seat that it was given, with what it called, and why it ended.
 #[derive(Drop)]
@@ -66,8 +62,38 @@ fn happen<J: Opening, R: Wait>(
     (seat, end)
 }
 
-/// Runs each worker in a thread of its own, and the scanner in this one.
-fn run_three<J, A, B, G, R>(
+/// Runs a worker and the scanner: where nothing is to happen one after the other, and else the worker in a thread of its own.
+fn run_beside_scanner<J, L, G, R>(
+    rt: &R,
+    shared: &Shared<J, Records>,
+    side: Side<'_, J, L>,
+    scanner: Seat<J>,
+    bench: &[Bench],
+    gate: &G,
+    turns: u32,
+) -> Result<((Seat<J>, End), (Seat<J>, End)), NoThread>
+where
+    J: Opening + Send + Sync,
+    L: Link + Send,
+    G: Gate + Sync,
+    R: Threads + Wait + Sync,
+    ensures worker { IfOk result (λ run. ComesBack side.entry.seat run.0.0 run.0.1) }
+    ensures scanner { IfOk result (λ run. ComesBack scanner run.1.0 run.1.1) }
+{
+    if bench.is_empty() {
+        let worker = serve(rt, shared, side, gate, turns);
+        return Ok((worker, happen(rt, shared, scanner, bench, turns)));
+    }
+    run_at_once(
+        rt,
+        SeatOf(Snapshot::of(&side.seat)),
+        move || serve(rt, shared, side, gate, turns),
+        move || happen(rt, shared, scanner, bench, turns),
+    )
+}
+
+/// Runs the second worker in a thread of its own, and the first with the scanner.
+fn run_sides<J, A, B, G, R>(
     rt: &R,
     shared: &Shared<J, Records>,
     first: Side<'_, J, A>,
@@ -76,100 +102,25 @@ fn run_three<J, A, B, G, R>(
     bench: &[Bench],
     gate: &G,
     turns: u32,
-) -> Result<(Seats<J>, [End; 3]), NoThread>
+) -> Result<((Seat<J>, End), (Seat<J>, End), (Seat<J>, End)), NoThread>
 where
     J: Opening + Send + Sync,
     A: Link + Send,
     B: Link + Send,
     G: Gate + Sync,
     R: Threads + Wait + Sync,
-    requires numbers { (first.seat.number ≡ 0) × (second.seat.number ≡ 1) × (scanner.number ≡ 2) }
-    ensures { IfOk result (λ run. AllComeBack first.entry.seat second.entry.seat scanner run.0 run.1) }
+    ensures first { IfOk result (λ run. ComesBack first.entry.seat run.0.0 run.0.1) }
+    ensures second { IfOk result (λ run. ComesBack second.entry.seat run.1.0 run.1.1) }
+    ensures scanner { IfOk result (λ run. ComesBack scanner run.2.0 run.2.1) }
 {
-    thread::scope(
-        thread::scope_env(),
+    let (second, others) = run_at_once(
         rt,
-        |scope| -> Result<(Seats<J>, [End; 3]), NoThread>
-            requires { (first.seat.number ≡ 0) × (second.seat.number ≡ 1) × (scanner.number ≡ 2) }
-            ensures { IfOk result (λ run. AllComeBack first.entry.seat second.entry.seat scanner run.0 run.1) }
-        {
-            let first = scope
-                .spawn_with(
-                    SeatOf(Snapshot::of(&first.seat)),
-                    move || -> (Seat<J>, End)
-                        ensures { ComesBack first.entry.seat result.0 result.1 }
-                    { serve(rt, shared, first, gate, turns) },
-                )
-                .ok()
-                .ok_or(NoThread)?;
-            let second = scope
-                .spawn_with(
-                    SeatOf(Snapshot::of(&second.seat)),
-                    move || -> (Seat<J>, End)
-                        ensures { ComesBack second.entry.seat result.0 result.1 }
-                    { serve(rt, shared, second, gate, turns) },
-                )
-                .ok()
-                .ok_or(NoThread)?;
-            let (scanner, scanner_end) = happen(rt, shared, scanner, bench, turns);
-            let (first, first_end) = first.join(rt);
-            let (second, second_end) = second.join(rt);
-            let seats = Seats {
-                first,
-                second,
-                scanner,
-            };
-            Ok((seats, [first_end, second_end, scanner_end]))
-        },
-    )
-}
-
-/// Runs both workers where nothing is to happen beside them: the first in this thread, and the second in one of its own.
-fn run_pair<J, A, B, G, R>(
-    rt: &R,
-    shared: &Shared<J, Records>,
-    first: Side<'_, J, A>,
-    second: Side<'_, J, B>,
-    scanner: Seat<J>,
-    gate: &G,
-    turns: u32,
-) -> Result<(Seats<J>, [End; 3]), NoThread>
-where
-    J: Opening + Send + Sync,
-    A: Link + Send,
-    B: Link + Send,
-    G: Gate + Sync,
-    R: Threads + Wait + Sync,
-    requires numbers { (first.seat.number ≡ 0) × (second.seat.number ≡ 1) × (scanner.number ≡ 2) }
-    ensures { IfOk result (λ run. AllComeBack first.entry.seat second.entry.seat scanner run.0 run.1) }
-{
-    thread::scope(
-        thread::scope_env(),
-        rt,
-        |scope| -> Result<(Seats<J>, [End; 3]), NoThread>
-            requires { (first.seat.number ≡ 0) × (second.seat.number ≡ 1) × (scanner.number ≡ 2) }
-            ensures { IfOk result (λ run. AllComeBack first.entry.seat second.entry.seat scanner run.0 run.1) }
-        {
-            let second = scope
-                .spawn_with(
-                    SeatOf(Snapshot::of(&second.seat)),
-                    move || -> (Seat<J>, End)
-                        ensures { ComesBack second.entry.seat result.0 result.1 }
-                    { serve(rt, shared, second, gate, turns) },
-                )
-                .ok()
-                .ok_or(NoThread)?;
-            let (first, first_end) = serve(rt, shared, first, gate, turns);
-            let (scanner, scanner_end) = happen(rt, shared, scanner, &[], 0);
-            let (second, second_end) = second.join(rt);
-            let seats = Seats {
-                first,
-                second,
-                scanner,
-            };
-            Ok((seats, [first_end, second_end, scanner_end]))
-        },
-    )
+        SeatOf(Snapshot::of(&second.seat)),
+        move || serve(rt, shared, second, gate, turns),
+        move || run_beside_scanner(rt, shared, first, scanner, bench, gate, turns),
+    )?;
+    let (first, scanner) = others?;
+    Ok((first, second, scanner))
 }
 
 /// Serves both ports of a board at once and has events happen on it, until all three end. One of the three runs in the caller's thread, and
@@ -209,9 +160,13 @@ where
         port: second_port,
         link: second_link,
     };
-    if bench.is_empty() {
-        run_pair(rt, shared, first, second, scanner, gate, turns)
-    } else {
-        run_three(rt, shared, first, second, scanner, bench, gate, turns)
-    }
+    let ((first, first_end), (second, second_end), (scanner, scanner_end)) = run_sides(
+        rt, shared, first, second, scanner, bench, gate, turns,
+    )?;
+    let seats = Seats {
+        first,
+        second,
+        scanner,
+    };
+    Ok((seats, [first_end, second_end, scanner_end]))
 }

@@ -1,10 +1,10 @@
 //! A scanner beside two workers, in a thread of its own: it has happen what is left of a timetable, and gives its seat back.
 ghost use Rattle.std.specs.Prelude.{IfOk};
-ghost use Rattle.bmc_ports.specs.Slices.{IsBack};
-ghost use Rattle.bmc_ports.specs.Timing.{IsPlayed};
+ghost use Rattle.bmc_ports.specs.Slices.{GivesBack};
+ghost use Rattle.bmc_ports.specs.Timing.{Plays};
 
+use crate::at_once::{NoThread, run_at_once};
 use crate::bell::Bell;
-use crate::run::NoThread;
 use crate::slices::{Both, Lent, run_lent};
 use crate::timed::{TimedEnd, Timetable, happen_in_time};
 use bmc_board::Records;
@@ -13,7 +13,6 @@ use bmc_shared::{Opening, Seat, Shared};
 use bmc_worker::Gate;
 use std::snapshot::Snapshot;
 use std::sync::Wait;
-use std::thread;
 use std::thread::{Promise, Threads};
 use std::time::Clock;
 
@@ -37,9 +36,7 @@ pub(crate) struct Played<J: Opening> {
 struct PlayedOf<'a, J: Opening>(Snapshot<Script<'a, J>>);
 
 impl<'a, J: Opening> Promise<Played<J>> for PlayedOf<'a, J> {
-    ghost kept_by = { λ promise played.
-        IsPlayed promise.0.value.table.list.now promise.0.value.table.next played.next
-        promise.0.value.seat played.seat played.end };
+    ghost kept_by = { λ promise played. Plays promise.0.value played };
 }
 
 /// Has all happen that is left, until the workers end. Where there is no room for what is next, it rings the bell.
@@ -49,8 +46,7 @@ fn play<J: Opening, R: Wait + Clock>(
     script: Script<'_, J>,
     bell: &Bell,
 ) -> Played<J>
-    ensures { IsPlayed script.entry.table.list.now script.entry.table.next result.next
-        script.entry.seat result.seat result.end }
+    ensures { Plays script.entry result }
 {
     let Script {
         mut seat,
@@ -65,62 +61,6 @@ fn play<J: Opening, R: Wait + Clock>(
         next: table.next,
         end,
     }
-}
-
-/// Runs both workers, and the scanner beside them until they end.
-pub(crate) fn run_scanned<J, A, B, G, R>(
-    rt: &R,
-    shared: &Shared<J, Records>,
-    first: Lent<J, A>,
-    second: Lent<J, B>,
-    script: Script<'_, J>,
-    gate: &G,
-    bell: &Bell,
-) -> Result<(Both<J, A, B>, Played<J>), NoThread>
-where
-    J: Opening + Send + Sync,
-    A: Link + Send + Drop,
-    B: Link + Send + Drop,
-    G: Gate + Sync,
-    R: Threads + Wait + Clock + Sync,
-    ensures first { IfOk result (λ run. IsBack A.counts_of first.seat first.lane
-        run.0.first.seat run.0.first.lane run.0.first_end) }
-    ensures second { IfOk result (λ run. IsBack B.counts_of second.seat second.lane
-        run.0.second.seat run.0.second.lane run.0.second_end) }
-    ensures scanner { IfOk result (λ run. IsPlayed script.entry.table.list.now
-        script.entry.table.next run.1.next script.entry.seat run.1.seat run.1.end) }
-{
-    thread::scope(
-        thread::scope_env(),
-        rt,
-        |scope| -> Result<(Both<J, A, B>, Played<J>), NoThread>
-            ensures first { IfOk result (λ run. IsBack A.counts_of first.seat first.lane
-                run.0.first.seat run.0.first.lane run.0.first_end) }
-            ensures second { IfOk result (λ run. IsBack B.counts_of second.seat second.lane
-                run.0.second.seat run.0.second.lane run.0.second_end) }
-            ensures scanner { IfOk result (λ run. IsPlayed script.entry.table.list.now
-                script.entry.table.next run.1.next script.entry.seat run.1.seat run.1.end) }
-        {
-            let scanner = scope
-                .spawn_with(
-                    PlayedOf(Snapshot::of(&script)),
-                    move || -> Played<J>
-                        ensures { IsPlayed script.entry.table.list.now
-                            script.entry.table.next result.next
-                            script.entry.seat result.seat result.end }
-                    { play(rt, shared, script, bell) },
-                )
-                .ok()
-                .ok_or(NoThread)?;
-            let workers = run_lent(rt, shared, first, second, gate, bell);
-            bell.end();
-            let played = scanner.join(rt);
-            match workers {
-                Ok(workers) => Ok((workers, played)),
-                Err(why) => Err(why),
-            }
-        },
-    )
 }
 
 /// Runs both workers, and the scanner beside them where something is left for it.
@@ -139,23 +79,26 @@ where
     B: Link + Send + Drop,
     G: Gate + Sync,
     R: Threads + Wait + Clock + Sync,
-    ensures first { IfOk result (λ run. IsBack A.counts_of first.seat first.lane
-        run.0.first.seat run.0.first.lane run.0.first_end) }
-    ensures second { IfOk result (λ run. IsBack B.counts_of second.seat second.lane
-        run.0.second.seat run.0.second.lane run.0.second_end) }
-    ensures scanner { IfOk result (λ run. IsPlayed script.entry.table.list.now
-        script.entry.table.next run.1.next script.entry.seat run.1.seat run.1.end) }
+    ensures first { IfOk result (λ run.
+        GivesBack A.counts_of first run.0.first run.0.first_end) }
+    ensures second { IfOk result (λ run.
+        GivesBack B.counts_of second run.0.second run.0.second_end) }
+    ensures scanner { IfOk result (λ run. Plays script.entry run.1) }
 {
-    if !script.table.is_over() {
-        return run_scanned(rt, shared, first, second, script, gate, bell);
+    if script.table.is_over() {
+        let played = Played {
+            seat: script.seat,
+            next: script.table.next,
+            end: TimedEnd::Over,
+        };
+        let workers = run_lent(rt, shared, first, second, gate, bell)?;
+        return Ok((workers, played));
     }
-    let played = Played {
-        seat: script.seat,
-        next: script.table.next,
-        end: TimedEnd::Over,
-    };
-    match run_lent(rt, shared, first, second, gate, bell) {
-        Ok(workers) => Ok((workers, played)),
-        Err(why) => Err(why),
-    }
+    let (played, workers) = run_at_once(
+        rt,
+        PlayedOf(Snapshot::of(&script)),
+        move || play(rt, shared, script, bell),
+        move || run_lent(rt, shared, first, second, gate, bell),
+    )?;
+    Ok((workers?, played))
 }

@@ -4,7 +4,7 @@ ghost use Rattle.model_ports.specs.PortSteps.{PortState, idles};
 ghost use Rattle.bmc_core.specs.Port.{Shows, bus_of};
 ghost use Rattle.bmc_ports.specs.Since.{most_turns};
 ghost use Rattle.model_bus.specs.Request.{requester_bytes};
-ghost use Rattle.bmc_ports.specs.Silence.{AreCounted, CountsAll, Forgets, idles_all, silent_among, silent_turns};
+ghost use Rattle.bmc_ports.specs.Silence.{AreCounted, CountsAll, Forgets, NobodySilent, idles_all, silent_among, silent_turns};
 
 use crate::sender::heard_from;
 use bmc_core::Port;
@@ -20,7 +20,7 @@ pub struct Silence {
 impl Silence {
     /// That of a port that made no turn yet.
     pub(crate) fn new() -> Self
-        ensures { (who : ℕ) → who < requester_bytes → silent_turns result who ≡ 0 }
+        ensures { NobodySilent result }
     {
         Silence {
             turns: [0; REQUESTERS],
@@ -98,7 +98,8 @@ pub(crate) fn forget_silent(
     least: Option<u32>,
     heard: &Option<Frame>,
 )
-    ensures counted { AreCounted least (bus_of port.old) silence.old (heard.now ∷ []) silence.new }
+    ensures counted { AreCounted least (bus_of port.old)
+        silence.old (heard.now ∷ []) silence.new }
     ensures forgets { Forgets least silence.new port.old port.new }
     ensures bus { bus_of port.new ≡ bus_of port.old }
 {

@@ -1,11 +1,11 @@
 //! Two port workers that are lent ports and links, and give them back after some of their turns.
 ghost use Rattle.std.specs.Prelude.{◌≡◌, ◌≤◌, true, [], ◌∷◌, IfOk};
 ghost use Rattle.bmc_worker.specs.declared.worker.End.TheVariants.{Turns, Full};
-ghost use Rattle.bmc_ports.specs.Slices.{IsQuiet, SomeTurn, GoesOn, IsBack};
+ghost use Rattle.bmc_ports.specs.Slices.{IsQuiet, SomeTurn, GoesOn, GivesBack};
 
+use crate::at_once::{NoThread, run_at_once};
 use crate::bell::{Bell, Rope};
 use crate::lane::Lane;
-use crate::run::NoThread;
 use crate::silence::forget_silent;
 use bmc_board::Records;
 use bmc_links::Link;
@@ -14,7 +14,6 @@ use bmc_worker::{Desk, End, Gate, turn};
 use cfg_records::Store;
 use std::snapshot::Snapshot;
 use std::sync::Wait;
-use std::thread;
 use std::thread::{Promise, Threads};
 use two_wire::Frame;
 
@@ -40,7 +39,7 @@ struct LentOf<J: Opening, L>(Snapshot<Lent<J, L>>);
 
 impl<J: Opening, L: Link> Promise<(Lent<J, L>, End)> for LentOf<J, L> {
     ghost kept_by = { λ promise given.
-        IsBack L.counts_of promise.0.value.seat promise.0.value.lane given.0.seat given.0.lane given.1 };
+        GivesBack L.counts_of promise.0.value given.0 given.1 };
 }
 
 /// How many quiet turns there are in a row, behind a turn that heard this.
@@ -123,14 +122,14 @@ fn serve_lent<J: Opening, L: Link + Drop, G: Gate, R: Wait>(
     gate: &G,
     rope: Rope<'_>,
 ) -> (Lent<J, L>, End)
-    ensures { IsBack L.counts_of lent.seat lent.lane result.0.seat result.0.lane result.1 }
+    ensures { GivesBack L.counts_of lent result.0 result.1 }
 {
     let Lent { mut seat, mut lane } = lent;
     let end = serve_slices(rt, shared, &mut seat, &mut lane, gate, &rope);
     (Lent { seat, lane }, end)
 }
 
-/// Runs both threads.
+/// Runs both workers at once, and says once both ended.
 pub(crate) fn run_lent<J, A, B, G, R>(
     rt: &R,
     shared: &Shared<J, Records>,
@@ -145,48 +144,21 @@ where
     B: Link + Send + Drop,
     G: Gate + Sync,
     R: Threads + Wait + Sync,
-    ensures first { IfOk result (λ run. IsBack A.counts_of first.seat first.lane
-        run.first.seat run.first.lane run.first_end) }
-    ensures second { IfOk result (λ run. IsBack B.counts_of second.seat second.lane
-        run.second.seat run.second.lane run.second_end) }
+    ensures first { IfOk result (λ run. GivesBack A.counts_of first run.first run.first_end) }
+    ensures second { IfOk result (λ run. GivesBack B.counts_of second run.second run.second_end) }
 {
-    thread::scope(
-        thread::scope_env(),
+    let run = run_at_once(
         rt,
-        |scope| -> Result<Both<J, A, B>, NoThread>
-            ensures first { IfOk result (λ run. IsBack A.counts_of first.seat first.lane
-                run.first.seat run.first.lane run.first_end) }
-            ensures second { IfOk result (λ run. IsBack B.counts_of second.seat second.lane
-                run.second.seat run.second.lane run.second_end) }
-        {
-            let first = scope
-                .spawn_with(
-                    LentOf(Snapshot::of(&first)),
-                    move || -> (Lent<J, A>, End)
-                        ensures { IsBack A.counts_of first.seat first.lane
-                            result.0.seat result.0.lane result.1 }
-                    { serve_lent(rt, shared, first, gate, bell.first()) },
-                )
-                .ok()
-                .ok_or(NoThread)?;
-            let second = scope
-                .spawn_with(
-                    LentOf(Snapshot::of(&second)),
-                    move || -> (Lent<J, B>, End)
-                        ensures { IsBack B.counts_of second.seat second.lane
-                            result.0.seat result.0.lane result.1 }
-                    { serve_lent(rt, shared, second, gate, bell.second()) },
-                )
-                .ok()
-                .ok_or(NoThread)?;
-            let (first, first_end) = first.join(rt);
-            let (second, second_end) = second.join(rt);
-            Ok(Both {
-                first,
-                second,
-                first_end,
-                second_end,
-            })
-        },
-    )
+        LentOf(Snapshot::of(&first)),
+        move || serve_lent(rt, shared, first, gate, bell.first()),
+        move || serve_lent(rt, shared, second, gate, bell.second()),
+    );
+    bell.end();
+    let ((first, first_end), (second, second_end)) = run?;
+    Ok(Both {
+        first,
+        second,
+        first_end,
+        second_end,
+    })
 }

@@ -40,7 +40,8 @@ impl Played {
 
     /// The frames that were sent, in the order of their numbers.
     pub fn frames(&self) -> &[SentFrame]
-        ensures { (told : Told) → Tells self.now told → AllZip IsSentFrame result.now told.frames }
+        ensures { (told : Told) → Tells self.now told
+            → AllZip IsSentFrame result.now told.frames }
     {
         self.lab.frames()
     }
@@ -103,7 +104,8 @@ impl Played {
     fn begin(alloc: Global, file: BoardFile, plan: Plan) -> Result<Played, AllocError>
         ensures begins { IfOk result (λ played. Begins file plan.steps plan.retries played) }
         ensures unbroken { IfOk result (λ played. played.watch.broken ≡ None) }
-        ensures never { IfOk result (λ played. (on : AnyBus) → idles_in on played.lab.idles ≡ 0) }
+        ensures never { IfOk result (λ played.
+            (on : AnyBus) → idles_in on played.lab.idles ≡ 0) }
     {
         let _steps = plan.steps.len();
         let start = file.records(alloc)?;

@@ -18,6 +18,6 @@ loop-turn-preserved g c =
       happens_on c.args.bench.now c.loop-turn.turn c.in-Some.event.now inv.0 call inv.2 at (c.in-Ok.field-0, refl),
       omega (arith, length-append inv.0 (call ∷ []), inv.3),
       omega (arith, within),
-      c.in-Ok.ensures.mark ∙ inv.5,
-      c.in-Ok.ensures.number ∙ inv.6,
+      c.in-Ok.ensures.seat.mark ∙ inv.5,
+      c.in-Ok.ensures.seat.number ∙ inv.6,
     )

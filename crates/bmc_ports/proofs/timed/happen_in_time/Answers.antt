@@ -22,6 +22,6 @@ loop-place-preserved g c =
       refl,
       inv.2,
       inv.3,
-      c.in-Ok.ensures.mark ∙ inv.4,
-      c.in-Ok.ensures.number ∙ inv.5,
+      c.in-Ok.ensures.seat.mark ∙ inv.4,
+      c.in-Ok.ensures.seat.number ∙ inv.5,
     )

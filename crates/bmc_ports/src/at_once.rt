@@ -1,0 +1,49 @@
+//! Two things at once, one of them in a thread of its own.
+ghost use Rattle.std.specs.Prelude.{IfOk};
+
+use std::sync::Wait;
+use std::thread;
+use std::thread::{Promise, Threads};
+
+/// No thread could be started, for want of memory or of the system's leave. The seats are gone then.
+#[derive(Clone, Copy, Debug, PartialEq, Eq)]
+pub struct NoThread;
+
+/// Runs one thing in a thread of its own, and another meanwhile in this one. Where no thread can be started, neither runs.
+pub(crate) fn run_at_once<P, T, F, U, M, R>(
+    rt: &R,
+    promise: P,
+    apart: F,
+    here: M,
+) -> Result<(T, U), NoThread>
+where
+    P: Promise<T> + Drop,
+    T: Send + Drop,
+    F: FnOnce() -> T + Send + Drop,
+    U: Drop,
+    M: FnOnce() -> U + Drop,
+    R: Threads + Wait + Sync,
+    requires apart { F.pre apart }
+    requires keeps { (given : T) → F.post apart given → P.kept_by promise given }
+    requires here { M.pre here }
+    ensures apart { IfOk result (λ both. P.kept_by promise both.0) }
+    ensures here { IfOk result (λ both. M.post here both.1) }
+{
+    thread::scope(
+        thread::scope_env(),
+        rt,
+        |scope| -> Result<(T, U), NoThread>
+            requires apart { F.pre apart }
+            requires keeps { (given : T) → F.post apart given → P.kept_by promise given }
+            requires here { M.pre here }
+            ensures apart { IfOk result (λ both. P.kept_by promise both.0) }
+            ensures here { IfOk result (λ both. M.post here both.1) }
+        {
+            let Ok(thread) = scope.spawn_with(promise, apart) else {
+                return Err(NoThread);
+            };
+            let here = here();
+            Ok((thread.join(rt), here))
+        },
+    )
+}
