@@ -4,10 +4,9 @@ use Rattle.std.specs.List.{flat_map, enumerate_from}
 use Rattle.std.specs.Fmt.{decimal}
 use Rattle.hex.specs.Hex.{encode_upper}
 use Rattle.text_lines.specs.Cuts.{ended}
-use Rattle.two_wire.specs.declared.Bus.{Bus}
-use Rattle.two_wire.specs.declared.Bus.TheVariants.{Ipmb, Smbus}
 use Rattle.record_base.specs.declared.message.Asked.{Asked}
 use Rattle.text_undo.specs.UndoText.{line_of}
+use Rattle.text_schedule.specs.Line.{bus_name}
 use Rattle.model_undo.specs.PhaseNames.{phase_name}
 use Rattle.model_lab.specs.declared.way.Way.{Way}
 use Rattle.model_lab.specs.declared.way.Way.TheVariants.{ToPort, ToManager, ToOthers}
@@ -32,11 +31,6 @@ abbrev pub end_name : Way → List ℕ
 end_name ToPort = codes "mgr"
 end_name ToManager = codes "bmc"
 end_name ToOthers = codes "bmc"
-
--- a bus's name
-abbrev pub bus_name : Bus → List ℕ
-bus_name Ipmb = codes "ipmb"
-bus_name Smbus = codes "smbus"
 
 -- a frame: its number, who sent it, its bus, and its bytes in upper-case hexadecimal
 abbrev pub frame_line : ℕ → SentFrame → List ℕ

@@ -3,12 +3,12 @@ ghost use Rattle.std.specs.Prelude.{◌≡◌, ◌++◌, OnOk, codes, string_byt
 ghost use Rattle.std.specs.Fmt.{decimal};
 ghost use Rattle.std.specs.List.{flat_map};
 ghost use Rattle.text_lines.specs.Cuts.{ended};
-ghost use Rattle.bmc_play.specs.Lines.{end_name, bus_name, frame_line, frame_lines, premise_lines, said, stopped_line};
+ghost use Rattle.bmc_play.specs.Lines.{end_name, frame_line, frame_lines, premise_lines, said, stopped_line};
 
 use lab_play::Stopped;
 use lab_run::{SentFrame, Way};
 use std::alloc::{AllocError, Global};
-use two_wire::Bus;
+use text_schedule::bus_name;
 
 /// Which end sends what goes this way.
 fn end_of(way: Way) -> &'static str
@@ -17,16 +17,6 @@ fn end_of(way: Way) -> &'static str
     match way {
         Way::ToPort => "mgr",
         Way::ToManager | Way::ToOthers => "bmc",
-    }
-}
-
-/// The bus's name.
-fn name_of(bus: Bus) -> &'static str
-    ensures { result.now ≡ bus_name bus }
-{
-    match bus {
-        Bus::Ipmb => "ipmb",
-        Bus::Smbus => "smbus",
     }
 }
 
@@ -41,7 +31,7 @@ fn push_frame(
         ≡ string_bytes text.old ++ ended (frame_line number frame.now)) }
 {
     let end = end_of(frame.way);
-    let bus = name_of(frame.mark.on);
+    let bus = bus_name(frame.mark.on);
     let digits = hex::encode_upper(alloc, frame.bytes.as_slice())?;
     writeln!(text, "frame {number} {end} {bus} {digits}")
 }
