@@ -16,6 +16,7 @@ use host_base::{
     refusal_by, refusal_of, several,
 };
 use std::alloc::{AllocError, Global};
+use two_wire::Bus;
 
 /// What the words ask for.
 #[derive(Debug, Drop)]
@@ -157,7 +158,7 @@ fn command<'a>(alloc: Global) -> Result<Command<'a>, AllocError>
 /// What is wrong with the words BUS and HEX that name no frame.
 fn frame_fault(alloc: Global, bus: Option<&str>, digits: &str) -> Result<String, AllocError> {
     match bus {
-        Some(name) if name != "ipmb" && name != "smbus" => {
+        Some(name) if Bus::named(name).is_none() => {
             format!(in alloc;
                 "invalid value '{name}' for '--bus <BUS>'\n  [possible values: ipmb, smbus]"
             )

@@ -1,18 +1,14 @@
 -- The frame that words of the command line name.
-use Rattle.std.specs.Prelude.{◌≡◌, ◌≢◌, ℕ, List, [], Option, None, Some, Ok, codes}
+use Rattle.std.specs.Prelude.{◌≡◌, ◌≢◌, ℕ, List, [], Option, None, Some, Ok}
 use Rattle.hex.specs.Hex.{decode_of}
 use Rattle.two_wire.specs.declared.Bus.{Bus}
-use Rattle.two_wire.specs.declared.Bus.TheVariants.{Ipmb, Smbus}
-
--- a bus's name
-abbrev pub name_of : Bus → List ℕ
-name_of Ipmb = codes "ipmb"
-name_of Smbus = codes "smbus"
+use Rattle.two_wire.specs.declared.Bus.TheVariants.{Ipmb}
+use Rattle.two_wire.specs.Buses.{bus_name}
 
 -- the word means the bus: it is the bus's name, or it is left out and the bus is IPMB
 abbrev pub Means : Option (List ℕ) → Bus → Type 0
 Means None bus = bus ≡ Ipmb
-Means (Some word) bus = word ≡ name_of bus
+Means (Some word) bus = word ≡ bus_name bus
 
 -- the words name the bus and the bytes: the digits are two hexadecimal ones for each byte, and there is a byte
 pub record Asks (word : Option (List ℕ)) (digits : List ℕ) (bus : Bus) (bytes : List ℕ) : Type 0 where

@@ -23,9 +23,7 @@ fn bus_of(word: Option<&str>) -> Result<Bus, Status>
 {
     match word {
         None => Ok(Bus::Ipmb),
-        Some(name) if name == "ipmb" => Ok(Bus::Ipmb),
-        Some(name) if name == "smbus" => Ok(Bus::Smbus),
-        Some(_) => Err(Status::RefusedWords),
+        Some(name) => Bus::named(name).ok_or(Status::RefusedWords),
     }
 }
 

@@ -8,7 +8,6 @@ ghost use Rattle.bmc_play.specs.Lines.{end_name, frame_line, frame_lines, premis
 use lab_play::Stopped;
 use lab_run::{SentFrame, Way};
 use std::alloc::{AllocError, Global};
-use text_schedule::bus_name;
 
 /// Which end sends what goes this way.
 fn end_of(way: Way) -> &'static str
@@ -31,7 +30,7 @@ fn push_frame(
         ≡ string_bytes text.old ++ ended (frame_line number frame.now)) }
 {
     let end = end_of(frame.way);
-    let bus = bus_name(frame.mark.on);
+    let bus = frame.mark.on.name();
     let digits = hex::encode_upper(alloc, frame.bytes.as_slice())?;
     writeln!(text, "frame {number} {end} {bus} {digits}")
 }

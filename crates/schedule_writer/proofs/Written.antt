@@ -22,7 +22,8 @@ use Rattle.text_schedule.specs.declared.event.OtherMessage.{OtherMessage}
 use Rattle.text_schedule.specs.declared.event.Event.{Event}
 use Rattle.text_schedule.specs.declared.event.Event.TheVariants.{ToBmc, ToMgr, OtherIpmb, OtherSmbus}
 use Rattle.text_schedule.specs.Text.{lines_of, words_of, IsNumber}
-use Rattle.text_schedule.specs.Line.{Word, Name, Number, Digits, bus_name, bytes_of, words_for, Spells, AreSome, IsRequest, IsSound, Says}
+use Rattle.two_wire.specs.Buses.{bus_name}
+use Rattle.text_schedule.specs.Line.{Word, Name, Number, Digits, bytes_of, words_for, Spells, AreSome, IsRequest, IsSound, Says}
 use Rattle.text_schedule.specs.Schedule.{is_skipped, spoken, Say}
 use Rattle.schedule_writer.specs.Written.{said, written, spaced, line_with, line_of, text_of, Stands}
 

@@ -10,7 +10,7 @@ ghost use Rattle.text_schedule.specs.Schedule.{Say};
 ghost use Rattle.schedule_writer.specs.Written.{Stands, byte_digits, has_line, line_of, text_of};
 
 use std::alloc::{AllocError, Global};
-use text_schedule::{BenchEvent, Event, OtherMessage, OtherRequest, bus_name};
+use text_schedule::{BenchEvent, Event, OtherMessage, OtherRequest};
 use two_wire::size::MOST_IPMI_REQUEST_DATA;
 use two_wire::{Bus, Bytes};
 
@@ -105,7 +105,7 @@ fn push_noise(alloc: Global, text: &mut String, on: Bus, bytes: &[u8]) -> Result
         ≡ string_bytes text.old ++ ended (line_of (Event.Noise on bytes.now))) }
     ensures stands { Stands (line_of (Event.Noise on bytes.now)) (Event.Noise on bytes.now) }
 {
-    let bus = bus_name(on);
+    let bus = on.name();
     let digits = digits_of(alloc, bytes)?;
     writeln!(text, "noise {bus} {digits}")
 }
@@ -116,7 +116,7 @@ fn push_idle(alloc: Global, text: &mut String, on: Bus, requester: u8) -> Result
         ≡ string_bytes text.old ++ ended (line_of (Event.Idle on requester))) }
     ensures stands { Stands (line_of (Event.Idle on requester)) (Event.Idle on requester) }
 {
-    let bus = bus_name(on);
+    let bus = on.name();
     let from = byte_digits(alloc, requester)?;
     writeln!(text, "idle {bus} {from}")
 }

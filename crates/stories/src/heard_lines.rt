@@ -4,7 +4,7 @@ ghost use Rattle.bmc_core.specs.Port.{bus_of, bus_asked};
 
 use crate::around::Around;
 use crate::bytes::bytes_of;
-use crate::port_lines::{done_text, named_bus, port_of};
+use crate::port_lines::{done_text, port_of};
 use bmc_board::{Board, Records};
 use bmc_core::{Out, Pending, Port, Step};
 use std::alloc::{AllocError, Global};
@@ -13,7 +13,7 @@ use two_wire::Bus;
 /// The bus and the bytes that the words tell, as `ipmb 2018C82C0001D3`.
 pub fn heard_in(alloc: Global, words: &str) -> Result<Option<(Bus, Vec<u8>)>, AllocError> {
     let (bus, digits) = words.split_once(' ').unwrap_or((words, ""));
-    let Some(bus) = named_bus(bus) else {
+    let Some(bus) = Bus::named(bus) else {
         return Ok(None);
     };
     Ok(match bytes_of(alloc, digits)? {

@@ -47,19 +47,10 @@ pub fn hears(
     done_text(alloc, &around.out)
 }
 
-/// The bus that the word names.
-pub fn named_bus(word: &str) -> Option<Bus> {
-    match word {
-        "ipmb" => Some(Bus::Ipmb),
-        "smbus" => Some(Bus::Smbus),
-        _ => None,
-    }
-}
-
 /// Whether the port had a window for the requester, which it forgets.
 fn forget(around: &mut Around, bus: &str, requester: &str) -> Option<bool> {
     let requester = text_lines::byte(requester)?;
-    let (port, _) = port_of(around, named_bus(bus)?);
+    let (port, _) = port_of(around, Bus::named(bus)?);
     Some(port.idle(requester))
 }
 

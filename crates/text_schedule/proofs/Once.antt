@@ -13,7 +13,8 @@ use Rattle.text_schedule.specs.declared.event.OtherRequest.{OtherRequest}
 use Rattle.text_schedule.specs.declared.event.BenchEvent.TheVariants.{Scan, Tick}
 use Rattle.text_schedule.specs.declared.event.Event.{Event}
 use Rattle.text_schedule.specs.declared.event.Event.TheVariants.{Calls, ToBmc, ToMgr, OtherIpmb, OtherSmbus, Noise, Idle, OnBench}
-use Rattle.text_schedule.specs.Line.{Word, Spells, Say, IsRequest, call_name, bus_name, bytes_of, words_for}
+use Rattle.two_wire.specs.Buses.{bus_name}
+use Rattle.text_schedule.specs.Line.{Word, Spells, Say, IsRequest, call_name, bytes_of, words_for}
 
 -- ---- what words are read as
 

@@ -1,8 +1,8 @@
 -- The lines of a schedule: how each event is written.
 use Rattle.std.specs.Prelude.{◌≡◌, ℕ, ◌<◌, ◌≤◌, ◌%◌, List, [], ◌∷◌, length, codes}
 use Rattle.std.specs.List.{AllZip}
-use Rattle.two_wire.specs.declared.Bus.{Bus}
 use Rattle.two_wire.specs.declared.Bus.TheVariants.{Ipmb, Smbus}
+use Rattle.two_wire.specs.Buses.{bus_name}
 use Rattle.two_wire.specs.Sizes.{most_frame_bytes, most_ipmi_request_data, most_message_bytes}
 use Rattle.ipmb_frame.specs.Grammar.{packed}
 use Rattle.text_schedule.specs.declared.event.Call.{Call as Called}
@@ -20,11 +20,6 @@ call_name Quiet = codes "quiet"
 call_name Stop = codes "stop"
 call_name Again = codes "again"
 call_name Undo = codes "undo"
-
--- a bus's name
-abbrev pub bus_name : Bus → List ℕ
-bus_name Ipmb = codes "ipmb"
-bus_name Smbus = codes "smbus"
 
 -- ---- the words of a line
 

@@ -12,4 +12,4 @@ pub use event::{BenchEvent, Call, Event, MOST_NOISE, OtherMessage, OtherRequest}
 pub use laws::{one_schedule, refused_or_told};
 pub use octets::Octets;
 pub use schedule::{Schedule, ScheduleFault, read_schedule};
-pub use words::{bus_name, call_name};
+pub use words::call_name;

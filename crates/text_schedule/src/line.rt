@@ -6,7 +6,7 @@ ghost use Rattle.text_schedule.specs.Reads.{Finds, Reads, ReadsBytes};
 
 use crate::event::{BenchEvent, Event, OtherMessage, OtherRequest};
 use crate::octets::Octets;
-use crate::words::{find_bus, find_call, frame_number, words};
+use crate::words::{find_call, frame_number, words};
 use ipmb_frame::Party;
 use std::alloc::Global;
 use text_lines::{byte, bytes};
@@ -60,7 +60,7 @@ fn delivery(word: &str, digits: &str) -> Option<Event>
 fn idle(name: &str, from: &str) -> Option<Event>
     ensures { Finds (Say (codes "idle" ∷ name.now ∷ from.now ∷ [])) result }
 {
-    let bus = find_bus(name)?;
+    let bus = Bus::named(name)?;
     let requester = byte(from)?;
     Some(Event::Idle(bus, requester))
 }
@@ -78,7 +78,7 @@ fn scan(sensor: &str, reading: &str) -> Option<Event>
 fn noise(alloc: Global, name: &str, digits: &str) -> Result<Event, LineFault>
     ensures { Reads (Say (codes "noise" ∷ name.now ∷ digits.now ∷ [])) result }
 {
-    let Some(bus) = find_bus(name) else {
+    let Some(bus) = Bus::named(name) else {
         return Err(LineFault::Bad);
     };
     let heard = some_bytes(alloc, digits)?;
@@ -164,7 +164,7 @@ fn three_words(alloc: Global, word: &str, first: &str, second: &str) -> Result<E
 fn other(alloc: Global, name: &str, from: &str, digits: &str) -> Result<Event, LineFault>
     ensures { Reads (Say (codes "other" ∷ name.now ∷ from.now ∷ digits.now ∷ [])) result }
 {
-    match find_bus(name) {
+    match Bus::named(name) {
         Some(Bus::Ipmb) => other_ipmb(alloc, from, digits),
         Some(Bus::Smbus) => other_smbus(alloc, from, digits),
         None => Err(LineFault::Bad),

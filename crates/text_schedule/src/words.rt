@@ -1,12 +1,11 @@
 //! The words of a line, and what their names mean.
 ghost use Rattle.std.specs.Prelude.{◌≡◌, IfOk, map};
 ghost use Rattle.text_schedule.specs.Text.{lines_of, words_of, IsNumber};
-ghost use Rattle.text_schedule.specs.Line.{bus_name, call_name};
+ghost use Rattle.text_schedule.specs.Line.{call_name};
 ghost use Rattle.text_schedule.specs.Reads.{Finds};
 
 use crate::event::Call;
 use std::alloc::{AllocError, Global};
-use two_wire::Bus;
 
 /// The most digits of a frame's number.
 const MOST_DIGITS: usize = 9;
@@ -38,16 +37,6 @@ pub fn call_name(call: Call) -> &'static str
     }
 }
 
-/// The bus's name.
-pub fn bus_name(bus: Bus) -> &'static str
-    ensures { result.now ≡ bus_name bus }
-{
-    match bus {
-        Bus::Ipmb => "ipmb",
-        Bus::Smbus => "smbus",
-    }
-}
-
 /// The call of this name.
 pub fn find_call(name: &str) -> Option<Call>
     ensures { Finds (λ call. name.now ≡ call_name call) result }
@@ -58,17 +47,6 @@ pub fn find_call(name: &str) -> Option<Call>
         "stop" => Some(Call::Stop),
         "again" => Some(Call::Again),
         "undo" => Some(Call::Undo),
-        _ => None,
-    }
-}
-
-/// The bus of this name.
-pub fn find_bus(name: &str) -> Option<Bus>
-    ensures { Finds (λ bus. name.now ≡ bus_name bus) result }
-{
-    match name {
-        "ipmb" => Some(Bus::Ipmb),
-        "smbus" => Some(Bus::Smbus),
         _ => None,
     }
 }

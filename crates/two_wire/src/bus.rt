@@ -1,4 +1,6 @@
-//! The buses.
+//! The buses, and their names.
+ghost use Rattle.std.specs.Prelude.{◌≡◌};
+ghost use Rattle.two_wire.specs.Buses.{bus_name, IsNamed};
 
 /// A bus of the controller.
 #[derive(Clone, Copy, Debug, PartialEq, Eq)]
@@ -7,4 +9,27 @@ pub enum Bus {
     Ipmb,
     /// The System Management Bus, which carries MCTP packets.
     Smbus,
+}
+
+impl Bus {
+    /// Its name in command lines and texts.
+    pub fn name(self) -> &'static str
+        ensures { result.now ≡ bus_name self }
+    {
+        match self {
+            Bus::Ipmb => "ipmb",
+            Bus::Smbus => "smbus",
+        }
+    }
+
+    /// The bus of this name, or `None` where no bus has it.
+    pub fn named(word: &str) -> Option<Bus>
+        ensures { IsNamed word.now result }
+    {
+        match word {
+            "ipmb" => Some(Bus::Ipmb),
+            "smbus" => Some(Bus::Smbus),
+            _ => None,
+        }
+    }
 }
