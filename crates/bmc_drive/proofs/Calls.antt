@@ -2,7 +2,7 @@
 use Rattle.std.specs.Prelude.{Result, Ok, Err}
 use Rattle.std.proofs.Common.{◌≡◌, Option, Some, None, refl}
 use Rattle.undo_plans.specs.declared.names.Names.{Names}
-use Rattle.text_schedule.specs.declared.event.Call.TheVariants.{Quiet}
+use Rattle.model_undo.specs.declared.call.Call.TheVariants.{Quiet}
 use Rattle.model_lab.specs.ManagerSteps.{ManagerDeed, board_plans, called, rests}
 use Rattle.undo_core.specs.declared.manager.Manager.{Manager}
 use Rattle.undo_core.specs.declared.sending.Sent.{Sent}

@@ -12,7 +12,7 @@ use Rattle.bmc_links.specs.Counted.{counted_on, after_next}
 use Rattle.bmc_links.proofs.Counting.{counted_twice}
 use Rattle.undo_plans.specs.declared.names.Names.{Names}
 use Rattle.model_undo.specs.Machine.{Stage, AtStart, Opened, AtEnd, AtHalt, AtUndone, AtRefused, Machine, open_bus_at, quiets}
-use Rattle.text_schedule.specs.declared.event.Call.TheVariants as call
+use Rattle.model_undo.specs.declared.call.Call.TheVariants as call
 use Rattle.model_lab.specs.ManagerSteps.{ManagerDeed, board_plans, called, goes_on}
 use Rattle.undo_core.specs.Shown.{words_of}
 use Rattle.undo_core.specs.Course.{Calls, Comes, or_rests}

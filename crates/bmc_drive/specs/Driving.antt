@@ -10,7 +10,7 @@ use Rattle.bmc_links.specs.Counted.{counted_on}
 use Rattle.undo_plans.specs.declared.names.Names.{Names}
 use Rattle.model_undo.specs.declared.phase.Phase.{Phase}
 use Rattle.model_undo.specs.Machine.{phase_of, open_bus, same_bus}
-use Rattle.text_schedule.specs.declared.event.Call.TheVariants as call
+use Rattle.model_undo.specs.declared.call.Call.TheVariants as call
 use Rattle.model_lab.specs.ManagerSteps.{ManagerState, ManagerDeed, board_plans}
 use Rattle.undo_core.specs.declared.manager.Manager.{Manager}
 use Rattle.undo_core.specs.Shown.{words_of, Shows}

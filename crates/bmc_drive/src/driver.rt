@@ -4,7 +4,7 @@ ghost use Rattle.bmc_links.specs.declared.link.Heard.{Heard as AnyHeard};
 ghost use Rattle.bmc_links.specs.declared.link.LinkFault.{LinkFault as AnyFault};
 ghost use Rattle.bmc_links.specs.Counted.{after_next, after_send};
 ghost use Rattle.undo_plans.specs.declared.names.Names.{Names};
-ghost use Rattle.text_schedule.specs.declared.event.Call.TheVariants as call;
+ghost use Rattle.model_undo.specs.declared.call.Call.TheVariants as call;
 ghost use Rattle.undo_core.specs.Shown.{Shows};
 ghost use Rattle.undo_core.specs.Course.{Calls, Comes};
 ghost use Rattle.bmc_drive.specs.Driving.{State, Answers, call_for, both, Fails, open_at, LeadsTo, Drives};

@@ -5,7 +5,7 @@ use Rattle.undo_plans.specs.declared.plan.Plan.{Plan}
 use Rattle.model_undo.specs.declared.phase.Phase.{Phase}
 use Rattle.model_lab.specs.Meaning.{lab_names}
 use Rattle.model_lab.specs.ManagerSteps.{ManagerDeed, board_plans, called}
-use Rattle.text_schedule.specs.declared.event.Call.TheVariants.{Start, Undo}
+use Rattle.model_undo.specs.declared.call.Call.TheVariants.{Start, Undo}
 use Rattle.undo_core.specs.declared.manager.Manager.{Manager}
 use Rattle.undo_core.specs.Shown.{Shows}
 use Rattle.bmc_drive.specs.Driving.{Links}

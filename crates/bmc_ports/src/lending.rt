@@ -139,13 +139,13 @@ impl<J: Opening, A: Drop, B: Drop> Sliced<J, A, B> {
     }
 }
 
-/// Serves both ports of a board at once, one of them in this thread and one in a thread of its own, and gives back what it was lent. Each worker makes its turns in slices of one.
-/// While both serve, what is left of the timetable happens, each at its time, in another thread where something is left. It ends once a
-/// worker or the scanner finds the history full, once both workers made all their turns, or once both links were quiet for the least number of
-/// turns in a row, where there is one; what happens on the board by the timetable is not heard over a link. Where one of the three ends so, the
-/// workers end with their slices, and have the turns that they didn't make, and of the timetable the rest is left. So a caller can go on
-/// with the same ports, links and timetable on another history. Where the other worker heard a frame in that slice, neither was quiet, and all
-/// go on. Nothing waits for a timetable whose times come later than that.
+/// Serves both ports of a board at once, one of them in this thread and one in a thread of its own, and gives back what it was lent. Each worker
+/// makes its turns in slices of one. While both serve, what is left of the timetable happens, each at its time, in another thread where something
+/// is left. It ends once a worker or the scanner finds the history full, once both workers made all their turns, or once both links were quiet for
+/// the least number of turns in a row, where there is one; what happens on the board by the timetable is not heard over a link. Where one of the
+/// three ends so, the workers end with their slices, and have the turns that they didn't make, and of the timetable the rest is left. So a caller
+/// can go on with the same ports, links and timetable on another history. Where the other worker heard a frame in that slice, neither was quiet,
+/// and all go on. Nothing waits for a timetable whose times come later than that.
 pub fn run_slices<J, A, B, G, R>(
     rt: &R,
     shared: &Shared<J, Records>,

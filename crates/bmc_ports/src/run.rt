@@ -123,8 +123,9 @@ where
     Ok((first, second, scanner))
 }
 
-/// Serves both ports of a board at once and has events happen on it, until all three end. One of the three runs in the caller's thread, and
-/// the others in threads of their own. Each makes at most so many turns: a port's worker makes one with each call of its link's `next`, and the scanner with each event of its list.
+/// Serves both ports of a board at once and has events happen on it, until all three end. One of the three runs in the caller's thread, and the
+/// others in threads of their own. Each makes at most so many turns: a port's worker makes one with each call of its link's `next`, and the scanner
+/// with each event of its list.
 pub fn run_two<J, A, B, G, R>(
     rt: &R,
     shared: &Shared<J, Records>,

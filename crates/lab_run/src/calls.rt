@@ -10,8 +10,8 @@ ghost use Rattle.lab_run.specs.Shown.{Shows, Becomes};
 use crate::lab_state::Lab;
 use crate::marks::Mark;
 use model_lab::Way;
+use model_undo::Call;
 use std::alloc::AllocError;
-use text_schedule::Call;
 use undo_core::{Manager, Sent, WrongPhase};
 
 /// Calls the manager.

@@ -4,8 +4,8 @@ use Rattle.std.specs.Prelude.{Result, Ok, Err, OnOk}
 use Rattle.std.specs.List.{AllZip}
 use Rattle.record_base.specs.declared.op.Op.{Op}
 use Rattle.cfg_records.specs.declared.board_file.BoardFile.{BoardFile}
-use Rattle.text_schedule.specs.declared.event.Call.{Call as Called}
-use Rattle.text_schedule.specs.declared.event.Call.TheVariants.{Start, Undo}
+use Rattle.model_undo.specs.declared.call.Call.{Call as Called}
+use Rattle.model_undo.specs.declared.call.Call.TheVariants.{Start, Undo}
 use Rattle.text_schedule.specs.declared.event.Event.{Event}
 use Rattle.text_schedule.specs.declared.event.Event.TheVariants.{Calls}
 use Rattle.model_lab.specs.Lab as lab

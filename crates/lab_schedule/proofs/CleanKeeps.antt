@@ -32,7 +32,7 @@ use Rattle.model_undo.specs.Wires.{number_of}
 use Rattle.model_ports.specs.Values.{Value, Asks, Tells, Part}
 use Rattle.model_ports.specs.Bytes.{response_bytes}
 use Rattle.model_ports.specs.PortSteps.{PortState, stays, hears, hears_message, hears_part, ends_message}
-use Rattle.text_schedule.specs.declared.event.Call.TheVariants.{Start, Undo}
+use Rattle.model_undo.specs.declared.call.Call.TheVariants.{Start, Undo}
 use Rattle.text_schedule.specs.declared.event.Event.{Event}
 use Rattle.model_lab.specs.ManagerSteps.{ManagerState, Sent, values_of, sent_of, rests, goes_on, waits_after, called, heeded_on, open_bytes, taken_or, tested, hears_reply, hears_response, ends_reply, joins, joins_for, hears_packet, manager_hears, is_answer, is_part, open_count}
 use Rattle.model_lab.specs.declared.way.Way.{Way}

@@ -3,7 +3,7 @@ use Rattle.std.specs.Prelude.{◌≡◌, ◌≤◌, ℕ, true, false, List, [], 
 use Rattle.std.specs.List.{AllByRecursion}
 use Rattle.two_wire.specs.declared.Bus.{Bus}
 use Rattle.cfg_records.specs.declared.board_file.BoardFile.{BoardFile}
-use Rattle.text_schedule.specs.declared.event.Call.{Call as Called}
+use Rattle.model_undo.specs.declared.call.Call.{Call as Called}
 use Rattle.text_schedule.specs.declared.event.Event.{Event}
 use Rattle.text_schedule.specs.declared.event.Event.TheVariants.{Calls, ToBmc, ToMgr}
 use Rattle.schedule_writer.specs.Written.{has_line}

@@ -8,8 +8,9 @@ ghost use Rattle.lab_schedule.specs.declared.make.Links.TheVariants as links;
 use crate::drawing::{Drawing, Offer, delivery};
 use cfg_records::BoardFile;
 use lab_run::MOST_FRAMES;
+use model_undo::Call;
 use std::alloc::{AllocError, Global};
-use text_schedule::{Call, Event};
+use text_schedule::Event;
 use undo_plans::Plan;
 
 /// No lab sends so many frames.

@@ -3,9 +3,10 @@ use crate::chance::{Chances, Dice};
 use crate::drawing::delivery;
 use crate::others::other_event;
 use lab_run::{Lab, SentFrame, Way};
+use model_undo::Call;
 use std::alloc::{AllocError, Global};
 use std::collections::VecDeque;
-use text_schedule::{Call, Event};
+use text_schedule::Event;
 use undo_core::Phase;
 
 /// The most frames that come before one that is late.

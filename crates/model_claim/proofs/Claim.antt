@@ -38,7 +38,7 @@ use Rattle.model_claim.proofs.Grows.{step_grows}
 use Rattle.model_claim.proofs.Meaning.{after_so, stands_so, shows_so, shows_parts}
 use Rattle.model_claim.specs.Seen.{bare, seen_entry, seen_log, words_of, seen_plans, seen_words, spell, seen_call, seen_event, seen_why, seen_lab, stage_of, Made}
 use Rattle.model_claim.proofs.Holds.{Reads as EntryReads, Holds}
-use Rattle.text_schedule.specs.declared.event.Call.TheVariants as lab_call
+use Rattle.model_undo.specs.declared.call.Call.TheVariants as lab_call
 use Rattle.model_undo.specs.declared.phase.Phase.TheVariants as undo_phase
 
 -- ---- a log that grew by one entry

@@ -7,7 +7,7 @@ use Rattle.record_kinds.specs.Limits.{key_of}
 use Rattle.record_kinds.specs.Series.{Reads, sends, request_after}
 use Rattle.cfg_records.specs.declared.board_file.BoardFile.{BoardFile}
 use Rattle.cfg_records.specs.Records.{Records}
-use Rattle.text_schedule.specs.declared.event.Call.TheVariants as call
+use Rattle.model_undo.specs.declared.call.Call.TheVariants as call
 use Rattle.text_schedule.specs.declared.event.Event.{Event}
 use Rattle.text_schedule.specs.declared.event.Event.TheVariants.{Calls}
 use Rattle.bmc_board.specs.Decode.{sent_by}

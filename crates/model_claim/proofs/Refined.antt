@@ -28,7 +28,7 @@ use Rattle.model_claim.proofs.Labs.{step_so}
 use Rattle.model_claim.proofs.Honesty.{begun_so, span_so}
 use Rattle.model_claim.proofs.Claim.{nothing_made, start_holds, ran}
 use Rattle.model_lab.specs.declared.way.Way.TheVariants as lab_way
-use Rattle.text_schedule.specs.declared.event.Call.TheVariants as lab_call
+use Rattle.model_undo.specs.declared.call.Call.TheVariants as lab_call
 
 -- ---- every event
 

@@ -45,7 +45,7 @@ use Rattle.model_claim.proofs.Claim.{ran, port_log, holds_reads}
 use Rattle.model_claim.specs.Refines.{Refines}
 use Rattle.model_claim.proofs.Controller.{row_served}
 use Rattle.model_claim.proofs.Refined.{all_here, honest_alike}
-use Rattle.text_schedule.specs.declared.event.Call.TheVariants as lab_call
+use Rattle.model_undo.specs.declared.call.Call.TheVariants as lab_call
 use Rattle.model_undo.specs.declared.phase.Phase.{Phase as UndoPhase}
 use Rattle.model_undo.specs.declared.phase.Phase.TheVariants as undo_phase
 

@@ -13,7 +13,7 @@ use Rattle.record_kinds.specs.Series.{Reads, sends, first_of, request_after}
 use Rattle.bmc_board.specs.State.{State}
 use Rattle.bmc_board.specs.Decode.{sent_by}
 use Rattle.bmc_board.specs.Answer.{answer_of}
-use Rattle.text_schedule.specs.declared.event.Call.TheVariants as call
+use Rattle.model_undo.specs.declared.call.Call.TheVariants as call
 use Rattle.text_schedule.specs.declared.event.Event.{Event}
 use Rattle.text_schedule.specs.declared.event.Event.TheVariants.{Calls}
 use Rattle.model_undo.specs.declared.phase.Why.{Why}

@@ -24,8 +24,8 @@ use Rattle.model_claim.specs.Manager.{Call, Start, Quiet, Stop, Again, Undo, Why
 use Rattle.model_claim.specs.Lab.{Heard, Entry, Carried, Idled, Port, Deed, Way, ToPort, ToManager, ToOthers, Frame, Event, Calls, ToBmc, ToMgr, OtherIpmb, OtherSmbus, Noise, Idles, OnBench, Lab}
 use Rattle.model_lab.specs.declared.way.Way.TheVariants as lab_way
 use Rattle.model_lab.specs.declared.way.Way.{Way as LabWay}
-use Rattle.text_schedule.specs.declared.event.Call.TheVariants as lab_call
-use Rattle.text_schedule.specs.declared.event.Call.{Call as LabCall}
+use Rattle.model_undo.specs.declared.call.Call.TheVariants as lab_call
+use Rattle.model_undo.specs.declared.call.Call.{Call as LabCall}
 use Rattle.model_undo.specs.declared.phase.Why.{Why as UndoWhy}
 use Rattle.model_undo.specs.declared.phase.Why.TheVariants as undo_why
 

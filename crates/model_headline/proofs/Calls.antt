@@ -17,9 +17,9 @@ use Rattle.model_undo.specs.World as world
 use Rattle.model_undo.specs.World.{States, World, Happening, Start, Quiet, Stop, Again, Undo, OnBus, update}
 use Rattle.model_ports.specs.Wires.{bus_of}
 use Rattle.undo_plans.specs.declared.names.Names.{Names}
-use Rattle.text_schedule.specs.declared.event.Call.{Call}
+use Rattle.model_undo.specs.declared.call.Call.{Call}
 use Rattle.model_lab.specs.ManagerSteps.{goes_on, called}
-use Rattle.text_schedule.specs.declared.event.Call.TheVariants as calls
+use Rattle.model_undo.specs.declared.call.Call.TheVariants as calls
 use Rattle.model_lab.specs.ManagerSteps as manager
 use Rattle.model_lab.specs.ManagerEvents.{name_awaited}
 use Rattle.model_lab.specs.Lab.{Lab, call_does, sends}

@@ -35,8 +35,8 @@ use Rattle.model_family.proofs.IsFamily.{is_family}
 use Rattle.model_family.proofs.Board.{starts_valid, starts_ready}
 use Rattle.model_family.proofs.Finite.{are_finite}
 use Rattle.undo_plans.specs.declared.names.Names.{Names}
-use Rattle.text_schedule.specs.declared.event.Call.{Call}
-use Rattle.text_schedule.specs.declared.event.Call.TheVariants.{Start as StartCall, Undo as UndoCall}
+use Rattle.model_undo.specs.declared.call.Call.{Call}
+use Rattle.model_undo.specs.declared.call.Call.TheVariants.{Start as StartCall, Undo as UndoCall}
 use Rattle.model_lab.specs.ManagerSteps.{addresses, ManagerState, Sent, sent_of, called, goes_on}
 use Rattle.model_lab.specs.Lab.{Event, Calls, Lab, call_does, manager_does, step, run}
 use Rattle.model_lab.specs.declared.fault.Fault.{Fault}

@@ -15,7 +15,7 @@ use Rattle.model_lab.specs.Lab.{LabFrame, Lab, step, run}
 use Rattle.model_lab.specs.Clean.{delivery_of, delivery_in, DeliversFrom, IsCleanRun, IsCleanUndo}
 use Rattle.model_lab.specs.Faults.{begun_on, AllTaken}
 use Rattle.model_lab.proofs.Endings.{one_end}
-use Rattle.text_schedule.specs.declared.event.Call.TheVariants as called
+use Rattle.model_undo.specs.declared.call.Call.TheVariants as called
 use Rattle.text_schedule.specs.declared.event.Event.{Event}
 use Rattle.text_schedule.specs.declared.event.Event.TheVariants as event
 use Rattle.model_lab.specs.Meaning.{lab_names, event_of}

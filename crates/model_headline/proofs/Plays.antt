@@ -20,7 +20,7 @@ use Rattle.model_lab.specs.Lab.{Lab, step, run, opening}
 use Rattle.model_lab.specs.Faults.{AllTaken}
 use Rattle.model_lab.specs.Own.{AllOwn}
 use Rattle.model_lab.specs.Joins.{AllJoinLive}
-use Rattle.text_schedule.specs.declared.event.Call.TheVariants as called
+use Rattle.model_undo.specs.declared.call.Call.TheVariants as called
 use Rattle.text_schedule.specs.declared.event.Event.{Event}
 use Rattle.text_schedule.specs.declared.event.Event.TheVariants as event
 use Rattle.model_lab.specs.Meaning.{lab_names, event_of}

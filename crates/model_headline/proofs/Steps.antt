@@ -5,7 +5,7 @@ use Rattle.record_base.specs.declared.op.Op.{Op}
 use Rattle.cfg_records.specs.declared.board_file.BoardFile.{BoardFile}
 use Rattle.cfg_records.specs.Records.{Records}
 use Rattle.undo_plans.specs.declared.names.Names.{Names}
-use Rattle.text_schedule.specs.declared.event.Call.{Call}
+use Rattle.model_undo.specs.declared.call.Call.{Call}
 use Rattle.model_lab.specs.ManagerSteps.{called}
 use Rattle.two_wire.specs.declared.Bus.{Bus}
 use Rattle.two_wire.specs.declared.Bus.TheVariants.{Ipmb, Smbus}

@@ -35,7 +35,7 @@ use Rattle.model_undo.proofs.TwoBuses.{packet_lines}
 use Rattle.model_family.proofs.IsFamily.{is_family}
 use Rattle.model_family.proofs.Board.{starts_valid, starts_ready}
 use Rattle.undo_plans.specs.declared.names.Names.{Names}
-use Rattle.text_schedule.specs.declared.event.Call.TheVariants.{Stop as StopCall}
+use Rattle.model_undo.specs.declared.call.Call.TheVariants.{Stop as StopCall}
 use Rattle.model_lab.specs.ManagerSteps.{addresses}
 use Rattle.model_lab.specs.Lab.{Event, Calls, ToBmc, ToMgr, OtherIpmb, OtherSmbus, Noise, Idles, OnBench, Lab, step, run}
 use Rattle.model_lab.specs.Faults.{AllTaken}

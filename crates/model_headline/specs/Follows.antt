@@ -14,7 +14,7 @@ use Rattle.model_undo.proofs.World.{WorldHolds}
 use Rattle.model_undo.proofs.TwoBuses.{packet_lines}
 use Rattle.model_family.proofs.IsFamily.{is_family}
 use Rattle.undo_plans.specs.declared.names.Names.{Names}
-use Rattle.text_schedule.specs.declared.event.Call.{Call}
+use Rattle.model_undo.specs.declared.call.Call.{Call}
 use Rattle.model_lab.specs.ManagerSteps.{addresses}
 use Rattle.model_lab.specs.Own.{IsOwn}
 use Rattle.model_lab.specs.Honest.{IsDelivered, IsHonest}

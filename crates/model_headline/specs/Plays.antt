@@ -13,7 +13,7 @@ use Rattle.model_undo.specs.Headline.{ShowsSame, PartsShowSame}
 use Rattle.model_lab.specs.Lab.{Lab, opening}
 use Rattle.model_lab.specs.Own.{IsOwn}
 use Rattle.model_lab.specs.Joins.{IsJoinLive}
-use Rattle.text_schedule.specs.declared.event.Call.TheVariants.{Stop}
+use Rattle.model_undo.specs.declared.call.Call.TheVariants.{Stop}
 use Rattle.text_schedule.specs.declared.event.Event.{Event}
 use Rattle.text_schedule.specs.declared.event.Event.TheVariants.{Calls}
 use Rattle.model_lab.specs.Meaning.{lab_names, event_of}

@@ -11,7 +11,7 @@ use Rattle.model_undo.specs.Plan.{IsAfter, Stands}
 use Rattle.model_undo.specs.Machine.{phase_of}
 use Rattle.model_undo.specs.Headline.{ShowsSame, PartsShowSame}
 use Rattle.undo_plans.specs.declared.names.Names.{Names}
-use Rattle.text_schedule.specs.declared.event.Call.TheVariants.{Stop}
+use Rattle.model_undo.specs.declared.call.Call.TheVariants.{Stop}
 use Rattle.model_lab.specs.Lab.{Event, Calls, Lab, step, run, opening}
 use Rattle.model_lab.specs.Faults.{AllTaken}
 use Rattle.model_lab.specs.Honest.{AllHonest}

@@ -29,7 +29,7 @@ use Rattle.model_undo.specs.declared.phase.Phase.TheVariants.{Done, Undone, Unse
 use Rattle.model_undo.specs.Machine.{phase_of}
 use Rattle.model_ports.specs.Values.{written}
 use Rattle.undo_plans.specs.declared.names.Names.{Names}
-use Rattle.text_schedule.specs.declared.event.Call.TheVariants.{Start, Quiet, Again, Undo}
+use Rattle.model_undo.specs.declared.call.Call.TheVariants.{Start, Quiet, Again, Undo}
 use Rattle.model_lab.specs.ManagerSteps.{Plans, board_plans}
 use Rattle.model_lab.specs.Lab.{LabFrame, Event, Calls, ToBmc, ToMgr, OtherIpmb, Noise, Idles, Lab, run, opening}
 use Rattle.model_lab.specs.Clean.{IsClean}

@@ -15,7 +15,7 @@ use Rattle.model_lab.specs.declared.way.Way.TheVariants.{ToPort, ToManager, ToOt
 use Rattle.model_ports.specs.Values.{Value, Asks, Tells, Part}
 use Rattle.model_ports.specs.PortSteps.{PortState, Deed, hears, hears_all, idles, quiet_port}
 use Rattle.undo_plans.specs.declared.names.Names.{Names}
-use Rattle.text_schedule.specs.declared.event.Call.{Call}
+use Rattle.model_undo.specs.declared.call.Call.{Call}
 use Rattle.model_lab.specs.ManagerSteps.{own_on, Plans, ManagerState, ManagerDeed, Sent, called, manager_hears}
 
 -- A frame that was sent. `request` is the count of the manager's request that the frame carries; a reply has the request of the frame whose

@@ -12,7 +12,7 @@ use Rattle.bmc_board.specs.State.{opened}
 use Rattle.model_undo.specs.declared.phase.Phase.TheVariants.{Getting}
 use Rattle.model_ports.specs.Values.{Value, Asks, Tells, Part, written, parts_of}
 use Rattle.model_ports.specs.PortSteps.{hears, quiet_port}
-use Rattle.text_schedule.specs.declared.event.Call.TheVariants.{Start}
+use Rattle.model_undo.specs.declared.call.Call.TheVariants.{Start}
 use Rattle.model_lab.specs.declared.way.Way.{Way}
 use Rattle.model_lab.specs.declared.way.Way.TheVariants.{ToPort, ToManager, ToOthers}
 use Rattle.model_lab.specs.Lab.{LabFrame, Event, Calls, ToBmc, ToMgr, OtherIpmb, OtherSmbus, Lab, run}

@@ -16,8 +16,8 @@ use Rattle.model_undo.specs.Words.{Words}
 use Rattle.model_undo.specs.Machine.{count_of, Part as TaskPart, bus_at, Stage, Opened, Machine, Sending, Turn, start_of, quiet_of, stop_of, again_of, undo_of, reply_of, same_bus}
 use Rattle.model_undo.specs.Wires.{number_of}
 use Rattle.model_bus.specs.Addresses.{Addresses}
-use Rattle.text_schedule.specs.declared.event.Call.{Call}
-use Rattle.text_schedule.specs.declared.event.Call.TheVariants.{Start, Quiet, Stop, Again, Undo}
+use Rattle.model_undo.specs.declared.call.Call.{Call}
+use Rattle.model_undo.specs.declared.call.Call.TheVariants.{Start, Quiet, Stop, Again, Undo}
 use Rattle.model_ports.specs.Wires.{bus_of, bytes_of, answered_from}
 use Rattle.model_lab.specs.ManagerWords.{manager_words}
 use Rattle.model_ports.specs.Values.{Value, Asks, Tells, Part, parts_of}

@@ -13,7 +13,7 @@ use Rattle.model_undo.specs.declared.phase.Phase.TheVariants.{Getting, Setting, 
 use Rattle.model_undo.specs.Machine.{Sets, begun, phase_of}
 use Rattle.model_ports.specs.Wires.{bus_of}
 use Rattle.model_ports.specs.Values.{Value, Asks, Tells, Part, parts_of}
-use Rattle.text_schedule.specs.declared.event.Call.TheVariants.{Start, Quiet}
+use Rattle.model_undo.specs.declared.call.Call.TheVariants.{Start, Quiet}
 use Rattle.model_lab.specs.ManagerSteps.{Plans}
 use Rattle.model_lab.specs.declared.way.Way.TheVariants.{ToManager}
 use Rattle.model_lab.specs.Lab.{LabFrame, Event, Calls, ToBmc, ToMgr, Lab, run, opening}

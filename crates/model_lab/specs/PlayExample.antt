@@ -4,7 +4,7 @@ use Rattle.std.specs.Prelude.{ℕ, ◌+◌}
 use Rattle.record_base.specs.declared.key.Key.TheVariants as key
 use Rattle.model_undo.specs.declared.phase.Phase.TheVariants.{Undone}
 use Rattle.model_lab.specs.Example.{board_file, two_steps}
-use Rattle.text_schedule.specs.declared.event.Call.TheVariants.{Start, Undo}
+use Rattle.model_undo.specs.declared.call.Call.TheVariants.{Start, Undo}
 use Rattle.text_schedule.specs.declared.event.Event.{Event}
 use Rattle.text_schedule.specs.declared.event.Event.TheVariants.{Calls, ToBmc, ToMgr}
 use Rattle.model_lab.specs.Played.{Told, Whole, IsPlayed}

@@ -2,9 +2,10 @@
 use Rattle.std.proofs.Common.{◌≡◌, ◌+◌, Bool, true, false, Option, Some, None, refl}
 use Rattle.std.specs.Prelude.{nat_lt, slice_get, if◌then◌else◌}
 use Rattle.model_bus.specs.Answered.{Answered}
+use Rattle.model_undo.specs.declared.call.Call.TheVariants as manager_call
 use Rattle.model_undo.specs.Words.{is_busy, Words}
 use Rattle.model_undo.specs.Machine.{Counts, one_answered, Task, Part, Gets, Sets, Undoes, Stage, AtStart, Opened, AtEnd, AtHalt, AtUndone, AtRefused, Machine, Sending, Turn, bus_at, sending, sends_at, first_stage, undo_stage, stage_after, starts, undoes, quiets, agains, stops, replies, takes}
-use Rattle.model_undo.specs.Resume.{Call, CallStart, CallQuiet, CallStop, CallAgain, CallUndo, Replies, turn_of}
+use Rattle.model_undo.specs.Resume.{Input, Called, Replies, turn_of}
 
 module _ (M : Words) where
   abbrev pub IsOnBus : Option (Sending M) → Type 0
@@ -86,10 +87,10 @@ module _ (M : Words) where
   reply_on a AtUndone m = tt
   reply_on a (AtRefused k code) m = tt
 
-  pub sends_on_bus : (c : Call) (m : Machine M) → SendsOnBus (turn_of M c m)
-  sends_on_bus CallStart m = start_on m.stage m
-  sends_on_bus CallQuiet m = quiet_on m.stage m
-  sends_on_bus CallStop m = stop_on m.stage m
-  sends_on_bus CallAgain m = again_on m.stage m
-  sends_on_bus CallUndo m = undo_on m.stage m
+  pub sends_on_bus : (c : Input) (m : Machine M) → SendsOnBus (turn_of M c m)
+  sends_on_bus (Called manager_call.Start) m = start_on m.stage m
+  sends_on_bus (Called manager_call.Quiet) m = quiet_on m.stage m
+  sends_on_bus (Called manager_call.Stop) m = stop_on m.stage m
+  sends_on_bus (Called manager_call.Again) m = again_on m.stage m
+  sends_on_bus (Called manager_call.Undo) m = undo_on m.stage m
   sends_on_bus (Replies a) m = reply_on a m.stage m

@@ -7,9 +7,10 @@ use Rattle.two_wire.specs.Codes.{success}
 use Rattle.two_wire.specs.declared.Bus.{Bus}
 use Rattle.two_wire.specs.declared.Bus.TheVariants.{Ipmb, Smbus}
 use Rattle.model_bus.specs.Answered.{Answered}
+use Rattle.model_undo.specs.declared.call.Call.TheVariants as manager_call
 use Rattle.model_undo.specs.Words.{is_busy, Words}
 use Rattle.model_undo.specs.Machine.{Counts, count_of, one_answered, Part, Gets, Sets, Undoes, Stage, AtStart, Opened, AtEnd, AtHalt, AtUndone, AtRefused, Machine, Turn, bus_at, told_stage, bodies_with, next_asked, sending, sends_at, enters, phase_at, phase_of, undo_stage, starts, undoes, quiets, agains, stops, replies}
-use Rattle.model_undo.specs.Resume.{list_of, resumed, Call, CallStart, CallQuiet, CallStop, CallAgain, CallUndo, Replies, turn_of, after, request_of, goes_out, trace, IsOver, GoesOnAlike}
+use Rattle.model_undo.specs.Resume.{list_of, resumed, Input, Called, Replies, turn_of, after, request_of, goes_out, trace, IsOver, GoesOnAlike}
 use Rattle.model_undo.specs.Wires.{number_of}
 use Rattle.model_undo.proofs.World.{round}
 
@@ -176,12 +177,12 @@ module _ (M : Words) where
   reply_alike AtUndone a m r past same = tt
   reply_alike (AtRefused k code) a m r past same = tt
 
-  call_alike : (c : Call) (m : Machine M) (r : Rest) → IsPast m.stage → SameNumbers r.counts m.counts → AreAlike (turn_of M c m) (turn_of M c (with_rest r m))
-  call_alike CallStart m r past same = start_alike m.stage m r past
-  call_alike CallQuiet m r past same = quiet_alike m.stage m r refl past same
-  call_alike CallStop m r past same = stop_alike m.stage m r past
-  call_alike CallAgain m r past same = again_alike m.stage m r past same
-  call_alike CallUndo m r past same = undo_alike m.stage m r past
+  call_alike : (c : Input) (m : Machine M) (r : Rest) → IsPast m.stage → SameNumbers r.counts m.counts → AreAlike (turn_of M c m) (turn_of M c (with_rest r m))
+  call_alike (Called manager_call.Start) m r past same = start_alike m.stage m r past
+  call_alike (Called manager_call.Quiet) m r past same = quiet_alike m.stage m r refl past same
+  call_alike (Called manager_call.Stop) m r past same = stop_alike m.stage m r past
+  call_alike (Called manager_call.Again) m r past same = again_alike m.stage m r past same
+  call_alike (Called manager_call.Undo) m r past same = undo_alike m.stage m r past
   call_alike (Replies a) m r past same = reply_alike m.stage a m r past same
 
   -- ---- many calls
@@ -201,17 +202,17 @@ module _ (M : Words) where
   pub same_phase : (m n : Machine M) → IsAlike m n → phase_of M n ≡ phase_of M m
   same_phase m n h = ap (λ (x : Machine M). phase_at M x.stage) h.is
 
-  pub any_alike : (c : Call) (m n : Machine M) → IsAlike m n → AreAlike (turn_of M c m) (turn_of M c n)
+  pub any_alike : (c : Input) (m n : Machine M) → IsAlike m n → AreAlike (turn_of M c m) (turn_of M c n)
   any_alike c m n h = subst (λ (x : Machine M). AreAlike (turn_of M c m) (turn_of M c x)) (sym h.is) (call_alike c m h.rest h.past h.numbers)
 
-  one_more : (c : Call) (calls : List Call) (m n : Machine M) → IsAlike (after M (turn_of M c m) m) (after M (turn_of M c n) n) → AreAlike (turn_of M c m) (turn_of M c n)
+  one_more : (c : Input) (calls : List Input) (m n : Machine M) → IsAlike (after M (turn_of M c m) m) (after M (turn_of M c n) n) → AreAlike (turn_of M c m) (turn_of M c n)
       → trace M calls (after M (turn_of M c n) n) ≡ trace M calls (after M (turn_of M c m) m) → trace M (c ∷ calls) n ≡ trace M (c ∷ calls) m
   one_more c calls m n next alike rest =
       let phase = same_phase (after M (turn_of M c m) m) (after M (turn_of M c n) n) next in
       let out = same_out (turn_of M c m) (turn_of M c n) alike in
       λ i. (phase i, out i) ∷ rest i
 
-  trace_alike : (calls : List Call) (m n : Machine M) → IsAlike m n → trace M calls n ≡ trace M calls m
+  trace_alike : (calls : List Input) (m n : Machine M) → IsAlike m n → trace M calls n ≡ trace M calls m
   trace_alike [] m n h = refl
   trace_alike (c ∷ cs) m n h =
       let alike = any_alike c m n h in
@@ -231,7 +232,7 @@ module _ (M : Words) where
     same_sends (undo_stage M m.undo) (list_of M m).next m.counts (λ bus. round bus m.counts),
   )
 
-  pub over_alike : (stage : Stage M) (m : Machine M) → IsOver M (phase_at M stage) → AreAlike (undoes M stage m) (turn_of M CallUndo (resumed M m.retries (list_of M m)))
+  pub over_alike : (stage : Stage M) (m : Machine M) → IsOver M (phase_at M stage) → AreAlike (undoes M stage m) (turn_of M (Called manager_call.Undo) (resumed M m.retries (list_of M m)))
   over_alike AtEnd m over = undo_begun m
   over_alike (AtHalt k why) m over = undo_begun m
   over_alike AtStart m over = absurd over
@@ -254,9 +255,9 @@ module _ (M : Words) where
       both_some None (Some u) m n alike is = absurd alike
       both_some (Some t) None m n alike is = absurd alike
 
-      from : (m : Machine M) → IsOver M (phase_of M m) → (calls : List Call) → trace M (CallUndo ∷ calls) (resumed M m.retries (list_of M m)) ≡ trace M (CallUndo ∷ calls) m
+      from : (m : Machine M) → IsOver M (phase_of M m) → (calls : List Input) → trace M ((Called manager_call.Undo) ∷ calls) (resumed M m.retries (list_of M m)) ≡ trace M ((Called manager_call.Undo) ∷ calls) m
       from m over calls =
           let n = resumed M m.retries (list_of M m) in
           let alike = over_alike m.stage m over in
-          let next = both_some (turn_of M CallUndo m) (turn_of M CallUndo n) m n alike (enters M (undo_stage M m.undo) n, refl) in
-          one_more CallUndo calls m n next alike (trace_alike calls (after M (turn_of M CallUndo m) m) (after M (turn_of M CallUndo n) n) next)
+          let next = both_some (turn_of M (Called manager_call.Undo) m) (turn_of M (Called manager_call.Undo) n) m n alike (enters M (undo_stage M m.undo) n, refl) in
+          one_more (Called manager_call.Undo) calls m n next alike (trace_alike calls (after M (turn_of M (Called manager_call.Undo) m) m) (after M (turn_of M (Called manager_call.Undo) n) n) next)

@@ -6,10 +6,11 @@ use Rattle.std.proofs.lemmas.List.{append-nil, append_assoc, replicate-append-re
 use Rattle.std.proofs.lemmas.Option.{none-some}
 use Rattle.two_wire.specs.Codes.{success}
 use Rattle.model_bus.specs.Answered.{Answered}
+use Rattle.model_undo.specs.declared.call.Call.TheVariants as manager_call
 use Rattle.model_undo.specs.Words.{is_busy, Words}
 use Rattle.model_undo.specs.declared.phase.Phase.TheVariants.{Unsettled}
 use Rattle.model_undo.specs.Machine.{Counts, one_answered, Task, Part, Gets, Sets, Undoes, Stage, AtStart, Opened, AtEnd, AtHalt, AtUndone, AtRefused, Machine, Sending, Turn, task_step, task_phase, phase_at, phase_of, open_bus_at, bus_at, sending, enters, first_stage, undo_stage, set_stage, next_stage, refused, goes_on, finished, told_stage, stage_after, bodies_with, next_asked, starts, undoes, quiets, agains, stops, replies, takes, undo_after}
-use Rattle.model_undo.specs.Resume.{Call, CallStart, CallQuiet, CallStop, CallAgain, CallUndo, Replies, turn_of, after}
+use Rattle.model_undo.specs.Resume.{Input, Called, Replies, turn_of, after}
 use Rattle.model_undo.specs.Unsettled.{run, sent_by, sent_in, IsGivenUp, UnsettledByQuiet}
 
 -- a list that goes on
@@ -17,21 +18,21 @@ grows : {A : Type 0} (all xs ys more : List A) → all ≡ xs ++ ys → all ++ m
 grows {A} all xs ys more is = ap (λ (zs : List A). zs ++ more) is ∙ append_assoc xs ys more
 
 -- no call is another
-abbrev is_quiet : Call → Bool
-is_quiet CallQuiet = true
+abbrev is_quiet : Input → Bool
+is_quiet (Called manager_call.Quiet) = true
 is_quiet _ = false
 
-no_quiet : (c : Call) → is_quiet c ≡ false → c ≢ CallQuiet
+no_quiet : (c : Input) → is_quiet c ≡ false → c ≢ (Called manager_call.Quiet)
 no_quiet c other is = true≢false (sym (ap is_quiet is) ∙ other)
 
 module _ (M : Words) where
   -- ---- calls one after another
 
-  run_more : (xs ys : List Call) (m : Machine M) → run M (xs ++ ys) m ≡ run M ys (run M xs m)
+  run_more : (xs ys : List Input) (m : Machine M) → run M (xs ++ ys) m ≡ run M ys (run M xs m)
   run_more [] ys m = refl
   run_more (x ∷ xs) ys m = run_more xs ys (after M (turn_of M x m) m)
 
-  sent_more : (xs ys : List Call) (m : Machine M) → sent_in M (xs ++ ys) m ≡ sent_in M xs m ++ sent_in M ys (run M xs m)
+  sent_more : (xs ys : List Input) (m : Machine M) → sent_in M (xs ++ ys) m ≡ sent_in M xs m ++ sent_in M ys (run M xs m)
   sent_more [] ys m = refl
   sent_more (x ∷ xs) ys m =
       let n = after M (turn_of M x m) m in
@@ -91,33 +92,33 @@ module _ (M : Words) where
   -- ---- what is known after calls
 
   -- the request was sent as it was opened, and then sent again so often, and nothing else was
-  record IsSentAgain (m : Machine M) (calls : List Call) (times : ℕ) (request : Sending M) : Type 0 where
-    before : List Call
-    opener : Call
-    between : List Call
+  record IsSentAgain (m : Machine M) (calls : List Input) (times : ℕ) (request : Sending M) : Type 0 where
+    before : List Input
+    opener : Input
+    between : List Input
     all : calls ≡ before ++ opener ∷ between
-    opens : opener ≢ CallQuiet
+    opens : opener ≢ (Called manager_call.Quiet)
     sent : sent_by M (turn_of M opener (run M before m)) ≡ request ∷ []
     sent_again : sent_in M between (run M (before ++ opener ∷ []) m) ≡ replicate times request
 
-  abbrev KnownAt : Stage M → (resent : ℕ) → Counts → Machine M → List Call → Type 0
+  abbrev KnownAt : Stage M → (resent : ℕ) → Counts → Machine M → List Input → Type 0
   KnownAt (Opened true task part) resent counts m calls = (resent ≤ m.retries) × IsSentAgain m calls resent (sending M part counts)
   KnownAt (Opened false task part) resent counts m calls = IsGivenUp M m calls (task_step M task)
   KnownAt _ resent counts m calls = Unit {0}
 
-  record Known (n m : Machine M) (calls : List Call) : Type 0 where
+  record Known (n m : Machine M) (calls : List Input) : Type 0 where
     retries : n.retries ≡ m.retries
     at : KnownAt n.stage n.resent n.counts m calls
 
   -- one more call
-  module _ (m : Machine M) (calls : List Call) (c : Call) (n : Machine M) (is : run M calls m ≡ n) where
-    abbrev more : List Call
+  module _ (m : Machine M) (calls : List Input) (c : Input) (n : Machine M) (is : run M calls m ≡ n) where
+    abbrev more : List Input
     more = calls ++ c ∷ []
 
     -- the machine is this one, behind the calls in which the request was sent again
-    there : (before between : List Call) (opener : Call) → calls ≡ before ++ opener ∷ between → run M between (run M (before ++ opener ∷ []) m) ≡ n
+    there : (before between : List Input) (opener : Input) → calls ≡ before ++ opener ∷ between → run M between (run M (before ++ opener ∷ []) m) ≡ n
     there before between opener all =
-        sym (run_more (before ++ opener ∷ []) between m) ∙ ap (λ (cs : List Call). run M cs m) (append_assoc before (opener ∷ []) between ∙ sym all) ∙ is
+        sym (run_more (before ++ opener ∷ []) between m) ∙ ap (λ (cs : List Input). run M cs m) (append_assoc before (opener ∷ []) between ∙ sym all) ∙ is
 
     -- so often again, and once more or not
     again : (times others : ℕ) (request : Sending M) (o : Option (Turn M)) → turn_of M c n ≡ o → sent_by M o ≡ replicate others request → IsSentAgain m calls times request
@@ -143,8 +144,8 @@ module _ (M : Words) where
       opener = up.opener;
       between = up.between;
       later = up.later ++ c ∷ [];
-      all = grows calls up.before (up.opener ∷ (up.between ++ (CallQuiet ∷ up.later))) (c ∷ []) up.all
-          ∙ ap (λ (cs : List Call). up.before ++ up.opener ∷ cs) (append_assoc up.between (CallQuiet ∷ up.later) (c ∷ []));
+      all = grows calls up.before (up.opener ∷ (up.between ++ ((Called manager_call.Quiet) ∷ up.later))) (c ∷ []) up.all
+          ∙ ap (λ (cs : List Input). up.before ++ up.opener ∷ cs) (append_assoc up.between ((Called manager_call.Quiet) ∷ up.later) (c ∷ []));
       request = up.request;
       opens = up.opens;
       sent = up.sent;
@@ -165,7 +166,7 @@ module _ (M : Words) where
     still (AtRefused k code) o turn none known = tt
 
     -- a stage is entered, and its request is sent
-    entered : (stage : Stage M) (x : Machine M) → c ≢ CallQuiet → turn_of M c n ≡ Some (enters M stage x) → IsEntered stage → KnownAt stage 0 x.counts m more
+    entered : (stage : Stage M) (x : Machine M) → c ≢ (Called manager_call.Quiet) → turn_of M c n ≡ Some (enters M stage x) → IsEntered stage → KnownAt stage 0 x.counts m more
     entered (Opened true task part) x opens turn is_entered = (
       omega arith,
       record {
@@ -203,19 +204,19 @@ module _ (M : Words) where
   abbrev quiet_turn : Bool → Task M → Part M → Machine M → Option (Turn M)
   quiet_turn b task part n = if b then Some (sent_once_more part n) else Some (left_unsettled task part n)
 
-  module _ (m : Machine M) (calls : List Call) (n : Machine M) (is : run M calls m ≡ n) (task : Task M) (part : Part M) (stage : n.stage ≡ Opened true task part)
+  module _ (m : Machine M) (calls : List Input) (n : Machine M) (is : run M calls m ≡ n) (task : Task M) (part : Part M) (stage : n.stage ≡ Opened true task part)
       (same : n.retries ≡ m.retries) (few : n.resent ≤ m.retries) (known : IsSentAgain m calls n.resent (sending M part n.counts)) where
-    abbrev once : List Call
-    once = calls ++ CallQuiet ∷ []
+    abbrev once : List Input
+    once = calls ++ (Called manager_call.Quiet) ∷ []
 
     -- it is sent once more
-    once_more : nat_lt n.resent n.retries ≡ true → turn_of M CallQuiet n ≡ Some (sent_once_more part n) → KnownAt (Opened true task part) (n.resent + 1) n.counts m once
-    once_more less turn = let below = ltb-true n.resent n.retries less in (omega (arith, below, same), again m calls CallQuiet n is n.resent 1 (sending M part n.counts) _ turn refl known)
+    once_more : nat_lt n.resent n.retries ≡ true → turn_of M (Called manager_call.Quiet) n ≡ Some (sent_once_more part n) → KnownAt (Opened true task part) (n.resent + 1) n.counts m once
+    once_more less turn = let below = ltb-true n.resent n.retries less in (omega (arith, below, same), again m calls (Called manager_call.Quiet) n is n.resent 1 (sending M part n.counts) _ turn refl known)
 
     -- or given up
-    given_up : nat_lt n.resent n.retries ≡ false → turn_of M CallQuiet n ≡ Some (left_unsettled task part n) → IsGivenUp M m once (task_step M task)
+    given_up : nat_lt n.resent n.retries ≡ false → turn_of M (Called manager_call.Quiet) n ≡ Some (left_unsettled task part n) → IsGivenUp M m once (task_step M task)
     given_up more turn =
-        let all : once ≡ known.before ++ (known.opener ∷ (known.between ++ (CallQuiet ∷ []))) = grows calls known.before (known.opener ∷ known.between) (CallQuiet ∷ []) known.all in
+        let all : once ≡ known.before ++ (known.opener ∷ (known.between ++ ((Called manager_call.Quiet) ∷ []))) = grows calls known.before (known.opener ∷ known.between) ((Called manager_call.Quiet) ∷ []) known.all in
         let above = ltb-false n.resent n.retries more in
         let times : n.resent ≡ m.retries = omega (arith, above, same, few) in
         record {
@@ -229,18 +230,18 @@ module _ (M : Words) where
           sent = known.sent;
           sent_again = known.sent_again ∙ ap (λ (k : ℕ). replicate k (sending M part n.counts)) times;
           awaited = λ k unsettled. task_awaited task k
-              (sym (ap (phase_at M) stage) ∙ sym (ap (phase_of M) is) ∙ ap (λ (cs : List Call). phase_of M (run M cs m)) known.all ∙ unsettled);
+              (sym (ap (phase_at M) stage) ∙ sym (ap (phase_of M) is) ∙ ap (λ (cs : List Input). phase_of M (run M cs m)) known.all ∙ unsettled);
           unsettled =
-              ap (λ (cs : List Call). phase_of M (run M cs m)) (sym all)
-              ∙ ap (phase_of M) (run_more calls (CallQuiet ∷ []) m)
-              ∙ ap (λ (x : Machine M). phase_of M (after M (turn_of M CallQuiet x) x)) is
+              ap (λ (cs : List Input). phase_of M (run M cs m)) (sym all)
+              ∙ ap (phase_of M) (run_more calls ((Called manager_call.Quiet) ∷ []) m)
+              ∙ ap (λ (x : Machine M). phase_of M (after M (turn_of M (Called manager_call.Quiet) x) x)) is
               ∙ ap (λ (o : Option (Turn M)). phase_of M (after M o n)) turn;
         }
 
-    quiet_known : (b : Bool) → nat_lt n.resent n.retries ≡ b → Known (after M (turn_of M CallQuiet n) n) m once
+    quiet_known : (b : Bool) → nat_lt n.resent n.retries ≡ b → Known (after M (turn_of M (Called manager_call.Quiet) n) n) m once
     quiet_known b e = by b e (ap (λ (s : Stage M). quiets M s n) stage ∙ ap (λ (t : Bool). quiet_turn t task part n) e)
       where
-        by : (b : Bool) → nat_lt n.resent n.retries ≡ b → turn_of M CallQuiet n ≡ quiet_turn b task part n → Known (after M (turn_of M CallQuiet n) n) m once
+        by : (b : Bool) → nat_lt n.resent n.retries ≡ b → turn_of M (Called manager_call.Quiet) n ≡ quiet_turn b task part n → Known (after M (turn_of M (Called manager_call.Quiet) n) n) m once
         by true less turn = subst (λ (o : Option (Turn M)). Known (after M o n) m once) (sym turn)
             (record { retries = same; at = subst (λ (s : Stage M). KnownAt s (n.resent + 1) n.counts m once) (sym stage) (once_more less turn) })
         by false more turn = subst (λ (o : Option (Turn M)). Known (after M o n) m once) (sym turn) (record { retries = same; at = given_up more turn })
@@ -248,26 +249,26 @@ module _ (M : Words) where
   -- ---- each other call
 
   -- nothing happens, or the plan is to stop, or a stage is entered
-  record Enters (n : Machine M) (c : Call) (o : Option (Turn M)) : Type 0 where
+  record Enters (n : Machine M) (c : Input) (o : Option (Turn M)) : Type 0 where
     stage : Stage M
     from : Machine M
     same : from.retries ≡ n.retries
-    opens : c ≢ CallQuiet
+    opens : c ≢ (Called manager_call.Quiet)
     is_entered : IsEntered stage
     turn : o ≡ Some (enters M stage from)
 
-  abbrev Moves : Machine M → Call → Option (Turn M) → Type 0
+  abbrev Moves : Machine M → Input → Option (Turn M) → Type 0
   Moves n c o = (o ≡ None) ⊎ ((o ≡ Some (record { machine = record n { stopped = true }; sends = None })) ⊎ Enters n c o)
 
-  start_moves : (stage : Stage M) (n : Machine M) → Moves n CallStart (starts M stage n)
-  start_moves AtStart n = inr (inr (record { stage = first_stage M (slice_get n.plan 0); from = n; same = refl; opens = no_quiet CallStart refl; is_entered = first_entered (slice_get n.plan 0); turn = refl }))
+  start_moves : (stage : Stage M) (n : Machine M) → Moves n (Called manager_call.Start) (starts M stage n)
+  start_moves AtStart n = inr (inr (record { stage = first_stage M (slice_get n.plan 0); from = n; same = refl; opens = no_quiet (Called manager_call.Start) refl; is_entered = first_entered (slice_get n.plan 0); turn = refl }))
   start_moves (Opened heeded task part) n = inl refl
   start_moves AtEnd n = inl refl
   start_moves (AtHalt k why) n = inl refl
   start_moves AtUndone n = inl refl
   start_moves (AtRefused k code) n = inl refl
 
-  stop_moves : (stage : Stage M) (n : Machine M) → Moves n CallStop (stops M stage n)
+  stop_moves : (stage : Stage M) (n : Machine M) → Moves n (Called manager_call.Stop) (stops M stage n)
   stop_moves (Opened true (Gets k op) part) n = inr (inl refl)
   stop_moves (Opened true (Sets k op back) part) n = inr (inl refl)
   stop_moves (Opened true (Undoes u us) part) n = inl refl
@@ -278,19 +279,19 @@ module _ (M : Words) where
   stop_moves AtUndone n = inl refl
   stop_moves (AtRefused k code) n = inl refl
 
-  again_moves : (stage : Stage M) (n : Machine M) → Moves n CallAgain (agains M stage n)
+  again_moves : (stage : Stage M) (n : Machine M) → Moves n (Called manager_call.Again) (agains M stage n)
   again_moves (Opened true task part) n = inl refl
-  again_moves (Opened false task part) n = inr (inr (record { stage = Opened true task part; from = n; same = refl; opens = no_quiet CallAgain refl; is_entered = tt; turn = refl }))
+  again_moves (Opened false task part) n = inr (inr (record { stage = Opened true task part; from = n; same = refl; opens = no_quiet (Called manager_call.Again) refl; is_entered = tt; turn = refl }))
   again_moves AtStart n = inl refl
   again_moves AtEnd n = inl refl
   again_moves (AtHalt k why) n = inl refl
   again_moves AtUndone n = inl refl
   again_moves (AtRefused k code) n = inl refl
 
-  undo_enters : (n : Machine M) → Enters n CallUndo (Some (enters M (undo_stage M n.undo) n))
-  undo_enters n = record { stage = undo_stage M n.undo; from = n; same = refl; opens = no_quiet CallUndo refl; is_entered = undo_entered n.undo; turn = refl }
+  undo_enters : (n : Machine M) → Enters n (Called manager_call.Undo) (Some (enters M (undo_stage M n.undo) n))
+  undo_enters n = record { stage = undo_stage M n.undo; from = n; same = refl; opens = no_quiet (Called manager_call.Undo) refl; is_entered = undo_entered n.undo; turn = refl }
 
-  undo_moves : (stage : Stage M) (n : Machine M) → Moves n CallUndo (undoes M stage n)
+  undo_moves : (stage : Stage M) (n : Machine M) → Moves n (Called manager_call.Undo) (undoes M stage n)
   undo_moves AtStart n = inl refl
   undo_moves (Opened heeded task part) n = inl refl
   undo_moves AtEnd n = inr (inr (undo_enters n))
@@ -320,8 +321,8 @@ module _ (M : Words) where
 
   -- ---- all calls
 
-  module _ (m : Machine M) (calls : List Call) (n : Machine M) (is : run M calls m ≡ n) (known : Known n m calls) where
-    moved : (c : Call) → Moves n c (turn_of M c n) → Known (after M (turn_of M c n) n) m (calls ++ c ∷ [])
+  module _ (m : Machine M) (calls : List Input) (n : Machine M) (is : run M calls m ≡ n) (known : Known n m calls) where
+    moved : (c : Input) → Moves n c (turn_of M c n) → Known (after M (turn_of M c n) n) m (calls ++ c ∷ [])
     moved c (inl turn) = subst (λ (o : Option (Turn M)). Known (after M o n) m (calls ++ c ∷ [])) (sym turn)
         (record { retries = known.retries; at = still m calls c n is n.stage None turn refl known.at })
     moved c (inr (inl turn)) = subst (λ (o : Option (Turn M)). Known (after M o n) m (calls ++ c ∷ [])) (sym turn)
@@ -329,25 +330,25 @@ module _ (M : Words) where
     moved c (inr (inr e)) = subst (λ (o : Option (Turn M)). Known (after M o n) m (calls ++ c ∷ [])) (sym e.turn)
         (record { retries = e.same ∙ known.retries; at = entered m calls c n is e.stage e.from e.opens e.turn e.is_entered })
 
-    quieted : (stage : Stage M) → n.stage ≡ stage → KnownAt stage n.resent n.counts m calls → Known (after M (turn_of M CallQuiet n) n) m (calls ++ CallQuiet ∷ [])
+    quieted : (stage : Stage M) → n.stage ≡ stage → KnownAt stage n.resent n.counts m calls → Known (after M (turn_of M (Called manager_call.Quiet) n) n) m (calls ++ (Called manager_call.Quiet) ∷ [])
     quieted (Opened true task part) at here = quiet_known m calls n is task part at known.retries here.0 here.1 (nat_lt n.resent n.retries) refl
-    quieted (Opened false task part) at here = moved CallQuiet (inl (ap (λ (s : Stage M). quiets M s n) at))
-    quieted AtStart at here = moved CallQuiet (inl (ap (λ (s : Stage M). quiets M s n) at))
-    quieted AtEnd at here = moved CallQuiet (inl (ap (λ (s : Stage M). quiets M s n) at))
-    quieted (AtHalt k why) at here = moved CallQuiet (inl (ap (λ (s : Stage M). quiets M s n) at))
-    quieted AtUndone at here = moved CallQuiet (inl (ap (λ (s : Stage M). quiets M s n) at))
-    quieted (AtRefused k code) at here = moved CallQuiet (inl (ap (λ (s : Stage M). quiets M s n) at))
+    quieted (Opened false task part) at here = moved (Called manager_call.Quiet) (inl (ap (λ (s : Stage M). quiets M s n) at))
+    quieted AtStart at here = moved (Called manager_call.Quiet) (inl (ap (λ (s : Stage M). quiets M s n) at))
+    quieted AtEnd at here = moved (Called manager_call.Quiet) (inl (ap (λ (s : Stage M). quiets M s n) at))
+    quieted (AtHalt k why) at here = moved (Called manager_call.Quiet) (inl (ap (λ (s : Stage M). quiets M s n) at))
+    quieted AtUndone at here = moved (Called manager_call.Quiet) (inl (ap (λ (s : Stage M). quiets M s n) at))
+    quieted (AtRefused k code) at here = moved (Called manager_call.Quiet) (inl (ap (λ (s : Stage M). quiets M s n) at))
 
-    one_more : (c : Call) → Known (after M (turn_of M c n) n) m (calls ++ c ∷ [])
-    one_more CallStart = moved CallStart (start_moves n.stage n)
-    one_more CallQuiet = quieted n.stage refl known.at
-    one_more CallStop = moved CallStop (stop_moves n.stage n)
-    one_more CallAgain = moved CallAgain (again_moves n.stage n)
-    one_more CallUndo = moved CallUndo (undo_moves n.stage n)
+    one_more : (c : Input) → Known (after M (turn_of M c n) n) m (calls ++ c ∷ [])
+    one_more (Called manager_call.Start) = moved (Called manager_call.Start) (start_moves n.stage n)
+    one_more (Called manager_call.Quiet) = quieted n.stage refl known.at
+    one_more (Called manager_call.Stop) = moved (Called manager_call.Stop) (stop_moves n.stage n)
+    one_more (Called manager_call.Again) = moved (Called manager_call.Again) (again_moves n.stage n)
+    one_more (Called manager_call.Undo) = moved (Called manager_call.Undo) (undo_moves n.stage n)
     one_more (Replies a) = moved (Replies a) (reply_moves a n.stage n)
 
   -- those that are still to come
-  goes_on_known : (m : Machine M) (done calls : List Call) (n : Machine M) → run M done m ≡ n → Known n m done → Known (run M calls n) m (done ++ calls)
+  goes_on_known : (m : Machine M) (done calls : List Input) (n : Machine M) → run M done m ≡ n → Known n m done → Known (run M calls n) m (done ++ calls)
   goes_on_known m done [] n is known = subst (Known n m) (sym (append-nil done)) known
   goes_on_known m done (c ∷ cs) n is known =
       let next = after M (turn_of M c n) n in
@@ -364,7 +365,7 @@ module _ (M : Words) where
   none_known (AtRefused k code) m none = tt
 
   -- an unsettled request was given up
-  found : (m : Machine M) (calls : List Call) (k resent : ℕ) (counts : Counts) (stage : Stage M) → KnownAt stage resent counts m calls → phase_at M stage ≡ Unsettled k → IsGivenUp M m calls k
+  found : (m : Machine M) (calls : List Input) (k resent : ℕ) (counts : Counts) (stage : Stage M) → KnownAt stage resent counts m calls → phase_at M stage ≡ Unsettled k → IsGivenUp M m calls k
   found m calls k resent counts (Opened false task part) known is = let same : task_step M task ≡ k = cc is in subst (IsGivenUp M m calls) same known
   found m calls k resent counts (Opened true task part) known is = absurd (task_awaited task k is)
   found m calls k resent counts AtStart known is = absurd cc

@@ -4,6 +4,8 @@ use Rattle.std.specs.Option.{option_map}
 use Rattle.two_wire.specs.declared.Bus.{Bus}
 use Rattle.two_wire.specs.declared.Bus.TheVariants.{Ipmb, Smbus}
 use Rattle.model_bus.specs.Answered.{Answered}
+use Rattle.model_undo.specs.declared.call.Call.TheVariants as manager_call
+use Rattle.model_undo.specs.declared.call.Call.{Call}
 use Rattle.model_undo.specs.Words.{Words}
 use Rattle.model_undo.specs.declared.phase.Why.TheVariants.{Stop}
 use Rattle.model_undo.specs.declared.phase.Phase.{Phase}
@@ -35,13 +37,9 @@ resumed M retries list = record {
 -- ---- what is seen of a manager
 
 -- a call, or a reply to the open request
-pub data Call : Type 0 where
-  CallStart : Call
-  CallQuiet : Call
-  CallStop : Call
-  CallAgain : Call
-  CallUndo : Call
-  Replies : (answered : Answered) → Call
+pub data Input : Type 0 where
+  Called : (call : Call) → Input
+  Replies : (answered : Answered) → Input
 
 -- a request as it goes out: under its number
 pub record NumberedRequest (M : Words) : Type 0 where
@@ -50,12 +48,12 @@ pub record NumberedRequest (M : Words) : Type 0 where
   pub asked : M.Asked
 
 module _ (M : Words) where
-  abbrev pub turn_of : Call → Machine M → Option (Turn M)
-  turn_of CallStart machine = start_of M machine
-  turn_of CallQuiet machine = quiet_of M machine
-  turn_of CallStop machine = stop_of M machine
-  turn_of CallAgain machine = again_of M machine
-  turn_of CallUndo machine = undo_of M machine
+  abbrev pub turn_of : Input → Machine M → Option (Turn M)
+  turn_of (Called manager_call.Start) machine = start_of M machine
+  turn_of (Called manager_call.Quiet) machine = quiet_of M machine
+  turn_of (Called manager_call.Stop) machine = stop_of M machine
+  turn_of (Called manager_call.Again) machine = again_of M machine
+  turn_of (Called manager_call.Undo) machine = undo_of M machine
   turn_of (Replies answered) machine = reply_of M answered machine
 
   -- the machine after it
@@ -72,7 +70,7 @@ module _ (M : Words) where
   goes_out (Some turn) = option_map request_of turn.sends
 
   -- the phase after each call, and the request that goes out
-  abbrev pub trace : List Call → Machine M → List (Phase × Option (NumberedRequest M))
+  abbrev pub trace : List Input → Machine M → List (Phase × Option (NumberedRequest M))
   trace [] machine = []
   trace (call ∷ calls) machine = (phase_of M (after (turn_of call machine) machine), goes_out (turn_of call machine)) ∷ trace calls (after (turn_of call machine) machine)
 
@@ -88,4 +86,4 @@ module _ (M : Words) where
     pub halted : (retries : ℕ) (list : UndoList M) → phase_of M (resumed M retries list) ≡ Halted (length list.series) Stop
     pub none_open : (retries : ℕ) (list : UndoList M) → open_bus M (resumed M retries list) ≡ None
     pub same_list : (retries : ℕ) (machine : Machine M) → list_of M (resumed M retries (list_of M machine)) ≡ list_of M machine
-    pub alike : (machine : Machine M) → IsOver (phase_of M machine) → (calls : List Call) → trace (CallUndo ∷ calls) (resumed M machine.retries (list_of M machine)) ≡ trace (CallUndo ∷ calls) machine
+    pub alike : (machine : Machine M) → IsOver (phase_of M machine) → (calls : List Input) → trace ((Called manager_call.Undo) ∷ calls) (resumed M machine.retries (list_of M machine)) ≡ trace ((Called manager_call.Undo) ∷ calls) machine

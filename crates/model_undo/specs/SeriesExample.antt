@@ -4,6 +4,7 @@ use Rattle.std.specs.Prelude.{◌≡◌, ℕ, zero, suc, ◌≤◌, ◌<◌, nat
 use Rattle.two_wire.specs.Codes.{success, invalid_data_field}
 use Rattle.two_wire.specs.declared.Bus.TheVariants.{Ipmb}
 use Rattle.model_bus.specs.Answered.{Answered}
+use Rattle.model_undo.specs.declared.call.Call.TheVariants as manager_call
 use Rattle.model_undo.specs.Words.{Words}
 use Rattle.model_undo.specs.Family.{Family}
 use Rattle.model_undo.specs.Wires.{Wires}
@@ -11,7 +12,7 @@ use Rattle.model_undo.specs.declared.phase.Why.TheVariants.{Stop, Refused, NotRe
 use Rattle.model_undo.specs.declared.phase.Phase.{Phase}
 use Rattle.model_undo.specs.declared.phase.Phase.TheVariants.{Getting, Setting, Done, Halted, Undoing, Undone}
 use Rattle.model_undo.specs.Machine.{Machine, opened}
-use Rattle.model_undo.specs.Resume.{Call, CallStart, CallStop, CallUndo, Replies, NumberedRequest, trace}
+use Rattle.model_undo.specs.Resume.{Input, Called, Replies, NumberedRequest, trace}
 
 -- an operation gives both bytes
 pub record Pair : Type 0 where
@@ -184,10 +185,10 @@ abbrev pub sent : ℕ → Asked → Option (NumberedRequest pairs)
 sent number asked = Some (record { bus = Ipmb; number = number; asked = asked })
 
 -- a request is carried out, and shows these data; or it is refused
-abbrev pub done : List ℕ → Call
+abbrev pub done : List ℕ → Input
 done body = Replies (record { code = success; body = body })
 
-abbrev pub refused : Call
+abbrev pub refused : Input
 refused = Replies (record { code = invalid_data_field; body = [] })
 
 -- the bytes are to become 1 and 2; they are 7 and 9
@@ -197,25 +198,25 @@ begun = opened pairs (record { low = 1; high = 2 } ∷ []) 0
 abbrev pub Seen : Type 0
 Seen = List (Phase × Option (NumberedRequest pairs))
 
-abbrev pub seen : List Call → Seen
+abbrev pub seen : List Input → Seen
 seen calls = trace pairs calls begun
 
 -- the Get, and its two replies
-abbrev pub getting : List Call
-getting = CallStart ∷ done (7 ∷ []) ∷ done (9 ∷ []) ∷ []
+abbrev pub getting : List Input
+getting = (Called manager_call.Start) ∷ done (7 ∷ []) ∷ done (9 ∷ []) ∷ []
 
 abbrev pub got : Seen
 got = (Getting 0, sent 0 GetLow) ∷ (Getting 0, sent 1 GetHigh) ∷ (Setting 0, sent 2 (SetLow 1)) ∷ []
 
 pub record GoesOver : Type 0 where
   -- A phase lasts until the last request of its task is answered. The undo is made from both replies to the Get.
-  pub undone : seen (getting ++ done [] ∷ done [] ∷ CallUndo ∷ done [] ∷ done [] ∷ [])
+  pub undone : seen (getting ++ done [] ∷ done [] ∷ (Called manager_call.Undo) ∷ done [] ∷ done [] ∷ [])
       ≡ got ++ (Setting 0, sent 3 (SetHigh 2)) ∷ (Done, None) ∷ (Undoing 0, sent 4 (SetLow 7)) ∷ (Undoing 0, sent 5 (SetHigh 9)) ∷ (Undone, None) ∷ []
   -- a stop halts the plan at the next reply to a Get, and a Set only after its last
-  pub stopped_get : seen (CallStart ∷ CallStop ∷ done (7 ∷ []) ∷ []) ≡ (Getting 0, sent 0 GetLow) ∷ (Getting 0, None) ∷ (Halted 0 Stop, None) ∷ []
-  pub stopped_set : seen (getting ++ CallStop ∷ done [] ∷ done [] ∷ []) ≡ got ++ (Setting 0, None) ∷ (Setting 0, sent 3 (SetHigh 2)) ∷ (Done, None) ∷ []
+  pub stopped_get : seen ((Called manager_call.Start) ∷ (Called manager_call.Stop) ∷ done (7 ∷ []) ∷ []) ≡ (Getting 0, sent 0 GetLow) ∷ (Getting 0, None) ∷ (Halted 0 Stop, None) ∷ []
+  pub stopped_set : seen (getting ++ (Called manager_call.Stop) ∷ done [] ∷ done [] ∷ []) ≡ got ++ (Setting 0, None) ∷ (Setting 0, sent 3 (SetHigh 2)) ∷ (Done, None) ∷ []
   -- a refusal of the second request is one of the Set, and no undo is kept
-  pub refused_late : seen (getting ++ done [] ∷ refused ∷ CallUndo ∷ [])
+  pub refused_late : seen (getting ++ done [] ∷ refused ∷ (Called manager_call.Undo) ∷ [])
       ≡ got ++ (Setting 0, sent 3 (SetHigh 2)) ∷ (Halted 0 (Refused invalid_data_field), None) ∷ (Undone, None) ∷ []
   -- a reply without a byte ends the Get, which can't be undone
-  pub too_short : seen (CallStart ∷ done [] ∷ []) ≡ (Getting 0, sent 0 GetLow) ∷ (Halted 0 NotRestorable, None) ∷ []
+  pub too_short : seen ((Called manager_call.Start) ∷ done [] ∷ []) ≡ (Getting 0, sent 0 GetLow) ∷ (Halted 0 NotRestorable, None) ∷ []

@@ -2,9 +2,11 @@
 //! repeated or delayed.
 #![tactic(auto)]
 
+mod call;
 pub mod examples;
 pub mod laws;
 mod phase;
 pub mod series_laws;
 
+pub use call::Call;
 pub use phase::{Phase, Why};

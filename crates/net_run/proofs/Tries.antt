@@ -5,7 +5,7 @@ use Rattle.model_undo.specs.declared.phase.Phase.{Phase}
 use Rattle.model_undo.specs.Machine.{phase_of}
 use Rattle.model_lab.specs.Meaning.{lab_names}
 use Rattle.model_lab.specs.ManagerSteps.{ManagerDeed, board_plans, called}
-use Rattle.text_schedule.specs.declared.event.Call.TheVariants.{Again}
+use Rattle.model_undo.specs.declared.call.Call.TheVariants.{Again}
 use Rattle.undo_core.specs.declared.manager.Manager.{Manager}
 use Rattle.undo_core.specs.declared.phase.WrongPhase.{WrongPhase}
 use Rattle.undo_core.specs.declared.sending.Sent.{Sent}

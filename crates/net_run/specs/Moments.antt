@@ -4,8 +4,8 @@ use Rattle.text_undo.specs.UndoText.{text_of}
 use Rattle.undo_plans.specs.declared.undo_list.UndoList.{UndoList}
 use Rattle.model_lab.specs.Meaning.{lab_names}
 use Rattle.model_lab.specs.ManagerSteps.{ManagerDeed, board_plans, called}
-use Rattle.text_schedule.specs.declared.event.Call.{Call}
-use Rattle.text_schedule.specs.declared.event.Call.TheVariants.{Start, Again}
+use Rattle.model_undo.specs.declared.call.Call.{Call}
+use Rattle.model_undo.specs.declared.call.Call.TheVariants.{Start, Again}
 use Rattle.undo_core.specs.declared.manager.Manager.{Manager}
 use Rattle.undo_core.specs.Shown.{Shows}
 use Rattle.bmc_drive.specs.Driving.{Links, Driven}

@@ -6,7 +6,7 @@ use Rattle.plan_file.specs.declared.kind.Kind.{Kind}
 use Rattle.plan_file.specs.Kinds.{kind_of}
 use Rattle.plan_file.specs.PlanHolds.{ReadsPlan}
 use Rattle.text_undo.specs.UndoText.{Stands}
-use Rattle.text_schedule.specs.declared.event.Call.TheVariants.{Undo}
+use Rattle.model_undo.specs.declared.call.Call.TheVariants.{Undo}
 use Rattle.model_undo.specs.Machine.{phase_of}
 use Rattle.model_lab.specs.Meaning.{lab_names}
 use Rattle.undo_core.specs.declared.manager.Manager.{Manager}

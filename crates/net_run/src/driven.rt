@@ -1,6 +1,6 @@
 //! A manager that runs a plan over two links, or undoes it.
 ghost use Rattle.std.specs.Prelude.{◌≡◌, ◌↔◌, IfOk, Err};
-ghost use Rattle.text_schedule.specs.declared.event.Call.TheVariants.{Start, Undo};
+ghost use Rattle.model_undo.specs.declared.call.Call.TheVariants.{Start, Undo};
 ghost use Rattle.model_lab.specs.Meaning.{lab_names as the_names};
 ghost use Rattle.undo_core.specs.Shown.{AreOthers, Shows};
 ghost use Rattle.bmc_drive.specs.Driving.{both};

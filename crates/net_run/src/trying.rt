@@ -1,6 +1,6 @@
 //! A manager that is driven while something looks at it, and called again where it is unsettled.
 ghost use Rattle.std.specs.Prelude.{◌≡◌, ◌≤◌, List};
-ghost use Rattle.text_schedule.specs.declared.event.Call.TheVariants.{Start, Undo};
+ghost use Rattle.model_undo.specs.declared.call.Call.TheVariants.{Start, Undo};
 ghost use Rattle.model_lab.specs.Meaning.{lab_names as the_names};
 ghost use Rattle.undo_core.specs.declared.manager.Manager.{Manager as AnyManager};
 ghost use Rattle.undo_core.specs.Shown.{Shows};

@@ -5,8 +5,8 @@ use Rattle.two_wire.specs.declared.Bus.TheVariants.{Ipmb, Smbus}
 use Rattle.two_wire.specs.Buses.{bus_name}
 use Rattle.two_wire.specs.Sizes.{most_frame_bytes, most_ipmi_request_data, most_message_bytes}
 use Rattle.ipmb_frame.specs.Grammar.{packed}
-use Rattle.text_schedule.specs.declared.event.Call.{Call as Called}
-use Rattle.text_schedule.specs.declared.event.Call.TheVariants.{Start, Quiet, Stop, Again, Undo}
+use Rattle.model_undo.specs.declared.call.Call.{Call as Called}
+use Rattle.model_undo.specs.declared.call.Call.TheVariants.{Start, Quiet, Stop, Again, Undo}
 use Rattle.text_schedule.specs.declared.event.OtherRequest.{OtherRequest}
 use Rattle.text_schedule.specs.declared.event.BenchEvent.TheVariants.{Scan, Tick}
 use Rattle.text_schedule.specs.declared.event.Event.{Event}

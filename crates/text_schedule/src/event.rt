@@ -5,21 +5,12 @@ ghost use Rattle.text_schedule.specs.Line.{event_name};
 use crate::octets::Octets;
 use crate::words::call_name;
 use ipmb_frame::{Party, Sequence};
+use model_undo::Call;
 use two_wire::size::{MOST_FRAME_BYTES, MOST_IPMI_REQUEST_DATA, MOST_MESSAGE_BYTES};
 use two_wire::{Bus, Bytes, Lun, NetFn};
 
 /// The most bytes of noise: as many as a frame has.
 pub const MOST_NOISE: usize = MOST_FRAME_BYTES;
-
-/// A call of the manager.
-#[derive(Clone, Copy, Debug, PartialEq, Eq)]
-pub enum Call {
-    Start,
-    Quiet,
-    Stop,
-    Again,
-    Undo,
-}
 
 /// Somebody else's request to the controller on IPMB.
 #[derive(Debug, Drop)]

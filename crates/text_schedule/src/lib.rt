@@ -8,7 +8,7 @@ mod octets;
 mod schedule;
 mod words;
 
-pub use event::{BenchEvent, Call, Event, MOST_NOISE, OtherMessage, OtherRequest};
+pub use event::{BenchEvent, Event, MOST_NOISE, OtherMessage, OtherRequest};
 pub use laws::{one_schedule, refused_or_told};
 pub use octets::Octets;
 pub use schedule::{Schedule, ScheduleFault, read_schedule};

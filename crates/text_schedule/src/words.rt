@@ -4,7 +4,7 @@ ghost use Rattle.text_schedule.specs.Text.{lines_of, words_of, IsNumber};
 ghost use Rattle.text_schedule.specs.Line.{call_name};
 ghost use Rattle.text_schedule.specs.Reads.{Finds};
 
-use crate::event::Call;
+use model_undo::Call;
 use std::alloc::{AllocError, Global};
 
 /// The most digits of a frame's number.

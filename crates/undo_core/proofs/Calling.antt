@@ -7,7 +7,7 @@ use Rattle.record_base.specs.declared.message.Asked.{Asked}
 use Rattle.undo_plans.specs.declared.names.Names.{Names}
 use Rattle.undo_plans.specs.Requests.{RequestList}
 use Rattle.model_undo.specs.Machine as machine
-use Rattle.text_schedule.specs.declared.event.Call.{Call}
+use Rattle.model_undo.specs.declared.call.Call.{Call}
 use Rattle.model_lab.specs.ManagerSteps.{board_plans, ManagerState, waits_after, turn_of, called, goes_on, sent_of}
 use Rattle.undo_core.specs.declared.stage.Task.{Task}
 use Rattle.undo_core.specs.declared.stage.Stage.{Stage}

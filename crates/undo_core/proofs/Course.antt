@@ -25,14 +25,14 @@ use Rattle.undo_plans.specs.declared.names.Names.{Names}
 use Rattle.model_bus.specs.Bytes.{answers}
 use Rattle.model_undo.specs.Machine.{Part as TaskPart, Machine, Sending, Turn, phase_of}
 use Rattle.model_undo.specs.Wires.{number_of}
-use Rattle.model_undo.specs.Resume.{list_of, resumed, IsOver, Call as MachineCall, CallStart, CallQuiet, CallStop, CallAgain, CallUndo, Replies, NumberedRequest, request_of, turn_of as machine_turn}
+use Rattle.model_undo.specs.Resume.{list_of, resumed, IsOver, Input, Called, Replies, NumberedRequest, request_of, turn_of as machine_turn}
 use Rattle.model_undo.proofs.Resume.{Rest, with_rest, IsPast, SameNumbers, IsAlike, AreAlike, any_alike, same_phase, over_alike}
 use Rattle.model_undo.proofs.OnBus.{IsOnBus, SendsOnBus, sends_on_bus}
 use Rattle.model_ports.specs.Wires.{bus_of, bytes_of, answered_from}
 use Rattle.model_ports.specs.Bytes.{response_bytes}
 use Rattle.model_ports.specs.Values.{Value, Asks, Tells, Part, written, IsFrameOn}
-use Rattle.text_schedule.specs.declared.event.Call.{Call}
-use Rattle.text_schedule.specs.declared.event.Call.TheVariants.{Start, Quiet, Stop, Again, Undo}
+use Rattle.model_undo.specs.declared.call.Call.{Call}
+use Rattle.model_undo.specs.declared.call.Call.TheVariants.{Start, Quiet, Stop, Again, Undo}
 use Rattle.model_lab.specs.ManagerSteps.{ManagerState, ManagerDeed, board_plans, values_of, called, goes_on, sent_of, rests, is_answer, is_part, heeded_on, open_count, open_bytes, taken_or, tested, hears_reply, hears_response, ends_reply, joins, joins_for, hears_packet, manager_hears}
 use Rattle.undo_core.specs.Shown.{words_of}
 use Rattle.undo_core.specs.Course.{Input, Calls, Hears, HasBytes, Frames, Seen, HearsBytes, or_rests, IsDeed, frames_of, seen_of, Course, resumes, GoesOnOverFrames}
@@ -194,7 +194,7 @@ module _ (names : Names) where
     alike_turns joined (Some t) None alike on = absurd alike
     alike_turns joined (Some t) (Some u) alike on = record { states = record { machines = alike.0; named = refl; listed = refl; joined = refl }; sent = same_sent t.sends u.sends s.names alike.1 on }
 
-    by_machine : (c : MachineCall) (joined : Assemblies)
+    by_machine : (c : Input) (joined : Assemblies)
         → AreAlikeDeeds (taken_or (board_plans names) (record s { joined = joined }) (machine_turn (words_of names) c s.machine))
         (taken_or (board_plans names) (record other { joined = joined }) (machine_turn (words_of names) c other.machine))
     by_machine c joined =
@@ -264,7 +264,7 @@ module _ (names : Names) where
     deed_alike joined (Some t) None alike on = absurd alike
     deed_alike joined (Some t) (Some u) alike on = record { states = record { machines = alike.0; named = refl; listed = refl; joined = refl }; sent = same_sent t.sends u.sends s.names alike.1 on }
 
-    call_by : (c : MachineCall) (joined : Assemblies) → AreAlikeDeeds (or_rests names (option_map (goes_on (board_plans names) (record s { joined = joined })) (machine_turn (words_of names) c s.machine)) s)
+    call_by : (c : Input) (joined : Assemblies) → AreAlikeDeeds (or_rests names (option_map (goes_on (board_plans names) (record s { joined = joined })) (machine_turn (words_of names) c s.machine)) s)
         (or_rests names (option_map (goes_on (board_plans names) (record other { joined = joined })) (machine_turn (words_of names) c other.machine)) other)
     call_by c joined =
         deed_alike joined (machine_turn (words_of names) c s.machine) (machine_turn (words_of names) c other.machine) (any_alike (words_of names) c s.machine other.machine alike_machine)
@@ -272,11 +272,11 @@ module _ (names : Names) where
 
     call_alike : (call : Call) → AreAlikeDeeds (or_rests names (called (board_plans names) call s) s) (or_rests names (called (board_plans names) call other) other)
     unfolding called
-    call_alike Start = call_by CallStart s.joined
-    call_alike Quiet = call_by CallQuiet s.joined
-    call_alike Stop = call_by CallStop s.joined
-    call_alike Again = call_by CallAgain s.joined
-    call_alike Undo = call_by CallUndo nothing
+    call_alike Start = call_by (Called Start) s.joined
+    call_alike Quiet = call_by (Called Quiet) s.joined
+    call_alike Stop = call_by (Called Stop) s.joined
+    call_alike Again = call_by (Called Again) s.joined
+    call_alike Undo = call_by (Called Undo) nothing
 
     -- whatever comes, of each deed of the one there is one of the other that is alike
     input_alike : (i : Input) → HasBytes i → (d : Deed) → IsDeed names i s d → (e : Deed) × IsDeed names i other e × AreAlikeDeeds d e
@@ -325,8 +325,8 @@ module _ (names : Names) where
   unfolding called
   undo_alike s over =
       let n = resumed (words_of names) s.machine.retries (list_of (words_of names) s.machine) in
-      begins_alike s (machine_turn (words_of names) CallUndo s.machine) (machine_turn (words_of names) CallUndo n) (over_alike (words_of names) s.machine.stage s.machine over)
-      (sends_on_bus (words_of names) CallUndo s.machine) (_, refl)
+      begins_alike s (machine_turn (words_of names) (Called Undo) s.machine) (machine_turn (words_of names) (Called Undo) n) (over_alike (words_of names) s.machine.stage s.machine over)
+      (sends_on_bus (words_of names) (Called Undo) s.machine) (_, refl)
 
   from_undo : (s : State) → IsOver (words_of names) (phase_of (words_of names) s.machine) → (inputs : List Input) → All HasBytes inputs → (seen : List Seen)
       → Course names (Calls Undo ∷ inputs) s seen → Course names (Calls Undo ∷ inputs) (resumes names s) seen

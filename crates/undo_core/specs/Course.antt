@@ -7,8 +7,8 @@ use Rattle.model_undo.specs.declared.phase.Phase.{Phase}
 use Rattle.model_undo.specs.Machine.{phase_of}
 use Rattle.model_undo.specs.Resume.{list_of, resumed, IsOver}
 use Rattle.model_ports.specs.Values.{Value, written, IsFrameOn}
-use Rattle.text_schedule.specs.declared.event.Call.{Call}
-use Rattle.text_schedule.specs.declared.event.Call.TheVariants.{Undo}
+use Rattle.model_undo.specs.declared.call.Call.{Call}
+use Rattle.model_undo.specs.declared.call.Call.TheVariants.{Undo}
 use Rattle.model_lab.specs.ManagerSteps.{Sent, ManagerState, ManagerDeed, board_plans, called, rests, manager_hears}
 use Rattle.undo_core.specs.declared.manager.Manager.{Manager}
 use Rattle.undo_core.specs.declared.sending.Sent.{Sent as SentFrames}

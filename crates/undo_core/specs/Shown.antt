@@ -16,7 +16,7 @@ use Rattle.model_undo.specs.Wires.{number_of}
 use Rattle.undo_core.specs.declared.phase.WrongPhase.{WrongPhase}
 use Rattle.model_lab.specs.ManagerWords.{from_manager}
 use Rattle.model_ports.specs.Values.{written, IsFrameOn}
-use Rattle.text_schedule.specs.declared.event.Call.{Call}
+use Rattle.model_undo.specs.declared.call.Call.{Call}
 use Rattle.model_lab.specs.ManagerSteps.{addresses, board_plans, Sent as AllSent, ManagerState, ManagerDeed, called, rests, taken_or}
 use Rattle.undo_core.specs.declared.stage.Task.{Task}
 use Rattle.undo_core.specs.declared.stage.Task.TheVariants as task

@@ -1,5 +1,5 @@
 //! The calls of a manager.
-ghost use Rattle.text_schedule.specs.declared.event.Call.TheVariants.{Start, Quiet, Stop, Again, Undo};
+ghost use Rattle.model_undo.specs.declared.call.Call.TheVariants.{Start, Quiet, Stop, Again, Undo};
 ghost use Rattle.undo_core.specs.Shown.{Calls};
 
 use crate::entering::{step_stage, undo_stage};

@@ -1,6 +1,6 @@
 use Rattle.std.proofs.Common.{◌∙◌, subst, ap, ℕ}
 use Rattle.bmc_drive.specs.Driving.{Links, both}
-use Rattle.text_schedule.specs.declared.event.Call.TheVariants.{Start}
+use Rattle.model_undo.specs.declared.call.Call.TheVariants.{Start}
 use Rattle.net_run.specs.Driven.{GoesAgain}
 use Rattle.net_run.specs.Moments.{KeepsSoFar, PassesTo}
 use Rattle.net_run.specs.Told.{LooksOn}

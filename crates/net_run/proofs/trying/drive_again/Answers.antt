@@ -1,5 +1,5 @@
 use Rattle.std.proofs.Common.{◌≡◌, ◌+◌, ◌-◌, suc, inr, refl, arith}
-use Rattle.text_schedule.specs.declared.event.Call.TheVariants.{Again}
+use Rattle.model_undo.specs.declared.call.Call.TheVariants.{Again}
 use Rattle.model_lab.specs.Meaning.{lab_names}
 use Rattle.bmc_drive.specs.Driving.{both}
 use Rattle.net_run.proofs.Tries.{begins, called_again, ends_over, not_again, stopped}

@@ -1,5 +1,5 @@
 use Rattle.std.proofs.Common.{inl, refl}
-use Rattle.text_schedule.specs.declared.event.Call.TheVariants.{Start}
+use Rattle.model_undo.specs.declared.call.Call.TheVariants.{Start}
 use Rattle.model_lab.specs.Meaning.{lab_names}
 use Rattle.model_lab.specs.ManagerSteps.{board_plans, called}
 use Rattle.bmc_drive.specs.Driving.{both}

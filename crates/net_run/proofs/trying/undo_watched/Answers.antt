@@ -1,5 +1,5 @@
 use Rattle.std.proofs.Common.{[], ◌∷◌, inl, inr, refl}
-use Rattle.text_schedule.specs.declared.event.Call.TheVariants.{Undo}
+use Rattle.model_undo.specs.declared.call.Call.TheVariants.{Undo}
 use Rattle.model_lab.specs.Meaning.{lab_names}
 use Rattle.model_lab.specs.ManagerSteps.{board_plans, called}
 use Rattle.net_run.specs.Driven.{DrivesAgain}

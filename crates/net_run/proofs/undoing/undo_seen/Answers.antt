@@ -1,6 +1,6 @@
 use Rattle.std.proofs.Common.{◌∙◌, subst}
 use Rattle.bmc_drive.specs.Driving.{Links, both}
-use Rattle.text_schedule.specs.declared.event.Call.TheVariants.{Undo}
+use Rattle.model_undo.specs.declared.call.Call.TheVariants.{Undo}
 use Rattle.net_run.specs.Driven.{Goes, resumed_from}
 use Rattle.net_run.proofs.Driving.{fresh}
 use Rattle.net_run.proofs.Keeping.{stays_same}

@@ -1,6 +1,6 @@
 use Rattle.std.proofs.Common.{rules, ◌≡◌, ℕ, Bool, true, false, refl, ◌∙◌, ap, subst}
 use Rattle.record_base.specs.declared.message.Asked.{Asked}
-use Rattle.text_schedule.specs.declared.event.Call.TheVariants.{Again}
+use Rattle.model_undo.specs.declared.call.Call.TheVariants.{Again}
 use Rattle.model_undo.specs.Machine as machine
 use Rattle.undo_core.specs.Shown.{IsStage}
 use Rattle.undo_core.specs.declared.stage.Task.{Task}

@@ -1,7 +1,7 @@
 use Rattle.std.proofs.Common.{rules, ◌≡◌, ◌+◌, nat_lt, Bool, true, false, ℕ, None, refl, ◌∙◌, ap, subst, arith}
 use Rattle.std.proofs.lemmas.Bool.{lt-ltb, le-ltb}
 use Rattle.record_base.specs.declared.message.Asked.{Asked}
-use Rattle.text_schedule.specs.declared.event.Call.TheVariants.{Quiet}
+use Rattle.model_undo.specs.declared.call.Call.TheVariants.{Quiet}
 use Rattle.model_undo.specs.Machine as machine
 use Rattle.undo_core.specs.Shown.{IsStage}
 use Rattle.undo_core.specs.declared.stage.Task.{Task}

@@ -1,6 +1,6 @@
 use Rattle.std.proofs.Common.{List, refl, sym, ◌∙◌, ap, subst}
 use Rattle.std.specs.Prelude.{slice_get}
-use Rattle.text_schedule.specs.declared.event.Call.TheVariants.{Start}
+use Rattle.model_undo.specs.declared.call.Call.TheVariants.{Start}
 use Rattle.model_undo.specs.Machine as machine
 use Rattle.undo_core.specs.Shown.{words_of, IsStage}
 use Rattle.record_base.specs.declared.op.Op.{Op}

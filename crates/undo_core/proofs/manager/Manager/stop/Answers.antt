@@ -1,5 +1,5 @@
 use Rattle.std.proofs.Common.{true, None, refl}
-use Rattle.text_schedule.specs.declared.event.Call.TheVariants.{Stop}
+use Rattle.model_undo.specs.declared.call.Call.TheVariants.{Stop}
 use Rattle.undo_core.proofs.Calling.{refused, made, no_stop, stop_turn, rests_does}
 use Rattle.undo_core.proofs.manager.Manager.stop.Goals as goal
 

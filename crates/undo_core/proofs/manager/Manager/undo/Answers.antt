@@ -2,7 +2,7 @@ use Rattle.std.proofs.Common.{rules, ◌≡◌, ℕ, List, take, refl, sym, ◌�
 use Rattle.std.proofs.Math.Seq.{take-length}
 use Rattle.record_kinds.specs.Series.{Series}
 use Rattle.mctp_net.specs.Assembly.{nothing}
-use Rattle.text_schedule.specs.declared.event.Call.TheVariants.{Undo}
+use Rattle.model_undo.specs.declared.call.Call.TheVariants.{Undo}
 use Rattle.model_undo.specs.Machine as machine
 use Rattle.undo_core.specs.Shown.{words_of, backs, IsStage}
 use Rattle.undo_core.proofs.Calling.{refused, made, no_undo, undo_turn, enters_does}
