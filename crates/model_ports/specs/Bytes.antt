@@ -2,6 +2,7 @@
 -- byte on, with PLDM's ignored bit 0. `Wires` has those of the manager's requests and of replies.
 use Rattle.std.specs.Prelude.{◌≡◌, ℕ, ◌+◌, ◌<◌, true, false, List, [], ◌∷◌, Option, Some, None}
 use Rattle.two_wire.specs.declared.Bus.{Bus}
+use Rattle.two_wire.specs.declared.Bus.TheVariants.{Ipmb}
 use Rattle.record_base.specs.declared.message.Asked.{Asked}
 use Rattle.record_base.specs.declared.message.Asked.TheVariants.{Ipmi, Pldm}
 use Rattle.ipmb_frame.specs.declared.message.Request.{Request}
@@ -58,6 +59,10 @@ response_bytes response =
 -- the response to a request that gives the answer
 abbrev pub response_to : Request → Told → Response
 response_to request told = record { header = request.header; code = told.code; body = told.body }
+
+-- the response of these bytes, which are the reply to the request
+abbrev pub response_of : Request → List ℕ → Response
+response_of request bytes = response_to request (answered_from Ipmb bytes)
 
 -- ---- what holds of these bytes
 

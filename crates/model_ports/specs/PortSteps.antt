@@ -23,8 +23,8 @@ use Rattle.model_bus.specs.Carried.{Outcome, Repeats, IsBusy, IsNew, outcome, lo
 use Rattle.bmc_board.specs.State.{State}
 use Rattle.bmc_board.specs.Answer.{answer_of}
 use Rattle.model_ports.specs.Values.{Value, Asks, Tells, Part, parts_of}
-use Rattle.model_ports.specs.Wires.{family_answer, reply_to, answered_from}
-use Rattle.model_ports.specs.Bytes.{heard_in, pldm_heard_in, said, response_to}
+use Rattle.model_ports.specs.Wires.{family_answer, reply_to}
+use Rattle.model_ports.specs.Bytes.{heard_in, pldm_heard_in, said, response_of}
 
 -- a port: its two-wire address, its endpoint's identifier, the packets that wait at it, and what it did, newest first
 pub record PortState : Type 0 where
@@ -84,9 +84,9 @@ asked_in request = Ipmi request.header.requester.address request.header.net_fn r
 abbrev pub request_turn : BoardFile → PortState → State → Request → Turn
 request_turn setup port before request = turn (is_above sequence_numbers) (heard_in request) (spelled Ipmb (heard_in request)) setup (asked_in request) port.log before
 
--- the response to a request
+-- the response that a port sends: that of its reply's bytes, or that it is busy
 abbrev pub response_after : Request → Option (List ℕ) → Value
-response_after request replied = Tells (response_to request (answered_from Ipmb (said Ipmb (heard_in request) replied)))
+response_after request replied = Tells (response_of request (said Ipmb (heard_in request) replied))
 
 -- a request on IPMB comes
 unfoldable pub hears_request : BoardFile → PortState → State → Request → Deed
