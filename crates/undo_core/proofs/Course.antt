@@ -25,7 +25,7 @@ use Rattle.undo_plans.specs.declared.names.Names.{Names}
 use Rattle.model_bus.specs.Bytes.{answers}
 use Rattle.model_undo.specs.Machine.{Part as TaskPart, Machine, Sending, Turn, phase_of}
 use Rattle.model_undo.specs.Wires.{number_of}
-use Rattle.model_undo.specs.Resume.{list_of, resumed, IsOver, Input, Called, Replies, NumberedRequest, request_of, turn_of as machine_turn}
+use Rattle.model_undo.specs.Resume.{list_of, resumed, IsOver, Input as MachineInput, Called, Replies, NumberedRequest, request_of, turn_of as machine_turn}
 use Rattle.model_undo.proofs.Resume.{Rest, with_rest, IsPast, SameNumbers, IsAlike, AreAlike, any_alike, same_phase, over_alike}
 use Rattle.model_undo.proofs.OnBus.{IsOnBus, SendsOnBus, sends_on_bus}
 use Rattle.model_ports.specs.Wires.{bus_of, bytes_of, answered_from}
@@ -194,7 +194,7 @@ module _ (names : Names) where
     alike_turns joined (Some t) None alike on = absurd alike
     alike_turns joined (Some t) (Some u) alike on = record { states = record { machines = alike.0; named = refl; listed = refl; joined = refl }; sent = same_sent t.sends u.sends s.names alike.1 on }
 
-    by_machine : (c : Input) (joined : Assemblies)
+    by_machine : (c : MachineInput) (joined : Assemblies)
         → AreAlikeDeeds (taken_or (board_plans names) (record s { joined = joined }) (machine_turn (words_of names) c s.machine))
         (taken_or (board_plans names) (record other { joined = joined }) (machine_turn (words_of names) c other.machine))
     by_machine c joined =
@@ -264,7 +264,7 @@ module _ (names : Names) where
     deed_alike joined (Some t) None alike on = absurd alike
     deed_alike joined (Some t) (Some u) alike on = record { states = record { machines = alike.0; named = refl; listed = refl; joined = refl }; sent = same_sent t.sends u.sends s.names alike.1 on }
 
-    call_by : (c : Input) (joined : Assemblies) → AreAlikeDeeds (or_rests names (option_map (goes_on (board_plans names) (record s { joined = joined })) (machine_turn (words_of names) c s.machine)) s)
+    call_by : (c : MachineInput) (joined : Assemblies) → AreAlikeDeeds (or_rests names (option_map (goes_on (board_plans names) (record s { joined = joined })) (machine_turn (words_of names) c s.machine)) s)
         (or_rests names (option_map (goes_on (board_plans names) (record other { joined = joined })) (machine_turn (words_of names) c other.machine)) other)
     call_by c joined =
         deed_alike joined (machine_turn (words_of names) c s.machine) (machine_turn (words_of names) c other.machine) (any_alike (words_of names) c s.machine other.machine alike_machine)

@@ -1,9 +1,9 @@
 //! What a plan's steps change, by the tables of commands and of records.
 use super::steps::Step;
 use bmc_board::Records;
-use cfg_records::{
-    EventChange, EventMasks, Key, NumericBytes, SetEventEnable, SetNumericEffecter,
-    SetThresholds, StartValue, Store, Value, byte_at,
+use cfg_records::{Key, StartValue, Store, Value, byte_at};
+use record_base::{
+    EventChange, EventMasks, NumericBytes, SetEventEnable, SetNumericEffecter, SetThresholds,
 };
 use std::alloc::Global;
 use std::test::Fail;

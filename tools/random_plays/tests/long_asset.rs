@@ -1,5 +1,5 @@
 //! The sample board's text, where it may be longer: its Gets and Sets go in parts.
-use cfg_records::{Attribute, AttributeKind, Attributes, StringAttribute, Text, TextLengths};
+use record_base::{Attribute, AttributeKind, Attributes, StringAttribute, Text, TextLengths};
 use std::alloc::{AllocError, Global};
 
 /// The handle of the sample board's text, and how many bytes it has here at most.

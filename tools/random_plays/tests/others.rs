@@ -4,7 +4,7 @@ ghost use Rattle.std.specs.Prelude.{◌<◌};
 use super::dice::Dice;
 use ipmb_frame::Party;
 use lab_run::SentFrame;
-use text_schedule::{Event, Octets, OtherMessage, OtherRequest};
+use text_schedule::{BenchEvent, Event, Octets, OtherMessage, OtherRequest};
 use std::alloc::Global;
 use std::test::Fail;
 use two_wire::{Address, Below, Bus, Bytes, Lun, NetFn};
@@ -108,7 +108,7 @@ pub(super) fn other_message(
 pub(super) fn noise_of(alloc: Global, dice: &mut Dice, frame: &SentFrame) -> Result<Event, Fail> {
     let many = frame.bytes.len() as u64;
     if many == 0 {
-        return Ok(Event::Tick);
+        return Ok(Event::OnBench(BenchEvent::Tick));
     }
     let damaged = dice.below(many) as usize;
     let by = 1 + dice.byte() % 255;
@@ -143,8 +143,8 @@ pub(super) fn scan(dice: &mut Dice) -> Event {
         2 | 3 => 7,
         _ => 9,
     };
-    Event::Scan {
+    Event::OnBench(BenchEvent::Scan {
         sensor,
         reading: dice.byte(),
-    }
+    })
 }

@@ -2,11 +2,12 @@
 //! and what comes of them by the tables of commands.
 use super::dice::Dice;
 use super::lan::{any_lan, lan_key, of_lan, push_lan};
-use cfg_records::{
+use cfg_records::{Key, Op, Value, byte_at};
+use record_base::{
     AccessStore, BootChange, BootFlags, BootParameter, ChannelChange, ChannelNumber, FieldChange,
-    FieldChanges, Key, MaskedBits, Op, SetBiosAttribute, SetBootParam, SetChannelAccess,
-    SetGlobalEnables, SetPowerPolicy, SetStateEffecter, SetUserAccess, SetUserName, SetWatchdog,
-    SixBits, StoredAccess, UserNumber, UserOnChannel, Value, byte_at,
+    FieldChanges, MaskedBits, SetBiosAttribute, SetBootParam, SetChannelAccess, SetGlobalEnables,
+    SetPowerPolicy, SetStateEffecter, SetUserAccess, SetUserName, SetWatchdog, SixBits,
+    StoredAccess, UserNumber, UserOnChannel,
 };
 use record_base::SetLanParam;
 use std::test::Fail;

@@ -3,11 +3,11 @@ use super::dice::Dice;
 use super::lan::lans;
 use super::long_asset::{ASSET, MOST_TEXT, with_long_asset};
 use super::settings::{STATES, Setting, any_setting};
-use cfg_records::{
-    BoardFile, Distinct, EventChange, EventMasks, Key, NumericBytes, NumericEffecter, NumericRange,
-    NumericSize, Op, SetBiosAttribute, SetEventEnable, SetHysteresis, SetNumericEffecter,
-    Items, SetThresholds, StateEffecter, StateField, Value,
-    sample_board,
+use cfg_records::{BoardFile, Distinct, Key, Op, Items, Value, sample_board};
+use record_base::{
+    EventChange, EventMasks, NumericBytes, NumericEffecter, NumericRange, NumericSize,
+    SetBiosAttribute, SetEventEnable, SetHysteresis, SetNumericEffecter, SetThresholds,
+    StateEffecter, StateField,
 };
 use std::alloc::Global;
 use std::test::Fail;

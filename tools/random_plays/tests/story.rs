@@ -13,7 +13,8 @@ use lab_run::{Lab, SentFrame, Way};
 use lab_play::{LabFault, Played, play};
 use lab_schedule::make_schedule;
 use undo_plans::{Plan, Steps};
-use text_schedule::{Call, Event};
+use model_undo::Call;
+use text_schedule::{BenchEvent, Event};
 use std::alloc::Global;
 use std::process::Abort;
 use std::test::Fail;
@@ -118,7 +119,7 @@ fn delivery(frames: &[SentFrame], number: usize) -> Event {
     match (frames.get(number), u32::try_from(number)) {
         (Some(frame), Ok(number)) if frame.way.is(Way::ToPort) => Event::ToBmc(number),
         (Some(frame), Ok(number)) if frame.way.is(Way::ToManager) => Event::ToMgr(number),
-        _ => Event::Tick,
+        _ => Event::OnBench(BenchEvent::Tick),
     }
 }
 
@@ -167,7 +168,7 @@ fn late_first(frames: &[SentFrame]) -> Event {
             return delivery(frames, number);
         }
     }
-    Event::Tick
+    Event::OnBench(BenchEvent::Tick)
 }
 
 /// The frame that was sent so many frames before the last one comes to where it goes, once or again.
@@ -202,7 +203,7 @@ fn noise(alloc: Global, dice: &mut Dice, frames: &[SentFrame]) -> Result<Event, 
     let place = dice.below(1 + frames.len() as u64 % 65_536) as usize;
     match frames.get(place) {
         Some(frame) => noise_of(alloc, dice, frame),
-        None => Ok(Event::Tick),
+        None => Ok(Event::OnBench(BenchEvent::Tick)),
     }
 }
 
@@ -235,7 +236,7 @@ fn any_event(
         83..=87 => noise(alloc, dice, frames)?,
         88..=91 => idle(dice, is_crowded),
         92..=96 => scan(dice),
-        _ => Event::Tick,
+        _ => Event::OnBench(BenchEvent::Tick),
     })
 }
 

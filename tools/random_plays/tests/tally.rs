@@ -1,6 +1,7 @@
 //! How often what happened in the schedules that were played.
 use lab_run::Fault;
-use text_schedule::{Call, Event};
+use model_undo::Call;
+use text_schedule::Event;
 use undo_core::{Phase, Why};
 
 /// Counts of events that were taken, of phases that were entered, and of what became of frames.
@@ -90,7 +91,7 @@ impl Tally {
             Event::OtherIpmb(_) | Event::OtherSmbus(_) => one_more(&mut self.others),
             Event::Noise(..) => one_more(&mut self.noises),
             Event::Idle(..) => one_more(&mut self.idles),
-            Event::Scan { .. } | Event::Tick => one_more(&mut self.benches),
+            Event::OnBench(_) => one_more(&mut self.benches),
         }
     }
 

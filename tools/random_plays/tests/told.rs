@@ -1,14 +1,14 @@
 //! Plans and schedules as texts, in the language of the stories of plays.
 use super::settings::push_setting;
 use super::steps::Step;
-use cfg_records::{
+use cfg_records::byte_at;
+use model_undo::Call;
+use record_base::{
     EventChange, EventMasks, NumericBytes, SetEventEnable, SetNumericEffecter, SetThresholds,
-    byte_at,
 };
-use text_schedule::{Call, Event, OtherRequest};
+use text_schedule::{BenchEvent, Event, OtherRequest};
 use std::alloc::Global;
 use std::test::Fail;
-use two_wire::Bus;
 
 /// The names of thresholds, each with its place and its bit of a mask.
 const THRESHOLDS: [(&str, usize, u8); 6] = [
@@ -132,14 +132,6 @@ fn call_name(call: &Call) -> &'static str {
     }
 }
 
-/// What a bus is called.
-fn bus_name(bus: &Bus) -> &'static str {
-    match bus {
-        Bus::Ipmb => "ipmb",
-        Bus::Smbus => "smbus",
-    }
-}
-
 /// The bytes in hexadecimal.
 fn push_bytes(text: &mut String, bytes: &[u8]) -> Result<(), Fail> {
     for byte in bytes {
@@ -169,12 +161,12 @@ pub(super) fn push_event(text: &mut String, event: &Event) -> Result<(), Fail> {
             push_bytes(text, other.body.as_slice())?;
         }
         Event::Noise(bus, heard) => {
-            write!(text, "noise {} ", bus_name(bus))?;
+            write!(text, "noise {} ", bus.name())?;
             push_bytes(text, heard.as_slice())?;
         }
-        Event::Idle(bus, from) => write!(text, "idle {} {from:02X}", bus_name(bus))?,
-        Event::Scan { sensor, reading } => write!(text, "scan {sensor:02X} {reading:02X}")?,
-        Event::Tick => text.push_str("tick")?,
+        Event::Idle(bus, from) => write!(text, "idle {} {from:02X}", bus.name())?,
+        Event::OnBench(BenchEvent::Scan { sensor, reading }) => write!(text, "scan {sensor:02X} {reading:02X}")?,
+        Event::OnBench(BenchEvent::Tick) => text.push_str("tick")?,
     }
     Ok(())
 }
