@@ -1,0 +1,267 @@
+//! A timetable that goes on while two workers serve a board.
+ghost use Rattle.std.specs.Prelude.{◌≡◌};
+ghost use Rattle.bmc_board.specs.State.{state_of};
+ghost use Rattle.bmc_board.specs.OwnStore.{own_records};
+
+use super::gates::Open;
+use super::times::{LATER_TICK, READING, Slept, TICK, WARMS_UP, are_all};
+use super::{close, open_sample};
+use bmc_board::{Bench, Board, Records};
+use bmc_core::{At, Port};
+use bmc_ports::{
+    Counts, Heard, History, Lane, Lanes, Link, LinkFault, Opening, Shared, Sliced, Timed, TimedEnd,
+    Timetable, run_slices,
+};
+use mctp_net::EndpointId;
+use std::alloc::Global;
+use std::marker::Brand;
+use std::process::Abort;
+use std::sync::Wait;
+use std::sync::atomic::{AtomicU64, Ordering};
+use std::sync::ledger::Blank;
+use std::thread;
+use std::thread::Threads;
+use std::time::Instant;
+use two_wire::{Address, Bus, Frame};
+
+/// A tick that no test waits for.
+const NEVER: Timed = Timed {
+    at_ms: u64::MAX,
+    event: Bench::Tick,
+};
+
+/// The reading, both ticks, and that one.
+const GOES_ON: [Timed; 4] = [READING, TICK, LATER_TICK, NEVER];
+
+/// Once so many milliseconds were slept, all has happened that is to happen before.
+const LATER_MS: u64 = 200;
+
+/// The most often that a link looks for it.
+const MOST_YIELDS: u32 = 10_000_000;
+
+/// A link on which nothing is heard, and whose `next` waits until so many milliseconds were slept.
+#[derive(Drop)]
+struct Patient<'a> {
+    slept: &'a AtomicU64,
+    until: u64,
+    counts: Counts,
+}
+
+impl<'a> Patient<'a> {
+    fn wait(&self) {
+        for _ in 0..MOST_YIELDS {
+            if self.slept.load(Ordering::SeqCst) >= self.until {
+                return;
+            }
+            thread::yield_now();
+        }
+    }
+}
+
+impl<'a> Link for Patient<'a> {
+    ghost counts_of = { λ link. link.counts };
+
+    fn next(&mut self) -> Result<Heard, LinkFault> {
+        self.wait();
+        let answer = Ok(Heard::Quiet);
+        self.counts.count_next(&answer);
+        answer
+    }
+
+    fn send(&mut self, _frame: &Frame) -> Result<(), LinkFault> {
+        let answer = Ok(());
+        self.counts.count_send(&answer);
+        answer
+    }
+
+    fn counts(&self) -> Counts {
+        self.counts
+    }
+}
+
+/// A lane of this bus with so many turns, each of which waits until so much was slept.
+fn lane<'a>(
+    rt: &impl Abort,
+    alloc: Global,
+    bus: Bus,
+    slept: &'a AtomicU64,
+    turns: u32,
+    until: u64,
+) -> Lane<Patient<'a>> {
+    let at = At {
+        wire: Address::new(0x20).unwrap(),
+        eid: EndpointId::new(0x0A).unwrap(),
+    };
+    let port = Port::new(alloc, bus, at).expect(rt, "memory");
+    let counts = Counts {
+        failures: 0,
+        calls: 0,
+        heard: 0,
+    };
+    let link = Patient {
+        slept,
+        until,
+        counts,
+    };
+    Lane::new(port, link, turns, None)
+}
+
+/// Both lanes, with so many turns each.
+fn lanes<'a, R: Abort>(
+    rt: &'a Slept<'_, R>,
+    alloc: Global,
+    turns: u32,
+    until: u64,
+) -> Lanes<Patient<'a>, Patient<'a>> {
+    Lanes {
+        first: lane(rt.rt, alloc, Bus::Ipmb, &rt.ms, turns, until),
+        second: lane(rt.rt, alloc, Bus::Smbus, &rt.ms, turns, until),
+    }
+}
+
+/// What a history left.
+#[derive(Drop)]
+struct Left {
+    board: Board<Records>,
+    history: History,
+    next: usize,
+    end: TimedEnd,
+}
+
+/// Serves a board with one history, while a timetable goes on.
+fn serve_opened<J: Opening + Send + Sync, R: Threads + Wait + Abort + Sync>(
+    rt: &Slept<'_, R>,
+    alloc: Global,
+    blank: Blank,
+    board: Board<Records>,
+    room: usize,
+    lanes: Lanes<Patient<'_>, Patient<'_>>,
+    table: Timetable<'_>,
+) -> Left
+    requires name { blank.name ≡ J.name }
+    requires parts { blank.parts ≡ J.parts }
+    requires three { blank.parts ≡ 3 }
+    requires setup { board.setup ≡ J.setup }
+    requires opening { state_of own_records board ≡ J.opening }
+    requires room { room ≡ J.room }
+{
+    let opened = Shared::<J, Records>::open(alloc, blank, board, room);
+    let (shared, seats) = opened.ok().expect(rt.rt, "a board that is shared");
+    let sliced = run_slices(rt, &shared, seats, lanes, table, &Open, None);
+    let Sliced {
+        seats,
+        lanes: _,
+        next,
+        first_end: _,
+        second_end: _,
+        scanner_end: end,
+    } = sliced.ok().expect(rt.rt, "three threads");
+    let (board, history) = close(rt.rt, shared, seats);
+    Left {
+        board,
+        history,
+        next,
+        end,
+    }
+}
+
+/// The same with a ledger of its own, from this place of the list above on.
+fn serve<R: Threads + Wait + Abort + Sync>(
+    rt: &Slept<'_, R>,
+    alloc: Global,
+    board: Board<Records>,
+    room: usize,
+    lanes: Lanes<Patient<'_>, Patient<'_>>,
+    next: usize,
+) -> Left {
+    let table = Timetable {
+        list: &GOES_ON,
+        next,
+        start: Instant::now(rt).ok(),
+    };
+    serve_opened::<Brand, R>(rt, alloc, Blank::new(3), board, room, lanes, table)
+}
+
+/// The place of the list at which a history begins, what happens in it, the place that is next then, and why the
+/// scanner ended.
+#[derive(Drop)]
+struct Period<'a> {
+    from: usize,
+    list: &'a [Timed],
+    next: usize,
+    end: TimedEnd,
+}
+
+/// Serves a board with one history, in which this happens. The board.
+fn expect_served<R: Threads + Wait + Abort + Sync>(
+    rt: &Slept<'_, R>,
+    alloc: Global,
+    board: Board<Records>,
+    room: usize,
+    lanes: Lanes<Patient<'_>, Patient<'_>>,
+    period: &Period<'_>,
+) -> Board<Records> {
+    let Left {
+        board,
+        history,
+        next,
+        end,
+    } = serve(rt, alloc, board, room, lanes, period.from);
+    assert!(rt.rt; are_all(&history, period.list), "up to {next}");
+    assert_eq!(rt.rt; (next, end), (period.next, period.end));
+    board
+}
+
+#[test]
+fn what_comes_while_workers_serve_happens(rt: HostRuntime) {
+    let clock = Slept::new(&rt, u64::MAX);
+    let board = open_sample(&rt, rt.alloc());
+    let lanes = lanes(&clock, rt.alloc(), 1, LATER_MS);
+    let all = Period {
+        from: 0,
+        list: &WARMS_UP,
+        next: 3,
+        end: TimedEnd::Stopped,
+    };
+    let _ = expect_served(&clock, rt.alloc(), board, 8, lanes, &all);
+}
+
+#[test]
+fn what_finds_no_room_happens_in_the_next_history(rt: HostRuntime) {
+    let clock = Slept::new(&rt, u64::MAX);
+    let board = open_sample(&rt, rt.alloc());
+    let warms_up = &WARMS_UP[..];
+    let found_room = Period {
+        from: 0,
+        list: &warms_up[..2],
+        next: 2,
+        end: TimedEnd::Full,
+    };
+    // Only the bell ends these workers.
+    let many = lanes(&clock, rt.alloc(), u32::MAX, 0);
+    let board = expect_served(&clock, rt.alloc(), board, 2, many, &found_room);
+    let found_none = Period {
+        from: 2,
+        list: &warms_up[2..],
+        next: 3,
+        end: TimedEnd::Stopped,
+    };
+    let later = clock.slept().saturating_add(LATER_MS);
+    let one = lanes(&clock, rt.alloc(), 1, later);
+    let _ = expect_served(&clock, rt.alloc(), board, 2, one, &found_none);
+}
+
+#[test]
+fn nothing_happens_where_nothing_is_left(rt: HostRuntime) {
+    let clock = Slept::new(&rt, u64::MAX);
+    let board = open_sample(&rt, rt.alloc());
+    let lanes = lanes(&clock, rt.alloc(), 1, 0);
+    let none = Period {
+        from: 4,
+        list: &[],
+        next: 4,
+        end: TimedEnd::Over,
+    };
+    let _ = expect_served(&clock, rt.alloc(), board, 8, lanes, &none);
+    assert_eq!(rt; clock.slept(), 0);
+}

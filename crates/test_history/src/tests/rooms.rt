@@ -1,0 +1,113 @@
+//! How many events a history has room for.
+ghost use Rattle.std.specs.Prelude.{◌≡◌};
+ghost use Rattle.bmc_board.specs.State.{state_of};
+
+use super::open_sample;
+use bmc_board::{Bench, Board};
+use bmc_ports::{Held, OpenFault, Opening, PeriodFull, Shared};
+use cfg_records::Store;
+use record_base::{Answered, Asked, net_fn};
+use std::alloc::Global;
+use std::marker::Brand;
+use std::process::Abort;
+use std::sync::ledger::Blank;
+use two_wire::NetFn;
+
+/// Opens the board alone, and gives the fault with the board.
+fn hold<J: Opening, S: Store + Drop>(
+    rt: &impl Abort,
+    alloc: Global,
+    board: Board<S>,
+    room: usize,
+) -> (OpenFault, Board<S>)
+    requires setup { board.setup ≡ J.setup }
+    requires opening { state_of S.records board ≡ J.opening }
+    requires room { room ≡ J.room }
+{
+    let opened = Held::<J, S>::open(alloc, board, room);
+    opened.err().expect(rt, "a fault")
+}
+
+/// Opens the board for threads, and gives the fault with the board.
+fn share<J: Opening, S: Store + Drop>(
+    rt: &impl Abort,
+    alloc: Global,
+    blank: Blank,
+    board: Board<S>,
+    room: usize,
+) -> (OpenFault, Board<S>)
+    requires name { blank.name ≡ J.name }
+    requires parts { blank.parts ≡ J.parts }
+    requires three { blank.parts ≡ 3 }
+    requires setup { board.setup ≡ J.setup }
+    requires opening { state_of S.records board ≡ J.opening }
+    requires room { room ≡ J.room }
+{
+    let opened = Shared::<J, S>::open(alloc, blank, board, room);
+    let (fault, _, board) = opened.err().expect(rt, "a fault");
+    (fault, board)
+}
+
+/// The room is refused, both alone and for threads. The board.
+fn expect_refused<S: Store + Drop>(
+    rt: &impl Abort,
+    alloc: Global,
+    board: Board<S>,
+    room: usize,
+) -> Board<S> {
+    let (alone, board) = hold::<Brand, S>(rt, alloc, board, room);
+    assert_eq!(rt; alone, OpenFault::Room, "{room}");
+    let (shared, board) = share::<Brand, S>(rt, alloc, Blank::new(3), board, room);
+    assert_eq!(rt; shared, OpenFault::Room, "{room}");
+    board
+}
+
+/// The code that a board answers.
+fn code_of(answered: &Result<Answered, PeriodFull>) -> Option<u8> {
+    match answered {
+        Ok(answered) => Some(answered.code),
+        Err(PeriodFull) => None,
+    }
+}
+
+/// Has a board answer, and happen, once each.
+fn call_twice<J: Opening, S: Store>(rt: &impl Abort, held: &mut Held<J, S>) {
+    let asked = Asked::ipmi(NetFn::new(net_fn::APPLICATION), 0x01, &[]);
+    assert_eq!(rt; code_of(&held.exchange(0, &asked)), Some(0x00));
+    assert_eq!(rt; held.bench(2, Bench::Tick), Ok(Ok(())));
+}
+
+/// A full history refuses a request, and what happens beside requests.
+fn refuse_both<J: Opening, S: Store>(rt: &impl Abort, held: &mut Held<J, S>) {
+    let asked = Asked::ipmi(NetFn::new(net_fn::APPLICATION), 0x01, &[]);
+    assert!(rt; held.exchange(1, &asked).is_err());
+    assert!(rt; held.bench(2, Bench::Tick).is_err());
+    assert!(rt; held.is_full());
+}
+
+/// Calls a board until its history, which has room for two events, is full.
+fn fill<J: Opening, S: Store + Drop>(rt: &impl Abort, alloc: Global, board: Board<S>, room: usize)
+    requires setup { board.setup ≡ J.setup }
+    requires opening { state_of S.records board ≡ J.opening }
+    requires room { room ≡ J.room }
+{
+    let opened = Held::<J, S>::open(alloc, board, room).ok();
+    let mut held = opened.expect(rt, "a board that is held");
+    call_twice(rt, &mut held);
+    refuse_both(rt, &mut held);
+    let (_, history) = held.into_parts();
+    assert_eq!(rt; history.len(), 2);
+}
+
+/// The same, with an opening of its own.
+fn fill_two<S: Store + Drop>(rt: &impl Abort, alloc: Global, board: Board<S>) {
+    fill::<Brand, S>(rt, alloc, board, 2)
+}
+
+#[test]
+fn a_history_has_room_for_1_to_4096_events(rt: HostRuntime) {
+    let board = open_sample(&rt, rt.alloc());
+    let board = expect_refused(&rt, rt.alloc(), board, 0);
+    let board = expect_refused(&rt, rt.alloc(), board, 4_097);
+    fill_two(&rt, rt.alloc(), board);
+}
