@@ -1,10 +1,10 @@
 -- Lists of what comes to a port on IPMB: apart from the board, and at one.
 use Rattle.std.specs.Prelude.{◌≡◌, ◌≢◌, ℕ, List, [], ◌∷◌, ◌++◌, map, Option, Some, None, Result, Ok, Err}
+use Rattle.two_wire.specs.Circles.{sequence_numbers}
 use Rattle.ipmb_frame.specs.declared.message.Request.{Request}
 use Rattle.record_base.specs.declared.message.Answered.{Answered}
 use Rattle.cfg_records.specs.declared.board_file.BoardFile.{BoardFile}
 use Rattle.model_bus.specs.Request.{Entry, Idled}
-use Rattle.model_bus.specs.Circle.{sequence_numbers}
 use Rattle.model_bus.specs.Numbering.{is_above}
 use Rattle.model_bus.specs.Carried.{Outcome, Repeats, IsBusy, IsNew, Heard as Brought, HeardRequest, HeardIdle, outcome, log_with, reply_after, outcomes}
 use Rattle.bmc_board.specs.State.{State}

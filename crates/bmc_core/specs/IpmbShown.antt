@@ -7,9 +7,9 @@ use Rattle.ipmb_frame.specs.Grammar.{IsResponse}
 use Rattle.record_base.specs.declared.message.Answered.{Answered}
 use Rattle.cfg_records.specs.declared.board_file.BoardFile.{BoardFile}
 use Rattle.model_bus.specs.Request.{Kept, Entry, Carried, Idled}
-use Rattle.model_bus.specs.Circle.{sequence_numbers}
 use Rattle.model_bus.specs.Numbering.{is_above}
 use Rattle.model_bus.specs.Carried.{Outcome, Repeats, IsBusy, IsNew, outcome, log_after, reply_after}
+use Rattle.two_wire.specs.Circles.{sequence_numbers}
 use Rattle.two_wire.specs.declared.Bus.TheVariants.{Ipmb}
 use Rattle.bmc_board.specs.State.{State}
 use Rattle.bmc_windows.specs.Keeps.{Reading, Held, Keeps}

@@ -1,5 +1,6 @@
 -- What a port on the System Management Bus hears, and what comes of it, apart from the board (DSP0236, DSP0237, DSP0240).
 use Rattle.std.specs.Prelude.{ℕ, ◌==◌, if◌then◌else◌, List, [], ◌∷◌, find, map, Option, Some, None}
+use Rattle.two_wire.specs.Circles.{instances}
 use Rattle.two_wire.specs.declared.Bus.TheVariants.{Smbus}
 use Rattle.mctp_net.specs.declared.packet.Envelope.{Envelope}
 use Rattle.mctp_net.specs.declared.packet.Packet.{Packet}
@@ -13,7 +14,6 @@ use Rattle.pldm_base.specs.Message.{request_in as pldm_request_in, has_fault as 
 use Rattle.record_base.specs.declared.message.Asked.{Asked}
 use Rattle.record_base.specs.declared.message.Answered.{Answered}
 use Rattle.model_bus.specs.Bytes.{control_message_type, pldm_message_type}
-use Rattle.model_bus.specs.Circle.{instances}
 use Rattle.model_bus.specs.Request.{Request as Asking, Kept, Entry}
 use Rattle.model_bus.specs.Numbering.{is_above}
 use Rattle.model_bus.specs.Carried.{Outcome, Repeats, IsBusy, IsNew, outcome, log_after, reply_after}

@@ -1,5 +1,6 @@
 -- Lists of what comes to a port on the System Management Bus: apart from the board, and at one.
 use Rattle.std.specs.Prelude.{◌≡◌, ℕ, List, [], ◌∷◌, ◌++◌, map, Option, Some, None}
+use Rattle.two_wire.specs.Circles.{instances}
 use Rattle.two_wire.specs.declared.Bus.TheVariants.{Smbus}
 use Rattle.mctp_net.specs.declared.packet.Envelope.{Envelope}
 use Rattle.mctp_net.specs.declared.message.Message.{Message}
@@ -7,7 +8,6 @@ use Rattle.mctp_net.specs.Control.{reply_to as control_reply_to, eid_after}
 use Rattle.mctp_net.specs.declared.packet.Packet.{Packet}
 use Rattle.record_base.specs.declared.message.Answered.{Answered}
 use Rattle.cfg_records.specs.declared.board_file.BoardFile.{BoardFile}
-use Rattle.model_bus.specs.Circle.{instances}
 use Rattle.model_bus.specs.Numbering.{is_above}
 use Rattle.model_bus.specs.Carried.{Outcome, Repeats, IsBusy, IsNew, Heard as Brought, HeardRequest, HeardIdle, reply_after, outcomes}
 use Rattle.bmc_board.specs.State.{State}

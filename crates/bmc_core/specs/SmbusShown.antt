@@ -10,7 +10,6 @@ use Rattle.mctp_net.specs.Places.{seen}
 use Rattle.record_base.specs.declared.message.Answered.{Answered}
 use Rattle.cfg_records.specs.declared.board_file.BoardFile.{BoardFile}
 use Rattle.model_bus.specs.Bytes.{pldm_message_type}
-use Rattle.model_bus.specs.Circle.{instances}
 use Rattle.model_bus.specs.Request.{Kept, Entry, Carried, Idled}
 use Rattle.model_bus.specs.Numbering.{is_above}
 use Rattle.model_bus.specs.Carried.{Outcome, Repeats, IsBusy, IsNew, outcome}
@@ -27,6 +26,7 @@ use Rattle.bmc_core.specs.declared.step.Step.{Step}
 use Rattle.bmc_core.specs.declared.step.Step.TheVariants as step
 use Rattle.bmc_core.specs.declared.smbus_port.pending.SmbusPending.{SmbusPending}
 use Rattle.bmc_core.specs.declared.smbus_port.SmbusPort.{SmbusPort}
+use Rattle.two_wire.specs.Circles.{instances}
 use Rattle.two_wire.specs.declared.Bus.TheVariants.{Smbus}
 use Rattle.bmc_core.specs.Outs.{sends, ignored, waiting, AreRead}
 use Rattle.bmc_core.specs.SmbusHeard.{InMessage, Heard, Ignored, Waiting, Control, Asks, taken, heard_in, asks, done_of, reply_parts, Effect, effect, message_heard}

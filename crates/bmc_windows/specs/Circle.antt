@@ -1,6 +1,6 @@
 -- The circles of numbers that windows are for.
 use Rattle.std.specs.Prelude.{ℕ, Bool, ◌==◌, ◌||◌, if◌then◌else◌}
-use Rattle.model_bus.specs.Circle.{sequence_numbers, instances}
+use Rattle.two_wire.specs.Circles.{sequence_numbers, instances}
 use Rattle.model_bus.specs.Numbering.{is_next}
 
 -- the sequence numbers of IPMB, or the instances of PLDM

@@ -3,7 +3,7 @@ ghost use Rattle.std.specs.Prelude.{◌≡◌, ℕ, ◌<◌, IsTrue};
 ghost use Rattle.std.specs.Int.{bit_at};
 ghost use Rattle.bmc_windows.specs.Circle.{is_circle, next_bit};
 
-use model_bus::SEQUENCE_NUMBERS;
+use two_wire::circles::SEQUENCE_NUMBERS;
 
 /// The numbers of the next half of the circle, which a window forgets when it keeps a request of this number.
 pub(crate) fn next_half<const NUMBERS: u8>(number: u8) -> u64

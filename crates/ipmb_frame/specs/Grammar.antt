@@ -1,6 +1,7 @@
 -- Frames of the Intelligent Platform Management Bus (its communications protocol 1.0, message formats).
 use Rattle.std.specs.Prelude.{◌≡◌, ℕ, ◌+◌, ◌*◌, ◌%◌, ◌<◌, ◌≤◌, List, [], ◌∷◌, ◌++◌, length}
 use Rattle.two_wire.specs.Check.{check_byte}
+use Rattle.two_wire.specs.Circles.{sequence_numbers}
 use Rattle.two_wire.specs.Sizes.{most_ipmi_request_data, most_ipmi_reply_data}
 use Rattle.ipmb_frame.specs.declared.message.Party.{Party}
 use Rattle.ipmb_frame.specs.declared.message.Header.{Header}
@@ -60,13 +61,13 @@ pub record IsParty (p : Party) : Type 0 where
   pub even : p.address % 2 ≡ 0
   pub lun : p.lun < 4
 
--- a header's netFn is even and below 64, its sequence number below 64
+-- a header's netFn is even and below 64, its sequence number one of IPMB's
 pub record IsHeader (h : Header) : Type 0 where
   pub responder : IsParty h.responder
   pub requester : IsParty h.requester
   pub net_fn : h.net_fn < 64
   pub even : h.net_fn % 2 ≡ 0
-  pub sequence : h.sequence < 64
+  pub sequence : h.sequence < sequence_numbers
 
 -- the bytes are the request
 pub record IsRequest (r : Request) (bytes : List ℕ) : Type 0 where

@@ -1,9 +1,10 @@
 //! Requests and responses.
+use two_wire::circles::SEQUENCE_NUMBERS;
 use two_wire::size::{MOST_IPMI_REPLY_DATA, MOST_IPMI_REQUEST_DATA};
 use two_wire::{Address, Below, Data, Lun, NetFn};
 
 /// The number that a requester gives to a request, and that the response has too.
-pub type Sequence = Below<64>;
+pub type Sequence = Below<{ SEQUENCE_NUMBERS }>;
 
 /// A device on the bus, and the logical unit behind its address that is meant.
 #[derive(Clone, Copy, Debug, PartialEq, Eq)]

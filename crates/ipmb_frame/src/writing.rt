@@ -1,7 +1,8 @@
 //! Messages to frames.
 ghost use Rattle.std.specs.Prelude.{◌≡◌, ◌+◌, ◌<◌, ◌≤◌, List, ℕ, [], ◌∷◌, ◌++◌, length, drop};
-ghost use Rattle.two_wire.specs.Sizes.{most_frame_bytes, most_ipmi_reply_data};
 ghost use Rattle.two_wire.specs.Check.{check_byte};
+ghost use Rattle.two_wire.specs.Circles.{sequence_numbers};
+ghost use Rattle.two_wire.specs.Sizes.{most_frame_bytes, most_ipmi_reply_data};
 ghost use Rattle.ipmb_frame.specs.declared.message.Header.{Header as TheHeader};
 ghost use Rattle.ipmb_frame.specs.Grammar.{IsParty, IsHeader, IsRequest, IsResponse, packed, checked, response_start, response_lead};
 
@@ -103,7 +104,7 @@ fn start(frame: &mut Frame, to: Party, function: u8, from: Party, sequence: Sequ
     requires { function < 64 }
     ensures to { IsParty to }
     ensures from { IsParty from }
-    ensures numbered { sequence < 64 }
+    ensures numbered { sequence < sequence_numbers }
     ensures spelled { frame.new ≡ checked (to.address ∷ packed function to.lun ∷ [])
         ++ from.address ∷ packed sequence from.lun ∷ [] }
 {

@@ -1,8 +1,9 @@
 -- What is watched of the premise on packets.
 use Rattle.std.specs.Prelude.{◌≡◌, ℕ, ◌-◌, ◌<◌, Bool, true, false, not, ◌&&◌, nat_lt, List, take, Option, Some, None, Result, Ok, Err, if◌then◌else◌, slice_get, slice_index, slice_set}
 use Rattle.std.specs.Option.{is_none}
+use Rattle.two_wire.specs.Circles.{tags}
 use Rattle.two_wire.specs.declared.Bus.TheVariants.{Smbus}
-use Rattle.model_bus.specs.Circle.{tags, span_of}
+use Rattle.model_bus.specs.Circle.{span_of}
 use Rattle.cfg_records.specs.declared.board_file.BoardFile.{BoardFile}
 use Rattle.bmc_core.specs.declared.out.Done.{Done}
 use Rattle.bmc_core.specs.declared.out.Done.TheVariants as done

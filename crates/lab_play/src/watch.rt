@@ -1,16 +1,17 @@
 //! The premise on packets, watched while a schedule is played.
 ghost use Rattle.std.specs.Prelude.{◌≡◌, ◌<◌, ◌≤◌, ℕ, suc, slice_get, Some, None, OnOk};
+ghost use Rattle.two_wire.specs.Circles.{tags};
 ghost use Rattle.two_wire.specs.declared.Bus.{Bus as AnyBus};
-ghost use Rattle.model_bus.specs.Circle.{tags};
 ghost use Rattle.lab_run.specs.Shown.{Steps, CanCountOn, idles_in};
 ghost use Rattle.lab_run.specs.Hearing.{Did};
 ghost use Rattle.lab_play.specs.Watched.{took_by, waits_long, opened_in, broken_at, WatchesStep};
 
 use bmc_core::{Done, Reason};
 use lab_run::{Lab, ManagerPart, Refused};
-use model_bus::{TAGS, span};
+use model_bus::span;
 use text_schedule::Event;
 use two_wire::Bus;
+use two_wire::circles::TAGS;
 
 /// The number of tags, as a length.
 const COUNT: usize = TAGS as usize;

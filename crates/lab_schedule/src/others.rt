@@ -1,9 +1,9 @@
 //! What others ask: nothing that sets the configuration.
 use crate::chance::Dice;
 use ipmb_frame::Party;
-use model_bus::SEQUENCE_NUMBERS;
 use std::alloc::{AllocError, Global};
 use text_schedule::{Event, Octets, OtherMessage, OtherRequest};
+use two_wire::circles::SEQUENCE_NUMBERS;
 use two_wire::size::MOST_IPMI_REQUEST_DATA;
 use two_wire::{Address, Below, Bytes, Lun, NetFn};
 

@@ -3,6 +3,7 @@ use Rattle.std.proofs.Common.{◌≡◌, ℕ, zero, suc, ◌-◌, ◌/◌, ◌%�
 use Rattle.std.specs.Prelude.{All, bit_and}
 use Rattle.std.proofs.lemmas.Bool.Decides.{nat_tests}
 use Rattle.std.proofs.lemmas.Nat.{and_le_r}
+use Rattle.two_wire.specs.Circles.{tags}
 use Rattle.mctp_net.specs.declared.fault.PacketFault.{PacketFault}
 use Rattle.mctp_net.specs.declared.packet.Packet.{Packet}
 use Rattle.mctp_net.specs.Grammar.{has_fault, faults, HasFault, IsPacket}
@@ -23,7 +24,7 @@ packet_at bytes = record {
     destination_eid = get_or bytes 5 0;
     source_eid = get_or bytes 6 0;
     tag_owner = not (bit_and (get_or bytes 7 0) 8 == 0);
-    tag = bit_and (get_or bytes 7 0) 7;
+    tag = get_or bytes 7 0 % tags;
   };
   start = not (bit_and (get_or bytes 7 0) 128 == 0);
   end = not (bit_and (get_or bytes 7 0) 64 == 0);
@@ -43,7 +44,7 @@ faultless-packet bytes none small =
       source = (omega (arith, small 3), omega arith);
       destination_eid = small 5;
       source_eid = small 6;
-      tag = omega (arith, and_le_r (get_or bytes 7 0) 7);
+      tag = omega arith;
     })
     (omega (arith, and_le_r (get_or bytes 7 0 / 16) 3)) (grind (arith, nat_tests))
     refl (sym kind) (grind (arith, nat_tests)) (omega arith)

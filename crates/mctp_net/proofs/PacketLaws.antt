@@ -3,6 +3,7 @@ use Rattle.std.proofs.Common.{◌≡◌, ℕ, ◌+◌, ◌-◌, ◌%◌, ◌==�
 use Rattle.std.proofs.lemmas.Bool.{eq-eqb}
 use Rattle.std.proofs.lemmas.Bool.Decides.{nat_tests}
 use Rattle.std.proofs.Math.Seq.{take-append_seam, get_or-append_seam}
+use Rattle.two_wire.specs.Circles.{tags}
 use Rattle.two_wire.specs.Pec.{pec}
 use Rattle.mctp_net.specs.declared.fault.PacketFault.TheVariants.{Short, NotMctp, Count, Pec, Version}
 use Rattle.mctp_net.specs.declared.packet.Packet.{Packet}
@@ -38,7 +39,7 @@ packet-one p q bytes (i, low, h) (j, also, k) =
     let source_is : p.envelope.source ≡ q.envelope.source = omega arith in
     let a = bit-lt p.start in let b = bit-lt p.end in let c = bit-lt p.envelope.tag_owner in
     let d = bit-lt q.start in let e = bit-lt q.end in let f = bit-lt q.envelope.tag_owner in
-    let t : p.envelope.tag < 8 = h.envelope.tag in let u : q.envelope.tag < 8 = k.envelope.tag in
+    let t : p.envelope.tag < tags = h.envelope.tag in let u : q.envelope.tag < tags = k.envelope.tag in
     let start : p.start ≡ q.start = bit-one p.start q.start (omega arith) in
     let end : p.end ≡ q.end = bit-one p.end q.end (omega arith) in
     let owner : p.envelope.tag_owner ≡ q.envelope.tag_owner = bit-one p.envelope.tag_owner q.envelope.tag_owner (omega arith) in

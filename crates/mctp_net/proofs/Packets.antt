@@ -5,6 +5,7 @@ use Rattle.std.proofs.Math.Seq.{take-length}
 use Rattle.std.specs.Prelude.{bit_and}
 use Rattle.std.specs.List.{range_with_len}
 use Rattle.std.proofs.lemmas.List.FromFn.{get_or-map-range_with_len, get_or-range_with_len}
+use Rattle.two_wire.specs.Circles.{tags}
 use Rattle.two_wire.specs.Pec.{pec}
 use Rattle.mctp_net.specs.declared.packet.Packet.{Packet}
 use Rattle.mctp_net.specs.Grammar.{bit, flags_of, unchecked, with_pec, IsEnvelope, IsPacket}
@@ -33,7 +34,7 @@ front_parts _ long = absurd (omega arith)
 -- a byte is its flags
 abbrev pub flags_from : ℕ → ℕ
 flags_from b =
-    128 * bit (not (bit_and b 128 == 0)) + 64 * bit (not (bit_and b 64 == 0)) + 16 * bit_and (b / 16) 3 + 8 * bit (not (bit_and b 8 == 0)) + bit_and b 7
+    128 * bit (not (bit_and b 128 == 0)) + 64 * bit (not (bit_and b 64 == 0)) + 16 * bit_and (b / 16) 3 + 8 * bit (not (bit_and b 8 == 0)) + b % tags
 
 all_flags : map flags_from (range_with_len 0 256) ≡ range_with_len 0 256
 all_flags = refl

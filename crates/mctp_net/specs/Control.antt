@@ -1,6 +1,7 @@
 -- What an endpoint answers to control requests.
 use Rattle.std.specs.Prelude.{ℕ, ◌/◌, ◌%◌, Bool, nat_lt, nat_le, ◌==◌, ◌&&◌, if◌then◌else◌, List, [], ◌∷◌, Option, Some, None, Result, Ok, Err}
 use Rattle.std.specs.Result.{result_unwrap_or}
+use Rattle.two_wire.specs.Circles.{instances}
 use Rattle.mctp_net.specs.declared.control_fault.ControlFault.{ControlFault}
 use Rattle.mctp_net.specs.declared.control_fault.ControlFault.TheVariants.{InvalidData, InvalidLength, UnsupportedCommand}
 
@@ -57,7 +58,7 @@ pub record Request : Type 0 where
 -- command; its data.
 abbrev pub request_of : List ℕ → Option Request
 request_of (kind ∷ numbers ∷ command ∷ content) =
-    if kind == 0 && numbers / 64 == 2 then Some (record { instance = numbers % 32; command = command; content = content }) else None
+    if kind == 0 && numbers / 64 == 2 then Some (record { instance = numbers % instances; command = command; content = content }) else None
 request_of _ = None
 
 -- the body of the reply to a request

@@ -1,5 +1,6 @@
 -- Packets of the System Management Bus.
 use Rattle.std.specs.Prelude.{◌≡◌, ℕ, ◌+◌, ◌-◌, ◌*◌, ◌%◌, ◌<◌, ◌≤◌, List, [], ◌∷◌, ◌++◌, length, take, slice_index, Bool, nat_lt, ◌==◌, ◌||◌, not, if◌then◌else◌, codes, find, Some}
+use Rattle.two_wire.specs.Circles.{tags}
 use Rattle.two_wire.specs.Pec.{pec}
 use Rattle.mctp_net.specs.declared.fault.PacketFault.{PacketFault}
 use Rattle.mctp_net.specs.declared.fault.PacketFault.TheVariants.{Short, NotMctp, Count, Pec, Version}
@@ -31,7 +32,7 @@ pub record IsEnvelope (e : Envelope) : Type 0 where
   pub source : (e.source < 256) × (e.source % 2 ≡ 0)
   pub destination_eid : e.destination_eid < 256
   pub source_eid : e.source_eid < 256
-  pub tag : e.tag < 8
+  pub tag : e.tag < tags
 
 -- the bytes are the packet, with these ignored bits
 pub record IsSpelled (p : Packet) (ignored : ℕ) (bytes : List ℕ) : Type 0 where

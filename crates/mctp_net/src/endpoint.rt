@@ -6,6 +6,7 @@ ghost use Rattle.mctp_net.specs.Control.{reply_to, eid_after, request_of, shown_
 use crate::ControlFault;
 use std::marker::Model;
 use two_wire::Bytes;
+use two_wire::circles::INSTANCES;
 
 /// An endpoint's own identifier. 00h stands for any endpoint, 01h to 07h are reserved, and FFh is broadcast (DSP0236,
 /// "Special endpoint IDs").
@@ -98,7 +99,7 @@ impl Endpoint {
         }
         let mut reply = ControlReply::new();
         reply.push(0x00);
-        reply.push(numbers & 0x1F);
+        reply.push(numbers % INSTANCES);
         reply.push(*command);
         match self.answer(*command, content) {
             Ok(shown) => {

@@ -2,10 +2,11 @@
 ghost use Rattle.std.specs.Prelude.{◌≡◌};
 
 use crate::SomeData;
+use two_wire::circles::TAGS;
 use two_wire::{Address, Below};
 
 /// The number that tells the messages of one source apart.
-pub type Tag = Below<8>;
+pub type Tag = Below<{ TAGS }>;
 
 /// A packet's number in its message, modulo 4.
 pub type Sequence = Below<4>;

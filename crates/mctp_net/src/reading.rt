@@ -5,6 +5,7 @@ ghost use Rattle.mctp_net.specs.declared.packet.Packet.{Packet as AnyPacket};
 ghost use Rattle.mctp_net.specs.Grammar.{IsPacket, has_fault, faults};
 
 use crate::{Envelope, Packet, PacketFault, Payload, Sequence, Tag};
+use two_wire::circles::TAGS;
 use two_wire::{Address, pec};
 
 /// The packet that a frame is, with its payload where it lies.
@@ -57,7 +58,7 @@ fn packet_of(bytes: &[u8]) -> Packet<'_>
         destination_eid: bytes[5],
         source_eid: bytes[6],
         tag_owner: flags & 0x08 != 0,
-        tag: Tag::new(flags & 0x07),
+        tag: Tag::new(flags % TAGS),
     };
     Packet {
         envelope,

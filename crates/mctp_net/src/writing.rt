@@ -1,5 +1,6 @@
 //! Packets to frames.
 ghost use Rattle.std.specs.Prelude.{◌≡◌, ◌<◌};
+ghost use Rattle.two_wire.specs.Circles.{tags};
 ghost use Rattle.mctp_net.specs.Grammar.{IsSpelled, flags_of};
 
 use crate::{Envelope, Packet};
@@ -44,7 +45,7 @@ pub fn write_packet_into(packet: &Packet<'_>, frame: &mut Frame)
 fn flags(packet: &Packet<'_>) -> u8
     ensures value { result ≡ flags_of packet.now }
     ensures sequence { packet.now.sequence < 4 }
-    ensures tag { packet.now.envelope.tag < 8 }
+    ensures tag { packet.now.envelope.tag < tags }
 {
     let Envelope { tag_owner, tag, .. } = packet.envelope;
     let mut flags = 8 * u8::from(tag_owner) + tag.number();

@@ -1,9 +1,9 @@
 -- Requests and replies as the bytes of each bus: all but addresses and check bytes, the number included.
 use Rattle.std.specs.Prelude.{◌≡◌, ◌↔◌, ℕ, ◌+◌, ◌*◌, ◌/◌, ◌%◌, ◌<◌, Bool, false, ◌==◌, ◌&&◌, ◌||◌, not, List, ◌∷◌, Option, Some, None, if◌then◌else◌}
+use Rattle.two_wire.specs.Circles.{instances}
 use Rattle.two_wire.specs.Codes.{node_busy, pldm_not_ready}
 use Rattle.two_wire.specs.declared.Bus.{Bus}
 use Rattle.two_wire.specs.declared.Bus.TheVariants.{Ipmb, Smbus}
-use Rattle.model_bus.specs.Circle.{instances}
 use Rattle.model_bus.specs.Request.{Request}
 
 -- ---- the codes of a busy port

@@ -1,7 +1,8 @@
 -- Sequence numbers and instances: how a bus numbers the manager's requests, and which number is above which.
 use Rattle.std.specs.Prelude.{ℕ, ◌+◌, ◌-◌, ◌%◌, ◌/◌, Bool, nat_lt, nat_le, ◌&&◌}
+use Rattle.two_wire.specs.Circles.{sequence_numbers, instances, tags}
 use Rattle.two_wire.specs.declared.Bus.TheVariants.{Ipmb, Smbus}
-use Rattle.model_bus.specs.Circle.{sequence_numbers, instances, tags, span_of}
+use Rattle.model_bus.specs.Circle.{span_of}
 
 -- going up from one number on a circle, how far the other is
 abbrev pub distance : ℕ → ℕ → ℕ → ℕ

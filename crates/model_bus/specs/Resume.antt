@@ -1,6 +1,6 @@
 -- Another manager in the place of one: it does what the bus says of it, by what it knows.
 use Rattle.std.specs.Prelude.{◌≡◌, ℕ, ◌+◌, ◌%◌, false, List, [], ◌∷◌, ◌++◌, length, drop, slice_get}
-use Rattle.model_bus.specs.Circle.{instances}
+use Rattle.two_wire.specs.Circles.{instances}
 use Rattle.model_bus.specs.Numbering.{Rules, tag_of}
 use Rattle.model_bus.specs.BusState.{BusState, Content, Event, Resumes, is_open, taken_content, run}
 use Rattle.model_bus.specs.Schedule.{AllHonest}

@@ -2,7 +2,6 @@
 
 ghost use Rattle.std.specs.Prelude.{ℕ, Bool, List};
 ghost use Rattle.model_bus.specs.Request.{Entry};
-ghost use Rattle.model_bus.specs.Circle.{sequence_numbers, instances};
 ghost use Rattle.model_bus.specs.Numbering.{ipmb, smbus, is_above};
 ghost use Rattle.model_bus.specs.Repeat.{RuleIsSentence, RequestersOf, EightSuffice};
 ghost use Rattle.model_bus.specs.Window.{RowsAreTheRule, WindowsApart};
@@ -15,6 +14,7 @@ ghost use Rattle.model_bus.specs.PacketEffect.{EventsHavePacketEffects, OthersAs
 ghost use Rattle.model_bus.specs.Bytes.{ReadsRequests};
 ghost use Rattle.model_bus.specs.CleanLink.{OpenGoesThrough, OpenGoesThroughInPackets, CutIsWhole};
 ghost use Rattle.model_bus.specs.Slots.{SlotsDecide};
+ghost use Rattle.two_wire.specs.Circles.{sequence_numbers, instances};
 ghost use Rattle.two_wire.specs.declared.Bus.{Bus};
 ghost use Rattle.two_wire.specs.declared.Bus.TheVariants.{Ipmb, Smbus};
 ghost use Rattle.model_bus.specs.Answering.{TestIsModel, TestIsModelInPackets, BusyFails};

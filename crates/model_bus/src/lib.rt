@@ -7,6 +7,5 @@ pub mod laws;
 mod numbers;
 
 pub use numbers::{
-    CONTROL_MESSAGE_TYPE, INSTANCES, PLDM_MESSAGE_TYPE, REQUESTERS, SEQUENCE_NUMBERS, TAGS,
-    constants_are_the_definitions, span,
+    CONTROL_MESSAGE_TYPE, PLDM_MESSAGE_TYPE, REQUESTERS, constants_are_the_definitions, span,
 };

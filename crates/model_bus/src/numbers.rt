@@ -1,19 +1,10 @@
 //! The numbers of a bus, as code names them.
 ghost use Rattle.std.specs.Prelude.{◌≡◌};
 ghost use Rattle.model_bus.specs.Bytes.{control_message_type, pldm_message_type};
-ghost use Rattle.model_bus.specs.Circle.{sequence_numbers, instances, tags, span_of};
+ghost use Rattle.model_bus.specs.Circle.{span_of};
 ghost use Rattle.model_bus.specs.Request.{requester_bytes};
 
 use two_wire::Bus;
-
-/// How many sequence numbers IPMB has.
-pub const SEQUENCE_NUMBERS: u8 = 64;
-
-/// How many instances PLDM has.
-pub const INSTANCES: u8 = 32;
-
-/// How many tags tell the messages of one endpoint apart.
-pub const TAGS: u8 = 8;
 
 /// The message type of MCTP control messages (DSP0239).
 pub const CONTROL_MESSAGE_TYPE: u8 = 0x00;
@@ -26,9 +17,6 @@ pub const REQUESTERS: usize = 256;
 
 /// Each constant is the definition of its name.
 pub fn constants_are_the_definitions()
-    ensures sequence_numbers { SEQUENCE_NUMBERS ≡ sequence_numbers }
-    ensures instances { INSTANCES ≡ instances }
-    ensures tags { TAGS ≡ tags }
     ensures control_message_type { CONTROL_MESSAGE_TYPE ≡ control_message_type }
     ensures pldm_message_type { PLDM_MESSAGE_TYPE ≡ pldm_message_type }
     ensures requesters { REQUESTERS ≡ requester_bytes }

@@ -1,5 +1,6 @@
 -- A lab and the two buses of the model that it shows.
 use Rattle.std.specs.Prelude.{◌≡◌, ℕ, ◌%◌, ◌≤◌, true, false, ◌==◌, ◌⊎◌, List, ◌∷◌, length, Some, slice_get}
+use Rattle.two_wire.specs.Circles.{tags}
 use Rattle.two_wire.specs.declared.Bus.{Bus}
 use Rattle.two_wire.specs.declared.Bus.TheVariants.{Ipmb, Smbus}
 use Rattle.ipmb_frame.specs.declared.message.Request.{Request}
@@ -8,7 +9,6 @@ use Rattle.mctp_net.specs.declared.packet.Packet.{Packet}
 use Rattle.mctp_net.specs.Sizes.{unit_size}
 use Rattle.mctp_net.specs.Assembly.{open_beside, is_ours}
 use Rattle.cfg_records.specs.declared.board_file.BoardFile.{BoardFile}
-use Rattle.model_bus.specs.Circle.{tags}
 use Rattle.model_bus.specs.Numbering.{Rules, ipmb}
 use Rattle.model_bus.specs.Repeat.{In}
 use Rattle.model_bus.specs.Packet.{packets_of}

@@ -1,5 +1,6 @@
 -- What comes to the manager in a lab, as events of the model of a bus.
 use Rattle.std.specs.Prelude.{◌≡◌, ℕ, ◌+◌, ◌%◌, true, false, List, length, Option, Some, None, slice_get, IfSome}
+use Rattle.two_wire.specs.Circles.{tags}
 use Rattle.two_wire.specs.declared.Bus.{Bus}
 use Rattle.two_wire.specs.declared.Bus.TheVariants.{Ipmb, Smbus}
 use Rattle.ipmb_frame.specs.declared.message.Response.{Response}
@@ -7,7 +8,6 @@ use Rattle.mctp_net.specs.declared.packet.Packet.{Packet}
 use Rattle.mctp_net.specs.declared.packet.Name.{Name}
 use Rattle.mctp_net.specs.Cut.{piece}
 use Rattle.mctp_net.specs.Assembly.{Assemblies, open_beside, is_ours}
-use Rattle.model_bus.specs.Circle.{tags}
 use Rattle.model_bus.specs.Numbering.{Rules}
 use Rattle.model_bus.specs.Schedule.{IsLive}
 use Rattle.model_bus.specs.BusState.{BusState, Frame, Content, Ask, Reply, ReachesManager}

@@ -1,6 +1,7 @@
 -- What each call and each frame makes of the manager, and what it sends.
 use Rattle.std.specs.Prelude.{◌≡◌, refl, ℕ, ◌%◌, Bool, true, not, ◌==◌, ◌&&◌, List, [], ◌∷◌, map, Option, Some, None, if◌then◌else◌}
 use Rattle.std.specs.Option.{option_map}
+use Rattle.two_wire.specs.Circles.{tags}
 use Rattle.two_wire.specs.declared.Bus.{Bus}
 use Rattle.two_wire.specs.declared.Bus.TheVariants.{Ipmb, Smbus}
 use Rattle.ipmb_frame.specs.declared.message.Response.{Response}
@@ -11,7 +12,6 @@ use Rattle.undo_plans.specs.declared.names.Names.{Names}
 use Rattle.record_base.specs.declared.message.Asked.{Asked}
 use Rattle.record_base.specs.declared.message.Asked.TheVariants.{Ipmi, Pldm}
 use Rattle.model_bus.specs.Bytes.{answers}
-use Rattle.model_bus.specs.Circle.{tags}
 use Rattle.model_undo.specs.Words.{Words}
 use Rattle.model_undo.specs.Machine.{count_of, Part as TaskPart, bus_at, Stage, Opened, Machine, Sending, Turn, start_of, quiet_of, stop_of, again_of, undo_of, reply_of, same_bus}
 use Rattle.model_undo.specs.Wires.{number_of}

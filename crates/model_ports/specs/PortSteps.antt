@@ -1,5 +1,6 @@
 -- What a port does with what comes to it: its log, the board and what it sends.
 use Rattle.std.specs.Prelude.{ℕ, Bool, false, List, [], ◌∷◌, ◌++◌, map, Option, Some, None, if◌then◌else◌, ◌==◌}
+use Rattle.two_wire.specs.Circles.{sequence_numbers, instances}
 use Rattle.two_wire.specs.declared.Bus.TheVariants.{Ipmb, Smbus}
 use Rattle.ipmb_frame.specs.declared.message.Request.{Request}
 use Rattle.mctp_net.specs.declared.packet.Envelope.{Envelope}
@@ -17,7 +18,6 @@ use Rattle.cfg_records.specs.declared.board_file.BoardFile.{BoardFile}
 use Rattle.model_bus.specs.Request.{Request as Heard, Kept, Entry, Idled}
 use Rattle.two_wire.specs.declared.Bus.{Bus}
 use Rattle.model_bus.specs.Bytes.{control_message_type, pldm_message_type}
-use Rattle.model_bus.specs.Circle.{sequence_numbers, instances}
 use Rattle.model_bus.specs.Numbering.{is_above}
 use Rattle.model_bus.specs.Carried.{Outcome, Repeats, IsBusy, IsNew, outcome, log_after, reply_after}
 use Rattle.bmc_board.specs.State.{State}

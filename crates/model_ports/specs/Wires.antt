@@ -1,11 +1,11 @@
 -- Requests and replies as the bytes of both buses: all but addresses and check bytes, the number included.
 use Rattle.std.specs.Prelude.{ℕ, ◌/◌, ◌%◌, List, drop, slice_index}
+use Rattle.two_wire.specs.Circles.{instances}
 use Rattle.two_wire.specs.declared.Bus.{Bus}
 use Rattle.two_wire.specs.declared.Bus.TheVariants.{Ipmb, Smbus}
 use Rattle.record_base.specs.declared.message.Asked.{Asked}
 use Rattle.record_base.specs.declared.message.Asked.TheVariants.{Ipmi, Pldm}
 use Rattle.record_base.specs.declared.message.Answered.{Answered as BoardAnswer}
-use Rattle.model_bus.specs.Circle.{instances}
 use Rattle.model_bus.specs.Bytes.{IpmbHeader, ipmb_request, ipmb_reply, PldmHeader, pldm_request, pldm_reply}
 use Rattle.model_bus.specs.Answered.{Answered}
 use Rattle.model_bus.specs.Addresses.{Addresses}

@@ -1,8 +1,8 @@
 -- How requests and replies are bytes on the two buses. The bytes hold all but addresses and check bytes, the number too.
 use Rattle.std.specs.Prelude.{◌≡◌, ℕ, ◌%◌, List}
+use Rattle.two_wire.specs.Circles.{sequence_numbers, instances}
 use Rattle.two_wire.specs.declared.Bus.{Bus}
 use Rattle.two_wire.specs.declared.Bus.TheVariants.{Ipmb, Smbus}
-use Rattle.model_bus.specs.Circle.{sequence_numbers, instances}
 use Rattle.model_bus.specs.Answered.{Answered}
 pub use Rattle.model_undo.specs.Words.{IsSeries, IsOf, IsMade}
 use Rattle.model_undo.specs.Words.{Words}

@@ -1,6 +1,7 @@
 -- Messages as lists.
 use Rattle.std.proofs.Common.{◌≡◌, ℕ, ◌+◌, ◌-◌, ◌*◌, ◌/◌, ◌%◌, ◌≤◌, List, ◌∷◌, length, take, drop, get_or, refl, arith, length-take, length-drop}
 use Rattle.std.proofs.Math.Seq.{take-length}
+use Rattle.two_wire.specs.Circles.{instances}
 use Rattle.pldm_base.specs.declared.message.PldmRequest.{PldmRequest}
 use Rattle.pldm_base.specs.declared.message.PldmReply.{PldmReply}
 use Rattle.pldm_base.specs.Message.{IsRequest, IsReply}
@@ -22,7 +23,7 @@ front_four _ long = absurd (omega arith)
 -- a request is what its fields are in the bytes
 pub request_is : (bytes : List ℕ) (r : PldmRequest) → 3 ≤ length bytes → length bytes ≤ 255
     → get_or bytes 1 0 / 64 ≡ 0 → get_or bytes 0 0 / 64 ≡ 2
-    → r.header.instance ≡ get_or bytes 0 0 % 32 → r.header.pldm_type ≡ get_or bytes 1 0 → r.header.command ≡ get_or bytes 2 0
+    → r.header.instance ≡ get_or bytes 0 0 % instances → r.header.pldm_type ≡ get_or bytes 1 0 → r.header.command ≡ get_or bytes 2 0
     → r.body ≡ take (length bytes - 3) (drop 3 bytes) → IsRequest r bytes
 request_is bytes r low high version flags instance pldm_type command body = (
   get_or bytes 0 0 / 32 % 2,
@@ -39,7 +40,7 @@ request_is bytes r low high version flags instance pldm_type command body = (
 -- a reply is what its fields are in the bytes
 pub reply_is : (bytes : List ℕ) (r : PldmReply) → 4 ≤ length bytes → length bytes ≤ 255
     → get_or bytes 1 0 / 64 ≡ 0 → get_or bytes 0 0 / 64 ≡ 0
-    → r.header.instance ≡ get_or bytes 0 0 % 32 → r.header.pldm_type ≡ get_or bytes 1 0 → r.header.command ≡ get_or bytes 2 0
+    → r.header.instance ≡ get_or bytes 0 0 % instances → r.header.pldm_type ≡ get_or bytes 1 0 → r.header.command ≡ get_or bytes 2 0
     → r.code ≡ get_or bytes 3 0 → r.body ≡ take (length bytes - 4) (drop 4 bytes) → IsReply r bytes
 reply_is bytes r low high version flags instance pldm_type command code body = (
   get_or bytes 0 0 / 32 % 2,

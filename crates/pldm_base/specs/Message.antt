@@ -1,5 +1,6 @@
 -- Requests and replies as bytes.
 use Rattle.std.specs.Prelude.{◌≡◌, ℕ, ◌+◌, ◌*◌, ◌/◌, ◌%◌, ◌<◌, ◌≤◌, List, [], ◌∷◌, length, slice_index, Bool, nat_lt, nat_le, ◌==◌, ◌&&◌, not, if◌then◌else◌, codes, find, Option, Some, None}
+use Rattle.two_wire.specs.Circles.{instances}
 use Rattle.two_wire.specs.Sizes.{most_pldm_request_data, most_pldm_reply_data}
 use Rattle.pldm_base.specs.declared.message.Header.{Header}
 use Rattle.pldm_base.specs.declared.message.PldmRequest.{PldmRequest}
@@ -11,7 +12,7 @@ use Rattle.pldm_base.specs.declared.fault.PldmReplyFault.TheVariants as reply_fa
 
 -- the fields of less than a byte are in their ranges
 pub record IsHeader (h : Header) : Type 0 where
-  pub instance : h.instance < 32
+  pub instance : h.instance < instances
   pub pldm_type : h.pldm_type < 64
 
 -- a header and what follows it, by the request bit and the bit that is ignored, with the datagram bit and the version clear
@@ -88,7 +89,7 @@ HasReplyFault bytes = (fault : PldmReplyFault) × (find (has_reply_fault bytes) 
 
 -- the header in a message's first three bytes
 abbrev pub header_in : ℕ → ℕ → ℕ → Header
-header_in first second command = record { instance = first % 32; pldm_type = second; command = command }
+header_in first second command = record { instance = first % instances; pldm_type = second; command = command }
 
 -- the request that the bytes are, if they are one: request and datagram bit 10b, version 00b, at most 252 bytes of data
 abbrev pub request_in : List ℕ → Option PldmRequest

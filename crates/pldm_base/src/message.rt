@@ -1,9 +1,10 @@
 //! Requests and replies.
+use two_wire::circles::INSTANCES;
 use two_wire::size::{MOST_PLDM_REPLY_DATA, MOST_PLDM_REQUEST_DATA};
 use two_wire::{Below, Data};
 
 /// The number that a requester gives to a request, and that its reply has.
-pub type Instance = Below<32>;
+pub type Instance = Below<{ INSTANCES }>;
 
 /// The type that a command belongs to, as 0 for messaging control or 3 for BIOS control.
 pub type PldmType = Below<64>;

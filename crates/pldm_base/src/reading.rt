@@ -9,6 +9,7 @@ use crate::{
     Header, Instance, PldmBytes, PldmFault, PldmReply, PldmReplyFault, PldmRequest, PldmType,
 };
 use two_wire::Data;
+use two_wire::circles::INSTANCES;
 
 /// The request that the bytes are, with its data where they lie.
 pub fn read_pldm<'a>(bytes: &PldmBytes<'a>) -> Result<PldmRequest<'a>, PldmFault>
@@ -53,7 +54,7 @@ fn parse_request(bytes: &[u8]) -> Result<PldmRequest<'_>, PldmFault>
         return Err(PldmFault::NotRequest);
     }
     let header = Header {
-        instance: Instance::new(*first & 31),
+        instance: Instance::new(*first % INSTANCES),
         pldm_type: PldmType::new(*second),
         command: *command,
     };
@@ -76,7 +77,7 @@ fn parse_reply(bytes: &[u8]) -> Result<PldmReply<'_>, PldmReplyFault>
         return Err(PldmReplyFault::NotReply);
     }
     let header = Header {
-        instance: Instance::new(*first & 31),
+        instance: Instance::new(*first % INSTANCES),
         pldm_type: PldmType::new(*second),
         command: *command,
     };

@@ -14,6 +14,7 @@ use Rattle.text_lines.specs.Cuts.{Lacks, CutsAt, ended}
 use Rattle.text_lines.proofs.Cuts.{lacks_by_index, same_cut, not_lacking}
 use Rattle.record_base.specs.declared.message.Asked.{Asked}
 use Rattle.record_base.specs.declared.message.Asked.TheVariants.{Ipmi, Pldm}
+use Rattle.two_wire.specs.Circles.{sequence_numbers}
 use Rattle.two_wire.specs.declared.Bus.{Bus}
 use Rattle.two_wire.specs.declared.Bus.TheVariants.{Ipmb, Smbus}
 use Rattle.undo_plans.specs.Fitting.{most_of}
@@ -128,7 +129,7 @@ numbers_behind line numbers next e is =
     cc both
 
 -- and where it is cut
-pub numbers_cut : (numbers word rest : List ℕ) (next : NextNumbers) → next.ipmb < 64 → numbers ≡ decimal next.ipmb ++ (32 ∷ (codes "smbus " ++ decimal next.smbus)) → CutsAt 32 numbers word rest
+pub numbers_cut : (numbers word rest : List ℕ) (next : NextNumbers) → next.ipmb < sequence_numbers → numbers ≡ decimal next.ipmb ++ (32 ∷ (codes "smbus " ++ decimal next.smbus)) → CutsAt 32 numbers word rest
     → (word ≡ decimal next.ipmb) × (rest ≡ codes "smbus " ++ decimal next.smbus)
 numbers_cut numbers word rest next low e cut =
     same_cut 32 word rest (decimal next.ipmb) _ (sym cut.parts ∙ e) cut.first (decimal_lacks 32 next.ipmb (omega (arith, low)) (omega arith))

@@ -8,8 +8,8 @@ use Rattle.record_base.specs.declared.message.Asked.{Asked}
 use Rattle.record_base.specs.declared.message.Asked.TheVariants.{Ipmi, Pldm}
 use Rattle.two_wire.specs.declared.Bus.{Bus}
 use Rattle.two_wire.specs.declared.Bus.TheVariants.{Ipmb, Smbus}
+use Rattle.two_wire.specs.Circles.{sequence_numbers, instances}
 use Rattle.two_wire.specs.Sizes.{most_ipmi_request_data}
-use Rattle.model_bus.specs.Circle.{sequence_numbers, instances}
 use Rattle.undo_plans.specs.Fitting.{most_of}
 use Rattle.undo_plans.specs.Steps.{most_steps}
 use Rattle.undo_plans.specs.declared.names.Names.{Names}

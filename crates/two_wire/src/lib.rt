@@ -7,6 +7,7 @@ mod buffer;
 mod bus;
 mod bytes;
 mod checks;
+pub mod circles;
 pub mod code;
 mod data;
 mod laws;

@@ -3,6 +3,7 @@ use Rattle.std.specs.Prelude.{◌≡◌, ℕ, ◌%◌, ◌<◌, ◌≤◌, false
 use Rattle.std.specs.List.{AllZip}
 use Rattle.two_wire.specs.declared.Bus.{Bus}
 use Rattle.two_wire.specs.declared.Bus.TheVariants.{Ipmb, Smbus}
+use Rattle.two_wire.specs.Circles.{tags}
 use Rattle.two_wire.specs.Sizes.{most_ipmi_request_data, most_ipmi_reply_data, most_pldm_request_data, most_pldm_reply_data}
 use Rattle.mctp_net.specs.declared.message.Message.{Message}
 use Rattle.mctp_net.specs.declared.packet.Name.{Name}
@@ -13,7 +14,7 @@ use Rattle.record_base.specs.declared.message.Asked.TheVariants.{Ipmi, Pldm}
 use Rattle.cfg_records.specs.declared.board_file.BoardFile.{BoardFile}
 use Rattle.bmc_board.specs.State.{State}
 use Rattle.undo_plans.specs.declared.names.Names.{Names}
-use Rattle.model_bus.specs.Circle.{circle_of, tags}
+use Rattle.model_bus.specs.Circle.{circle_of}
 use Rattle.model_bus.specs.Numbering.{is_above}
 use Rattle.model_bus.specs.Request.{Request as Heard}
 use Rattle.model_bus.specs.Answered.{Answered}

@@ -10,8 +10,8 @@ ghost use Rattle.bmc_core.specs.IpmbShown.{reading, HasUnits};
 use bmc_carry::AskedHere;
 use cfg_records::Asked;
 use ipmb_frame::{Header, Request};
-pub(super) use model_bus::SEQUENCE_NUMBERS;
 use std::marker::Model;
+use two_wire::circles::SEQUENCE_NUMBERS;
 use two_wire::size::MOST_IPMI_REQUEST_DATA;
 use two_wire::{Bytes, Data};
 

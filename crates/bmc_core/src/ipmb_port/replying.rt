@@ -12,12 +12,13 @@ ghost use Rattle.bmc_core.specs.Outs.{sends, AreRead};
 ghost use Rattle.bmc_core.specs.IpmbShown.{reading, HasUnits, IsAnswered, AreOf, IsFresh, IsSent, IsSettled, IsKept, outcome_at, response, response_frame, first_answer, first_response};
 ghost use Rattle.bmc_core.specs.IpmbServed.{IsBegun, IsAnsweredBy, IsCarriedOut};
 
-use super::pending::{RequestInFrame, SEQUENCE_NUMBERS};
+use super::pending::RequestInFrame;
 use crate::out::{Done, Out};
 use bmc_carry::Carrier;
 use bmc_windows::{Found, Windows};
 use cfg_records::{Answered, byte_at};
 use ipmb_frame::{Header, begin_response, end_response, write_response_into};
+use two_wire::circles::SEQUENCE_NUMBERS;
 use two_wire::size::MOST_IPMB_BYTES;
 use two_wire::{Code, Frame, code};
 

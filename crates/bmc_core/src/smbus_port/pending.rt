@@ -10,9 +10,9 @@ ghost use Rattle.bmc_core.specs.SmbusShown.{pldm_reading, request_in};
 use bmc_carry::AskedHere;
 use cfg_records::Asked;
 use mctp_net::Envelope;
-pub(super) use model_bus::INSTANCES;
 use pldm_base::{Header, PldmRequest, write_pldm};
 use std::marker::Model;
+use two_wire::circles::INSTANCES;
 use two_wire::size::MOST_PLDM_REQUEST_DATA;
 use two_wire::{Bytes, Data};
 

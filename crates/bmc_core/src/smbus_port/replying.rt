@@ -11,7 +11,7 @@ ghost use Rattle.bmc_core.specs.SmbusHeard.{asking, found_in, busy_reply, kept_w
 ghost use Rattle.bmc_core.specs.SmbusShown.{AreOf, parts_from, IsSettled, IsKept, Replies};
 ghost use Rattle.bmc_core.specs.SmbusServed.{IsAnsweredBy, IsCarriedOut};
 
-use super::pending::{INSTANCES, RequestInMessage};
+use super::pending::RequestInMessage;
 use crate::out::{Done, Out};
 use crate::port::At;
 use bmc_carry::Carrier;
@@ -20,6 +20,7 @@ use cfg_records::Answered;
 use mctp_net::{Envelope, Message, SomeData, split_into};
 use model_bus::PLDM_MESSAGE_TYPE;
 use pldm_base::{Header, begin_pldm_reply};
+use two_wire::circles::INSTANCES;
 use two_wire::size::MOST_MESSAGE_BYTES;
 use two_wire::{Bytes, Code, code};
 
