@@ -20,10 +20,14 @@ abbrev pub circle : Bus → ℕ
 circle Ipmb = 64
 circle Smbus = 32
 
+-- how many tags tell the messages of one endpoint apart
+abbrev pub tags : ℕ
+tags = 8
+
 -- how many newer requests of the manager, once begun, make a frame too old
 abbrev pub span : Bus → ℕ
 span Ipmb = 32
-span Smbus = 8
+span Smbus = tags
 
 -- ---- a message as packets
 
@@ -61,8 +65,7 @@ others p waits = filter (λ q. not (is_named p.envelope q)) waits
 abbrev pub is_meant : ℕ → Packet → Bool
 is_meant eid p = p.envelope.destination_eid == eid || p.envelope.destination_eid == 0
 
--- The packet is taken: it's meant for the endpoint; it's a start or joins others; it's the next of at most four; it's full where others are
--- to come; and it opens no ninth assembly.
+-- The packet is taken: it's meant for the endpoint, starts or joins others, is the next of at most four, full or the last, and opens no ninth assembly.
 abbrev pub is_taken : ℕ → Packet → List Packet → Bool
 is_taken eid p waits =
     is_meant eid p && (((p.start || nat_lt 0 (length (joined p waits))) && nat_lt (length (joined p waits)) 4) && (p.sequence == length (joined p waits)

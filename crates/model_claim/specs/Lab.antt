@@ -225,9 +225,7 @@ module _ (names : Names) where
 
   -- the manager went on
   abbrev pub goes_on : Turn → Lab → Lab
-  goes_on t x =
-      let next : Lab = record x { manager = t.manager } in
-      if t.sends then sends (open_in names t.manager.phase) next else next
+  goes_on t x = let next : Lab = record x { manager = t.manager } in if t.sends then sends (open_in names t.manager.phase) next else next
 
   -- what a port did, and the frames that it sent
   abbrev pub port_does : Bus → Way → ℕ → Deed → Lab → Lab

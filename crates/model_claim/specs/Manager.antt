@@ -11,7 +11,7 @@ use Rattle.record_kinds.specs.Limits.{key_of, inverse}
 pub use Rattle.record_kinds.specs.Series.{Series, Reads, sends, first_of, next_after, request_after, first_shown}
 use Rattle.bmc_board.specs.Decode.{sent_by}
 pub use Rattle.undo_plans.specs.declared.names.Names.{Names}
-use Rattle.model_claim.specs.Frames.{Bus, Ipmb, Smbus, Response, Packet, Value, Asks, Tells, Part, circle, envelope, packets_of, is_taken, whole, waits_after}
+use Rattle.model_claim.specs.Frames.{Bus, Ipmb, Smbus, Response, Packet, Value, Asks, Tells, Part, circle, tags, envelope, packets_of, is_taken, whole, waits_after}
 
 -- the calls
 pub data Call : Type 0 where
@@ -89,7 +89,7 @@ abbrev pub frames_of : Names → ℕ → Asked → List Value
 frames_of names n (Ipmi from net_fn lun command body) =
     Asks (record { header = record { responder = record { address = names.peer_address; lun = lun }; requester = record { address = names.own_address; lun = 0 }; net_fn = net_fn; sequence = n % circle Ipmb; command = command }; body = body }) ∷ []
 frames_of names n (Pldm from kind command body) =
-    map Part (packets_of (envelope names.peer_wire names.own_wire names.peer_eid names.own_eid true (n % 8))
+    map Part (packets_of (envelope names.peer_wire names.own_wire names.peer_eid names.own_eid true (n % tags))
     (1 ∷ request_bytes (record { header = record { instance = n % circle Smbus; pldm_type = kind; command = command }; body = body })))
 
 -- ---- what becomes of the manager, and whether it sends the frames of its open request then
@@ -127,8 +127,7 @@ undo_step (back ∷ rest) = Open true (Undoes back rest) []
 abbrev pub called : Call → Phase → Manager → Turn
 called Start Fresh m = enters (next_step false 0 (slice_get m.plan 0)) m
 called Quiet (Open true task bodies) m =
-    if nat_lt m.resent m.retries
-    then record { manager = record m { resent = m.resent + 1 }; sends = true }
+    if nat_lt m.resent m.retries then record { manager = record m { resent = m.resent + 1 }; sends = true }
     else rests (record m { phase = Open false task bodies })
 called Again (Open false task bodies) m = enters (Open true task bodies) m
 called Stop (Open true (Gets k op) bodies) m = rests (record m { stopped = true })
@@ -180,12 +179,12 @@ abbrev pub is_part : Names → ℕ → Asked → Packet → Bool
 is_part names n (Ipmi from net_fn lun command body) p = false
 is_part names n (Pldm from kind command body) p =
     (p.envelope.destination == names.own_wire && p.envelope.source == names.peer_wire)
-    && (p.envelope.source_eid == names.peer_eid && (not p.envelope.tag_owner && p.envelope.tag == n % 8))
+    && (p.envelope.source_eid == names.peer_eid && (not p.envelope.tag_owner && p.envelope.tag == n % tags))
 
 -- the answer that a message gives: type 01h, request and datagram bit clear, and the same number, PLDM type and command
 abbrev pub read_in : ℕ → Asked → List ℕ → Option Answered
 read_in n (Pldm from kind command asked) (one ∷ flags ∷ of_kind ∷ of_command ∷ code ∷ body) =
-    if one == 1 && flags / 64 == 0 && flags % 32 == n % circle Smbus && of_kind == kind && of_command == command then Some (record { code = code; body = body }) else None
+    if one == 1 && flags / 64 == 0 && flags % circle Smbus == n % circle Smbus && of_kind == kind && of_command == command then Some (record { code = code; body = body }) else None
 read_in n asked bytes = None
 
 -- a frame comes, which is nothing to a manager that heeds no request
