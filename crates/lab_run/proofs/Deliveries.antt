@@ -7,7 +7,7 @@ use Rattle.model_lab.specs.ManagerSteps.{board_plans}
 use Rattle.model_lab.specs.declared.way.Way.{Way as LabWay}
 use Rattle.model_lab.specs.Lab.{LabFrame, Lab}
 use Rattle.model_lab.specs.declared.fault.Fault.TheVariants.{NoFrame, WrongWay, Aged, Room}
-use Rattle.model_lab.specs.Faults.{check, first_of, same_way, delivery, is_live, is_full}
+use Rattle.model_lab.specs.Faults.{most_frames, check, first_of, same_way, delivery, is_live, is_full}
 use Rattle.lab_run.specs.declared.frames.SentFrame.{SentFrame}
 use Rattle.lab_run.specs.declared.fault.Marks.{Marks}
 use Rattle.lab_run.specs.FramesShown.{IsFrame, ShowsFrames}
@@ -29,13 +29,13 @@ no_frame_at (t ∷ sent) (f ∷ frames) zero zip is = cc is
 no_frame_at (t ∷ sent) (f ∷ frames) (suc n) zip is = no_frame_at sent frames n zip.1 is
 
 module _ (names : Names) (sent : List SentFrame) (marks : Marks) (x : Lab (board_plans names)) (shows : ShowsFrames names sent marks x) where
-  full_is : is_full (board_plans names) x ≡ nat_le 65536 (length sent)
-  full_is = ap (nat_le 65536) (AllZip-long IsFrame sent x.frames shows.frames)
+  full_is : is_full (board_plans names) x ≡ nat_le most_frames (length sent)
+  full_is = ap (nat_le most_frames) (AllZip-long IsFrame sent x.frames shows.frames)
 
-  pub full_room : nat_le 65536 (length sent) ≡ true → Some Room ≡ first_of (check Room (is_full (board_plans names) x) ∷ [])
+  pub full_room : nat_le most_frames (length sent) ≡ true → Some Room ≡ first_of (check Room (is_full (board_plans names) x) ∷ [])
   full_room is = let e = full_is ∙ is in rw e refl
 
-  pub free_room : nat_le 65536 (length sent) ≡ false → None ≡ first_of (check Room (is_full (board_plans names) x) ∷ [])
+  pub free_room : nat_le most_frames (length sent) ≡ false → None ≡ first_of (check Room (is_full (board_plans names) x) ∷ [])
   free_room is = let e = full_is ∙ is in rw e refl
 
   module _ (way : LabWay) (n : ℕ) where

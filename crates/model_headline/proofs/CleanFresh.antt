@@ -18,7 +18,7 @@ use Rattle.model_lab.specs.declared.way.Way.TheVariants.{ToPort, ToManager, ToOt
 use Rattle.model_lab.specs.Lab.{LabFrame, Event, ToBmc, ToMgr, Lab, idles_on, port_on, frame_now, port_does, delivered, returned, manager_does, step, run}
 use Rattle.model_lab.specs.declared.fault.Fault.{Fault}
 use Rattle.model_lab.specs.declared.fault.Fault.TheVariants.{Aged, Room}
-use Rattle.model_lab.specs.Faults.{begun_on, is_open_bus, is_live, is_full, delivery, first_of, fault_of, AllTaken}
+use Rattle.model_lab.specs.Faults.{most_frames, begun_on, is_open_bus, is_live, is_full, delivery, first_of, fault_of, AllTaken}
 use Rattle.model_lab.specs.Clean.{delivery_in, DeliversFrom}
 use Rattle.model_headline.specs.Each.{Each}
 use Rattle.model_headline.proofs.Each.{each_append, each_imply, each_map, each_by_place}
@@ -94,11 +94,11 @@ module _ (P : Plans) (setup : BoardFile) where
       let all = ap (λ (l : List LabFrame). length l) s.frames ∙ length-append s.done s.waiting in
       let done = s.count in let more = due_count ds s.waiting s.are in omega arith
 
-  pub has_room : (x : Lab P) (number : ℕ) (ds : List Due) → Shows P setup x number ds → number + length ds < 65536 → is_full P x ≡ false
+  pub has_room : (x : Lab P) (number : ℕ) (ds : List Due) → Shows P setup x number ds → number + length ds < most_frames → is_full P x ≡ false
   has_room x number ds s small = by (length x.frames) (frames_count x number ds s)
     where
-      by : (n : ℕ) → n ≡ number + length ds → nat_le 65536 n ≡ false
-      by n e = let below : n < 65536 = omega (arith, e, small) in grind (arith, nat_tests)
+      by : (n : ℕ) → n ≡ number + length ds → nat_le most_frames n ≡ false
+      by n e = let below : n < most_frames = omega (arith, e, small) in grind (arith, nat_tests)
 
   within : (on : Bus) (n request : ℕ) → n ≤ request + 1 → n ≤ request + span_of on
   within Ipmb n request h = omega (arith, h)
@@ -242,7 +242,7 @@ module _ (P : Plans) (setup : BoardFile) where
     taken : fault_of P x event ≡ None
     steps : Steps (step P setup x event) number l
 
-  front : (on : Bus) (way : Way) (v : Value) (ds : List Due) (x : Lab P) (number : ℕ) → Fresh x number (due on way v ∷ ds) → NoIdles P (link_of P x []) → number + length (due on way v ∷ ds) < 65536
+  front : (on : Bus) (way : Way) (v : Value) (ds : List Due) (x : Lab P) (number : ℕ) → Fresh x number (due on way v ∷ ds) → NoIdles P (link_of P x []) → number + length (due on way v ∷ ds) < most_frames
       → CalmFirst way v ds (link_of P x (due on way v ∷ ds)) → let l = first_goes P setup on way v ds (link_of P x (due on way v ∷ ds)) in NoIdles P l → Front x number l
   front on ToPort v ds x number s none small calm next =
       let d = due on ToPort v in

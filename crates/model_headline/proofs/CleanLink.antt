@@ -41,7 +41,7 @@ use Rattle.model_lab.specs.ManagerSteps.{addresses, ManagerState, Sent, sent_of,
 use Rattle.model_lab.specs.Lab.{Event, Calls, Lab, call_does, manager_does, step, run}
 use Rattle.model_lab.specs.declared.fault.Fault.{Fault}
 use Rattle.model_lab.specs.declared.fault.Fault.TheVariants.{Room}
-use Rattle.model_lab.specs.Faults.{begun_on, is_open_bus, fault_of, AllTaken}
+use Rattle.model_lab.specs.Faults.{most_frames, begun_on, is_open_bus, fault_of, AllTaken}
 use Rattle.model_lab.specs.Clean.{DeliversFrom, IsCleanRun, IsCleanUndo}
 use Rattle.model_lab.proofs.Stepping.{runs_by}
 use Rattle.model_headline.specs.Made.{AllSeries, StageMade}
@@ -454,11 +454,11 @@ module _ (setup : BoardFile) (names : Names) where
       taken : (es : List Event) → IsCleanRun (own_plans setup names) setup es x0 → AllTaken (own_plans setup names) setup es x0
       few : (es : List Event) → IsCleanRun (own_plans setup names) setup es x0 → length (run (own_plans setup names) setup es x0).frames ≤ 8 * k
 
-    call_taken : (y : Lab (own_plans setup names)) (call : Call) → length y.frames < 65536 → fault_of (own_plans setup names) y (Calls call) ≡ None
+    call_taken : (y : Lab (own_plans setup names)) (call : Call) → length y.frames < most_frames → fault_of (own_plans setup names) y (Calls call) ≡ None
     call_taken y call small = by (length y.frames) small
       where
-        by : (i : ℕ) → i < 65536 → cond (nat_le 65536 i) (Some Room) None ≡ None
-        by i below = let no : nat_le 65536 i ≡ false = grind (arith, nat_tests) in ap (λ (t : Bool). let none : Option Fault = None in cond t (Some Room) none) no
+        by : (i : ℕ) → i < most_frames → cond (nat_le most_frames i) (Some Room) None ≡ None
+        by i below = let no : nat_le most_frames i ≡ false = grind (arith, nat_tests) in ap (λ (t : Bool). let none : Option Fault = None in cond t (Some Room) none) no
 
     can_run : (k : ℕ) (phase : Phase) (n : ℕ) → IsAtRest (own_family setup names) (answer setup) (clean (own_family setup names) (answer setup) k (moment stage0 m0 x0.board)) phase n → 8 * k ≤ 65530 → CanRun k
     can_run k phase n rest small =
