@@ -6,6 +6,7 @@ use Rattle.std.specs.Option.{option_map, option_or}
 use Rattle.std.proofs.lemmas.List.{length-map}
 use Rattle.std.proofs.lemmas.List.Elements.{All-append, All-map}
 use Rattle.std.proofs.lemmas.List.Folds.{find-append}
+use Rattle.record_base.specs.BoardSizes.{most_state_fields}
 use Rattle.record_base.specs.UserSizes.{user_name_size}
 use Rattle.record_base.specs.declared.key.Key.{Key}
 use Rattle.record_base.specs.declared.key.Key.TheVariants as key
@@ -201,11 +202,11 @@ of_width S16 n = refl
 of_width U32 n = refl
 of_width S32 n = refl
 
-one_to_eight : (n : ℕ) → 1 ≤ n → n ≤ 8 → IsTrue (is_length (key.StateEffecter 0) n)
-one_to_eight n some few = grind (arith, nat_tests)
+few_fields : (n : ℕ) → 1 ≤ n → n ≤ most_state_fields → IsTrue (is_length (key.StateEffecter 0) n)
+few_fields n some few = grind (arith, nat_tests)
 
-of_fields : (fields : List StateField) → 1 ≤ length fields → length fields ≤ 8 → IsTrue (is_length (key.StateEffecter 0) (length (state_value fields)))
-of_fields fields some few = let long : length (state_value fields) ≡ length fields = length-map fields (λ (f : StateField). f.current) in one_to_eight (length (state_value fields)) (omega arith) (omega arith)
+of_fields : (fields : List StateField) → 1 ≤ length fields → length fields ≤ most_state_fields → IsTrue (is_length (key.StateEffecter 0) (length (state_value fields)))
+of_fields fields some few = let long : length (state_value fields) ≡ length fields = length-map fields (λ (f : StateField). f.current) in few_fields (length (state_value fields)) (omega arith) (omega arith)
 
 of_attribute : (attribute : Attribute) → IsTrue (is_length (key.BiosAttribute attribute.handle) (length (attribute_value attribute)))
 of_attribute attribute = begins_long attribute

@@ -9,6 +9,7 @@ use Rattle.record_base.specs.declared.op.Op.TheVariants as op
 use Rattle.record_base.specs.declared.field_changes.FieldChange.{FieldChange}
 use Rattle.record_base.specs.declared.state_effecter.StateEffecter.{StateEffecter}
 use Rattle.record_base.specs.declared.state_effecter.SetStateEffecter.{SetStateEffecter}
+use Rattle.record_base.specs.BoardSizes.{most_state_fields}
 use Rattle.record_base.specs.StateEffecter.{are_states}
 use Rattle.record_base.specs.Kind.{KindWords, RecordWords}
 use Rattle.record_base.specs.AllKinds.{Place}
@@ -59,14 +60,14 @@ state_effecter_in body = record { effecter = id_in body; changes = take 9 (chang
 abbrev pub state_view : StateEffecter → List ℕ → List ℕ
 state_view effecter value = length value ∷ shown_fields (operational_state effecter.enabled) value
 
--- a Get reply, of 1 to 8 fields
+-- a Get reply, of one field or more
 pub record IsStateReply (reply : List ℕ) : Type 0 where
   pub some : 1 ≤ slice_index reply 0
-  pub few : slice_index reply 0 ≤ 8
+  pub few : slice_index reply 0 ≤ most_state_fields
   pub whole : length reply ≡ 1 + 3 * slice_index reply 0
 
 abbrev pub is_state_reply : List ℕ → Bool
-is_state_reply reply = nat_le 1 (slice_index reply 0) && (nat_le (slice_index reply 0) 8 && (length reply == 1 + 3 * slice_index reply 0))
+is_state_reply reply = nat_le 1 (slice_index reply 0) && (nat_le (slice_index reply 0) most_state_fields && (length reply == 1 + 3 * slice_index reply 0))
 
 -- the test that the data are a Get reply in which each field that the operation sets is enabled
 abbrev pub is_undoable : SetStateEffecter → List ℕ → Bool

@@ -9,6 +9,7 @@ use Rattle.record_base.specs.MaskLaws.{both_true, both}
 use Rattle.record_base.specs.Meaning.{Decides, IsRefusal}
 use Rattle.record_base.specs.InverseLaws.{some_where, made_where, tested_same, same_tested}
 use Rattle.record_base.specs.Kind.{KindLaws, RecordLaws}
+use Rattle.record_base.specs.BoardSizes.{most_state_fields}
 use Rattle.record_base.specs.StateEffecter.{are_states}
 use Rattle.record_base.specs.StateLaws.{as_many}
 use Rattle.effecter_recs.specs.Requests.{operational_state}
@@ -66,8 +67,8 @@ refused made code false b is = let same : pldm_invalid_data ≡ code = cc in sub
 
 -- ---- what a Get replies
 
--- a value has 1 to 8 states
-pub counted : (effecter : StateEffecter) (value : List ℕ) → are_states effecter.fields value ≡ true → (1 ≤ length value) × (length value ≤ 8)
+-- a value has one state or more
+pub counted : (effecter : StateEffecter) (value : List ℕ) → are_states effecter.fields value ≡ true → (1 ≤ length value) × (length value ≤ most_state_fields)
 counted effecter value is = let many : length value ≡ length effecter.fields = as_many effecter.fields value is in (omega (arith, effecter.some), omega (arith, effecter.few))
 
 reply_is : (effecter : StateEffecter) (value : List ℕ) → are_states effecter.fields value ≡ true → IsStateReply (state_view effecter value)

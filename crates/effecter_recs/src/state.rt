@@ -7,6 +7,7 @@ use crate::field_changes::{
 };
 use crate::numeric::behind;
 use crate::request::{effecter_request, id_bytes, id_in, operational_state};
+use record_base::board_sizes::MOST_STATE_FIELDS;
 use record_base::{
     Asked, CommandReader, FieldChange, Key, Live, Op, RecordData, RecordKind, SetStateEffecter,
     StateEffecter, Value, byte_at,
@@ -66,8 +67,8 @@ fn state_effecter_in(body: &[u8]) -> SetStateEffecter
 fn is_state_reply(reply: &[u8]) -> bool
     ensures { result ≡ is_state_reply reply.now }
 {
-    let count = byte_at(reply, 0);
-    1 <= count && count <= 8 && reply.len() == 1 + 3 * count as usize
+    let count = usize::from(byte_at(reply, 0));
+    1 <= count && count <= MOST_STATE_FIELDS && reply.len() == 1 + 3 * count
 }
 
 /// Whether the data are a Get reply in which each field that the operation sets is enabled.

@@ -8,6 +8,10 @@ most_sensors = 32
 abbrev pub most_effecters : ℕ
 most_effecters = 32
 
+-- the fields of a state effecter
+abbrev pub most_state_fields : ℕ
+most_state_fields = 8
+
 -- sensor data records
 abbrev pub most_sdrs : ℕ
 most_sdrs = 64

@@ -8,6 +8,7 @@ use Rattle.record_base.specs.declared.key.Lengths.{Lengths}
 use Rattle.record_base.specs.declared.key.Storage.{Storage}
 use Rattle.record_base.specs.declared.key.Lengths.TheVariants.{Exactly, OfNumber, Between}
 use Rattle.record_base.specs.AttributeSizes.{least_value, most_value}
+use Rattle.record_base.specs.BoardSizes.{most_state_fields}
 use Rattle.record_base.specs.BootParam.{boot_length}
 use Rattle.record_base.specs.Lan.{lan_length}
 use Rattle.record_base.specs.UserSizes.{user_name_size}
@@ -43,7 +44,7 @@ storage key.Watchdog = in_map (Exactly 5)
 storage key.GlobalEnables = in_map (Exactly 1)
 storage (key.BootParam parameter) = in_map (Exactly (boot_length parameter))
 storage (key.NumericEffecter id) = in_map OfNumber
-storage (key.StateEffecter id) = in_map (Between 1 8)
+storage (key.StateEffecter id) = in_map (Between 1 most_state_fields)
 storage (key.UserName user) = in_map (Exactly user_name_size)
 storage (key.UserAccess on) = in_map (Exactly 1)
 storage (key.ChannelAccess stored) = in_map (Exactly 2)

@@ -1,12 +1,15 @@
 //! How many items of a sort a board has at most.
 ghost use Rattle.std.specs.Prelude.{◌≡◌};
-ghost use Rattle.record_base.specs.BoardSizes.{most_sensors, most_effecters, most_sdrs, most_users, most_channels, most_accesses, most_sdr_bytes};
+ghost use Rattle.record_base.specs.BoardSizes.{most_sensors, most_effecters, most_state_fields, most_sdrs, most_users, most_channels, most_accesses, most_sdr_bytes};
 
 /// Sensors.
 pub const MOST_SENSORS: usize = 32;
 
 /// Numeric effecters, and as many state effecters.
 pub const MOST_EFFECTERS: usize = 32;
+
+/// The fields of a state effecter.
+pub const MOST_STATE_FIELDS: usize = 8;
 
 /// Sensor data records.
 pub const MOST_SDRS: usize = 64;
@@ -27,6 +30,7 @@ pub const MOST_SDR_BYTES: usize = 64;
 pub fn board_sizes_are_the_definitions()
     ensures sensors { MOST_SENSORS ≡ most_sensors }
     ensures effecters { MOST_EFFECTERS ≡ most_effecters }
+    ensures state_fields { MOST_STATE_FIELDS ≡ most_state_fields }
     ensures sdrs { MOST_SDRS ≡ most_sdrs }
     ensures users { MOST_USERS ≡ most_users }
     ensures channels { MOST_CHANNELS ≡ most_channels }

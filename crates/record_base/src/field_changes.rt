@@ -1,11 +1,12 @@
 //! The changes that a request makes to the fields of a state effecter.
 ghost use Rattle.std.specs.Prelude.{◌≡◌, ◌<◌, ◌≤◌, [], ◌∷◌, ◌++◌, length};
 
+use crate::board_sizes::MOST_STATE_FIELDS;
 use arrayvec::ArrayVec;
 use std::marker::Model;
 
-/// How many changes a request has at most.
-const MOST_CHANGES: usize = 9;
+/// How many changes a request has at most: one more than an effecter has fields.
+const MOST_CHANGES: usize = MOST_STATE_FIELDS + 1;
 
 /// A request's change of a field: a byte, 00h where the field stays and 01h where the request sets it, and the new state.
 #[derive(Clone, Copy, Debug, Default, PartialEq, Eq)]

@@ -3,6 +3,7 @@ ghost use Rattle.std.specs.Prelude.{◌≡◌, ◌<◌, ◌≤◌, ℕ, IfSome, 
 ghost use Rattle.record_base.specs.Keys.{AreUpTo, has_length, in_map, in_table, is_length, slot, storage};
 
 use crate::attribute_sizes::{LEAST_VALUE, MOST_VALUE};
+use crate::board_sizes::MOST_STATE_FIELDS;
 use crate::boot_param::BootParameter;
 use crate::channel::StoredAccess;
 use crate::lan::ParameterOnChannel;
@@ -132,7 +133,7 @@ impl Key {
             Key::GlobalEnables => in_map(Exactly(1)),
             Key::BootParam(parameter) => in_map(Exactly(parameter.length())),
             Key::NumericEffecter(_) => in_map(OfNumber),
-            Key::StateEffecter(_) => in_map(Between(1, 8)),
+            Key::StateEffecter(_) => in_map(Between(1, MOST_STATE_FIELDS)),
             Key::UserName(_) => in_map(Exactly(USER_NAME_SIZE)),
             Key::UserAccess(_) => in_map(Exactly(1)),
             Key::ChannelAccess(_) => in_map(Exactly(2)),

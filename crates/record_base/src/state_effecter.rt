@@ -1,8 +1,9 @@
 //! A state effecter: in a board file, and as it is set.
 ghost use Rattle.std.specs.Prelude.{◌≡◌, ◌≤◌, IsTrue, length};
+ghost use Rattle.record_base.specs.BoardSizes.{most_state_fields};
 ghost use Rattle.record_base.specs.StateField.{allows};
 
-use crate::board_sizes::MOST_EFFECTERS;
+use crate::board_sizes::{MOST_EFFECTERS, MOST_STATE_FIELDS};
 use crate::distinct::{Distinct, Numbered};
 use crate::field_changes::FieldChanges;
 use crate::items::Items;
@@ -18,14 +19,14 @@ pub struct StateField {
     ghost valid: { IsTrue (allows allowed current) },
 }
 
-/// A state effecter: its id, whether it is enabled, and its fields, 1 to 8.
+/// A state effecter: its id, whether it is enabled, and its fields, 1 to `MOST_STATE_FIELDS`.
 #[derive(Debug, Drop)]
 pub struct StateEffecter {
     pub id: u16,
     pub enabled: bool,
     pub fields: Items<StateField>,
     ghost some: { 1 ≤ length fields },
-    ghost few: { length fields ≤ 8 },
+    ghost few: { length fields ≤ most_state_fields },
 }
 
 /// The state effecters of a board.
@@ -81,15 +82,16 @@ fn allows(states: &[u8], state: u8) -> bool
 
 impl StateEffecter {
     ghost use Rattle.std.specs.Prelude.{◌≡◌, ◌≤◌, ◌↔◌, IsTrue, IsSome, IfSome, length};
+    ghost use Rattle.record_base.specs.BoardSizes.{most_state_fields};
     ghost use Rattle.record_base.specs.StateEffecter.{are_states, state_value};
 
     /// This effecter, or nothing where it has no fields or too many.
     pub fn new(id: u16, enabled: bool, fields: Vec<StateField>) -> Option<StateEffecter>
-        ensures made { IsSome result ↔ ((1 ≤ length fields.items) × (length fields.items ≤ 8)) }
+        ensures made { IsSome result ↔ ((1 ≤ length fields.items) × (length fields.items ≤ most_state_fields)) }
         ensures names { IfSome result (λ made. (made.id ≡ id) × (made.enabled ≡ enabled)) }
         ensures fields { IfSome result (λ made. made.fields ≡ fields.items) }
     {
-        if fields.is_empty() || fields.len() > 8 {
+        if fields.is_empty() || fields.len() > MOST_STATE_FIELDS {
             return None;
         }
         Some(StateEffecter {
@@ -104,7 +106,7 @@ impl StateEffecter {
         ensures { result ≡ (Key.StateEffecter self.now.id, state_value self.now.fields) }
     {
         let _ = &self.fields;
-        let mut value = Bytes::<8>::new();
+        let mut value = Bytes::<{ MOST_STATE_FIELDS }>::new();
         for field in self.fields.as_slice() {
             value.push(field.current);
         }

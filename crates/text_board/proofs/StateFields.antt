@@ -7,6 +7,7 @@ use Rattle.toml.specs.Data.{Data}
 use Rattle.toml.specs.View.{view}
 use Rattle.toml.specs.declared.value.Value.{Value}
 use Rattle.record_base.specs.AttributeRangeLaws.{true_le}
+use Rattle.record_base.specs.BoardSizes.{most_state_fields}
 use Rattle.record_base.specs.StateField.{allows}
 use Rattle.text_fields.specs.Trees.{IsNaturalIn, natural, members, or_none}
 use Rattle.text_fields.specs.Ranges.{passes, is_between, is_number, is_listed, is_state, is_state_list, are_state_lists, can_be, are_present}
@@ -65,12 +66,12 @@ present_at (l ∷ lists) (s ∷ states) zero list state all within inside is als
 present_at (l ∷ lists) (s ∷ states) (suc i) list state all within inside is also =
     present_at lists states i list state (and_parts (can_be (view l) (view s)) (are_present (map view lists) (map view states)) all).1 (omega arith) (omega arith) is also
 
--- lists of states for each of 1 to 8 fields
-pub lists_are : (ds : List Data) → are_state_lists ds ≡ true → (1 ≤ length ds) × ((length ds ≤ 8) × (list_all is_state_list ds ≡ true))
+-- a list of states for each of one field or more
+pub lists_are : (ds : List Data) → are_state_lists ds ≡ true → (1 ≤ length ds) × ((length ds ≤ most_state_fields) × (list_all is_state_list ds ≡ true))
 lists_are ds are =
-    let (some, all) = and_parts (is_between 1 8 (length ds)) (list_all is_state_list ds) are in
-    let (low, high) = and_parts (nat_le 1 (length ds)) (nat_le (length ds) 8) some in
-    (true_le 1 (length ds) low, (true_le (length ds) 8 high, all))
+    let (some, all) = and_parts (is_between 1 most_state_fields (length ds)) (list_all is_state_list ds) are in
+    let (low, high) = and_parts (nat_le 1 (length ds)) (nat_le (length ds) most_state_fields) some in
+    (true_le 1 (length ds) low, (true_le (length ds) most_state_fields high, all))
 
 -- a state from 1 to 2 is the one that it says
 pub state_told : (n : ℕ) → 1 ≤ n → n ≤ 2 → operational (n == 1) ≡ n

@@ -4,6 +4,7 @@ use Rattle.std.proofs.lemmas.Bool.{and_parts}
 use Rattle.std.proofs.lemmas.Int.{ints}
 use Rattle.std.proofs.lemmas.Bool.Decides.{nat_tests}
 use Rattle.std.specs.List.{list_all}
+use Rattle.record_base.specs.BoardSizes.{most_state_fields}
 use Rattle.toml.specs.Data.{Data}
 use Rattle.text_fields.specs.States.{change_at, change_of}
 use Rattle.text_fields.specs.Ranges.{is_between, are_changes}
@@ -20,9 +21,9 @@ change_negative (negsuc n) below = ap (λ (m : ℕ). change_at (negsuc m)) (omeg
 le_from : (m n : ℕ) → nat_le m n ≡ true → m ≤ n
 le_from m n h = grind (arith, nat_tests)
 
--- the changes of 1 to 8 fields
-pub changes_are : (ds : List Data) → are_changes ds ≡ true → (length ds ≤ 8) × (list_all (λ d. is_some (change_of d)) ds ≡ true)
+-- the changes of one field or more
+pub changes_are : (ds : List Data) → are_changes ds ≡ true → (length ds ≤ most_state_fields) × (list_all (λ d. is_some (change_of d)) ds ≡ true)
 changes_are ds are =
-    let (some, all) = and_parts (is_between 1 8 (length ds)) (list_all (λ d. is_some (change_of d)) ds) are in
-    let (low, high) = and_parts (nat_le 1 (length ds)) (nat_le (length ds) 8) some in
-    (le_from _ 8 high, all)
+    let (some, all) = and_parts (is_between 1 most_state_fields (length ds)) (list_all (λ d. is_some (change_of d)) ds) are in
+    let (low, high) = and_parts (nat_le 1 (length ds)) (nat_le (length ds) most_state_fields) some in
+    (le_from _ most_state_fields high, all)

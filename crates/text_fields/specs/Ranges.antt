@@ -13,6 +13,7 @@ use Rattle.record_base.specs.declared.boot_param.BootParameter.{BootParameter}
 use Rattle.record_base.specs.declared.boot_param.BootParameter.TheVariants as parameter
 use Rattle.record_base.specs.Sdr.{sdr_id}
 use Rattle.record_base.specs.AttributeSizes.{most_indexes, most_text}
+use Rattle.record_base.specs.BoardSizes.{most_state_fields}
 use Rattle.hex.specs.Hex.{decode_of}
 use Rattle.hex.specs.declared.error.FromHexError.{FromHexError}
 use Rattle.toml.specs.Data.{Data, Members, as_str, as_integer, as_bool, as_table}
@@ -221,7 +222,7 @@ is_state_list d = list_all is_state (or_none (members d))
 
 -- a list for each of 1 to 8 fields
 abbrev pub are_state_lists : List Data → Bool
-are_state_lists ds = is_between 1 8 (length ds) && list_all is_state_list ds
+are_state_lists ds = is_between 1 most_state_fields (length ds) && list_all is_state_list ds
 
 -- a field that can be in the listed states can be in this one
 abbrev pub can_be : Data → Data → Bool
@@ -235,7 +236,7 @@ are_present _ _ = false
 
 -- what becomes of each of 1 to 8 fields
 abbrev pub are_changes : List Data → Bool
-are_changes ds = is_between 1 8 (length ds) && list_all (λ d. is_some (change_of d)) ds
+are_changes ds = is_between 1 most_state_fields (length ds) && list_all (λ d. is_some (change_of d)) ds
 
 -- a length that is the most of an item: at most `most_text` bytes, and not below its least
 abbrev pub is_most : Members → ℕ → Bool

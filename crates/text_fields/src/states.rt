@@ -10,6 +10,7 @@ use crate::field::Field;
 use crate::range::is_between;
 use crate::tree::{members_in, members_of, natural};
 use record_base::FieldChange;
+use record_base::board_sizes::MOST_STATE_FIELDS;
 use toml::{Table, Value};
 
 /// The first byte of a change that leaves its field, and of one that sets it.
@@ -46,7 +47,7 @@ pub fn are_state_lists(value: &Value) -> bool
     if lists.is_empty() {
         return false;
     }
-    lists.len() <= 8 && all_state_lists(lists)
+    lists.len() <= MOST_STATE_FIELDS && all_state_lists(lists)
 }
 
 /// Whether the value is this number.
@@ -163,5 +164,5 @@ pub fn are_changes(value: &Value) -> bool
     if changes.is_empty() {
         return false;
     }
-    changes.len() <= 8 && all_changes(changes)
+    changes.len() <= MOST_STATE_FIELDS && all_changes(changes)
 }

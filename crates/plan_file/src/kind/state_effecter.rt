@@ -2,6 +2,7 @@
 ghost use Rattle.std.specs.Prelude.{◌≡◌, ◌≤◌, true, is_some, map, length};
 ghost use Rattle.toml.specs.View.{table_view, view};
 ghost use Rattle.std.specs.List.{list_all, AllZip};
+ghost use Rattle.record_base.specs.BoardSizes.{most_state_fields};
 ghost use Rattle.text_fields.specs.States.{change_of};
 ghost use Rattle.plan_file.specs.Kinds.StateEffecter.{IsChangeIn, HoldsStateEffecter};
 
@@ -19,10 +20,10 @@ pub const FIELDS: [Row; 2] = [
 
 /// What becomes of each field, as these values say.
 fn changes_of(values: &[Value]) -> FieldChanges
-    requires few { length values.now ≤ 8 }
+    requires few { length values.now ≤ most_state_fields }
     requires changes { list_all (λ d. is_some (change_of d)) (map view values.now) ≡ true }
     ensures held { AllZip IsChangeIn (map view values.now) result }
-    ensures few { length result ≤ 8 }
+    ensures few { length result ≤ most_state_fields }
 {
     let mut changes = FieldChanges::new();
     for value in values {

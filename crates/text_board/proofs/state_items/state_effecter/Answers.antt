@@ -1,6 +1,7 @@
 use Rattle.std.proofs.Common.{◌≡◌, ◌≤◌, length, map, true}
 use Rattle.std.proofs.lemmas.Slice.Zip.{AllZip-long}
 use Rattle.std.specs.List.{AllZip}
+use Rattle.record_base.specs.BoardSizes.{most_state_fields}
 use Rattle.toml.specs.View.{view, table_view}
 use Rattle.text_fields.specs.declared.field.Field.TheVariants as field
 use Rattle.text_fields.specs.Trees.{members_in}
@@ -26,7 +27,7 @@ unwrap-requires c =
     let there = lists_are ds are in
     let long : length fields ≡ length ds = AllZip-long IsFieldIn ds fields c.in_ok-fields.ensures.held in
     let some : 1 ≤ length fields = rw long there.0 in
-    let few : length fields ≤ 8 = rw long there.1.0 in
+    let few : length fields ≤ most_state_fields = rw long there.1.0 in
     c.new.ensures.made.1 (some, few)
 
 pub returns-clause-held : goal.returns-clause-held

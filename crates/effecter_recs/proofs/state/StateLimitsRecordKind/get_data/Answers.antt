@@ -1,4 +1,5 @@
 use Rattle.std.proofs.Common.{◌≤◌, ℕ, List, length, ap, length-append, arith}
+use Rattle.record_base.specs.BoardSizes.{most_state_fields}
 use Rattle.effecter_recs.specs.Requests.{operational_state}
 use Rattle.effecter_recs.specs.ChangeLaws.{three_each}
 use Rattle.effecter_recs.specs.StateLaws.{counted}
@@ -6,7 +7,7 @@ use Rattle.effecter_recs.proofs.state.StateLimitsRecordKind.get_data.Goals as go
 
 pub overflow_cast-value : goal.overflow_cast-value
 overflow_cast-value g c =
-    let few : length c.args.value.now ≤ 8 = (counted c.args.self.now c.args.value.now c.requires.is_valid).1 in
+    let few : length c.args.value.now ≤ most_state_fields = (counted c.args.self.now c.args.value.now c.requires.is_valid).1 in
     omega arith
 
 pub show_fields-requires : goal.show_fields-requires
