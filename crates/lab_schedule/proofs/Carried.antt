@@ -10,7 +10,7 @@ use Rattle.text_schedule.specs.declared.event.Event.{Event}
 use Rattle.text_schedule.specs.declared.event.Event.TheVariants.{Calls}
 use Rattle.model_lab.specs.Lab as lab
 use Rattle.model_lab.specs.Lab.{LabFrame, Lab as LabModel, step, run, opening}
-use Rattle.model_lab.specs.Faults.{AllTaken}
+use Rattle.model_lab.specs.Faults.{most_frames, AllTaken}
 use Rattle.model_lab.specs.Clean.{DeliversFrom}
 use Rattle.model_lab.specs.Meaning.{lab_names}
 use Rattle.model_lab.specs.Played.{plans, told_of, happens, after}
@@ -40,7 +40,7 @@ abbrev AreFrames : List SentFrame → Drawing → Type 0
 AreFrames sent now = (file : BoardFile) (x : LabModel plans) → Shows file now.lab x → AllZip IsSentFrame sent x.frames
 
 -- a lab with so many frames isn't called
-pub carries_full : (call : Called) (old : Drawing) (sent : List SentFrame) → AreFrames sent old → 65536 ≤ length sent → Carries call old old
+pub carries_full : (call : Called) (old : Drawing) (sent : List SentFrame) → AreFrames sent old → most_frames ≤ length sent → Carries call old old
 carries_full call old sent are full file start drawn late can =
     let x = after file old.events.items start in
     let room = room_to_call x call can.taken.0 in

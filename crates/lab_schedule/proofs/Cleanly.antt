@@ -12,7 +12,7 @@ use Rattle.model_lab.specs.declared.fault.Fault.{Fault}
 use Rattle.model_lab.specs.declared.fault.Fault.TheVariants.{NoFrame, WrongWay, Aged, Room}
 use Rattle.model_lab.specs.Lab as lab
 use Rattle.model_lab.specs.Lab.{LabFrame, Lab, step, run}
-use Rattle.model_lab.specs.Faults.{same_way, is_live, is_full, check, delivery, first_of, fault_of, AllTaken}
+use Rattle.model_lab.specs.Faults.{most_frames, same_way, is_live, is_full, check, delivery, first_of, fault_of, AllTaken}
 use Rattle.model_lab.specs.Clean.{delivery_of, delivery_in, DeliversFrom}
 use Rattle.model_lab.specs.Meaning.{lab_names, event_of}
 use Rattle.model_lab.specs.Played.{plans, happens, after}
@@ -50,13 +50,13 @@ pub no_check : (fault : Fault) (holds : Bool) (rest : Option Fault) → cond hol
 no_check fault true rest is = absurd (none-some fault (sym is))
 no_check fault false rest is = (refl, is)
 
-few_frames : (n : ℕ) → nat_le 65536 n ≡ false → n < 65536
+few_frames : (n : ℕ) → nat_le most_frames n ≡ false → n < most_frames
 few_frames n test = grind (arith, nat_tests)
 
-call_room : (x : Lab plans) (call : Called) → fault_of plans x (lab.Calls call) ≡ None → length x.frames < 65536
+call_room : (x : Lab plans) (call : Called) → fault_of plans x (lab.Calls call) ≡ None → length x.frames < most_frames
 call_room x call none = few_frames (length x.frames) (no_check Room (is_full plans x) None none).0
 
-pub room_to_call : (x : Lab plans) (call : Called) → fault_of plans x (lab.Calls call) ≡ None → length x.frames < 65536
+pub room_to_call : (x : Lab plans) (call : Called) → fault_of plans x (lab.Calls call) ≡ None → length x.frames < most_frames
 room_to_call x call none = call_room x call none
 
 there_below : {A : Type 0} (xs : List A) (i : ℕ) (x : A) → slice_get xs i ≡ Some x → i < length xs
@@ -64,7 +64,7 @@ there_below [] i x is = absurd (none-some x is)
 there_below (y ∷ ys) zero x is = omega arith
 there_below (y ∷ ys) (suc i) x is = let rest = there_below ys i x is in omega (arith, rest)
 
-delivery_room : (x : Lab plans) (way : Way) (number : ℕ) (o : Option LabFrame) → slice_get x.frames number ≡ o → first_of (delivery plans way x o) ≡ None → number < 65536
+delivery_room : (x : Lab plans) (way : Way) (number : ℕ) (o : Option LabFrame) → slice_get x.frames number ≡ o → first_of (delivery plans way x o) ≡ None → number < most_frames
 delivery_room x way number None at none = absurd (none-some NoFrame (sym none))
 delivery_room x way number (Some f) at none =
     let one = no_check WrongWay (not (same_way f.way way)) (first_of (check Aged (not (is_live plans x f)) ∷ check Room (is_full plans x) ∷ [])) none in
@@ -73,13 +73,13 @@ delivery_room x way number (Some f) at none =
     let below = there_below x.frames number f at in
     omega (arith, few, below)
 
-by_way : (x : Lab plans) (number : ℕ) (e : lab.Event) (way : Way) → delivery_of number way ≡ Some e → fault_of plans x e ≡ None → number < 65536
+by_way : (x : Lab plans) (number : ℕ) (e : lab.Event) (way : Way) → delivery_of number way ≡ Some e → fault_of plans x e ≡ None → number < most_frames
 by_way x number e ToPort is none =
     delivery_room x ToPort number (slice_get x.frames number) refl (subst (λ (d : lab.Event). fault_of plans x d ≡ None) (sym (same_Some (lab.ToBmc number) e is)) none)
 by_way x number e ToManager is none =
     delivery_room x ToManager number (slice_get x.frames number) refl (subst (λ (d : lab.Event). fault_of plans x d ≡ None) (sym (same_Some (lab.ToMgr number) e is)) none)
 by_way x number e ToOthers is none = absurd (none-some e is)
 
-pub room_to_deliver : (x : Lab plans) (number : ℕ) (e : lab.Event) (o : Option LabFrame) → delivery_in number o ≡ Some e → fault_of plans x e ≡ None → number < 65536
+pub room_to_deliver : (x : Lab plans) (number : ℕ) (e : lab.Event) (o : Option LabFrame) → delivery_in number o ≡ Some e → fault_of plans x e ≡ None → number < most_frames
 room_to_deliver x number e None is none = absurd (none-some e is)
 room_to_deliver x number e (Some f) is none = by_way x number e f.way is none

@@ -8,7 +8,7 @@ use Rattle.bmc_board.specs.State.{State}
 use Rattle.text_schedule.specs.declared.event.Event.{Event}
 use Rattle.model_lab.specs.Lab as lab
 use Rattle.model_lab.specs.Lab.{LabFrame, Lab as LabModel, step}
-use Rattle.model_lab.specs.Faults.{AllTaken, fault_of}
+use Rattle.model_lab.specs.Faults.{most_frames, AllTaken, fault_of}
 use Rattle.model_lab.specs.Clean as clean
 use Rattle.model_lab.specs.Clean.{delivery_in, DeliversFrom}
 use Rattle.model_lab.specs.declared.way.Way.{Way}
@@ -56,7 +56,7 @@ pub record Gone (file : BoardFile) (start : LabModel plans) (first number : ℕ)
 pub record Delivering (first number : ℕ) (old now : Drawing) : Type 0 where
   pub few : HasFew now
   pub short : length now.events.items + first ≤ length old.events.items + number
-  pub within : length now.events.items ≤ length old.events.items + 65536
+  pub within : length now.events.items ≤ length old.events.items + most_frames
   pub goes : (file : BoardFile) (start : LabModel plans) → Drawn file start old → old.late ≡ true → CanDeliver file first (after file old.events.items start)
       → Gone file start first number old now
 
@@ -141,14 +141,14 @@ pub delivers_ended : (first number : ℕ) (old now : Drawing) (sent : List SentF
 delivers_ended first number old now sent d are none file start drawn late can =
     ended file start first number old now (d.goes file start drawn late can) sent are none
 
-full_by : (file : BoardFile) (number : ℕ) (y : LabModel plans) (events : List lab.Event) → DeliversFrom plans file number events y → AllTaken plans file events y → 65536 ≤ number
+full_by : (file : BoardFile) (number : ℕ) (y : LabModel plans) (events : List lab.Event) → DeliversFrom plans file number events y → AllTaken plans file events y → most_frames ≤ number
     → slice_get y.frames number ≡ None
 full_by file number y [] d taken full = d
 full_by file number y (e ∷ es) d taken full =
     let room = room_to_deliver y number e (slice_get y.frames number) d.0 taken.0 in
     absurd (omega (arith, room, full))
 
-pub delivers_full : (first number : ℕ) (old now : Drawing) → Delivering first number old now → 65536 ≤ number → DeliversAll first old now
+pub delivers_full : (first number : ℕ) (old now : Drawing) → Delivering first number old now → most_frames ≤ number → DeliversAll first old now
 delivers_full first number old now d full file start drawn late can =
     let g = d.goes file start drawn late can in
     let x = after file old.events.items start in
@@ -164,7 +164,7 @@ delivers_full first number old now d full file start drawn late can =
     )
 
 pub delivers_more : (first number : ℕ) (old now new : Drawing) (sent : List SentFrame) (e : Event) → Delivering first number old now → AreFrames sent now
-    → delivery_of number (slice_get sent number) ≡ Some e → number < 65536 → Offered e now Taken new → HasFew new → length new.events.items ≤ suc (length now.events.items) → Delivering first (number + 1) old new
+    → delivery_of number (slice_get sent number) ≡ Some e → number < most_frames → Offered e now Taken new → HasFew new → length new.events.items ≤ suc (length now.events.items) → Delivering first (number + 1) old new
 delivers_more first number old now new sent e d are is small offered few grown = record {
   few = few;
   short = let before = d.short in omega (arith, before, grown);

@@ -11,7 +11,7 @@ use Rattle.model_lab.specs.declared.way.Way.TheVariants.{ToOthers}
 use Rattle.model_lab.specs.Lab.{Lab, frame_now, with_port, port_does, step, run}
 use Rattle.model_lab.specs.declared.fault.Fault.{Fault}
 use Rattle.model_lab.specs.declared.fault.Fault.TheVariants.{Room, Impersonates}
-use Rattle.model_lab.specs.Faults.{check, first_of, is_own, fault_of, AllTaken}
+use Rattle.model_lab.specs.Faults.{most_frames, check, first_of, is_own, fault_of, AllTaken}
 use Rattle.model_lab.specs.Example.{board_file, plans, names, one_step, start, other_request}
 use Rattle.model_lab.specs.FullExample.{reserves, times, FillsUp}
 
@@ -58,17 +58,17 @@ at-first : Has 0 (start one_step 3)
 at-first = record { wire = refl; named = refl; frames = refl }
 
 -- with so many frames the request has no fault but want of room
-fault-is : (n : ℕ) (x : Lab plans) → Has n x → fault_of plans x reserves ≡ (let none : Option Fault = None in cond (nat_le 65536 n) (Some Room) none)
+fault-is : (n : ℕ) (x : Lab plans) → Has n x → fault_of plans x reserves ≡ (let none : Option Fault = None in cond (nat_le most_frames n) (Some Room) none)
 fault-is n x h =
-    ap (λ (who : Names). first_of (check Impersonates (is_own Ipmb who 0x40) ∷ check Room (nat_le 65536 (length x.frames)) ∷ [])) h.named
-    ∙ ap (λ k. let none : Option Fault = None in cond (nat_le 65536 k) (Some Room) none) h.frames
+    ap (λ (who : Names). first_of (check Impersonates (is_own Ipmb who 0x40) ∷ check Room (nat_le most_frames (length x.frames)) ∷ [])) h.named
+    ∙ ap (λ k. let none : Option Fault = None in cond (nat_le most_frames k) (Some Room) none) h.frames
 
-free : (n : ℕ) (x : Lab plans) → Has n x → n < 65536 → fault_of plans x reserves ≡ None
+free : (n : ℕ) (x : Lab plans) → Has n x → n < most_frames → fault_of plans x reserves ≡ None
 free n x h few =
-    let room : nat_le 65536 n ≡ false = grind (arith, nat_tests) in
+    let room : nat_le most_frames n ≡ false = grind (arith, nat_tests) in
     fault-is n x h ∙ ap (λ t. let none : Option Fault = None in cond t (Some Room) none) room
 
-all-taken : (more n : ℕ) (x : Lab plans) → Has n x → n + more ≤ 65536 → AllTaken plans board_file (times more reserves) x
+all-taken : (more n : ℕ) (x : Lab plans) → Has n x → n + more ≤ most_frames → AllTaken plans board_file (times more reserves) x
 unfolding times
 all-taken zero n x h few = tt
 all-taken (suc more) n x h few = (free n x h (omega (arith, few)), all-taken more (n + 1) (step plans board_file x reserves) (one-more n x h) (omega (arith, few)))
@@ -82,9 +82,9 @@ all-sent (suc more) n x h =
 
 pub fills_up : FillsUp
 fills_up =
-    let h : Has (0 + 65536) (run plans board_file (times 65536 reserves) (start one_step 3)) = all-sent 65536 0 (start one_step 3) at-first in
+    let h : Has (0 + most_frames) (run plans board_file (times most_frames reserves) (start one_step 3)) = all-sent most_frames 0 (start one_step 3) at-first in
     record {
-      taken = all-taken 65536 0 (start one_step 3) at-first (omega arith);
+      taken = all-taken most_frames 0 (start one_step 3) at-first (omega arith);
       frames = h.frames;
-      room = fault-is 65536 (run plans board_file (times 65536 reserves) (start one_step 3)) h;
+      room = fault-is most_frames (run plans board_file (times most_frames reserves) (start one_step 3)) h;
     }
