@@ -43,7 +43,7 @@ module _ (names : Names) where
   turn_at Again stage m = machine.agains M stage m
   turn_at Undo stage m = machine.undoes M stage m
 
-  pub turns_at : (call : Call) (m : machine.Machine M) → manager.turn_of (seen_plans names) (seen_call call) m ≡ turn_at call m.stage m
+  pub turns_at : (call : Call) (m : machine.Machine M) → machine.call_of M (seen_call call) m ≡ turn_at call m.stage m
   turns_at Start m = refl
   turns_at Quiet m = refl
   turns_at Stop m = refl

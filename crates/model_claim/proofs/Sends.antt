@@ -108,7 +108,7 @@ module _ (names : Names) where
       → IsSeen (lab.call_does (seen_plans names) (manager.called (seen_plans names) (seen_call call) (seen_manager names made.manager x.manager)) (seen_lab names made x)) (goes_on names (called call x.manager.phase x.manager) x)
   unfolding manager.called
   call_lands call made x =
-      at (manager.turn_of (seen_plans names) (seen_call call) (machine_of names x.manager))
+      at (machine.call_of (seen_plans names).words (seen_call call) (machine_of names x.manager))
       (subst (λ (o : Option (machine.Turn (seen_plans names).words)). IsTurn names call made.manager o x.manager (called call x.manager.phase x.manager)) (sym (turns_at names call (machine_of names x.manager))) (call_turn names made.manager x.manager call x.manager.phase))
     where
       at : (o : Option (machine.Turn (seen_plans names).words)) → IsTurn names call made.manager o x.manager (called call x.manager.phase x.manager)

@@ -29,23 +29,24 @@ StartsReady setup at = IsReady (family setup at) (opened setup)
 
 -- what isn't configuration may become anything on the bench, but for what is staged: the board has the same records, and is ready for the same
 abbrev pub BenchMay : BoardFile → (Bus → Addresses) → (Bus → Line) → Type 0
-BenchMay setup at L = (world : World (family setup at) L) (activity : Activity) → May (family setup at) L (wires at) world (OnBench (on_bench world.board activity))
+BenchMay setup at lines = (world : World (family setup at) lines) (activity : Activity) → May (family setup at) lines (wires at) world (OnBench (on_bench world.board activity))
 
 -- what happens on a bus has another's request carried out, or none
-abbrev pub IsOthers : (setup : BoardFile) (at : Bus → Addresses) (L : Bus → Line) (bus : Bus) → (L bus).Event → World (family setup at) L → Type 0
-IsOthers setup at L bus event world = IsHonestOn (family setup at) L (wires at) bus event world × ((L bus).is_to_manager event ≡ false) × ((L bus).carries (world.on bus) event ≡ None)
+abbrev pub IsOthers : (setup : BoardFile) (at : Bus → Addresses) (lines : Bus → Line) (bus : Bus) → (lines bus).Event → World (family setup at) lines → Type 0
+IsOthers setup at lines bus event world = IsHonestOn (family setup at) lines (wires at) bus event world × ((lines bus).is_to_manager event ≡ false) × ((lines bus).carries (world.on bus) event ≡ None)
 
 -- another's request may be answered by the board at any moment, where its command sets no configuration
 abbrev pub QuietMay : BoardFile → (Bus → Addresses) → (Bus → Line) → Type 0
-QuietMay setup at L = (bus : Bus) (event : (L bus).Event) (world : World (family setup at) L) (asked : Asked) (board_answer : BoardAnswer) (after : State)
-    → IsOthers setup at L bus event world → is_changing asked ≡ false → Row setup world.board asked board_answer after → May (family setup at) L (wires at) world (OnBus bus event after)
+QuietMay setup at lines = (bus : Bus) (event : (lines bus).Event) (world : World (family setup at) lines) (asked : Asked) (board_answer : BoardAnswer) (after : State)
+    → IsOthers setup at lines bus event world → is_changing asked ≡ false → Row setup world.board asked board_answer after → May (family setup at) lines (wires at) world (OnBus bus event after)
 
 -- what happens on a bus has the manager's request carried out, with this reply
-abbrev pub IsManagers : (setup : BoardFile) (at : Bus → Addresses) (L : Bus → Line) (bus : Bus) → (L bus).Event → World (family setup at) L → Exchange → Type 0
-IsManagers setup at L bus event world exchange = IsHonestOn (family setup at) L (wires at) bus event world × ((L bus).is_to_manager event ≡ false) × ((L bus).carries (world.on bus) event ≡ Some exchange)
+abbrev pub IsManagers : (setup : BoardFile) (at : Bus → Addresses) (lines : Bus → Line) (bus : Bus) → (lines bus).Event → World (family setup at) lines → Exchange → Type 0
+IsManagers setup at lines bus event world exchange = IsHonestOn (family setup at) lines (wires at) bus event world ×
+    ((lines bus).is_to_manager event ≡ false) × ((lines bus).carries (world.on bus) event ≡ Some exchange)
 
 -- the manager's request may be answered as the board answers it
 abbrev pub AnswersMay : BoardFile → (Bus → Addresses) → (Bus → Line) → Type 0
-AnswersMay setup at L = (bus : Bus) (event : (L bus).Event) (world : World (family setup at) L) (exchange : Exchange) → IsManagers setup at L bus event world exchange
+AnswersMay setup at lines = (bus : Bus) (event : (lines bus).Event) (world : World (family setup at) lines) (exchange : Exchange) → IsManagers setup at lines bus event world exchange
     → let given = answer setup world.board (asked_from at bus exchange.bytes) in
-    exchange.reply ≡ reply_to bus exchange.bytes given.0 → May (family setup at) L (wires at) world (OnBus bus event given.1)
+    exchange.reply ≡ reply_to bus exchange.bytes given.0 → May (family setup at) lines (wires at) world (OnBus bus event given.1)

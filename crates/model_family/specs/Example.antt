@@ -11,7 +11,8 @@ use Rattle.model_bus.specs.BusState.{ReachesPort, ReachesManager}
 use Rattle.model_undo.specs.Family.{AllValid}
 use Rattle.model_undo.specs.declared.phase.Phase.TheVariants.{Undone}
 use Rattle.model_undo.specs.Machine.{phase_of}
-use Rattle.model_undo.specs.World.{World, Happening, Start, Undo, ToManager, OnBus, AllMay, run, opening}
+use Rattle.model_undo.specs.declared.call.Call.TheVariants.{Start, Undo}
+use Rattle.model_undo.specs.World.{World, Happening, Calls, ToManager, OnBus, AllMay, run, opening}
 use Rattle.model_undo.specs.Headline.{IsStart}
 use Rattle.model_undo.specs.Example.{addresses, messages, quiet_messages}
 use Rattle.model_lab.specs.ManagerWords.{manager_words}
@@ -45,9 +46,9 @@ module _ (setup : BoardFile) (others : Records) where
   -- changes nothing. The undo (frame 5) sets policy 0.
   abbrev pub events : List (Happening (family setup addresses) messages)
   events =
-      Start ∷ to_port 0 (0x04 ∷ 0x00 ∷ 0x01 ∷ 0x00 ∷ 0x00 ∷ 0x00 ∷ 0x00 ∷ []) (board setup others) ∷ to_manager 1
+      Calls Start ∷ to_port 0 (0x04 ∷ 0x00 ∷ 0x01 ∷ 0x00 ∷ 0x00 ∷ 0x00 ∷ 0x00 ∷ []) (board setup others) ∷ to_manager 1
       ∷ to_port 2 (0x04 ∷ 0x04 ∷ 0x06 ∷ 0x00 ∷ 0x07 ∷ []) (with_policy 1 (board setup others)) ∷ to_manager 3 ∷ to_port 2 [] (with_policy 1 (board setup others))
-      ∷ Undo ∷ to_port 5 (0x04 ∷ 0x08 ∷ 0x06 ∷ 0x00 ∷ 0x07 ∷ []) (with_policy 0 (with_policy 1 (board setup others))) ∷ to_manager 6 ∷ []
+      ∷ Calls Undo ∷ to_port 5 (0x04 ∷ 0x08 ∷ 0x06 ∷ 0x00 ∷ 0x07 ∷ []) (with_policy 0 (with_policy 1 (board setup others))) ∷ to_manager 6 ∷ []
 
   abbrev pub start : World (family setup addresses) messages
   start = opening (family setup addresses) messages plan 0 quiet_messages (board setup others)

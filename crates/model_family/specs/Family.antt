@@ -69,7 +69,7 @@ family setup at = record {
   records = λ board. board.records;
   Ready = λ board series bodies. IsReadyFor (at Smbus).manager board.activity.stagings series bodies;
   IsGet = λ asked key. asked_by asked ≡ Ok (Get key);
-  Row = λ board asked a after. Row setup board asked (board_answer a) after;
+  Row = λ board asked answered after. Row setup board asked (board_answer answered) after;
 }
 
 -- what the board answers to a request, and the state that it leaves

@@ -14,7 +14,7 @@ use Rattle.model_undo.specs.Machine.{count_of, Task, Gets, Sets, Undoes, Part, S
 use Rattle.model_undo.specs.Joined.{IsClosed, AreOpen}
 use Rattle.model_undo.specs.Giving.{Giving, given_at}
 use Rattle.model_undo.specs.World as world
-use Rattle.model_undo.specs.World.{States, World, Happening, Start, Quiet, Stop, Again, Undo, OnBus, update}
+use Rattle.model_undo.specs.World.{States, World, Happening, Calls, OnBus, update}
 use Rattle.model_ports.specs.Wires.{bus_of}
 use Rattle.undo_plans.specs.declared.names.Names.{Names}
 use Rattle.model_undo.specs.declared.call.Call.{Call}
@@ -126,7 +126,7 @@ module _ (setup : BoardFile) (names : Names) (plan : List Op) (start : Records) 
     start_is = refl
 
     pub start_goes : Goes setup names x on (call_does (own_plans setup names) (called (own_plans setup names) calls.Start x.manager) x)
-    start_goes = goes_by Start _ (starts (words setup names) machine.stage machine) tt refl refl start_is (starts_so machine.stage refl)
+    start_goes = goes_by (Calls calls.Start) _ (starts (words setup names) machine.stage machine) tt refl refl start_is (starts_so machine.stage refl)
 
     -- ---- stop
 
@@ -146,7 +146,7 @@ module _ (setup : BoardFile) (names : Names) (plan : List Op) (start : Records) 
     stop_is = refl
 
     pub stop_goes : Goes setup names x on (call_does (own_plans setup names) (called (own_plans setup names) calls.Stop x.manager) x)
-    stop_goes = goes_by Stop _ (stops (words setup names) machine.stage machine) tt refl refl stop_is (stops_so machine.stage)
+    stop_goes = goes_by (Calls calls.Stop) _ (stops (words setup names) machine.stage machine) tt refl refl stop_is (stops_so machine.stage)
 
     -- ---- quiet and again
 
@@ -215,14 +215,14 @@ module _ (setup : BoardFile) (names : Names) (plan : List Op) (start : Records) 
     quiet_is = refl
 
     pub quiet_goes : Goes setup names x on (call_does (own_plans setup names) (called (own_plans setup names) calls.Quiet x.manager) x)
-    quiet_goes = repeats_by Quiet _ (quiets (words setup names) machine.stage machine) tt refl refl quiet_is (quiets_so machine.stage refl)
+    quiet_goes = repeats_by (Calls calls.Quiet) _ (quiets (words setup names) machine.stage machine) tt refl refl quiet_is (quiets_so machine.stage refl)
 
     again_is : call_does (own_plans setup names) (called (own_plans setup names) calls.Again x.manager) x ≡ done_by x.manager.joined (agains (words setup names) machine.stage machine) x
     unfolding called
     again_is = refl
 
     pub again_goes : Goes setup names x on (call_does (own_plans setup names) (called (own_plans setup names) calls.Again x.manager) x)
-    again_goes = repeats_by Again _ (agains (words setup names) machine.stage machine) tt refl refl again_is (agains_so machine.stage refl)
+    again_goes = repeats_by (Calls calls.Again) _ (agains (words setup names) machine.stage machine) tt refl refl again_is (agains_so machine.stage refl)
 
     -- ---- undo
 
@@ -273,7 +273,7 @@ module _ (setup : BoardFile) (names : Names) (plan : List Op) (start : Records) 
         let same : done_by nothing (undoes (words setup names) stage machine) x ≡ sends (own_plans setup names) sent y = ap (λ o. done_by nothing o x) is in
         let w : World (own_family setup names) (own_lines setup names) = record { machine = machine; on = cleared; board = x.board } in
         record {
-          happenings = OnBus Smbus Clears x.board ∷ Undo ∷ [];
+          happenings = OnBus Smbus Clears x.board ∷ Calls calls.Undo ∷ [];
           left = now;
           may = (((tt, tt), refl, (refl, λ series bodies ready. ready)), (tt, tt));
           reaches = ap (λ o. world.opens (own_family setup names) (own_lines setup names) (own_wires setup names) o w) (ap (λ s. undoes (words setup names) s machine) (sym at) ∙ is)

@@ -26,7 +26,7 @@ use Rattle.model_undo.specs.declared.phase.Phase.TheVariants.{Undone}
 use Rattle.model_undo.specs.Plan.{IsAfter}
 use Rattle.model_undo.specs.Wires.{IsMade}
 use Rattle.model_undo.specs.Machine.{Counts, Task, Gets, Sets, Undoes, Part as TaskPart, Stage, AtStart, Opened, AtEnd, AtHalt, AtUndone, AtRefused, Machine, Turn, Sending, enters, sends_at, takes, series_of, bodies_with, next_asked, goes_on as task_goes_on, told_stage, finished, refused, set_stage, next_stage, undo_stage, first_stage, stage_after, undo_after, one_answered, bus_at, phase_of, open_bus, open_bus_at, undo_of, opened}
-use Rattle.model_undo.specs.Clean.{Moment, answered_in_all, told, one, clean, IsAtRest}
+use Rattle.model_undo.specs.Clean.{Moment, answered_in_all, after_turn, one, clean, IsAtRest}
 use Rattle.model_undo.specs.CleanSeries.{AnswersEach, RunsThrough}
 use Rattle.model_undo.proofs.CleanSeries.{always_runs_through}
 use Rattle.model_lab.specs.ManagerWords.{manager_words}
@@ -173,7 +173,7 @@ module _ (setup : BoardFile) (names : Names) where
         board = (answer setup b asked).1;
         rest = e.rest;
         count = e.count;
-        same = ap (λ (t : Bool). told (own_family setup names) (answer setup) (cond t None (Some (takes M a task part opened_machine))) (answer setup b asked).1 (moment (Opened true task part) m b)) (not_busy setup names b asked);
+        same = ap (λ (t : Bool). after_turn (own_family setup names) (answer setup) (cond t None (Some (takes M a task part opened_machine))) (answer setup b asked).1 (moment (Opened true task part) m b)) (not_busy setup names b asked);
         is = e.is;
         going = record { heeded = after_heeded m.stopped m.plan a task part; made = kept.stage; undo = kept.undo; clear = e.clear; sound = stays_sound setup b asked g.sound };
         calm = e.calm;

@@ -14,14 +14,14 @@ use Rattle.model_bus.specs.Repeat.{In}
 use Rattle.model_bus.specs.Bytes.{answers}
 use Rattle.model_bus.specs.Answered.{Answered}
 use Rattle.model_undo.specs.Words.{is_busy, Words}
-use Rattle.model_undo.specs.Machine.{Stage, AtStart, Opened, AtEnd, AtHalt, AtUndone, AtRefused, Machine, Part as TaskPart, Turn, sending, rests as machine_rests, starts, undoes, quiets, agains, replies, takes, reply_of}
+use Rattle.model_undo.specs.Machine.{Stage, AtStart, Opened, AtEnd, AtHalt, AtUndone, AtRefused, Machine, Part as TaskPart, Turn, sending, rests as machine_rests, starts, undoes, quiets, agains, replies, takes, call_of, reply_of}
 use Rattle.model_ports.specs.Wires.{answered_from}
 use Rattle.model_ports.specs.Values.{Value, Asks, Tells, Part}
 use Rattle.model_ports.specs.Bytes.{response_bytes}
 use Rattle.model_ports.specs.PortSteps.{PortState, Deed, hears, hears_all, idles}
 use Rattle.model_undo.specs.declared.call.Call.{Call}
 use Rattle.model_undo.specs.declared.call.Call.TheVariants.{Start, Quiet, Stop, Again, Undo}
-use Rattle.model_lab.specs.ManagerSteps.{Plans, ManagerState, ManagerDeed, Sent, rests, goes_on, turn_of, waits_after, called, heeded_on, open_bytes, taken_or, tested, hears_reply, hears_response, ends_reply, joins, joins_for, hears_packet, manager_hears, is_answer, is_part, open_count}
+use Rattle.model_lab.specs.ManagerSteps.{Plans, ManagerState, ManagerDeed, Sent, rests, goes_on, waits_after, called, heeded_on, open_bytes, taken_or, tested, hears_reply, hears_response, ends_reply, joins, joins_for, hears_packet, manager_hears, is_answer, is_part, open_count}
 use Rattle.model_lab.specs.declared.way.Way.{Way}
 use Rattle.model_lab.specs.declared.way.Way.TheVariants.{ToManager, ToOthers}
 use Rattle.model_lab.specs.Lab.{LabFrame, Event, Calls, ToBmc, ToMgr, OtherIpmb, OtherSmbus, Noise, Idles, OnBench, Lab, step, run, sends, manager_does, call_does, port_does, with_port, port_on, opens, delivered, returned}
@@ -170,11 +170,11 @@ module _ (P : Plans) where
 
   call_same : (call : Call) (x : Lab P) → Unstopped x (call_does P (called P call x.manager) x) ⊎ (call ≡ Stop)
   unfolding called
-  call_same Start x = inl (turn_same Start x (turn_of P Start x.manager.machine) (start_keeps P.words x.manager.machine.stage x.manager.machine))
-  call_same Quiet x = inl (turn_same Quiet x (turn_of P Quiet x.manager.machine) (quiet_keeps P.words x.manager.machine.stage x.manager.machine))
+  call_same Start x = inl (turn_same Start x (call_of P.words Start x.manager.machine) (start_keeps P.words x.manager.machine.stage x.manager.machine))
+  call_same Quiet x = inl (turn_same Quiet x (call_of P.words Quiet x.manager.machine) (quiet_keeps P.words x.manager.machine.stage x.manager.machine))
   call_same Stop x = inr refl
-  call_same Again x = inl (turn_same Again x (turn_of P Again x.manager.machine) (again_keeps P.words x.manager.machine.stage x.manager.machine))
-  call_same Undo x = inl (turn_same Undo x (turn_of P Undo x.manager.machine) (undo_keeps P.words x.manager.machine.stage x.manager.machine))
+  call_same Again x = inl (turn_same Again x (call_of P.words Again x.manager.machine) (again_keeps P.words x.manager.machine.stage x.manager.machine))
+  call_same Undo x = inl (turn_same Undo x (call_of P.words Undo x.manager.machine) (undo_keeps P.words x.manager.machine.stage x.manager.machine))
 
   module _ (setup : BoardFile) where
     delivered_same : (o : Option LabFrame) (x : Lab P) → Unstopped x (delivered P setup o x)

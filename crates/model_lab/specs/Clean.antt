@@ -18,26 +18,27 @@ abbrev pub delivery_in : ℕ → Option LabFrame → Option Event
 delivery_in number None = None
 delivery_in number (Some frame) = delivery_of number frame.way
 
-module _ (P : Plans) (setup : BoardFile) where
+module _ (plans : Plans) (setup : BoardFile) where
   -- the events deliver the frames from this number on, each once and in order, until no frame that was sent is left
-  abbrev pub DeliversFrom : ℕ → List Event → Lab P → Type 0
+  abbrev pub DeliversFrom : ℕ → List Event → Lab plans → Type 0
   DeliversFrom number [] lab = slice_get lab.frames number ≡ None
-  DeliversFrom number (event ∷ events) lab = (delivery_in number (slice_get lab.frames number) ≡ Some event) × DeliversFrom (number + 1) events (step P setup lab event)
+  DeliversFrom number (event ∷ events) lab =
+      (delivery_in number (slice_get lab.frames number) ≡ Some event) × DeliversFrom (number + 1) events (step plans setup lab event)
 
   -- the manager starts, and the events deliver all frames
-  pub record IsCleanRun (es : List Event) (lab : Lab P) : Type 0 where
+  pub record IsCleanRun (events : List Event) (lab : Lab plans) : Type 0 where
     pub deliveries : List Event
-    pub delivered : DeliversFrom 0 deliveries (step P setup lab (Calls Start))
-    pub all : es ≡ Calls Start ∷ deliveries
+    pub delivered : DeliversFrom 0 deliveries (step plans setup lab (Calls Start))
+    pub all : events ≡ Calls Start ∷ deliveries
 
   -- after such a run the manager undoes, and the events deliver all frames again
-  pub record IsCleanUndo (es : List Event) (lab : Lab P) : Type 0 where
+  pub record IsCleanUndo (events : List Event) (lab : Lab plans) : Type 0 where
     pub before : List Event
     pub deliveries : List Event
     pub ran : IsCleanRun before lab
-    pub delivered : let y = run P setup before lab in DeliversFrom (length y.frames) deliveries (step P setup y (Calls Undo))
-    pub all : es ≡ before ++ Calls Undo ∷ deliveries
+    pub delivered : let after = run plans setup before lab in DeliversFrom (length after.frames) deliveries (step plans setup after (Calls Undo))
+    pub all : events ≡ before ++ Calls Undo ∷ deliveries
 
   -- the schedule is clean
-  abbrev pub IsClean : List Event → Lab P → Type 0
-  IsClean es lab = IsCleanRun es lab ⊎ IsCleanUndo es lab
+  abbrev pub IsClean : List Event → Lab plans → Type 0
+  IsClean events lab = IsCleanRun events lab ⊎ IsCleanUndo events lab

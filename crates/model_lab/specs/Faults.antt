@@ -48,12 +48,12 @@ is_open_bus on None = false
 is_open_bus on (Some other) = same_bus on other
 
 -- how many requests a machine began on a bus: the requests that were answered, and the open request
-abbrev pub begun_on : (M : Words) → Bus → Machine M → ℕ
-begun_on M on machine = count_of on machine.counts + (if is_open_bus on (open_bus M machine) then 1 else 0)
+abbrev pub begun_on : (words : Words) → Bus → Machine words → ℕ
+begun_on words on machine = count_of on machine.counts + (if is_open_bus on (open_bus words machine) then 1 else 0)
 
 -- a request of the manager is open, on either bus
-abbrev pub has_open : (M : Words) → Machine M → Bool
-has_open M machine = not (is_none (open_bus M machine))
+abbrev pub has_open : (words : Words) → Machine words → Bool
+has_open words machine = not (is_none (open_bus words machine))
 
 -- the address or endpoint is the manager's or the controller's
 abbrev pub is_own : Bus → Names → ℕ → Bool
@@ -78,23 +78,23 @@ abbrev pub is_frame : Bus → List ℕ → Bool
 is_frame Ipmb bytes = is_none (find (has_frame_fault bytes) frame_faults)
 is_frame Smbus bytes = is_none (find (has_packet_fault bytes) packet_faults)
 
-module _ (P : Plans) where
+module _ (plans : Plans) where
   -- the manager began fewer requests on the frame's bus behind the frame's own than the span, and since the frame was sent the port didn't forget
   -- the manager's window there
-  abbrev pub is_live : Lab P → LabFrame → Bool
-  is_live lab frame = nat_le (begun_on P.words frame.on lab.manager.machine) (frame.request + span_of frame.on) && frame.idles == idles_on P frame.on lab
+  abbrev pub is_live : Lab plans → LabFrame → Bool
+  is_live lab frame = nat_le (begun_on plans.words frame.on lab.manager.machine) (frame.request + span_of frame.on) && frame.idles == idles_on plans frame.on lab
 
   -- the lab sent as many frames as it can
-  abbrev pub is_full : Lab P → Bool
+  abbrev pub is_full : Lab plans → Bool
   is_full lab = nat_le most_frames (length lab.frames)
 
   -- the faults of a delivery of the frame to an end, by whether there is such a frame
-  abbrev pub delivery : Way → Lab P → Option LabFrame → List Check
+  abbrev pub delivery : Way → Lab plans → Option LabFrame → List Check
   delivery way lab None = check NoFrame true ∷ []
   delivery way lab (Some frame) = check WrongWay (not (same_way frame.way way)) ∷ check Aged (not (is_live lab frame)) ∷ check Room (is_full lab) ∷ []
 
   -- the faults of each event, in their order
-  abbrev pub checks : Lab P → Event → List Check
+  abbrev pub checks : Lab plans → Event → List Check
   checks lab (Calls call) = check Room (is_full lab) ∷ []
   checks lab (ToBmc number) = delivery ToPort lab (slice_get lab.frames number)
   checks lab (ToMgr number) = delivery ToManager lab (slice_get lab.frames number)
@@ -102,14 +102,14 @@ module _ (P : Plans) where
   checks lab (OtherSmbus message) =
       check Changing (message_changes message.envelope.source_eid message.body) ∷ check Impersonates (is_own Smbus lab.manager.names message.envelope.source_eid) ∷ check Room (is_full lab) ∷ []
   checks lab (Noise on bytes) = check Forged (is_frame on bytes) ∷ []
-  checks lab (Idles on requester) = check StillOpen (requester == own_on on lab.manager.names && has_open P.words lab.manager.machine) ∷ []
+  checks lab (Idles on requester) = check StillOpen (requester == own_on on lab.manager.names && has_open plans.words lab.manager.machine) ∷ []
   checks lab (OnBench activity) = []
 
   -- the first fault of an event
-  abbrev pub fault_of : Lab P → Event → Option Fault
+  abbrev pub fault_of : Lab plans → Event → Option Fault
   fault_of lab event = first_of (checks lab event)
 
   -- the lab takes every event of a schedule, where it happens
-  abbrev pub AllTaken : BoardFile → List Event → Lab P → Type 0
+  abbrev pub AllTaken : BoardFile → List Event → Lab plans → Type 0
   AllTaken setup [] lab = Unit {0}
-  AllTaken setup (event ∷ events) lab = (fault_of lab event ≡ None) × AllTaken setup events (step P setup lab event)
+  AllTaken setup (event ∷ events) lab = (fault_of lab event ≡ None) × AllTaken setup events (step plans setup lab event)

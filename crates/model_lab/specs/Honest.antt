@@ -36,15 +36,15 @@ abbrev pub IsNoFrame : Bus → List ℕ → Type 0
 IsNoFrame Ipmb bytes = (message : Msg) → ¬ IsMessage message bytes
 IsNoFrame Smbus bytes = (packet : Packet) → ¬ IsPacket packet bytes
 
-module _ (P : Plans) where
+module _ (plans : Plans) where
   -- the manager began fewer requests on the frame's bus behind the frame's own than the span, and since the frame was sent the port didn't forget
   -- the manager's window there
-  pub record IsLive (lab : Lab P) (frame : LabFrame) : Type 0 where
-    pub recent : begun_on P.words frame.on lab.manager.machine ≤ frame.request + span_of frame.on
-    pub remembered : frame.idles ≡ idles_on P frame.on lab
+  pub record IsLive (lab : Lab plans) (frame : LabFrame) : Type 0 where
+    pub recent : begun_on plans.words frame.on lab.manager.machine ≤ frame.request + span_of frame.on
+    pub remembered : frame.idles ≡ idles_on plans frame.on lab
 
   -- the frame of this number was sent and is live, and the event delivers it to the end for which it is meant
-  pub record IsDelivered (way : Way) (lab : Lab P) (number : ℕ) : Type 0 where
+  pub record IsDelivered (way : Way) (lab : Lab plans) (number : ℕ) : Type 0 where
     pub frame : LabFrame
     pub sent : slice_get lab.frames number ≡ Some frame
     pub meant : frame.way ≡ way
@@ -53,27 +53,27 @@ module _ (P : Plans) where
   -- The links deliver only live frames that were sent, to the end for which they are meant. No other requester's message changes the
   -- configuration, or comes from the manager's or the controller's address. Noise reads as no frame. The port doesn't forget the manager's window
   -- while a request of the manager is open.
-  abbrev pub IsHonest : Lab P → Event → Type 0
+  abbrev pub IsHonest : Lab plans → Event → Type 0
   IsHonest lab (Calls call) = Unit {0}
   IsHonest lab (ToBmc number) = IsDelivered ToPort lab number
   IsHonest lab (ToMgr number) = IsDelivered ToManager lab number
   IsHonest lab (OtherIpmb request) = (is_changing (asked_in request) ≡ false) × IsAnother Ipmb lab.manager.names request.header.requester.address
   IsHonest lab (OtherSmbus message) = ChangesNothing message.envelope.source_eid message.body × IsAnother Smbus lab.manager.names message.envelope.source_eid
   IsHonest lab (Noise on bytes) = IsNoFrame on bytes
-  IsHonest lab (Idles on requester) = requester ≡ own_on on lab.manager.names → open_bus P.words lab.manager.machine ≡ None
+  IsHonest lab (Idles on requester) = requester ≡ own_on on lab.manager.names → open_bus plans.words lab.manager.machine ≡ None
   IsHonest lab (OnBench activity) = Unit {0}
 
   -- noise is bytes
   abbrev pub HasBytes : Event → Type 0
-  HasBytes (Noise on bytes) = All (λ b. b < 256) bytes
+  HasBytes (Noise on bytes) = All (λ byte. byte < 256) bytes
   HasBytes _ = Unit {0}
 
   -- every event of a schedule is honest, where it happens; only noise that is bytes counts
-  abbrev pub AllHonest : BoardFile → List Event → Lab P → Type 0
+  abbrev pub AllHonest : BoardFile → List Event → Lab plans → Type 0
   AllHonest setup [] lab = Unit {0}
-  AllHonest setup (event ∷ events) lab = (HasBytes event → IsHonest lab event) × AllHonest setup events (step P setup lab event)
+  AllHonest setup (event ∷ events) lab = (HasBytes event → IsHonest lab event) × AllHonest setup events (step plans setup lab event)
 
   -- a lab takes honest events alone, and refuses an honest one only for want of room
   pub record FaultsAreBreaches : Type 0 where
-    pub taken : (lab : Lab P) (event : Event) → HasBytes event → fault_of P lab event ≡ None → IsHonest lab event
-    pub refused : (lab : Lab P) (event : Event) (fault : Fault) → HasBytes event → fault_of P lab event ≡ Some fault → (fault ≡ Room) ⊎ (¬ IsHonest lab event)
+    pub taken : (lab : Lab plans) (event : Event) → HasBytes event → fault_of plans lab event ≡ None → IsHonest lab event
+    pub refused : (lab : Lab plans) (event : Event) (fault : Fault) → HasBytes event → fault_of plans lab event ≡ Some fault → (fault ≡ Room) ⊎ (¬ IsHonest lab event)

@@ -46,12 +46,12 @@ pub data Event : Type 0 where
   -- on the bench: the board's activity becomes this
   OnBench : Activity → Event
 
-module _ (P : Plans) where
+module _ (plans : Plans) where
   pub record Lab : Type 0 where
     pub board : State
     pub ipmb : PortState
     pub smbus : PortState
-    pub manager : ManagerState P
+    pub manager : ManagerState plans
     pub frames : List LabFrame
     -- under each tag, the request whose start came last to the port; starts to another endpoint don't count
     pub opened : ℕ → ℕ
@@ -86,11 +86,11 @@ module _ (P : Plans) where
   sends (Some sent) lab = with_frames sent.on ToPort sent.request sent.values lab
 
   -- the manager went on
-  abbrev pub manager_does : ManagerDeed P → Lab → Lab
+  abbrev pub manager_does : ManagerDeed plans → Lab → Lab
   manager_does deed lab = sends deed.sent (record lab { manager = deed.manager })
 
   -- the manager was called, in a phase for the call or not
-  abbrev pub call_does : Option (ManagerDeed P) → Lab → Lab
+  abbrev pub call_does : Option (ManagerDeed plans) → Lab → Lab
   call_does None lab = lab
   call_does (Some deed) lab = manager_does deed lab
 
@@ -107,40 +107,41 @@ module _ (P : Plans) where
   opens (Part packet) request lab =
       if packet.start && is_ours lab.smbus.eid packet then record lab { opened = λ tag. if tag == packet.envelope.tag then request else lab.opened tag } else lab
 
-module _ (P : Plans) (setup : BoardFile) where
+module _ (plans : Plans) (setup : BoardFile) where
   -- a frame comes to the port, if there is such a frame
-  abbrev pub delivered : Option LabFrame → Lab P → Lab P
+  abbrev pub delivered : Option LabFrame → Lab plans → Lab plans
   delivered None lab = lab
-  delivered (Some frame) lab = port_does P frame.on ToManager frame.request (hears setup (port_on P frame.on lab) lab.board frame.value) (opens P frame.value frame.request lab)
+  delivered (Some frame) lab =
+      port_does plans frame.on ToManager frame.request (hears setup (port_on plans frame.on lab) lab.board frame.value) (opens plans frame.value frame.request lab)
 
   -- a frame comes to the manager, if there is such a frame
-  abbrev pub returned : Option LabFrame → Lab P → Lab P
+  abbrev pub returned : Option LabFrame → Lab plans → Lab plans
   returned None lab = lab
-  returned (Some frame) lab = manager_does P (manager_hears P frame.value lab.manager) lab
+  returned (Some frame) lab = manager_does plans (manager_hears plans frame.value lab.manager) lab
 
   -- the lab after an event
-  unfoldable pub step : Lab P → Event → Lab P
-  step lab (Calls call) = call_does P (called P call lab.manager) lab
+  unfoldable pub step : Lab plans → Event → Lab plans
+  step lab (Calls call) = call_does plans (called plans call lab.manager) lab
   step lab (ToBmc number) = delivered (slice_get lab.frames number) lab
   step lab (ToMgr number) = returned (slice_get lab.frames number) lab
-  step lab (OtherIpmb request) = port_does P Ipmb ToOthers 0 (hears setup lab.ipmb lab.board (Asks request)) lab
-  step lab (OtherSmbus message) = port_does P Smbus ToOthers 0 (hears_all setup lab.smbus lab.board message) lab
+  step lab (OtherIpmb request) = port_does plans Ipmb ToOthers 0 (hears setup lab.ipmb lab.board (Asks request)) lab
+  step lab (OtherSmbus message) = port_does plans Smbus ToOthers 0 (hears_all setup lab.smbus lab.board message) lab
   step lab (Noise on bytes) = lab
-  step lab (Idles on requester) = with_port P on (idles requester (port_on P on lab)) lab
+  step lab (Idles on requester) = with_port plans on (idles requester (port_on plans on lab)) lab
   step lab (OnBench activity) = record lab { board = on_bench lab.board activity }
 
   -- the lab after events
-  unfoldable pub run : List Event → Lab P → Lab P
+  unfoldable pub run : List Event → Lab plans → Lab plans
   run [] lab = lab
   run (event ∷ events) lab = run events (step lab event)
 
   -- a lab as it begins: a board that has heard nothing, and a manager with a plan
-  abbrev pub opening : Names → List P.words.Op → (retries : ℕ) → Lab P
+  abbrev pub opening : Names → List plans.words.Op → (retries : ℕ) → Lab plans
   opening names plan retries = record {
     board = opened_board setup;
     ipmb = quiet_port names.peer_address names.peer_eid;
     smbus = quiet_port names.peer_wire names.peer_eid;
-    manager = record { machine = opened_machine P.words plan retries; names = names; listed = Some names; joined = nothing };
+    manager = record { machine = opened_machine plans.words plan retries; names = names; listed = Some names; joined = nothing };
     frames = [];
     opened = λ tag. 0;
   }

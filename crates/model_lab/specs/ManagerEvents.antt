@@ -63,45 +63,45 @@ pub record IsRepliesPart (names : Names) (bus : PacketBus) (ends : Ends) (which 
   pub source : packet.envelope.source ≡ names.peer_wire
   pub ours : is_ours names.own_eid packet ≡ true
 
-module _ (P : Plans) where
+module _ (plans : Plans) where
   -- the manager takes the reply of these bytes, if there is one
-  abbrev pub takes_if : Bus → Option (List ℕ) → ManagerState P → ManagerDeed P
-  takes_if on None manager = rests P manager
-  takes_if on (Some reply) manager = taken_or P manager (reply_of P.words (answered_from on reply) manager.machine)
+  abbrev pub takes_if : Bus → Option (List ℕ) → ManagerState plans → ManagerDeed plans
+  takes_if on None manager = rests plans manager
+  takes_if on (Some reply) manager = taken_or plans manager (reply_of plans.words (answered_from on reply) manager.machine)
 
   -- the manager's open request on the bus is heeded, and the model's has its bytes
-  pub record IsOpenOn (on : Bus) (manager : ManagerState P) (open_part : TaskPart P.words) (state : BusState) : Type 0 where
-    pub heeded : heeded_on P on manager.machine.stage ≡ Some open_part
-    pub opened : slice_get state.begun (length state.taken) ≡ Some (open_bytes P on manager open_part)
+  pub record IsOpenOn (on : Bus) (manager : ManagerState plans) (open_part : TaskPart plans.words) (state : BusState) : Type 0 where
+    pub heeded : heeded_on plans on manager.machine.stage ≡ Some open_part
+    pub opened : slice_get state.begun (length state.taken) ≡ Some (open_bytes plans on manager open_part)
 
   -- Under every name the packets that wait at the model's manager wait at the lab's. All of them are of the open request, which has the model's count
   -- and controller.
-  pub record IsManagerOf (manager : ManagerState P) (bus : PacketBus) (ends : Ends) : Type 0 where
+  pub record IsManagerOf (manager : ManagerState plans) (bus : PacketBus) (ends : Ends) : Type 0 where
     pub waits : WaitsAlike ends.manager manager.joined
-    pub alone : open_beside (name_awaited manager.names (open_count P Smbus manager)) manager.joined ≡ 0
-    pub counted : open_count P Smbus manager ≡ bus.first + length ends.bus.taken
+    pub alone : open_beside (name_awaited manager.names (open_count plans Smbus manager)) manager.joined ≡ 0
+    pub counted : open_count plans Smbus manager ≡ bus.first + length ends.bus.taken
     pub controller : bus.controller ≡ manager.names.peer_eid
 
   -- the manager takes the reply that the model's event brings, if it brings one
-  abbrev pub BringsResponse : ManagerState P → Rules → BusState → ℕ → Response → Type 0
-  BringsResponse manager rules state which response = hears_response P response manager ≡ takes_if Ipmb (brings_whole rules state (ReachesManager which)) manager
+  abbrev pub BringsResponse : ManagerState plans → Rules → BusState → ℕ → Response → Type 0
+  BringsResponse manager rules state which response = hears_response plans response manager ≡ takes_if Ipmb (brings_whole rules state (ReachesManager which)) manager
 
   -- The manager takes the reply that the model's event of a packet brings, if it brings one. Then the same packets wait at both, of the open request
   -- alone; or no packet waits, where the event brought a reply.
-  pub record BringsPart (manager : ManagerState P) (bus : PacketBus) (ends : Ends) (which place : ℕ) (packet : Packet) : Type 0 where
+  pub record BringsPart (manager : ManagerState plans) (bus : PacketBus) (ends : Ends) (which place : ℕ) (packet : Packet) : Type 0 where
     pub joined : Assemblies
-    pub deed : hears_packet P packet manager ≡ takes_if Smbus (brings_packets bus ends (PacketReachesManager which place)) (record manager { joined = joined })
+    pub deed : hears_packet plans packet manager ≡ takes_if Smbus (brings_packets bus ends (PacketReachesManager which place)) (record manager { joined = joined })
     pub waits : WaitsAlike (packet_happens bus ends (PacketReachesManager which place)).manager joined
-    pub alone : open_beside (name_awaited manager.names (open_count P Smbus manager)) joined ≡ 0
+    pub alone : open_beside (name_awaited manager.names (open_count plans Smbus manager)) joined ≡ 0
     pub none_left : IfSome (brings_packets bus ends (PacketReachesManager which place)) (λ reply. joined.open_count ≡ 0)
 
   -- What a live reply makes of the manager, where the manager's test takes the replies that the model takes, and the event does what it does in each
   -- honest schedule. While the manager heeds no request on the bus, no reply changes it.
   pub record RepliesAreBrought : Type 0 where
-    pub responses : (manager : ManagerState P) (open_part : TaskPart P.words) (rules : Rules) (state : BusState) (which : ℕ) (response : Response) → TestsAgree Ipmb rules state
+    pub responses : (manager : ManagerState plans) (open_part : TaskPart plans.words) (rules : Rules) (state : BusState) (which : ℕ) (response : Response) → TestsAgree Ipmb rules state
         → IsOpenOn Ipmb manager open_part state → IsRepliesResponse manager.names rules state which response → BringsResponse manager rules state which response
-    pub parts : (manager : ManagerState P) (open_part : TaskPart P.words) (bus : PacketBus) (ends : Ends) (which place : ℕ) (packet : Packet) → TestsAgree Smbus (rules_of bus) ends.bus
+    pub parts : (manager : ManagerState plans) (open_part : TaskPart plans.words) (bus : PacketBus) (ends : Ends) (which place : ℕ) (packet : Packet) → TestsAgree Smbus (rules_of bus) ends.bus
         → HasPacketEffect bus ends (PacketReachesManager which place) → IsOpenOn Smbus manager open_part ends.bus → IsManagerOf manager bus ends → IsRepliesPart manager.names bus ends which place packet
         → BringsPart manager bus ends which place packet
-    pub unheeded_response : (manager : ManagerState P) (response : Response) → heeded_on P Ipmb manager.machine.stage ≡ None → hears_response P response manager ≡ rests P manager
-    pub unheeded_part : (manager : ManagerState P) (packet : Packet) → heeded_on P Smbus manager.machine.stage ≡ None → hears_packet P packet manager ≡ rests P manager
+    pub unheeded_response : (manager : ManagerState plans) (response : Response) → heeded_on plans Ipmb manager.machine.stage ≡ None → hears_response plans response manager ≡ rests plans manager
+    pub unheeded_part : (manager : ManagerState plans) (packet : Packet) → heeded_on plans Smbus manager.machine.stage ≡ None → hears_packet plans packet manager ≡ rests plans manager

@@ -13,11 +13,11 @@ use Rattle.record_base.specs.declared.message.Asked.{Asked}
 use Rattle.record_base.specs.declared.message.Asked.TheVariants.{Ipmi, Pldm}
 use Rattle.model_bus.specs.Bytes.{answers}
 use Rattle.model_undo.specs.Words.{Words}
-use Rattle.model_undo.specs.Machine.{count_of, Part as TaskPart, bus_at, Stage, Opened, Machine, Sending, Turn, start_of, quiet_of, stop_of, again_of, undo_of, reply_of, same_bus}
+use Rattle.model_undo.specs.Machine.{count_of, Part as TaskPart, bus_at, Stage, Opened, Machine, Sending, Turn, call_of, reply_of, same_bus}
 use Rattle.model_undo.specs.Wires.{number_of}
 use Rattle.model_bus.specs.Addresses.{Addresses}
 use Rattle.model_undo.specs.declared.call.Call.{Call}
-use Rattle.model_undo.specs.declared.call.Call.TheVariants.{Start, Quiet, Stop, Again, Undo}
+use Rattle.model_undo.specs.declared.call.Call.TheVariants.{Undo}
 use Rattle.model_ports.specs.Wires.{bus_of, bytes_of, answered_from}
 use Rattle.model_lab.specs.ManagerWords.{manager_words}
 use Rattle.model_ports.specs.Values.{Value, Asks, Tells, Part, parts_of}
@@ -37,7 +37,7 @@ peer_on Smbus names = names.peer_eid
 pub record Plans : Type 1 where
   pub words : Words
   pub asked : words.Asked → Asked
-  pub on_its_bus : (a : words.Asked) → words.bus_of a ≡ bus_of (asked a)
+  pub on_its_bus : (request : words.Asked) → words.bus_of request ≡ bus_of (asked request)
 
 -- both ends' addresses on a bus
 abbrev pub addresses : Names → Bus → Addresses
@@ -45,7 +45,7 @@ addresses names on = record { manager = own_on on names; controller = peer_on on
 
 -- plans on the records of a board, whatever its file is
 abbrev pub board_plans : Names → Plans
-board_plans names = record { words = manager_words (addresses names); asked = λ a. a; on_its_bus = λ a. refl }
+board_plans names = record { words = manager_words (addresses names); asked = λ request. request; on_its_bus = λ request. refl }
 
 -- ---- what a request is on the wires
 
@@ -89,10 +89,10 @@ is_part names count packet =
     (packet.envelope.destination == names.own_wire && packet.envelope.source == names.peer_wire)
     && (packet.envelope.source_eid == names.peer_eid && (not packet.envelope.tag_owner && packet.envelope.tag == count % tags))
 
-module _ (P : Plans) where
+module _ (plans : Plans) where
   -- a manager: its machine, its names, the names in its list of requests that undo, and the packets that wait at it
   pub record ManagerState : Type 0 where
-    pub machine : Machine P.words
+    pub machine : Machine plans.words
     pub names : Names
     pub listed : Option Names
     pub joined : Assemblies
@@ -107,22 +107,14 @@ module _ (P : Plans) where
   rests manager = record { manager = manager; sent = None }
 
   -- the frames of a request
-  abbrev pub sent_of : Names → Sending P.words → Sent
-  sent_of names sending = record { on = sending.bus; request = sending.count; values = values_of names sending.count (P.asked sending.asked) }
+  abbrev pub sent_of : Names → Sending plans.words → Sent
+  sent_of names sending = record { on = sending.bus; request = sending.count; values = values_of names sending.count (plans.asked sending.asked) }
 
   -- the machine goes on
-  abbrev pub goes_on : ManagerState → Turn P.words → ManagerDeed
+  abbrev pub goes_on : ManagerState → Turn plans.words → ManagerDeed
   goes_on manager turn = record { manager = record manager { machine = turn.machine }; sent = option_map (sent_of manager.names) turn.sends }
 
   -- ---- calls
-
-  -- the machine after a call: none where the phase isn't one for the call
-  abbrev pub turn_of : Call → Machine P.words → Option (Turn P.words)
-  turn_of Start machine = start_of P.words machine
-  turn_of Quiet machine = quiet_of P.words machine
-  turn_of Stop machine = stop_of P.words machine
-  turn_of Again machine = again_of P.words machine
-  turn_of Undo machine = undo_of P.words machine
 
   -- the manager drops the packets that wait as the undo begins
   abbrev pub waits_after : Call → Assemblies → Assemblies
@@ -131,13 +123,13 @@ module _ (P : Plans) where
 
   -- the manager is called: none where the phase isn't one for the call, and then nothing changes
   unfoldable pub called : Call → ManagerState → Option ManagerDeed
-  called call manager = option_map (goes_on (record manager { joined = waits_after call manager.joined })) (turn_of call manager.machine)
+  called call manager = option_map (goes_on (record manager { joined = waits_after call manager.joined })) (call_of plans.words call manager.machine)
 
   -- ---- frames
 
   -- the open request, where it is heeded and on this bus
-  abbrev pub heeded_on : Bus → Stage P.words → Option (TaskPart P.words)
-  heeded_on on (Opened true task part) = if same_bus on (bus_at P.words part) then Some part else None
+  abbrev pub heeded_on : Bus → Stage plans.words → Option (TaskPart plans.words)
+  heeded_on on (Opened true task part) = if same_bus on (bus_at plans.words part) then Some part else None
   heeded_on on _ = None
 
   -- the number of requests that were answered on a bus, which is the count of the open request
@@ -145,20 +137,20 @@ module _ (P : Plans) where
   open_count on manager = count_of on manager.machine.counts
 
   -- the bytes of the open request
-  abbrev pub open_bytes : Bus → ManagerState → TaskPart P.words → List ℕ
-  open_bytes on manager part = bytes_of (number_of on (open_count on manager)) (P.asked part.asked)
+  abbrev pub open_bytes : Bus → ManagerState → TaskPart plans.words → List ℕ
+  open_bytes on manager part = bytes_of (number_of on (open_count on manager)) (plans.asked part.asked)
 
   -- the machine takes a reply, or ignores it
-  abbrev pub taken_or : ManagerState → Option (Turn P.words) → ManagerDeed
+  abbrev pub taken_or : ManagerState → Option (Turn plans.words) → ManagerDeed
   taken_or manager None = rests manager
   taken_or manager (Some turn) = goes_on manager turn
 
   -- the bytes of a reply come while this request is open, if one is: the machine takes them where they pass the test
-  abbrev pub tested : Bus → List ℕ → ManagerState → Option (TaskPart P.words) → ManagerDeed
+  abbrev pub tested : Bus → List ℕ → ManagerState → Option (TaskPart plans.words) → ManagerDeed
   tested on reply manager None = rests manager
   tested on reply manager (Some part) =
       if answers on (open_bytes on manager part) reply
-      then taken_or manager (reply_of P.words (answered_from on reply) manager.machine)
+      then taken_or manager (reply_of plans.words (answered_from on reply) manager.machine)
       else rests manager
 
   -- the bytes of a reply from the controller come
@@ -179,7 +171,7 @@ module _ (P : Plans) where
   joins packet manager = ends_reply packet (drop_cause manager.names.own_eid manager.joined packet) (record manager { joined = kept_after manager.names.own_eid manager.joined packet })
 
   -- a packet comes while the request is open, if one is
-  abbrev pub joins_for : Packet → ManagerState → Option (TaskPart P.words) → ManagerDeed
+  abbrev pub joins_for : Packet → ManagerState → Option (TaskPart plans.words) → ManagerDeed
   joins_for packet manager None = rests manager
   joins_for packet manager (Some part) = if is_part manager.names (open_count Smbus manager) packet then joins packet manager else rests manager
 

@@ -6,19 +6,19 @@ use Rattle.model_ports.specs.Values.{Value, Asks, Tells, Part}
 use Rattle.model_lab.specs.ManagerSteps.{Plans}
 use Rattle.model_lab.specs.Lab.{Event, ToBmc, Lab, step}
 
-module _ (P : Plans) where
+module _ (plans : Plans) where
   -- a packet that is joined to others at the port is joined to an assembly that a packet of this request opened
-  abbrev pub JoinsOwn : Lab P → ℕ → Value → Type 0
+  abbrev pub JoinsOwn : Lab plans → ℕ → Value → Type 0
   JoinsOwn lab request (Asks asked) = Unit {0}
   JoinsOwn lab request (Tells response) = Unit {0}
   JoinsOwn lab request (Part packet) = packet.start ≡ false → drop_cause lab.smbus.eid lab.smbus.kept packet ≡ None → lab.opened packet.envelope.tag ≡ request
 
   -- the event joins no packet to an assembly that a packet of another request opened
-  abbrev pub IsOwn : Lab P → Event → Type 0
-  IsOwn lab (ToBmc number) = IfSome (slice_get lab.frames number) (λ f. JoinsOwn lab f.request f.value)
+  abbrev pub IsOwn : Lab plans → Event → Type 0
+  IsOwn lab (ToBmc number) = IfSome (slice_get lab.frames number) (λ frame. JoinsOwn lab frame.request frame.value)
   IsOwn lab _ = Unit {0}
 
   -- no event of a schedule joins packets so, where it happens
-  abbrev pub AllOwn : BoardFile → List Event → Lab P → Type 0
+  abbrev pub AllOwn : BoardFile → List Event → Lab plans → Type 0
   AllOwn setup [] lab = Unit {0}
-  AllOwn setup (event ∷ events) lab = IsOwn lab event × AllOwn setup events (step P setup lab event)
+  AllOwn setup (event ∷ events) lab = IsOwn lab event × AllOwn setup events (step plans setup lab event)

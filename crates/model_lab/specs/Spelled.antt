@@ -11,7 +11,8 @@ use Rattle.model_lab.specs.ManagerWords.{manager_words}
 
 -- the bytes of the manager's requests are requests under their numbers, and the bytes of a reply to a request are a reply to it, with the answer's code
 pub record AreSpelled (at : Bus → Addresses) : Type 0 where
-  pub requests : (n : ℕ) (asked : Asked) → IsMade (manager_words at) asked
-      → let number = number_of (bus_of asked) n in IsRequestOn (bus_of asked) number (bytes_of number asked)
-  pub replies : (n : ℕ) (asked : Asked) (answered : Answered) → IsMade (manager_words at) asked
-      → let bytes = bytes_of (number_of (bus_of asked) n) asked in IsReplyOn (bus_of asked) answered.code bytes (reply_to (bus_of asked) bytes answered)
+  pub requests : (count : ℕ) (asked : Asked) → IsMade (manager_words at) asked
+      → let number = number_of (bus_of asked) count in IsRequestOn (bus_of asked) number (bytes_of number asked)
+  pub replies : (count : ℕ) (asked : Asked) (answered : Answered) → IsMade (manager_words at) asked
+      → let bytes = bytes_of (number_of (bus_of asked) count) asked in
+      IsReplyOn (bus_of asked) answered.code bytes (reply_to (bus_of asked) bytes answered)

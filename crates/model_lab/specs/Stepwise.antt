@@ -5,7 +5,9 @@ use Rattle.model_lab.specs.ManagerSteps.{Plans}
 use Rattle.model_lab.specs.Lab.{Event, Lab, step, run}
 
 -- a run goes event by event, and the run of two schedules is that of the second after that of the first
-pub record RunsBy (P : Plans) (setup : BoardFile) : Type 0 where
-  pub none : (lab : Lab P) → run P setup [] lab ≡ lab
-  pub one : (event : Event) (es : List Event) (lab : Lab P) → run P setup (event ∷ es) lab ≡ run P setup es (step P setup lab event)
-  pub more : (es more : List Event) (lab : Lab P) → run P setup (es ++ more) lab ≡ run P setup more (run P setup es lab)
+pub record RunsBy (plans : Plans) (setup : BoardFile) : Type 0 where
+  pub none : (lab : Lab plans) → run plans setup [] lab ≡ lab
+  pub one : (event : Event) (events : List Event) (lab : Lab plans)
+      → run plans setup (event ∷ events) lab ≡ run plans setup events (step plans setup lab event)
+  pub more : (events more : List Event) (lab : Lab plans)
+      → run plans setup (events ++ more) lab ≡ run plans setup more (run plans setup events lab)

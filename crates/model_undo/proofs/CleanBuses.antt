@@ -24,7 +24,8 @@ use Rattle.model_undo.specs.Line.{Exchange, Line}
 use Rattle.model_undo.specs.Joined.{IsClosed}
 use Rattle.model_undo.specs.Delivery.{Delivery}
 use Rattle.model_undo.specs.World as world
-use Rattle.model_undo.specs.World.{States, update, World, Happening, Start, Undo, ToManager, BoardMay, bytes_sent, begins, moved, happens, run, AllMay, opening}
+use Rattle.model_undo.specs.declared.call.Call.TheVariants.{Start, Undo}
+use Rattle.model_undo.specs.World.{States, update, World, Happening, Calls, ToManager, BoardMay, bytes_sent, begins, moved, happens, run, AllMay, opening}
 use Rattle.model_undo.specs.Clean.{Moment, answered_in_all, AnswersByRow, one, clean, IsAtRest}
 use Rattle.model_undo.specs.CleanBuses.{reach_port, asks, replies, exchange, exchanges, AllCanBeSent, HasEnded, RunsThroughBuses, AlwaysRunsThroughBuses, RunsOverBuses, AlwaysRunsOverBuses}
 use Rattle.model_undo.specs.CleanSeries.{AreFinite, AnswersEach}
@@ -448,7 +449,7 @@ module _ (F : Family) (laws : IsFamily F) (L : Bus → Line) (lines : (bus : Bus
 
   abbrev TakesBack : World F L → ℕ → ℕ → Type 0
   TakesBack w k n =
-      let es = Undo ∷ exchanges F L D W answer k (happens F L W w Undo) in
+      let es = Calls Undo ∷ exchanges F L D W answer k (happens F L W w (Calls Undo)) in
       let u = run F L W es w in
       AllMay F L W es w × HasEnded F L D W answer u Undone n × (F.records u.board ≡ start) × AnswersEach F answer w.machine.undo k w.board u.board
 
@@ -463,10 +464,10 @@ module _ (F : Family) (laws : IsFamily F) (L : Bus → Line) (lines : (bus : Bus
       let t = enters F.words next from in
       let w = world_of from on b in
       let now = begins F L W t.sends on in
-      let becomes : happens F L W w Undo ≡ world_of t.machine now b = ap (λ (o : Option (Turn F.words)). world.opens F L W o w) taken in
+      let becomes : happens F L W w (Calls Undo) ≡ world_of t.machine now b = ap (λ (o : Option (Turn F.words)). world.opens F L W o w) taken in
       let good : Good F laws answer by_row plan start next from b = record { sound = undo_good F laws plan start m.plan m.undo j m.stopped m.undo b back g.good.free; valid = g.good.valid; free = g.good.free } in
       let ready = enters_ready next from on b (undo_heeded F m.undo) good (record { held = g.holds.holds; closed = closed; place = place; exact = g.exact }) in
-      let going : Going next from now b = record { good = good; holds = subst Holds becomes (happens_holds F laws L lines W first plan start w Undo g.holds tt); ready = ready.0; exact = ready.1 } in
+      let going : Going next from now b = record { good = good; holds = subst Holds becomes (happens_holds F laws L lines W first plan start w (Calls Undo) g.holds tt); ready = ready.0; exact = ready.1 } in
       let all = exchange_all k next from now b going in
       let ends = ends_there (clean F answer k (at_stage F laws answer by_row plan start next from b)) (run F L W (exchanges F L D W answer k (world_of t.machine now b)) (world_of t.machine now b)) Undone n (λ (c : F.Board). (F.records c ≡ start) × AnswersEach F answer m.undo k b c) all.1 (r.0, (r.1, r.2)) in
       subst (λ (y : World F L). (Unit {0} × AllMay F L W (exchanges F L D W answer k y) y) × HasEnded F L D W answer (run F L W (exchanges F L D W answer k y) y) Undone n × (F.records (run F L W (exchanges F L D W answer k y) y).board ≡ start) × AnswersEach F answer m.undo k b (run F L W (exchanges F L D W answer k y) y).board) (sym becomes)
@@ -522,13 +523,13 @@ always_runs_through_buses F laws L lines D clean_lines W finite answer by_row ca
       exact = λ bus. none_taken F laws L lines D clean_lines W answer by_row can plan start bus ((L bus).requests (on bus)) ((lines bus).starts (on bus) (started.on_bus bus)).1;
     } in
     let ready = enters_ready F laws L lines D clean_lines W answer by_row can plan start stage m on board (first_heeded F laws L lines D clean_lines W answer by_row can plan start (slice_get plan 0)) good rests in
-    let going : Going F laws L lines D clean_lines W answer by_row can plan start stage m now board = record { good = good; holds = happens_holds F laws L lines W first plan start w0 Start holds0 tt; ready = ready.0; exact = ready.1 } in
+    let going : Going F laws L lines D clean_lines W answer by_row can plan start stage m now board = record { good = good; holds = happens_holds F laws L lines W first plan start w0 (Calls Start) holds0 tt; ready = ready.0; exact = ready.1 } in
     let r = always_runs_through F laws finite answer by_row plan retries board started.valid started.ready in
     let k = length r.steps in
     let n = r.requests + r.more in
     let all = exchange_all F laws L lines D clean_lines W answer by_row can plan start n stage m now board going in
     let x = clean F answer n (at_stage F laws answer by_row plan start stage m board) in
-    let w = run F L W (Start ∷ exchanges F L D W answer n (happens F L W w0 Start)) w0 in
+    let w = run F L W (Calls Start ∷ exchanges F L D W answer n (happens F L W w0 (Calls Start))) w0 in
     let back = undoing_there F laws L lines D clean_lines W answer by_row can plan start x w r.back (n + r.back) all.1 r.undo r.undo_is_taken in
     record {
       steps = r.steps;
@@ -551,10 +552,10 @@ always_runs_through_buses F laws L lines D clean_lines W finite answer by_row ca
 -- where each series is one request
 module _ (F : Family) (L : Bus → Line) (D : (bus : Bus) → Delivery (L bus)) (W : Wires F.words) (single : AreSingle F.words) (answer : F.Board → F.words.Asked → Answered × F.Board) where
   abbrev Ran : World F L → ℕ → World F L
-  Ran w n = run F L W (Start ∷ exchanges F L D W answer n (happens F L W w Start)) w
+  Ran w n = run F L W (Calls Start ∷ exchanges F L D W answer n (happens F L W w (Calls Start))) w
 
   abbrev Undid : World F L → ℕ → World F L
-  Undid w n = run F L W (Undo ∷ exchanges F L D W answer n (happens F L W w Undo)) w
+  Undid w n = run F L W (Calls Undo ∷ exchanges F L D W answer n (happens F L W w (Calls Undo))) w
 
   runs_over : (plan : List F.words.Op) (w0 : World F L) → RunsThroughBuses F L D W answer plan w0 → RunsOverBuses F L D W answer plan w0
   runs_over plan w0 r =
@@ -572,10 +573,10 @@ module _ (F : Family) (L : Bus → Line) (D : (bus : Bus) → Delivery (L bus)) 
         phase = r.phase;
         more = r.more;
         ends = ends_so F single answer k r.rest r.at r.phase r.more r.ends;
-        may_run = subst (λ (n : ℕ). AllMay F L W (Start ∷ exchanges F L D W answer n (happens F L W w0 Start)) w0) n_is r.may_run;
+        may_run = subst (λ (n : ℕ). AllMay F L W (Calls Start ∷ exchanges F L D W answer n (happens F L W w0 (Calls Start))) w0) n_is r.may_run;
         ran = subst (λ (n : ℕ). HasEnded F L D W answer (Ran w0 n) r.phase n × IsAfter F plan (F.records w0.board) k (F.records (Ran w0 n).board)) n_is r.ran;
-        may_undo = subst (λ (n : ℕ). AllMay F L W (Undo ∷ exchanges F L D W answer k (happens F L W (Ran w0 n) Undo)) (Ran w0 n)) n_is
-            (subst (λ (j : ℕ). AllMay F L W (Undo ∷ exchanges F L D W answer j (happens F L W w Undo)) w) back_is r.may_undo);
+        may_undo = subst (λ (n : ℕ). AllMay F L W (Calls Undo ∷ exchanges F L D W answer k (happens F L W (Ran w0 n) (Calls Undo))) (Ran w0 n)) n_is
+            (subst (λ (j : ℕ). AllMay F L W (Calls Undo ∷ exchanges F L D W answer j (happens F L W w (Calls Undo))) w) back_is r.may_undo);
         undone = subst (λ (n : ℕ). HasEnded F L D W answer (Undid (Ran w0 n) k) Undone (n + k) × (F.records (Undid (Ran w0 n) k).board ≡ F.records w0.board)) n_is
             (subst (λ (j : ℕ). HasEnded F L D W answer (Undid w j) Undone (r.requests + r.more + j) × (F.records (Undid w j).board ≡ F.records w0.board)) back_is (r.undone.0, r.undone.1));
       }

@@ -7,7 +7,7 @@ use Rattle.model_bus.specs.Answered.{Answered}
 use Rattle.model_undo.specs.Family.{Family, AllValid, IsReady}
 use Rattle.model_undo.specs.IsFamily.{IsFamily}
 use Rattle.model_undo.specs.Machine.{Counts, one_answered, Task, Part, Stage, Opened, Machine, bus_at, enters, stage_after, undo_after, takes}
-use Rattle.model_undo.specs.Clean.{Moment, answered_in_all, AnswersByRow, one, told}
+use Rattle.model_undo.specs.Clean.{Moment, answered_in_all, AnswersByRow, one, after_turn}
 use Rattle.model_undo.proofs.StageSound.{StageSound}
 use Rattle.model_undo.proofs.Calls.{carried_sound, carried_valid, carried_ready, taken_good}
 
@@ -34,7 +34,7 @@ module _ (F : Family) (laws : IsFamily F) (answer : F.Board → F.words.Asked �
   one_part task part m b =
       let r = answer b part.asked in
       let before : Machine F.words = record m { stage = Opened true task part; resent = 0 } in
-      ap (λ (busy : Bool). told F answer (if busy then None else Some (takes F.words r.0 task part before)) r.1 (at_stage (Opened true task part) m b)) (laws.never_busy b r.1 part.asked r.0 (by_row b part.asked))
+      ap (λ (busy : Bool). after_turn F answer (if busy then None else Some (takes F.words r.0 task part before)) r.1 (at_stage (Opened true task part) m b)) (laws.never_busy b r.1 part.asked r.0 (by_row b part.asked))
 
   pub part_good : (task : Task F.words) (part : Part F.words) (m : Machine F.words) (b : F.Board) → Good (Opened true task part) m b → let r = answer b part.asked in
       Good (stage_after F.words m.stopped m.plan r.0 task part) (replied task part m r.0) r.1

@@ -16,7 +16,7 @@ use Rattle.model_bus.proofs.PacketDecides.{is_packet_honest, all_packet_honest-t
 use Rattle.model_bus.proofs.PacketLaws.{event_implies, live_is_recent}
 use Rattle.model_undo.specs.Wires.{Wires}
 use Rattle.model_undo.specs.Line.{Exchange, Line, whole, packets, IsOutsideWhole, IsOutsidePackets}
-use Rattle.model_undo.specs.World.{World, Happening, Start, Quiet, Stop, Again, Undo, Resume, ToManager, OnBus, OnBench, BoardMay, May, AllMay, happens, opening}
+use Rattle.model_undo.specs.World.{World, Happening, Calls, Resume, ToManager, OnBus, OnBench, BoardMay, May, AllMay, happens, opening}
 use Rattle.model_undo.specs.Registers.{Halves, Asked, Board, answer, register_words, registers, wires}
 use Rattle.model_undo.specs.Example.{EndsUndone, board, plan, messages, quiet_messages, by_message, mixed, quiet_mixed, long_wires, by_packet, run_and_undo, run_resume_undo}
 
@@ -116,11 +116,7 @@ module _ (L : Bus → Line) (T : Tests L) (W : Wires register_words) where
   may w (ToManager bus e) = T.test bus (w.on bus) e && (L bus).is_to_manager e
   may w (OnBus bus e after) = T.test bus (w.on bus) e && (not ((L bus).is_to_manager e) && board_may bus ((L bus).carries (w.on bus) e) w.board after)
   may w (OnBench after) = same_halves after.registers w.board.registers
-  may w Start = true
-  may w Quiet = true
-  may w Stop = true
-  may w Again = true
-  may w Undo = true
+  may w (Calls call) = true
   may w (Resume retries) = true
 
   may-tells : (w : World registers L) (e : Happening registers L) → may w e ≡ true → May registers L W w e
@@ -130,11 +126,7 @@ module _ (L : Bus → Line) (T : Tests L) (W : Wires register_words) where
       let more = and_parts _ _ parts.1 in
       (T.tells bus (w.on bus) e parts.0, not-true _ more.0, board_may-tells bus ((L bus).carries (w.on bus) e) w.board after more.1)
   may-tells w (OnBench after) t = (same_halves-tells after.registers w.board.registers t, λ series bodies ready. ready)
-  may-tells w Start t = tt
-  may-tells w Quiet t = tt
-  may-tells w Stop t = tt
-  may-tells w Again t = tt
-  may-tells w Undo t = tt
+  may-tells w (Calls call) t = tt
   may-tells w (Resume retries) t = tt
 
   abbrev all_may : List (Happening registers L) → World registers L → Bool

@@ -14,8 +14,9 @@ use Rattle.model_undo.specs.Plan.{IsAfter, Stands, GaveGet, GaveSet, GaveUnresto
 use Rattle.model_undo.specs.Machine.{Stage, AtStart, Opened, AtEnd, AtHalt, AtUndone, AtRefused, Turn, bus_at, same_bus, start_of, quiet_of, stop_of, again_of, undo_of, reply_of, phase_of}
 use Rattle.model_undo.specs.Wires.{Wires}
 use Rattle.model_undo.specs.Line.{Exchange, Line}
+use Rattle.model_undo.specs.declared.call.Call.TheVariants.{Start, Quiet, Stop as StopCall, Again, Undo}
 use Rattle.model_undo.specs.World as world
-use Rattle.model_undo.specs.World.{World, Happening, Start, Quiet, Stop as StopCall, Again, Undo, Resume, ToManager, OnBus, OnBench, BoardMay, happens, run, May, AllMay, opening}
+use Rattle.model_undo.specs.World.{World, Happening, Calls, Resume, ToManager, OnBus, OnBench, BoardMay, happens, run, May, AllMay, opening}
 use Rattle.model_undo.specs.Headline.{IsStart}
 use Rattle.model_undo.specs.Giving.{Giving, given_by, given_at, given_in, GaveIn, GaveGetIn, GaveSetIn, GaveUnrestorableIn, CausedIn, HaltsByAnswers}
 use Rattle.model_undo.proofs.Series.{all_answered_as}
@@ -82,11 +83,7 @@ module _ (F : Family) (laws : IsFamily F) (given : List (Giving F)) where
     as_given w = record { machine = w.machine; on = w.on; board = w.board }
 
     abbrev event_given : Happening F L → Happening (giving F given) L
-    event_given Start = Start
-    event_given Quiet = Quiet
-    event_given StopCall = StopCall
-    event_given Again = Again
-    event_given Undo = Undo
+    event_given (Calls call) = Calls call
     event_given (Resume retries) = Resume retries
     event_given (ToManager bus e) = ToManager bus e
     event_given (OnBus bus e after) = OnBus bus e after
@@ -134,11 +131,11 @@ module _ (F : Family) (laws : IsFamily F) (given : List (Giving F)) where
     returns_same bus e (AtRefused k code) w = refl
 
     happens_same : (w : World F L) (e : Happening F L) → as_given (happens F L W w e) ≡ happens (giving F given) L W (as_given w) (event_given e)
-    happens_same w Start = opens_same (start_of F.words w.machine) w
-    happens_same w Quiet = repeats_same (quiet_of F.words w.machine) w
-    happens_same w StopCall = opens_same (stop_of F.words w.machine) w
-    happens_same w Again = repeats_same (again_of F.words w.machine) w
-    happens_same w Undo = opens_same (undo_of F.words w.machine) w
+    happens_same w (Calls Start) = opens_same (start_of F.words w.machine) w
+    happens_same w (Calls Quiet) = repeats_same (quiet_of F.words w.machine) w
+    happens_same w (Calls StopCall) = opens_same (stop_of F.words w.machine) w
+    happens_same w (Calls Again) = repeats_same (again_of F.words w.machine) w
+    happens_same w (Calls Undo) = opens_same (undo_of F.words w.machine) w
     happens_same w (Resume retries) = resumes_same retries w.machine.stage w
     happens_same w (ToManager bus e) = returns_same bus e w.machine.stage w
     happens_same w (OnBus bus e after) = refl
@@ -161,11 +158,7 @@ module _ (F : Family) (laws : IsFamily F) (given : List (Giving F)) where
         (a, may.1, (may.2, subst (λ (y : Answered). Contains given (record { before = board; asked = asked; answered = y; after = after })) told is_one))
 
     may_given : (w : World F L) (e : Happening F L) → ((g : Giving F) → Contains (given_at F L W w e) g → Contains given g) → May F L W w e → May (giving F given) L W (as_given w) (event_given e)
-    may_given w Start all may = tt
-    may_given w Quiet all may = tt
-    may_given w StopCall all may = tt
-    may_given w Again all may = tt
-    may_given w Undo all may = tt
+    may_given w (Calls call) all may = tt
     may_given w (Resume retries) all may = tt
     may_given w (ToManager bus e) all may = may
     may_given w (OnBus bus e after) all may = (may.0, may.1, board_may bus ((L bus).carries (w.on bus) e) w.board after all may.2)

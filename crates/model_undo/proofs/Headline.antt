@@ -20,7 +20,8 @@ use Rattle.model_undo.specs.Wires.{number_of, Wires}
 use Rattle.model_undo.specs.Joined.{IsClosed, Orderly}
 use Rattle.model_undo.specs.Line.{Line}
 use Rattle.model_undo.specs.World as world
-use Rattle.model_undo.specs.World.{States, World, Happening, Start, Quiet, Stop as StopCall, Again, Undo, Resume, ToManager, OnBus, OnBench, happens, run, AllMay, opening}
+use Rattle.model_undo.specs.declared.call.Call.TheVariants.{Start, Quiet, Stop as StopCall, Again, Undo}
+use Rattle.model_undo.specs.World.{States, World, Happening, Calls, Resume, ToManager, OnBus, OnBench, happens, run, AllMay, opening}
 use Rattle.model_undo.specs.Headline.{MakesStop, AnyMakesStop, ShowsSame, PartsShowSame, IsStart, AlwaysStands, UndoneForGood, StopsOnlyIfTold}
 use Rattle.model_undo.proofs.LineLaws.{IsLine}
 use Rattle.model_undo.proofs.Joined.{joined_stands, joined_halts}
@@ -59,11 +60,11 @@ module _ (F : Family) (L : Bus → Line) (W : Wires F.words) where
   IsAtUndone w = w.machine.stage ≡ AtUndone
 
   undone_once : (w : World F L) (e : Happening F L) → IsAtUndone w → IsAtUndone (happens F L W w e)
-  undone_once w Start at = subst (λ (s : Stage F.words). IsAtUndone (world.opens F L W (starts F.words s w.machine) w)) (sym at) at
-  undone_once w Quiet at = subst (λ (s : Stage F.words). IsAtUndone (world.repeats F L W (quiets F.words s w.machine) w)) (sym at) at
-  undone_once w StopCall at = subst (λ (s : Stage F.words). IsAtUndone (world.opens F L W (stops F.words s w.machine) w)) (sym at) at
-  undone_once w Again at = subst (λ (s : Stage F.words). IsAtUndone (world.repeats F L W (agains F.words s w.machine) w)) (sym at) at
-  undone_once w Undo at = subst (λ (s : Stage F.words). IsAtUndone (world.opens F L W (undoes F.words s w.machine) w)) (sym at) at
+  undone_once w (Calls Start) at = subst (λ (s : Stage F.words). IsAtUndone (world.opens F L W (starts F.words s w.machine) w)) (sym at) at
+  undone_once w (Calls Quiet) at = subst (λ (s : Stage F.words). IsAtUndone (world.repeats F L W (quiets F.words s w.machine) w)) (sym at) at
+  undone_once w (Calls StopCall) at = subst (λ (s : Stage F.words). IsAtUndone (world.opens F L W (stops F.words s w.machine) w)) (sym at) at
+  undone_once w (Calls Again) at = subst (λ (s : Stage F.words). IsAtUndone (world.repeats F L W (agains F.words s w.machine) w)) (sym at) at
+  undone_once w (Calls Undo) at = subst (λ (s : Stage F.words). IsAtUndone (world.opens F L W (undoes F.words s w.machine) w)) (sym at) at
   undone_once w (Resume retries) at = subst (λ (s : Stage F.words). IsAtUndone (world.resumes F L W retries s w)) (sym at) at
   undone_once w (ToManager bus e) at = subst (λ (s : Stage F.words). IsAtUndone (world.returns F L W bus e s w)) (sym at) at
   undone_once w (OnBus bus e after) at = at
@@ -147,11 +148,11 @@ module _ (F : Family) (L : Bus → Line) (W : Wires F.words) where
   returns_stop bus e (AtRefused k code) w = refl
 
   one_stop : (w : World F L) (e : Happening F L) → SameStop w (happens F L W w e) ⊎ MakesStop F L e
-  one_stop w Start = inl (start_stop w.machine.stage w)
-  one_stop w Quiet = inl (quiet_stop w.machine.stage w)
-  one_stop w StopCall = inr tt
-  one_stop w Again = inl (again_stop w.machine.stage w)
-  one_stop w Undo = inl (undo_stop w.machine.stage w)
+  one_stop w (Calls Start) = inl (start_stop w.machine.stage w)
+  one_stop w (Calls Quiet) = inl (quiet_stop w.machine.stage w)
+  one_stop w (Calls StopCall) = inr tt
+  one_stop w (Calls Again) = inl (again_stop w.machine.stage w)
+  one_stop w (Calls Undo) = inl (undo_stop w.machine.stage w)
   one_stop w (Resume retries) = inr tt
   one_stop w (ToManager bus e) = inl (returns_stop bus e w.machine.stage w)
   one_stop w (OnBus bus e after) = inl refl

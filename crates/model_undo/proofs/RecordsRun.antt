@@ -7,8 +7,9 @@ use Rattle.model_undo.specs.Family.{Family, AllValid, IsReady}
 use Rattle.model_undo.specs.IsFamily.{IsFamily}
 use Rattle.model_undo.specs.Machine.{Gets, Sets, Undoes, Stage, AtStart, Opened, AtEnd, AtHalt, AtUndone, AtRefused, Machine, Turn, sending, starts, undoes, quiets, agains, stops, replies, takes, start_of, quiet_of, stop_of, again_of, undo_of, reply_of}
 use Rattle.model_undo.specs.Resume.{list_of, resumed}
+use Rattle.model_undo.specs.declared.call.Call.TheVariants.{Start, Quiet, Stop, Again, Undo}
 use Rattle.model_undo.specs.RecordsRun as desk
-use Rattle.model_undo.specs.RecordsRun.{Desk, DeskEvent, Starts, Quiets, Stops, GoesAgain, Undoes as UndoesAll, Resumes, Carries, Takes, Elsewhere, May, AllMay, run, happens, Answers, at_desk, RecordsStand}
+use Rattle.model_undo.specs.RecordsRun.{Desk, DeskEvent, Calls, Resumes, Carries, Takes, Elsewhere, May, AllMay, run, happens, Answers, at_desk, RecordsStand}
 use Rattle.model_undo.specs.Undoable.{CanUndo}
 use Rattle.model_undo.proofs.Undoable.{length_of}
 use Rattle.model_undo.proofs.StageSound.{StageSound, stage_kept, stage_stands, stage_halts}
@@ -126,11 +127,11 @@ module _ (F : Family) (laws : IsFamily F) (plan : List F.words.Op) (start : F.Re
   takes_hold (Some a) w s h = opened_holds (reply_of F.words a w.machine) w h (replies_sound w.machine.stage w.machine a w.board s h.valid h.free)
 
   happens_holds : (w : Desk F) (e : DeskEvent F) → Holds w → May F w e → Holds (happens F w e)
-  happens_holds w Starts h may = opened_holds (start_of F.words w.machine) w h (starts_sound w.machine.stage w.machine w.reply w.board h.sound)
-  happens_holds w Quiets h may = stayed_holds (quiet_of F.words w.machine) w h (quiets_sound w.machine.stage w.machine w.reply w.board refl h.sound)
-  happens_holds w Stops h may = stayed_holds (stop_of F.words w.machine) w h (stops_sound w.machine.stage w.machine w.reply w.board refl h.sound)
-  happens_holds w GoesAgain h may = stayed_holds (again_of F.words w.machine) w h (agains_sound w.machine.stage w.machine w.reply w.board h.sound)
-  happens_holds w UndoesAll h may = opened_holds (undo_of F.words w.machine) w h (undoes_sound w.machine.stage w.machine w.reply w.board h.sound h.free)
+  happens_holds w (Calls Start) h may = opened_holds (start_of F.words w.machine) w h (starts_sound w.machine.stage w.machine w.reply w.board h.sound)
+  happens_holds w (Calls Quiet) h may = stayed_holds (quiet_of F.words w.machine) w h (quiets_sound w.machine.stage w.machine w.reply w.board refl h.sound)
+  happens_holds w (Calls Stop) h may = stayed_holds (stop_of F.words w.machine) w h (stops_sound w.machine.stage w.machine w.reply w.board refl h.sound)
+  happens_holds w (Calls Again) h may = stayed_holds (again_of F.words w.machine) w h (agains_sound w.machine.stage w.machine w.reply w.board h.sound)
+  happens_holds w (Calls Undo) h may = opened_holds (undo_of F.words w.machine) w h (undoes_sound w.machine.stage w.machine w.reply w.board h.sound h.free)
   happens_holds w (Resumes retries) h may = resumes_hold retries w.machine.stage w h.sound h
   happens_holds w (Carries a after) h may = carries_hold w.machine.stage w.reply a after w refl h.sound h may
   happens_holds w Takes h may = takes_hold w.reply w h.sound h

@@ -17,7 +17,8 @@ use Rattle.model_undo.specs.Wires.{number_of, Wires}
 use Rattle.model_undo.specs.Joined.{OthersStill, IsClosed, request_bytes, answer_at, AreCounted}
 use Rattle.model_undo.specs.Line.{Exchange, Line}
 use Rattle.model_undo.specs.World as world
-use Rattle.model_undo.specs.World.{States, update, World, Happening, Start, Quiet, Stop, Again, Undo, Resume, ToManager, OnBus, OnBench, May, AllMay, run, happens, IsHonestOn, BoardMay}
+use Rattle.model_undo.specs.declared.call.Call.TheVariants.{Start, Quiet, Stop, Again, Undo}
+use Rattle.model_undo.specs.World.{States, update, World, Happening, Calls, Resume, ToManager, OnBus, OnBench, May, AllMay, run, happens, IsHonestOn, BoardMay}
 use Rattle.model_undo.specs.Undoable.{CanUndo}
 use Rattle.model_undo.proofs.Undoable.{length_of}
 use Rattle.model_undo.proofs.Calls.{first_good, undo_good, stop_good}
@@ -365,11 +366,11 @@ module _ (F : Family) (laws : IsFamily F) (L : Bus → Line) (lines : (bus : Bus
   resumes_hold retries (AtRefused k code) w at h = h
 
   pub happens_holds : (w : World F L) (e : Happening F L) → WorldHolds w → May F L W w e → WorldHolds (happens F L W w e)
-  happens_holds w Start h may = opened_holds (start_of F.words w.machine) w h (starts_hold w.machine.stage w.machine w.on w.board h)
-  happens_holds w Quiet h may = repeated_holds (quiet_of F.words w.machine) w h (quiets_hold w.machine.stage w.machine w.on w.board refl h)
-  happens_holds w Stop h may = opened_holds (stop_of F.words w.machine) w h (stops_hold w.machine.stage w.machine w.on w.board refl h)
-  happens_holds w Again h may = repeated_holds (again_of F.words w.machine) w h (agains_hold w.machine.stage w.machine w.on w.board h)
-  happens_holds w Undo h may = opened_holds (undo_of F.words w.machine) w h (undoes_hold w.machine.stage w.machine w.on w.board h)
+  happens_holds w (Calls Start) h may = opened_holds (start_of F.words w.machine) w h (starts_hold w.machine.stage w.machine w.on w.board h)
+  happens_holds w (Calls Quiet) h may = repeated_holds (quiet_of F.words w.machine) w h (quiets_hold w.machine.stage w.machine w.on w.board refl h)
+  happens_holds w (Calls Stop) h may = opened_holds (stop_of F.words w.machine) w h (stops_hold w.machine.stage w.machine w.on w.board refl h)
+  happens_holds w (Calls Again) h may = repeated_holds (again_of F.words w.machine) w h (agains_hold w.machine.stage w.machine w.on w.board h)
+  happens_holds w (Calls Undo) h may = opened_holds (undo_of F.words w.machine) w h (undoes_hold w.machine.stage w.machine w.on w.board h)
   happens_holds w (Resume retries) h may = resumes_hold retries w.machine.stage w refl h
   happens_holds w (ToManager bus e) h may = returns_hold bus e w.machine.stage w refl h may.0 may.1
   happens_holds w (OnBus bus e after) h may =

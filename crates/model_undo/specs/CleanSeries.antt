@@ -15,105 +15,106 @@ use Rattle.model_undo.specs.Clean.{Moment, clean, IsAtRest}
 
 -- each series that a manager makes has an end: after so many replies, whatever their data are, no request is next
 abbrev pub AreFinite : Words → Type 0
-AreFinite M = (series : M.Series) → IsSeries M series → (most : ℕ) × ((bodies : List (List ℕ)) → most ≤ length bodies → M.next series bodies ≡ None)
+AreFinite words = (series : words.Series) → IsSeries words series → (most : ℕ) × ((bodies : List (List ℕ)) → most ≤ length bodies → words.next series bodies ≡ None)
 
-module _ (F : Family) (answer : F.Board → F.words.Asked → Answered × F.Board) where
+module _ (family : Family) (answer : family.Board → family.words.Asked → Answered × family.Board) where
   -- after replies with the data `before`, the board answers requests of the series in order, each with 00h and these data, and becomes the other
-  abbrev pub Answers : F.words.Series → (before bodies : List (List ℕ)) → F.Board → F.Board → Type 0
+  abbrev pub Answers : family.words.Series → (before bodies : List (List ℕ)) → family.Board → family.Board → Type 0
   Answers series before [] board after = after ≡ board
   Answers series before (body ∷ bodies) board after =
-      (asked : F.words.Asked) × IsNext F.words series before asked × ((answer board asked).0 ≡ record { code = success; body = body })
+      (asked : family.words.Asked) × IsNext family.words series before asked × ((answer board asked).0 ≡ record { code = success; body = body })
       × Answers series (before ++ body ∷ []) bodies (answer board asked).1 after
 
   -- it answers all requests of the series so
-  pub record AnswersAll (series : F.words.Series) (bodies : List (List ℕ)) (board after : F.Board) : Type 0 where
+  pub record AnswersAll (series : family.words.Series) (bodies : List (List ℕ)) (board after : family.Board) : Type 0 where
     pub replied : Answers series [] bodies board after
     pub some : bodies ≢ []
-    pub no_more : F.words.next series bodies ≡ None
+    pub no_more : family.words.next series bodies ≡ None
 
   -- it refuses the last of so many requests of the series with this code, and answered those before it so
-  pub record RefusesOne (series : F.words.Series) (code requests : ℕ) (board : F.Board) : Type 0 where
+  pub record RefusesOne (series : family.words.Series) (code requests : ℕ) (board : family.Board) : Type 0 where
     pub bodies : List (List ℕ)
-    pub mid : F.Board
+    pub mid : family.Board
     pub replied : Answers series [] bodies board mid
-    pub asked : F.words.Asked
-    pub is_next : IsNext F.words series bodies asked
+    pub asked : family.words.Asked
+    pub is_next : IsNext family.words series bodies asked
     pub refused : (answer mid asked).0.code ≡ code
     pub fault : code ≢ success
     pub counted : requests ≡ length bodies + 1
 
   -- what the data of all replies to the Get of an operation's record show
-  abbrev pub shown : F.words.Op → List (List ℕ) → List ℕ
-  shown op bodies = F.words.joined (F.words.getting (F.words.key_of op)) bodies
+  abbrev pub shown : family.words.Op → List (List ℕ) → List ℕ
+  shown op bodies = family.words.joined (family.words.getting (family.words.key_of op)) bodies
 
   -- the board carries a step out by so many requests, and the step can be undone
-  pub record Goes (board : F.Board) (op : F.words.Op) (requests : ℕ) (after : F.Board) : Type 0 where
+  pub record Goes (board : family.Board) (op : family.words.Op) (requests : ℕ) (after : family.Board) : Type 0 where
     pub got : List (List ℕ)
-    pub mid : F.Board
-    pub read : AnswersAll (F.words.getting (F.words.key_of op)) got board mid
-    pub can_undo : F.Restorable op (shown op got)
+    pub mid : family.Board
+    pub read : AnswersAll (family.words.getting (family.words.key_of op)) got board mid
+    pub can_undo : family.Restorable op (shown op got)
     pub put : List (List ℕ)
-    pub done : AnswersAll (F.words.setting op) put mid after
+    pub done : AnswersAll (family.words.setting op) put mid after
     pub counted : requests ≡ length got + length put
 
   -- the board carries all steps out, in order, by so many requests, and becomes the second board; each step can be undone
-  abbrev pub GoAll : List F.words.Op → ℕ → F.Board → F.Board → Type 0
+  abbrev pub GoAll : List family.words.Op → ℕ → family.Board → family.Board → Type 0
   GoAll [] requests board after = (after ≡ board) × (requests ≡ 0)
-  GoAll (op ∷ ops) requests board after = (mid : F.Board) × (first : ℕ) × (more : ℕ) × Goes board op first mid × GoAll ops more mid after × (requests ≡ first + more)
+  GoAll (op ∷ ops) requests board after = (mid : family.Board) × (first : ℕ) × (more : ℕ) × Goes board op first mid × GoAll ops more mid after × (requests ≡ first + more)
 
   -- the board reads a step's record by a Get, and refuses its Set
-  pub record RefusesSet (board : F.Board) (op : F.words.Op) (code requests : ℕ) : Type 0 where
+  pub record RefusesSet (board : family.Board) (op : family.words.Op) (code requests : ℕ) : Type 0 where
     pub got : List (List ℕ)
-    pub mid : F.Board
-    pub read : AnswersAll (F.words.getting (F.words.key_of op)) got board mid
-    pub can_undo : F.Restorable op (shown op got)
+    pub mid : family.Board
+    pub read : AnswersAll (family.words.getting (family.words.key_of op)) got board mid
+    pub can_undo : family.Restorable op (shown op got)
     pub sets : ℕ
-    pub refuses : RefusesOne (F.words.setting op) code sets mid
+    pub refuses : RefusesOne (family.words.setting op) code sets mid
     pub counted : requests ≡ length got + sets
 
   -- why the board doesn't carry a step out, and how many requests of the step were sent
-  abbrev pub Sticks : F.Board → F.words.Op → Why → ℕ → Type 0
+  abbrev pub Sticks : family.Board → family.words.Op → Why → ℕ → Type 0
   Sticks board op Stop requests = ⊥
-  Sticks board op (GetRefused code) requests = RefusesOne (F.words.getting (F.words.key_of op)) code requests board
-  Sticks board op NotRestorable requests = (bodies : List (List ℕ)) × (after : F.Board) × AnswersAll (F.words.getting (F.words.key_of op)) bodies board after × (¬ F.Restorable op (shown op bodies)) × (requests ≡ length bodies)
+  Sticks board op (GetRefused code) requests = RefusesOne (family.words.getting (family.words.key_of op)) code requests board
+  Sticks board op NotRestorable requests =
+      (bodies : List (List ℕ)) × (after : family.Board) × AnswersAll (family.words.getting (family.words.key_of op)) bodies board after × (¬ family.Restorable op (shown op bodies)) × (requests ≡ length bodies)
   Sticks board op (Refused code) requests = RefusesSet board op code requests
 
   -- the phase after `step` steps, where these steps are left: done, or halted at the first of them
-  abbrev pub EndsIn : ℕ → List F.words.Op → F.Board → Phase → ℕ → Type 0
+  abbrev pub EndsIn : ℕ → List family.words.Op → family.Board → Phase → ℕ → Type 0
   EndsIn step [] board phase requests = (phase ≡ Done) × (requests ≡ 0)
   EndsIn step (op ∷ ops) board phase requests = (why : Why) × Sticks board op why requests × (phase ≡ Halted step why)
 
   -- the board answers all requests of each series, in order, so many together, and becomes the other
-  abbrev pub AnswersEach : List F.words.Series → ℕ → F.Board → F.Board → Type 0
+  abbrev pub AnswersEach : List family.words.Series → ℕ → family.Board → family.Board → Type 0
   AnswersEach [] requests board after = (after ≡ board) × (requests ≡ 0)
   AnswersEach (series ∷ more) requests board after =
-      (bodies : List (List ℕ)) × (mid : F.Board) × (later : ℕ) × AnswersAll series bodies board mid × AnswersEach more later mid after × (requests ≡ length bodies + later)
+      (bodies : List (List ℕ)) × (mid : family.Board) × (later : ℕ) × AnswersAll series bodies board mid × AnswersEach more later mid after × (requests ≡ length bodies + later)
 
   -- A plan that is begun takes as many requests as the Gets and Sets have of the steps that the board carries out. It ends after the last step, or
   -- halts at the first that the board doesn't carry out. Its undo takes as many requests as the series have that undo the steps that were carried
   -- out, and ends with the records of the start.
-  pub record RunsThrough (plan : List F.words.Op) (board : F.Board) (begun : Moment F) : Type 0 where
-    pub steps : List F.words.Op
-    pub rest : List F.words.Op
+  pub record RunsThrough (plan : List family.words.Op) (board : family.Board) (begun : Moment family) : Type 0 where
+    pub steps : List family.words.Op
+    pub rest : List family.words.Op
     pub whole : plan ≡ steps ++ rest
-    pub at : F.Board
+    pub at : family.Board
     pub requests : ℕ
     pub go : GoAll steps requests board at
     pub phase : Phase
     pub more : ℕ
     pub ends : EndsIn (length steps) rest at phase more
-    pub run : let x = clean F answer (requests + more) begun in
-        IsAtRest F answer x phase (requests + more) × IsAfter F plan (F.records board) (length steps) (F.records x.board)
+    pub run : let ran = clean family answer (requests + more) begun in
+        IsAtRest family answer ran phase (requests + more) × IsAfter family plan (family.records board) (length steps) (family.records ran.board)
     pub back : ℕ
-    pub undo : let x = clean F answer (requests + more) begun in
-        IfSome (undo_of F.words x.turn.machine) (λ t.
-        let y = clean F answer back (record { turn = t; board = x.board }) in
-        IsAtRest F answer y Undone (requests + more + back) × (F.records y.board ≡ F.records board) × AnswersEach x.turn.machine.undo back x.board y.board)
-    pub undo_is_taken : let x = clean F answer (requests + more) begun in undo_of F.words x.turn.machine ≢ None
-    pub undo_each : let x = clean F answer (requests + more) begun in length x.turn.machine.undo ≡ length steps
-    pub leads_back : let x = clean F answer (requests + more) begun in CanUndo F plan (F.records board) (length steps) x.turn.machine.undo (F.records x.board)
+    pub undo : let ran = clean family answer (requests + more) begun in
+        IfSome (undo_of family.words ran.turn.machine) (λ turn.
+        let undone = clean family answer back (record { turn = turn; board = ran.board }) in
+        IsAtRest family answer undone Undone (requests + more + back) × (family.records undone.board ≡ family.records board) × AnswersEach ran.turn.machine.undo back ran.board undone.board)
+    pub undo_is_taken : let ran = clean family answer (requests + more) begun in undo_of family.words ran.turn.machine ≢ None
+    pub undo_each : let ran = clean family answer (requests + more) begun in length ran.turn.machine.undo ≡ length steps
+    pub leads_back : let ran = clean family answer (requests + more) begun in CanUndo family plan (family.records board) (length steps) ran.turn.machine.undo (family.records ran.board)
 
   -- so it is with every plan, at every board of valid records that is ready
   abbrev pub AlwaysRunsThrough : Type 0
-  AlwaysRunsThrough = (plan : List F.words.Op) (retries : ℕ) (board : F.Board) → AllValid F (F.records board) → IsReady F board
-      → IfSome (start_of F.words (opened F.words plan retries)) (λ t. RunsThrough plan board (record { turn = t; board = board }))
+  AlwaysRunsThrough = (plan : List family.words.Op) (retries : ℕ) (board : family.Board) → AllValid family (family.records board) → IsReady family board
+      → IfSome (start_of family.words (opened family.words plan retries)) (λ turn. RunsThrough plan board (record { turn = turn; board = board }))

@@ -8,13 +8,13 @@ use Rattle.model_bus.specs.PacketBus.{PacketBus, PacketEvent, PacketReachesPort,
 use Rattle.model_undo.specs.Line.{Line, whole, packets}
 
 -- the events that bring the newest frame to its end, whole and once
-pub record Delivery (L : Line) : Type 1 where
+pub record Delivery (line : Line) : Type 1 where
   -- a request's frame to the port, where the board would answer so
-  pub to_port : L.State → List ℕ → List L.Event
+  pub to_port : line.State → List ℕ → List line.Event
   -- a reply's frame to the manager
-  pub to_manager : L.State → List L.Event
+  pub to_manager : line.State → List line.Event
   -- the port has a window for the manager, or a place for one
-  pub HasPlace : L.State → Type 0
+  pub HasPlace : line.State → Type 0
   -- bytes that can be sent on the line
   pub CanSend : List ℕ → Type 0
 
@@ -25,9 +25,9 @@ newest state = length state.frames - 1
 -- in whole messages a frame comes in one event, and has any bytes
 abbrev pub by_message : (rules : Rules) → Delivery (whole rules)
 by_message rules = record {
-  to_port = λ s answer. ReachesPort (newest s) answer ∷ [];
-  to_manager = λ s. ReachesManager (newest s) ∷ [];
-  HasPlace = λ s. is_busy rules.manager s.log ≡ false;
+  to_port = λ state answer. ReachesPort (newest state) answer ∷ [];
+  to_manager = λ state. ReachesManager (newest state) ∷ [];
+  HasPlace = λ state. is_busy rules.manager state.log ≡ false;
   CanSend = λ bytes. Unit {0};
 }
 
@@ -49,8 +49,10 @@ each_place event place (packet ∷ packets) = event place ∷ each_place event (
 -- in packets a frame comes packet by packet, in order; its message can be sent where it can be cut
 abbrev pub by_packets : (bus : PacketBus) → Delivery (packets bus)
 by_packets bus = record {
-  to_port = λ x answer. each_place (λ place. PacketReachesPort (newest x.bus) place answer) 0 (packets_of_frame bus (slice_get x.bus.frames (newest x.bus)));
-  to_manager = λ x. each_place (λ place. PacketReachesManager (newest x.bus) place) 0 (packets_of_frame bus (slice_get x.bus.frames (newest x.bus)));
-  HasPlace = λ x. is_busy bus.manager x.bus.log ≡ false;
+  to_port = λ ends answer. each_place (λ place. PacketReachesPort (newest ends.bus) place answer) 0
+      (packets_of_frame bus (slice_get ends.bus.frames (newest ends.bus)));
+  to_manager = λ ends. each_place (λ place. PacketReachesManager (newest ends.bus) place) 0
+      (packets_of_frame bus (slice_get ends.bus.frames (newest ends.bus)));
+  HasPlace = λ ends. is_busy bus.manager ends.bus.log ≡ false;
   CanSend = λ bytes. IsCut (bus.split bytes) bytes;
 }

@@ -12,7 +12,8 @@ use Rattle.model_undo.specs.Wires.{Wires}
 use Rattle.model_undo.specs.Line.{Line}
 use Rattle.model_bus.specs.Addresses.{Addresses}
 use Rattle.model_undo.specs.TwoBuses.{in_messages, with_packets}
-use Rattle.model_undo.specs.World.{States, Happening, Start, Quiet, Again, Undo, Resume, ToManager, OnBus, AllMay, run, opening}
+use Rattle.model_undo.specs.declared.call.Call.TheVariants.{Start, Quiet, Again, Undo}
+use Rattle.model_undo.specs.World.{States, Happening, Calls, Resume, ToManager, OnBus, AllMay, run, opening}
 use Rattle.model_undo.specs.Registers.{Board, Write, register_words, registers, wires}
 
 -- the first register has 5 in its high half, the second 2 in its low half
@@ -52,23 +53,23 @@ module _ (L : Bus → Line) (R : Reaches L) where
   -- reply lost (frame 6), and a retry (frame 7) is answered by the kept reply (frame 8).
   abbrev pub first_step : List (Happening registers L)
   first_step =
-      Start ∷ Quiet ∷ R.port Ipmb 1 (0 ∷ 0 ∷ 5 ∷ 1 ∷ 0 ∷ []) (board 1 9 0) (board 1 9 1)
-      ++ Quiet ∷ Again ∷ R.port Ipmb 3 [] (board 1 9 1) (board 1 9 1) ++ R.manager Ipmb 4
-      ++ R.port Ipmb 5 (1 ∷ 0 ∷ []) (board 1 9 1) (board 3 9 2) ++ Quiet ∷ R.port Ipmb 7 [] (board 3 9 2) (board 3 9 2) ++ R.manager Ipmb 8
+      Calls Start ∷ Calls Quiet ∷ R.port Ipmb 1 (0 ∷ 0 ∷ 5 ∷ 1 ∷ 0 ∷ []) (board 1 9 0) (board 1 9 1)
+      ++ Calls Quiet ∷ Calls Again ∷ R.port Ipmb 3 [] (board 1 9 1) (board 1 9 1) ++ R.manager Ipmb 4
+      ++ R.port Ipmb 5 (1 ∷ 0 ∷ []) (board 1 9 1) (board 3 9 2) ++ Calls Quiet ∷ R.port Ipmb 7 [] (board 3 9 2) (board 3 9 2) ++ R.manager Ipmb 8
 
   -- On SMBus too: the Get of register 1 is lost (frame 0), then its reply (frame 2), and it is unsettled and sent again (frame 3). The Set
   -- (frame 5) goes through. Somebody else asks in between, and at the end a late copy of the Set of register 0 comes: it repeats, and
   -- changes nothing.
   abbrev pub second_step : List (Happening registers L)
   second_step =
-      R.rest_to_port 0 (board 3 9 2) ++ R.other (board 3 9 2) ++ Quiet ∷ R.port Smbus 1 (0 ∷ 0 ∷ 9 ∷ 2 ∷ 2 ∷ []) (board 3 9 2) (board 3 9 3)
-      ++ R.rest_to_manager 2 ++ Quiet ∷ Again ∷ R.port Smbus 3 [] (board 3 9 3) (board 3 9 3) ++ R.manager Smbus 4
+      R.rest_to_port 0 (board 3 9 2) ++ R.other (board 3 9 2) ++ Calls Quiet ∷ R.port Smbus 1 (0 ∷ 0 ∷ 9 ∷ 2 ∷ 2 ∷ []) (board 3 9 2) (board 3 9 3)
+      ++ R.rest_to_manager 2 ++ Calls Quiet ∷ Calls Again ∷ R.port Smbus 3 [] (board 3 9 3) (board 3 9 3) ++ R.manager Smbus 4
       ++ R.port Smbus 5 (1 ∷ 0 ∷ []) (board 3 9 3) (board 3 7 4) ++ R.manager Smbus 6 ++ R.port Ipmb 5 [] (board 3 7 4) (board 3 7 4)
 
   -- The undo, register 1 first. The reply to the late copy (frame 9 on IPMB) comes while the undo of register 0 is open: it isn't taken.
   abbrev pub undo_steps : List (Happening registers L)
   undo_steps =
-      Undo ∷ R.port Smbus 7 (2 ∷ 0 ∷ []) (board 3 7 4) (board 3 9 5) ++ R.manager Smbus 8
+      Calls Undo ∷ R.port Smbus 7 (2 ∷ 0 ∷ []) (board 3 7 4) (board 3 9 5) ++ R.manager Smbus 8
       ++ R.port Ipmb 10 (2 ∷ 0 ∷ []) (board 3 9 5) (board 1 9 6) ++ R.manager Ipmb 9 ++ R.manager Ipmb 11
 
   -- a run and its undo

@@ -34,25 +34,26 @@ pub record Family : Type 1 where
   pub Row : Board → words.Asked → Answered → Board → Type 0
 
 -- every record has a value that it can have
-abbrev pub AllValid : (F : Family) → F.Records → Type 0
-AllValid F records = (key : F.words.Key) (value : F.Value) → F.get records key ≡ Some value → F.Valid key value
+abbrev pub AllValid : (family : Family) → family.Records → Type 0
+AllValid family records = (key : family.words.Key) (value : family.Value) → family.get records key ≡ Some value → family.Valid key value
 
 -- the board is ready for the first request of each series
-abbrev pub IsReady : (F : Family) → F.Board → Type 0
-IsReady F board = (series : F.words.Series) → F.Ready board series []
+abbrev pub IsReady : (family : Family) → family.Board → Type 0
+IsReady family board = (series : family.words.Series) → family.Ready board series []
 
 -- no record changes, and the board stays ready for what it was ready for
-abbrev pub Keeps : (F : Family) → F.Board → F.Board → Type 0
-Keeps F board after = (F.records after ≡ F.records board) × ((series : F.words.Series) (bodies : List (List ℕ)) → F.Ready board series bodies → F.Ready after series bodies)
+abbrev pub Keeps : (family : Family) → family.Board → family.Board → Type 0
+Keeps family board after = (family.records after ≡ family.records board)
+    × ((series : family.words.Series) (bodies : List (List ℕ)) → family.Ready board series bodies → family.Ready after series bodies)
 
 -- the board gave this reply to the request at these records
-abbrev pub Gave : (F : Family) → F.Records → F.words.Asked → Answered → Type 0
-Gave F records asked answered = (board : F.Board) × (after : F.Board) × (F.records board ≡ records) × F.Row board asked answered after
+abbrev pub Gave : (family : Family) → family.Records → family.words.Asked → Answered → Type 0
+Gave family records asked answered = (board : family.Board) × (after : family.Board) × (family.records board ≡ records) × family.Row board asked answered after
 
 -- the operation is accepted at these records, and leaves those: it changes its own record, and no other
-pub record SetsTo (F : Family) (op : F.words.Op) (old new : F.Records) : Type 0 where
-  pub before : F.Value
-  pub after : F.Value
-  pub found : F.get old (F.words.key_of op) ≡ Some before
-  pub sets : F.Sets op before after
-  pub changed : new ≡ F.put old (F.words.key_of op) after
+pub record SetsTo (family : Family) (op : family.words.Op) (old new : family.Records) : Type 0 where
+  pub before : family.Value
+  pub after : family.Value
+  pub found : family.get old (family.words.key_of op) ≡ Some before
+  pub sets : family.Sets op before after
+  pub changed : new ≡ family.put old (family.words.key_of op) after

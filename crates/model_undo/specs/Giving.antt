@@ -16,62 +16,62 @@ use Rattle.model_undo.specs.World.{States, World, Happening, OnBus, happens, run
 use Rattle.model_undo.specs.Headline.{AnyMakesStop, IsStart}
 
 -- a board answered a request, and became another
-pub record Giving (F : Family) : Type 0 where
-  pub before : F.Board
-  pub asked : F.words.Asked
+pub record Giving (family : Family) : Type 0 where
+  pub before : family.Board
+  pub asked : family.words.Asked
   pub answered : Answered
-  pub after : F.Board
+  pub after : family.Board
 
-module _ (F : Family) (L : Bus → Line) (W : Wires F.words) where
+module _ (family : Family) (lines : Bus → Line) (wires : Wires family.words) where
   -- the answer by which a board became another, if a request of the manager was carried out then
-  abbrev pub given_by : Bus → Option Exchange → F.Board → F.Board → List (Giving F)
+  abbrev pub given_by : Bus → Option Exchange → family.Board → family.Board → List (Giving family)
   given_by bus None before after = []
-  given_by bus (Some exchange) before after = record { before = before; asked = W.asked_from bus exchange.bytes; answered = W.answered_from bus exchange.reply; after = after } ∷ []
+  given_by bus (Some exchange) before after = record { before = before; asked = wires.asked_from bus exchange.bytes; answered = wires.answered_from bus exchange.reply; after = after } ∷ []
 
   -- the answer that the board gives as this happens, if it gives one
-  abbrev pub given_at : World F L → Happening F L → List (Giving F)
-  given_at world (OnBus bus event after) = given_by bus ((L bus).carries (world.on bus) event) world.board after
+  abbrev pub given_at : World family lines → Happening family lines → List (Giving family)
+  given_at world (OnBus bus event after) = given_by bus ((lines bus).carries (world.on bus) event) world.board after
   given_at world _ = []
 
   -- all answers that the board gave to the manager in a schedule, in order
-  abbrev pub given_in : List (Happening F L) → World F L → List (Giving F)
+  abbrev pub given_in : List (Happening family lines) → World family lines → List (Giving family)
   given_in [] world = []
-  given_in (happening ∷ happenings) world = given_at world happening ++ given_in happenings (happens F L W world happening)
+  given_in (happening ∷ happenings) world = given_at world happening ++ given_in happenings (happens family lines wires world happening)
 
   -- the board gave this answer to this request by the command relation, at the records after `step` steps
-  pub record GaveIn (given : List (Giving F)) (plan : List F.words.Op) (start : F.Records) (step : ℕ) (asked : F.words.Asked) (answered : Answered) : Type 0 where
-    pub before : F.Board
-    pub after : F.Board
+  pub record GaveIn (given : List (Giving family)) (plan : List family.words.Op) (start : family.Records) (step : ℕ) (asked : family.words.Asked) (answered : Answered) : Type 0 where
+    pub before : family.Board
+    pub after : family.Board
     pub is_one : Contains given (record { before = before; asked = asked; answered = answered; after = after })
-    pub row : F.Row before asked answered after
-    pub at : IsAfter F plan start step (F.records before)
+    pub row : family.Row before asked answered after
+    pub at : IsAfter family plan start step (family.records before)
 
   -- the answer that the board gave to a request of the Get of this step of the plan, and to one of its Set, each at the records after the steps
   -- before it
-  pub record GaveGetIn (given : List (Giving F)) (plan : List F.words.Op) (start : F.Records) (place : ℕ) (answered : Answered) : Type 0 where
-    pub op : F.words.Op
+  pub record GaveGetIn (given : List (Giving family)) (plan : List family.words.Op) (start : family.Records) (place : ℕ) (answered : Answered) : Type 0 where
+    pub op : family.words.Op
     pub step : slice_get plan place ≡ Some op
-    pub asked : F.words.Asked
-    pub is_of : IsOf F.words (F.words.getting (F.words.key_of op)) asked
+    pub asked : family.words.Asked
+    pub is_of : IsOf family.words (family.words.getting (family.words.key_of op)) asked
     pub gave : GaveIn given plan start place asked answered
 
-  pub record GaveSetIn (given : List (Giving F)) (plan : List F.words.Op) (start : F.Records) (place : ℕ) (answered : Answered) : Type 0 where
-    pub op : F.words.Op
+  pub record GaveSetIn (given : List (Giving family)) (plan : List family.words.Op) (start : family.Records) (place : ℕ) (answered : Answered) : Type 0 where
+    pub op : family.words.Op
     pub step : slice_get plan place ≡ Some op
-    pub asked : F.words.Asked
-    pub is_of : IsOf F.words (F.words.setting op) asked
+    pub asked : family.words.Asked
+    pub is_of : IsOf family.words (family.words.setting op) asked
     pub gave : GaveIn given plan start place asked answered
 
   -- the data of the answers that the board gave to all requests of that Get, from which the step can't be undone
-  pub record GaveUnrestorableIn (given : List (Giving F)) (plan : List F.words.Op) (start : F.Records) (place : ℕ) (bodies : List (List ℕ)) : Type 0 where
-    pub op : F.words.Op
+  pub record GaveUnrestorableIn (given : List (Giving family)) (plan : List family.words.Op) (start : family.Records) (place : ℕ) (bodies : List (List ℕ)) : Type 0 where
+    pub op : family.words.Op
     pub step : slice_get plan place ≡ Some op
-    pub gave : AllAnswered F.words (GaveIn given plan start place) (F.words.getting (F.words.key_of op)) bodies
-    pub not_restorable : ¬ F.Restorable op (F.words.joined (F.words.getting (F.words.key_of op)) bodies)
+    pub gave : AllAnswered family.words (GaveIn given plan start place) (family.words.getting (family.words.key_of op)) bodies
+    pub not_restorable : ¬ family.Restorable op (family.words.joined (family.words.getting (family.words.key_of op)) bodies)
 
   -- what made a plan halt in a schedule from a world: an answer that the board gave in it, or a stop
-  abbrev pub CausedIn : List (Happening F L) → World F L → List F.words.Op → F.Records → Phase → Type 0
-  CausedIn events world plan start (Halted step Stop) = AnyMakesStop F L events
+  abbrev pub CausedIn : List (Happening family lines) → World family lines → List family.words.Op → family.Records → Phase → Type 0
+  CausedIn events world plan start (Halted step Stop) = AnyMakesStop family lines events
   CausedIn events world plan start (Halted step (Refused code)) = (code ≢ success) × (body : List ℕ) × GaveSetIn (given_in events world) plan start step (record { code = code; body = body })
   CausedIn events world plan start (Halted step (GetRefused code)) = (code ≢ success) × (body : List ℕ) × GaveGetIn (given_in events world) plan start step (record { code = code; body = body })
   CausedIn events world plan start (Halted step NotRestorable) = (bodies : List (List ℕ)) × GaveUnrestorableIn (given_in events world) plan start step bodies
@@ -79,6 +79,7 @@ module _ (F : Family) (L : Bus → Line) (W : Wires F.words) where
 
   -- a halt has its cause among the answers of its own schedule
   abbrev pub HaltsByAnswers : Type 0
-  HaltsByAnswers = (plan : List F.words.Op) (retries : ℕ) (on : States L) (board : F.Board) → IsStart F L W on board
-      → (events later : List (Happening F L)) → AllMay F L W (events ++ later) (opening F L plan retries on board)
-      → CausedIn events (opening F L plan retries on board) plan (F.records board) (phase_of F.words (run F L W events (opening F L plan retries on board)).machine)
+  HaltsByAnswers = (plan : List family.words.Op) (retries : ℕ) (on : States lines) (board : family.Board) → IsStart family lines wires on board
+      → (events later : List (Happening family lines)) → AllMay family lines wires (events ++ later) (opening family lines plan retries on board)
+      → CausedIn events (opening family lines plan retries on board) plan (family.records board)
+      (phase_of family.words (run family lines wires events (opening family lines plan retries on board)).machine)

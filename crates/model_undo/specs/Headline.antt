@@ -11,57 +11,60 @@ use Rattle.model_undo.specs.Plan.{Stands, Halts}
 use Rattle.model_undo.specs.Machine.{phase_of}
 use Rattle.model_undo.specs.Wires.{Wires}
 use Rattle.model_undo.specs.Line.{Line}
-use Rattle.model_undo.specs.World.{States, Happening, Stop as StopCall, Resume, run, AllMay, opening}
+use Rattle.model_undo.specs.declared.call.Call.TheVariants.{Stop as StopCall}
+use Rattle.model_undo.specs.World.{States, Happening, Calls, Resume, run, AllMay, opening}
 
 -- the schedule has a call of `stop`, or another manager goes on
-abbrev pub MakesStop : (F : Family) (L : Bus → Line) → Happening F L → Type 0
-MakesStop F L StopCall = Unit {0}
-MakesStop F L (Resume retries) = Unit {0}
-MakesStop F L _ = ⊥
+abbrev pub MakesStop : (family : Family) (lines : Bus → Line) → Happening family lines → Type 0
+MakesStop family lines (Calls StopCall) = Unit {0}
+MakesStop family lines (Resume retries) = Unit {0}
+MakesStop family lines _ = ⊥
 
-abbrev pub AnyMakesStop : (F : Family) (L : Bus → Line) → List (Happening F L) → Type 0
-AnyMakesStop F L [] = ⊥
-AnyMakesStop F L (happening ∷ happenings) = MakesStop F L happening ⊎ AnyMakesStop F L happenings
+abbrev pub AnyMakesStop : (family : Family) (lines : Bus → Line) → List (Happening family lines) → Type 0
+AnyMakesStop family lines [] = ⊥
+AnyMakesStop family lines (happening ∷ happenings) = MakesStop family lines happening ⊎ AnyMakesStop family lines happenings
 
 -- any two Gets of a record, whoever asks them, one at the first board and one at the second, are both answered with 00h and show the same
 -- configuration, or are both refused with the same code
-abbrev pub ShowsSame : (F : Family) → F.Board → F.Board → Type 0
-ShowsSame F board after = (key : F.words.Key) (one other : F.words.Asked) → F.IsGet one key → F.IsGet other key → (shown again : Answered) (b' c' : F.Board)
-    → F.Row board one shown b' → F.Row after other again c'
-    → (again.code ≡ shown.code) × (shown.code ≡ success → F.conf key again.body ≡ F.conf key shown.body)
+abbrev pub ShowsSame : (family : Family) → family.Board → family.Board → Type 0
+ShowsSame family board after = (key : family.words.Key) (one other : family.words.Asked) → family.IsGet one key → family.IsGet other key
+    → (shown again : Answered) (left other_left : family.Board)
+    → family.Row board one shown left → family.Row after other again other_left
+    → (again.code ≡ shown.code) × (shown.code ≡ success → family.conf key again.body ≡ family.conf key shown.body)
 
 -- any two Gets of the manager for a record, the requests of one answered at the records of the first board, each with 00h, and those of the other at
 -- the records of the second, show the same configuration
-abbrev pub PartsShowSame : (F : Family) → F.Board → F.Board → Type 0
-PartsShowSame F board after = (key : F.words.Key) (shown again : List (List ℕ)) → let get = F.words.getting key in
-    AllAnswered F.words (Gave F (F.records board)) get shown → AllAnswered F.words (Gave F (F.records after)) get again
-    → F.conf key (F.words.joined get again) ≡ F.conf key (F.words.joined get shown)
+abbrev pub PartsShowSame : (family : Family) → family.Board → family.Board → Type 0
+PartsShowSame family board after = (key : family.words.Key) (shown again : List (List ℕ)) → let get = family.words.getting key in
+    AllAnswered family.words (Gave family (family.records board)) get shown → AllAnswered family.words (Gave family (family.records after)) get again
+    → family.conf key (family.words.joined get again) ≡ family.conf key (family.words.joined get shown)
 
 -- from a board that is ready and whose records are valid, and a start on both buses, so long as each thing may happen where it does
-module _ (F : Family) (L : Bus → Line) (W : Wires F.words) where
-  pub record IsStart (on : States L) (board : F.Board) : Type 0 where
-    pub on_bus : (bus : Bus) → (L bus).IsStart (on bus)
-    pub valid : AllValid F (F.records board)
-    pub ready : IsReady F board
+module _ (family : Family) (lines : Bus → Line) (wires : Wires family.words) where
+  pub record IsStart (on : States lines) (board : family.Board) : Type 0 where
+    pub on_bus : (bus : Bus) → (lines bus).IsStart (on bus)
+    pub valid : AllValid family (family.records board)
+    pub ready : IsReady family board
 
   -- at every moment the phase stands on the records, and a halt has its cause
   abbrev pub AlwaysStands : Type 0
-  AlwaysStands = (plan : List F.words.Op) (retries : ℕ) (on : States L) (board : F.Board) → IsStart on board
-      → (events later : List (Happening F L)) → AllMay F L W (events ++ later) (opening F L plan retries on board)
-      → let w = run F L W events (opening F L plan retries on board) in
-      Stands F plan (F.records board) (phase_of F.words w.machine) (F.records w.board) × Halts F w.machine.stopped plan (phase_of F.words w.machine) (F.records w.board)
+  AlwaysStands = (plan : List family.words.Op) (retries : ℕ) (on : States lines) (board : family.Board) → IsStart on board
+      → (events later : List (Happening family lines)) → AllMay family lines wires (events ++ later) (opening family lines plan retries on board)
+      → let world = run family lines wires events (opening family lines plan retries on board) in
+      Stands family plan (family.records board) (phase_of family.words world.machine) (family.records world.board)
+      × Halts family world.machine.stopped plan (phase_of family.words world.machine) (family.records world.board)
 
   -- once a plan is undone, and at every moment from then on, all records are what they were at the start, and each Get, whoever
   -- asks it, is answered with the same code and shows the same configuration as at the start, and so does each of several requests
   abbrev pub UndoneForGood : Type 0
-  UndoneForGood = (plan : List F.words.Op) (retries : ℕ) (on : States L) (board : F.Board) → IsStart on board
-      → (events later : List (Happening F L)) → AllMay F L W (events ++ later) (opening F L plan retries on board)
-      → phase_of F.words (run F L W events (opening F L plan retries on board)).machine ≡ Undone
-      → let w = run F L W (events ++ later) (opening F L plan retries on board) in
-      (F.records w.board ≡ F.records board) × ShowsSame F board w.board × PartsShowSame F board w.board
+  UndoneForGood = (plan : List family.words.Op) (retries : ℕ) (on : States lines) (board : family.Board) → IsStart on board
+      → (events later : List (Happening family lines)) → AllMay family lines wires (events ++ later) (opening family lines plan retries on board)
+      → phase_of family.words (run family lines wires events (opening family lines plan retries on board)).machine ≡ Undone
+      → let world = run family lines wires (events ++ later) (opening family lines plan retries on board) in
+      (family.records world.board ≡ family.records board) × ShowsSame family board world.board × PartsShowSame family board world.board
 
   -- a plan halts with the reason `Stop` only where it was made to
   abbrev pub StopsOnlyIfTold : Type 0
-  StopsOnlyIfTold = (plan : List F.words.Op) (retries k : ℕ) (on : States L) (board : F.Board) → IsStart on board
-      → (events : List (Happening F L)) → AllMay F L W events (opening F L plan retries on board)
-      → phase_of F.words (run F L W events (opening F L plan retries on board)).machine ≡ Halted k Stop → AnyMakesStop F L events
+  StopsOnlyIfTold = (plan : List family.words.Op) (retries step : ℕ) (on : States lines) (board : family.Board) → IsStart on board
+      → (events : List (Happening family lines)) → AllMay family lines wires events (opening family lines plan retries on board)
+      → phase_of family.words (run family lines wires events (opening family lines plan retries on board)).machine ≡ Halted step Stop → AnyMakesStop family lines events

@@ -18,21 +18,21 @@ abbrev pub IsClosed : BusState → Type 0
 IsClosed state = length state.begun ≤ length state.taken
 
 -- `first` is the count from which the manager's requests go on, on each bus
-module _ (F : Family) (W : Wires F.words) (first : Bus → ℕ) where
+module _ (family : Family) (wires : Wires family.words) (first : Bus → ℕ) where
   -- the bytes of the manager's request of this count on a bus, from 0
-  abbrev pub request_bytes : Bus → ℕ → F.words.Asked → List ℕ
-  request_bytes bus count asked = W.bytes_of (number_of bus (first bus + count)) asked
+  abbrev pub request_bytes : Bus → ℕ → family.words.Asked → List ℕ
+  request_bytes bus count asked = wires.bytes_of (number_of bus (first bus + count)) asked
 
   -- the bytes are those of the manager's request of this count on the bus
   pub record IsWritten (bus : Bus) (count : ℕ) (bytes : List ℕ) : Type 0 where
-    pub asked : F.words.Asked
-    pub on : F.words.bus_of asked ≡ bus
+    pub asked : family.words.Asked
+    pub on : family.words.bus_of asked ≡ bus
     pub spelled : bytes ≡ request_bytes bus count asked
 
   -- the reply that is kept answers the request
   pub record IsAnswered (bus : Bus) (kept : Kept) : Type 0 where
     pub answered : Answered
-    pub spelled : kept.reply ≡ W.reply_to bus kept.request.bytes answered
+    pub spelled : kept.reply ≡ wires.reply_to bus kept.request.bytes answered
 
   -- the manager's requests on a bus: in order, at most one open, and written as they are asked
   pub record Orderly (bus : Bus) (state : BusState) : Type 0 where
@@ -43,13 +43,14 @@ module _ (F : Family) (W : Wires F.words) (first : Bus → ℕ) where
     pub replied : (count : ℕ) (kept : Kept) → slice_get state.carried count ≡ Some kept → IsAnswered bus kept
 
   -- the request is open on its bus, and none on the other
-  abbrev pub IsOpen : Part F.words → Bus → BusState → Type 0
+  abbrev pub IsOpen : Part family.words → Bus → BusState → Type 0
   IsOpen part bus state =
-      (bus ≡ bus_at F.words part → slice_get state.begun (length state.taken) ≡ Some (request_bytes bus (length state.taken) part.asked))
-      × (bus ≢ bus_at F.words part → IsClosed state)
+      (bus ≡ bus_at family.words part
+      → slice_get state.begun (length state.taken) ≡ Some (request_bytes bus (length state.taken) part.asked))
+      × (bus ≢ bus_at family.words part → IsClosed state)
 
   -- the requests that are open are the stage's
-  abbrev pub AreOpen : Stage F.words → Bus → BusState → Type 0
+  abbrev pub AreOpen : Stage family.words → Bus → BusState → Type 0
   AreOpen (Opened heeded task part) bus state = IsOpen part bus state
   AreOpen AtStart bus state = IsClosed state
   AreOpen AtEnd bus state = IsClosed state
@@ -60,21 +61,21 @@ module _ (F : Family) (W : Wires F.words) (first : Bus → ℕ) where
   -- the answer in a reply that is kept
   abbrev pub answer_in : Bus → Option Kept → Option Answered
   answer_in bus None = None
-  answer_in bus (Some kept) = Some (W.answered_from bus kept.reply)
+  answer_in bus (Some kept) = Some (wires.answered_from bus kept.reply)
 
   -- the answer that is kept for the open request of a bus
   abbrev pub answer_on : Bus → BusState → Option Answered
   answer_on bus state = answer_in bus (slice_get state.carried (length state.taken))
 
   -- the answer that is kept for the stage's request
-  abbrev pub answer_at : Stage F.words → (Bus → BusState) → Option Answered
-  answer_at (Opened heeded task part) on = answer_on (bus_at F.words part) (on (bus_at F.words part))
+  abbrev pub answer_at : Stage family.words → (Bus → BusState) → Option Answered
+  answer_at (Opened heeded task part) on = answer_on (bus_at family.words part) (on (bus_at family.words part))
   answer_at _ on = None
 
   -- the manager enters a stage: it begins the stage's request, if the stage has one
-  abbrev pub Enters : Stage F.words → (Bus → BusState) → (Bus → BusState) → Type 0
+  abbrev pub Enters : Stage family.words → (Bus → BusState) → (Bus → BusState) → Type 0
   Enters (Opened heeded task part) old new =
-      let bus = bus_at F.words part in
+      let bus = bus_at family.words part in
       IsBegun (old bus) (new bus) (request_bytes bus (length (old bus).begun) part.asked) × OthersStill bus old new
   Enters _ old new = (bus : Bus) → SameRequests (old bus) (new bus)
 

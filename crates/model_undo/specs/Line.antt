@@ -67,8 +67,8 @@ abbrev pub whole : Rules → Line
 whole rules = record {
   State = BusState;
   Event = Event;
-  requests = λ s. s;
-  IsStart = λ s. NothingUnderWay s × EmptyWindow rules s.log;
+  requests = λ state. state;
+  IsStart = λ state. NothingUnderWay state × EmptyWindow rules state.log;
   happens = happens rules;
   IsHonest = IsHonest rules;
   begins = Begins;
@@ -117,8 +117,8 @@ abbrev pub packets : PacketBus → Line
 packets bus = record {
   State = Ends;
   Event = PacketEvent;
-  requests = λ x. x.bus;
-  IsStart = λ x. NothingUnderWay x.bus × NothingWaits bus x × EmptyWindow (rules_of bus) x.bus.log;
+  requests = λ ends. ends.bus;
+  IsStart = λ ends. NothingUnderWay ends.bus × NothingWaits bus ends × EmptyWindow (rules_of bus) ends.bus.log;
   happens = packet_happens bus;
   IsHonest = IsPacketHonest RecentWhereWhole bus;
   begins = λ bytes. Plain (Begins bytes);

@@ -102,7 +102,7 @@ abbrev pub register_words : Words
 register_words = record {
   Key = ℕ;
   Op = Write;
-  key_of = λ w. w.register;
+  key_of = λ write. write.register;
   Asked = Asked;
   bus_of = λ asked. if register_of asked % 2 == 0 then Ipmb else Smbus;
   Series = Asked;
@@ -121,14 +121,14 @@ registers = record {
   Records = List Halves;
   get = slice_get;
   put = slice_set;
-  Valid = λ register v. IsValid v;
-  Sets = λ w old new. (new ≡ written w old) × IsValid new;
-  Shows = λ register v body. (requests : ℕ) × (body ≡ shown register v requests);
+  Valid = λ register halves. IsValid halves;
+  Sets = λ write old new. (new ≡ written write old) × IsValid new;
+  Shows = λ register halves body. (requests : ℕ) × (body ≡ shown register halves requests);
   conf = λ register body. configuration body;
   Restorable = IsRestorable;
   Board = Board;
-  records = λ b. b.registers;
-  Ready = λ b series bodies. Unit {0};
+  records = λ board. board.registers;
+  Ready = λ board series bodies. Unit {0};
   IsGet = λ asked register. asked ≡ AskGet register;
   Row = Row;
 }
@@ -137,19 +137,19 @@ registers = record {
 
 abbrev pub given : Option ℕ → ℕ
 given None = 0
-given (Some x) = 1
+given (Some half) = 1
 
 abbrev pub bytes_of : ℕ → Asked → List ℕ
 bytes_of number (AskGet register) = number ∷ 0 ∷ register ∷ []
 bytes_of number (AskSet write) = number ∷ 1 ∷ write.register ∷ given write.low ∷ unwrap_or write.low 0 ∷ given write.high ∷ unwrap_or write.high 0 ∷ []
 
 abbrev pub if_given : ℕ → ℕ → Option ℕ
-if_given zero x = None
-if_given (suc count) x = Some x
+if_given zero half = None
+if_given (suc count) half = Some half
 
 abbrev pub asked_from : List ℕ → Asked
 asked_from (number ∷ zero ∷ register ∷ []) = AskGet register
-asked_from (number ∷ suc count ∷ register ∷ a ∷ low ∷ b ∷ high ∷ []) = AskSet (record { register = register; low = if_given a low; high = if_given b high })
+asked_from (number ∷ suc count ∷ register ∷ has_low ∷ low ∷ has_high ∷ high ∷ []) = AskSet (record { register = register; low = if_given has_low low; high = if_given has_high high })
 asked_from _ = AskGet 0
 
 abbrev pub number_in : List ℕ → ℕ
@@ -160,9 +160,9 @@ abbrev pub answered_from : List ℕ → Answered
 answered_from (number ∷ code ∷ body) = replied code body
 answered_from _ = replied 0 []
 
-read_half : (o : Option ℕ) → if_given (given o) (unwrap_or o 0) ≡ o
+read_half : (half : Option ℕ) → if_given (given half) (unwrap_or half 0) ≡ half
 read_half None = refl
-read_half (Some x) = refl
+read_half (Some half) = refl
 
 -- what was written is read
 pub read_back : (number : ℕ) (asked : Asked) → asked_from (bytes_of number asked) ≡ asked
@@ -173,8 +173,8 @@ abbrev pub wires : Wires register_words
 wires = record {
   bytes_of = bytes_of;
   asked_from = λ bus. asked_from;
-  reply_to = λ bus bytes a. number_in bytes ∷ a.code ∷ a.body;
+  reply_to = λ bus bytes answered. number_in bytes ∷ answered.code ∷ answered.body;
   answered_from = λ bus. answered_from;
   same = λ number asked made. read_back number asked;
-  same_reply = λ bus bytes a. refl;
+  same_reply = λ bus bytes answered. refl;
 }

@@ -33,7 +33,8 @@ abbrev pub OverBothBuses : (at : Bus → Addresses) → (Holds : (Bus → Line) 
 OverBothBuses at Holds = Holds (in_messages at) × ((split : List ℕ → List Packet) → IsCutting split → Holds (with_packets at split))
 
 -- this holds of the lines of both buses and of how each brings a frame to its end, likewise
-abbrev pub DeliveredOverBothBuses : (at : Bus → Addresses) → (Holds : (L : Bus → Line) → ((bus : Bus) → Delivery (L bus)) → Type 0) → Type 0
+abbrev pub DeliveredOverBothBuses : (at : Bus → Addresses)
+    → (Holds : (lines : Bus → Line) → ((bus : Bus) → Delivery (lines bus)) → Type 0) → Type 0
 DeliveredOverBothBuses at Holds = Holds (in_messages at) (messages_come at)
     × ((split : List ℕ → List Packet) → IsCutting split → Holds (with_packets at split) (packets_come at split))
 

@@ -32,46 +32,47 @@ pub record Words : Type 1 where
   pub inverse : Op → List ℕ → Option Op
 
 -- the request that gets a record, and the one that carries an operation out: the first of each series
-abbrev pub get_asked : (M : Words) → M.Key → M.Asked
-get_asked M key = M.first (M.getting key)
+abbrev pub get_asked : (words : Words) → words.Key → words.Asked
+get_asked words key = words.first (words.getting key)
 
-abbrev pub set_asked : (M : Words) → M.Op → M.Asked
-set_asked M op = M.first (M.setting op)
+abbrev pub set_asked : (words : Words) → words.Op → words.Asked
+set_asked words op = words.first (words.setting op)
 
 -- ---- the requests of a series
 
 -- the request is the first of the series, or the next one after replies with these data
-abbrev pub IsNext : (M : Words) → M.Series → List (List ℕ) → M.Asked → Type 0
-IsNext M series [] asked = asked ≡ M.first series
-IsNext M series (body ∷ bodies) asked = M.next series (body ∷ bodies) ≡ Some asked
+abbrev pub IsNext : (words : Words) → words.Series → List (List ℕ) → words.Asked → Type 0
+IsNext words series [] asked = asked ≡ words.first series
+IsNext words series (body ∷ bodies) asked = words.next series (body ∷ bodies) ≡ Some asked
 
 -- the request is one of the series
-abbrev pub IsOf : (M : Words) → M.Series → M.Asked → Type 0
-IsOf M series asked = (asked ≡ M.first series) ⊎ ((bodies : List (List ℕ)) × (M.next series bodies ≡ Some asked))
+abbrev pub IsOf : (words : Words) → words.Series → words.Asked → Type 0
+IsOf words series asked = (asked ≡ words.first series) ⊎ ((bodies : List (List ℕ)) × (words.next series bodies ≡ Some asked))
 
 -- a manager makes the series: it gets a record, or carries an operation out
-abbrev pub IsSeries : (M : Words) → M.Series → Type 0
-IsSeries M series = ((key : M.Key) × (series ≡ M.getting key)) ⊎ ((op : M.Op) × (series ≡ M.setting op))
+abbrev pub IsSeries : (words : Words) → words.Series → Type 0
+IsSeries words series = ((key : words.Key) × (series ≡ words.getting key)) ⊎ ((op : words.Op) × (series ≡ words.setting op))
 
 -- a manager makes the request
-abbrev pub IsMade : (M : Words) → M.Asked → Type 0
-IsMade M asked = (series : M.Series) × IsSeries M series × IsOf M series asked
+abbrev pub IsMade : (words : Words) → words.Asked → Type 0
+IsMade words asked = (series : words.Series) × IsSeries words series × IsOf words series asked
 
 -- each series is one request, and shows what its reply shows
-pub record AreSingle (M : Words) : Type 0 where
-  pub none_next : (series : M.Series) (bodies : List (List ℕ)) → M.next series bodies ≡ None
-  pub shows_it : (series : M.Series) (body : List ℕ) → M.joined series (body ∷ []) ≡ body
+pub record AreSingle (words : Words) : Type 0 where
+  pub none_next : (series : words.Series) (bodies : List (List ℕ)) → words.next series bodies ≡ None
+  pub shows_it : (series : words.Series) (body : List ℕ) → words.joined series (body ∷ []) ≡ body
 
 -- `Given` says which answers to which requests were given
-module _ (M : Words) (Given : M.Asked → Answered → Type 0) (series : M.Series) where
+module _ (words : Words) (Given : words.Asked → Answered → Type 0) (series : words.Series) where
   -- after replies with the data `before`, the requests of the series were answered in order, each with 00h and these data
   abbrev pub AreAnswered : (before bodies : List (List ℕ)) → Type 0
   AreAnswered before [] = Unit {0}
   AreAnswered before (body ∷ bodies) =
-      (asked : M.Asked) × IsNext M series before asked × Given asked (record { code = success; body = body }) × AreAnswered (before ++ body ∷ []) bodies
+      (asked : words.Asked) × IsNext words series before asked × Given asked (record { code = success; body = body })
+      × AreAnswered (before ++ body ∷ []) bodies
 
   -- all requests of the series were answered in order, each with 00h and these data
   pub record AllAnswered (bodies : List (List ℕ)) : Type 0 where
     pub in_order : AreAnswered [] bodies
     pub some : bodies ≢ []
-    pub no_more : M.next series bodies ≡ None
+    pub no_more : words.next series bodies ≡ None

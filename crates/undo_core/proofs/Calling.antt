@@ -8,7 +8,7 @@ use Rattle.undo_plans.specs.declared.names.Names.{Names}
 use Rattle.undo_plans.specs.Requests.{RequestList}
 use Rattle.model_undo.specs.Machine as machine
 use Rattle.model_undo.specs.declared.call.Call.{Call}
-use Rattle.model_lab.specs.ManagerSteps.{board_plans, ManagerState, waits_after, turn_of, called, goes_on, sent_of}
+use Rattle.model_lab.specs.ManagerSteps.{board_plans, ManagerState, waits_after, called, goes_on, sent_of}
 use Rattle.undo_core.specs.declared.stage.Task.{Task}
 use Rattle.undo_core.specs.declared.stage.Stage.{Stage}
 use Rattle.undo_core.specs.declared.stage.Stage.TheVariants as stage
@@ -101,14 +101,14 @@ rests_does names m s after shows = (shows, tt)
 
 -- a call for which the machine has no turn is refused
 pub refused : (names : Names) (call : Call) (m : Manager) (s : ManagerState (board_plans names)) (wrong : WrongPhase) → Shows names m s
-    → turn_of (board_plans names) call s.machine ≡ None → IsCalled names s m (Err wrong) (called (board_plans names) call s)
+    → machine.call_of (words_of names) call s.machine ≡ None → IsCalled names s m (Err wrong) (called (board_plans names) call s)
 unfolding called
 refused names call m s wrong shows none =
     subst (IsCalled names s m (Err wrong)) (sym (ap (option_map (goes_on (board_plans names) (record s { joined = waits_after (board_plans names) call s.joined }))) none)) shows
 
 -- one for which it has a turn is made
 pub made : (names : Names) (call : Call) (m : Manager) (s : ManagerState (board_plans names)) (sent : Option Sent) (t : machine.Turn (words_of names))
-    → turn_of (board_plans names) call s.machine ≡ Some t
+    → machine.call_of (words_of names) call s.machine ≡ Some t
     → IsCalled names s m (Ok sent) (Some (goes_on (board_plans names) (record s { joined = waits_after (board_plans names) call s.joined }) t))
     → IsCalled names s m (Ok sent) (called (board_plans names) call s)
 unfolding called
