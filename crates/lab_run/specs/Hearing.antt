@@ -1,5 +1,5 @@
 -- What a port of the lab heard, before it sends; and what it did with what it heard.
-use Rattle.std.specs.Prelude.{◌≡◌, ℕ, ◌==◌, List, map, find, Option, Some, option_map, Result, Ok, Err, if◌then◌else◌, slice_get}
+use Rattle.std.specs.Prelude.{◌≡◌, ℕ, ◌==◌, false, List, map, find, Option, Some, option_map, Result, Ok, Err, if◌then◌else◌, slice_get}
 use Rattle.std.specs.List.{AllZip}
 use Rattle.two_wire.specs.declared.Bus.{Bus}
 use Rattle.two_wire.specs.declared.Bus.TheVariants.{Ipmb, Smbus}
@@ -8,8 +8,11 @@ use Rattle.ipmb_frame.specs.Fault.{has_fault as has_frame_fault, faults as frame
 use Rattle.mctp_net.specs.Grammar.{has_fault as has_packet_fault, faults as packet_faults}
 use Rattle.cfg_records.specs.declared.board_file.BoardFile.{BoardFile}
 use Rattle.model_ports.specs.Values.{Value, Asks, Tells, Part, written, IsFrameOn}
-use Rattle.model_ports.specs.PortSteps.{PortState, Deed}
-use Rattle.model_lab.specs.Lab.{LabFrame, Lab as LabModel, port_on, with_port}
+use Rattle.model_ports.specs.PortSteps.{PortState, Deed, hears, stays}
+use Rattle.model_lab.specs.declared.way.Way.{Way}
+use Rattle.model_lab.specs.declared.way.Way.TheVariants.{ToOthers}
+use Rattle.model_lab.specs.Faults.{is_frame}
+use Rattle.model_lab.specs.Lab.{LabFrame, Lab as LabModel, port_on, with_port, with_frames, port_does}
 use Rattle.bmc_core.specs.declared.out.Out.{Out}
 use Rattle.bmc_core.specs.declared.out.Done.{Done}
 use Rattle.bmc_core.specs.declared.out.Done.TheVariants as done
@@ -22,6 +25,7 @@ use Rattle.text_schedule.specs.declared.event.Event.{Event}
 use Rattle.text_schedule.specs.declared.event.Event.TheVariants as event
 use Rattle.model_lab.specs.Played.{plans}
 use Rattle.lab_run.specs.declared.lab_state.Lab.{Lab}
+use Rattle.lab_run.specs.declared.marks.Mark.{Mark}
 use Rattle.lab_run.specs.Shown.{Shows, ForShown}
 
 -- the port is to send the frames of these values, and a reader of each frame gives its value
@@ -33,6 +37,11 @@ pub record HasFrames (on : Bus) (values : List Value) (out : Out) : Type 0 where
 pub record HasHeard (file : BoardFile) (on : Bus) (lab_model : LabModel plans) (deed : Deed) (lab : Lab) : Type 0 where
   pub shows : Shows file lab (with_port plans on deed.port (record lab_model { board = deed.board }))
   pub out : HasFrames on deed.sent lab.out
+
+-- the frames of these values are sent, if the port is to send them, this way and with this mark
+abbrev pub SendsOut : Way → Mark → Lab → Lab → Type 0
+SendsOut way mark old new = (file : BoardFile) (lab_model : LabModel plans) (values : List Value) → Shows file old lab_model → HasFrames mark.on values old.out
+    → Shows file new (with_frames plans mark.on way mark.request values lab_model)
 
 -- ---- what a port did
 
@@ -60,6 +69,35 @@ fault_in Smbus bytes = option_map reason.Packet (find (has_packet_fault bytes) p
 -- the port on the bus ignored the bytes for their first fault
 abbrev pub Ignores : Bus → List ℕ → Done → Type 0
 Ignores on bytes what = option_map done.Ignored (fault_in on bytes) ≡ Some what
+
+-- ---- bytes on a bus
+
+-- this holds of each lab of the model that the lab shows, and of each value whose frame the bytes are
+abbrev pub ForFrame : Bus → (bytes : List ℕ) → Lab → (BoardFile → LabModel plans → Value → Type 0) → Type 0
+ForFrame on bytes lab Holds = (file : BoardFile) (lab_model : LabModel plans) (value : Value) → Shows file lab lab_model → IsFrameOn on value bytes → Holds file lab_model value
+
+-- this holds of each lab of the model that the lab shows, where the bytes are no frame
+abbrev pub ForNoise : Bus → (bytes : List ℕ) → Lab → (BoardFile → LabModel plans → Type 0) → Type 0
+ForNoise on bytes lab Holds = ForShown lab (λ file lab_model. is_frame on bytes ≡ false → Holds file lab_model)
+
+-- noise changes nothing
+abbrev pub StaysAtNoise : Bus → (bytes : List ℕ) → Lab → Lab → Type 0
+StaysAtNoise on bytes old new = ForNoise on bytes old (λ file lab_model. Shows file new lab_model)
+
+-- the port ignores noise for its first fault
+abbrev pub IgnoresNoise : Bus → (bytes : List ℕ) → Lab → Lab → Type 0
+IgnoresNoise on bytes old new = ForNoise on bytes old (λ _ _. Ignores on bytes new.out.done)
+
+-- The port on the bus hears the bytes: a frame as the port of the model hears it, and noise as none.
+pub record PortHears (on : Bus) (bytes : List ℕ) (old new : Lab) : Type 0 where
+  pub heard : ForFrame on bytes old (λ file x value. HasHeard file on x (hears file (port_on plans on x) x.board value) new)
+  pub done : ForFrame on bytes old (λ file x value. new.out.done ≡ done_on on (port_on plans on x) value)
+  pub noise : ForNoise on bytes old (λ file x. HasHeard file on x (stays (port_on plans on x) x.board) new)
+  pub ignored : IgnoresNoise on bytes old new
+
+-- the port on the bus hears somebody else's frame, and what it sends goes to others
+abbrev pub HearsOther : Bus → (bytes : List ℕ) → Lab → Lab → Type 0
+HearsOther on bytes old new = ForFrame on bytes old (λ file x value. Shows file new (port_does plans on ToOthers 0 (hears file (port_on plans on x) x.board value) x))
 
 -- The port's `Out` says what the controller did with the frame that an event delivers, and why it ignored noise.
 abbrev pub Did : Event → Lab → Lab → Type 0

@@ -4,3 +4,4 @@ pub mod Shown
 pub mod Hearing
 pub mod Coming
 pub mod Parts
+pub mod Checked

@@ -1,15 +1,17 @@
 -- The lab of the model that a lab shows.
-use Rattle.std.specs.Prelude.{◌≡◌, ◌<◌, ℕ, Some, None, Result, Ok, Err}
+use Rattle.std.specs.Prelude.{◌≡◌, ◌<◌, ℕ, Option, Some, None, Result, Ok, Err}
 use Rattle.std.specs.List.{AllZip}
 use Rattle.two_wire.specs.declared.Bus.{Bus}
 use Rattle.two_wire.specs.declared.Bus.TheVariants as bus
 use Rattle.cfg_records.specs.declared.board_file.BoardFile.{BoardFile}
 use Rattle.bmc_board.specs.OwnStore.{own_records}
 use Rattle.bmc_board.specs.State.{state_of}
-use Rattle.model_lab.specs.Lab.{LabFrame, Lab as LabModel, idles_on}
+use Rattle.model_lab.specs.Lab.{LabFrame, Lab as LabModel, idles_on, sends}
 use Rattle.bmc_core.specs.IpmbShown as ipmb
 use Rattle.bmc_core.specs.SmbusShown as smbus
 use Rattle.model_ports.specs.Values.{IsFrameOn}
+use Rattle.model_lab.specs.ManagerSteps.{Sent as AllSent}
+use Rattle.undo_core.specs.declared.sending.Sent.{Sent}
 use Rattle.undo_core.specs.Shown as manager
 use Rattle.lab_run.specs.declared.frames.SentFrame.{SentFrame}
 use Rattle.model_lab.specs.Meaning.{lab_names}
@@ -56,9 +58,18 @@ pub record Shows (file : BoardFile) (lab : Lab) (lab_model : LabModel plans) : T
 abbrev pub ForShown : Lab → (BoardFile → LabModel plans → Type 0) → Type 0
 ForShown lab Holds = (file : BoardFile) (lab_model : LabModel plans) → Shows file lab lab_model → Holds file lab_model
 
+-- this holds of each lab of the model that the lab shows, and of each frame of the model that this frame is
+abbrev pub ForSent : Lab → SentFrame → (LabModel plans → LabFrame → Type 0) → Type 0
+ForSent lab sent Holds = (file : BoardFile) (lab_model : LabModel plans) (frame : LabFrame) → Shows file lab lab_model → IsSentFrame sent frame → Holds lab_model frame
+
 -- whatever lab of the model it showed, on a board of whatever file, it goes on to this one
 abbrev pub Becomes : Lab → Lab → (BoardFile → LabModel plans → LabModel plans) → Type 0
 Becomes old new makes = ForShown old (λ file x. Shows file new (makes file x))
+
+-- the frames that the manager sends, if it sends some, are sent in each lab of the model that it showed
+abbrev pub Sends : Option Sent → Lab → Lab → Type 0
+Sends sent old new = (file : BoardFile) (lab_model : LabModel plans) (all_sent : Option AllSent) → Shows file old lab_model → manager.IsSent sent all_sent
+    → Shows file new (sends plans all_sent lab_model)
 
 -- An event is asked of a lab. It happens where it has no fault, and else nothing changes. Where memory is refused, nothing is said.
 abbrev pub Steps : Event → Lab → Result (Unit {0}) Refused → Lab → Type 0

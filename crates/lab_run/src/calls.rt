@@ -1,11 +1,10 @@
 //! What the manager is called to do, and what it hears.
-ghost use Rattle.std.specs.Prelude.{◌≡◌, OnOk, Option, slice_get};
-ghost use Rattle.cfg_records.specs.declared.board_file.BoardFile.{BoardFile as AnyFile};
-ghost use Rattle.undo_core.specs.Shown.{Calls, IsSent};
-ghost use Rattle.model_lab.specs.ManagerSteps.{Sent as AllSent, called};
-ghost use Rattle.model_lab.specs.Lab.{Lab as LabModel, sends, call_does, returned};
+ghost use Rattle.std.specs.Prelude.{◌≡◌, OnOk, slice_get};
+ghost use Rattle.undo_core.specs.Shown.{Calls};
+ghost use Rattle.model_lab.specs.ManagerSteps.{called};
+ghost use Rattle.model_lab.specs.Lab.{call_does, returned};
 ghost use Rattle.model_lab.specs.Played.{plans};
-ghost use Rattle.lab_run.specs.Shown.{Shows, Becomes};
+ghost use Rattle.lab_run.specs.Shown.{Becomes, Sends};
 
 use crate::lab_state::Lab;
 use crate::marks::Mark;
@@ -55,8 +54,7 @@ impl Lab {
 
     /// The manager's frames are sent, if it sends some.
     pub(crate) fn send(&mut self, sent: Option<Sent>) -> Result<(), AllocError>
-        ensures becomes { OnOk result ((file : AnyFile) (x : LabModel plans) (s : Option AllSent)
-            → Shows file self.old x → IsSent sent s → Shows file self.new (sends plans s x)) }
+        ensures becomes { OnOk result (Sends sent self.old self.new) }
         ensures out { self.new.out ≡ self.old.out }
         ensures idles { self.new.idles ≡ self.old.idles }
     {

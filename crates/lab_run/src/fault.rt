@@ -1,12 +1,7 @@
 //! What is wrong with a delivery.
-ghost use Rattle.std.specs.Prelude.{◌≡◌, [], ◌∷◌, slice_get};
-ghost use Rattle.undo_plans.specs.declared.names.Names.{Names as AnyNames};
-ghost use Rattle.model_lab.specs.ManagerSteps.{board_plans};
-ghost use Rattle.model_lab.specs.Lab.{Lab};
-ghost use Rattle.model_lab.specs.declared.fault.Fault.TheVariants.{Room};
-ghost use Rattle.model_lab.specs.Faults.{first_of, check, is_full, delivery};
-ghost use Rattle.lab_run.specs.declared.fault.Marks.{Marks as AnyMarks};
-ghost use Rattle.lab_run.specs.FramesShown.{marks_on, ShowsFrames};
+ghost use Rattle.std.specs.Prelude.{◌≡◌};
+ghost use Rattle.lab_run.specs.FramesShown.{marks_on};
+ghost use Rattle.lab_run.specs.Checked.{TellsDelivery, TellsRoom};
 
 use crate::frames::Frames;
 use crate::marks::Known;
@@ -35,9 +30,7 @@ impl Marks {
 impl Frames {
     /// The first thing that is wrong with the delivery of the frame of this number to this end.
     pub fn delivery_fault(&self, way: Way, number: u32, marks: Marks) -> Option<Fault>
-        ensures { (names : AnyNames) (x : Lab (board_plans names))
-            → ShowsFrames names self.now marks x
-            → result ≡ first_of (delivery (board_plans names) way x (slice_get x.frames number)) }
+        ensures { TellsDelivery self.now marks way number result }
     {
         let Some(frame) = self.get(number) else {
             return Some(Fault::NoFrame);
@@ -53,9 +46,7 @@ impl Frames {
 
     /// What is wrong with an event that may send a frame and has nothing else wrong.
     pub fn room_fault(&self) -> Option<Fault>
-        ensures { (names : AnyNames) (marks : AnyMarks) (x : Lab (board_plans names))
-            → ShowsFrames names self.now marks x
-            → result ≡ first_of (check Room (is_full (board_plans names) x) ∷ []) }
+        ensures { TellsRoom self.now result }
     {
         if self.is_full() {
             Some(Fault::Room)

@@ -1,9 +1,7 @@
 //! A lab.
-ghost use Rattle.std.specs.Prelude.{◌≡◌, IfOk, Some};
-ghost use Rattle.mctp_net.specs.Assembly.{nothing};
-ghost use Rattle.model_undo.specs.Machine.{opened};
+ghost use Rattle.std.specs.Prelude.{◌≡◌, IfOk};
 ghost use Rattle.undo_core.specs.Shown as manager;
-ghost use Rattle.undo_core.specs.Shown.{words_of};
+ghost use Rattle.undo_core.specs.Shown.{opened_with};
 ghost use Rattle.two_wire.specs.declared.Bus.{Bus as AnyBus};
 ghost use Rattle.model_lab.specs.Lab.{opening};
 ghost use Rattle.model_ports.specs.PortSteps.{quiet_port};
@@ -62,12 +60,8 @@ pub struct Lab {
 
 /// A manager of a plan, with the plan's retries.
 fn opened_manager(alloc: Global, plan: Plan, names: Names) -> Result<Manager, AllocError>
-    ensures { IfOk result (λ m. manager.Shows names m (record {
-      machine = opened (words_of names) plan.steps plan.retries;
-      names = names;
-      listed = Some names;
-      joined = nothing;
-    })) }
+    ensures { IfOk result (λ m.
+        manager.Shows names m (opened_with names plan.steps plan.retries)) }
 {
     let Plan { steps, retries } = plan;
     match Manager::open(alloc, Plan { steps, retries }, names, retries.number()) {

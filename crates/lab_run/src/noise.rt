@@ -1,8 +1,6 @@
 //! Noise.
-ghost use Rattle.std.specs.Prelude.{◌≡◌, OnOk, false};
-ghost use Rattle.model_lab.specs.Faults.{is_frame};
-ghost use Rattle.lab_run.specs.Shown.{Shows, ForShown};
-ghost use Rattle.lab_run.specs.Hearing.{Ignores};
+ghost use Rattle.std.specs.Prelude.{◌≡◌, OnOk};
+ghost use Rattle.lab_run.specs.Hearing.{StaysAtNoise, IgnoresNoise};
 
 use crate::lab_state::Lab;
 use std::alloc::AllocError;
@@ -11,10 +9,8 @@ use two_wire::Bus;
 impl Lab {
     /// Bytes come to both ends of a bus, the port and the manager. Where they are no frame, nothing changes and nothing is sent.
     pub(crate) fn noise(&mut self, on: Bus, bytes: &[u8]) -> Result<(), AllocError>
-        ensures stays { OnOk result (ForShown self.old (λ file x.
-            is_frame on bytes.now ≡ false → Shows file self.new x)) }
-        ensures ignored { OnOk result (ForShown self.old (λ _ _.
-            is_frame on bytes.now ≡ false → Ignores on bytes.now self.new.out.done)) }
+        ensures stays { OnOk result (StaysAtNoise on bytes.now self.old self.new) }
+        ensures ignored { OnOk result (IgnoresNoise on bytes.now self.old self.new) }
         ensures idles { self.new.idles ≡ self.old.idles }
     {
         self.hear_other(on, bytes)?;

@@ -1,16 +1,11 @@
 //! What is wrong with what others do.
-ghost use Rattle.std.specs.Prelude.{◌≡◌, ◌≤◌, length, [], ◌∷◌, Some, None};
+ghost use Rattle.std.specs.Prelude.{◌≡◌, ◌≤◌, length};
 ghost use Rattle.two_wire.specs.Sizes.{most_message_bytes};
 ghost use Rattle.undo_plans.specs.declared.names.Names.{Names as AnyNames};
-ghost use Rattle.model_undo.specs.Machine.{open_bus};
 ghost use Rattle.model_ports.specs.PortSteps.{asked_in};
-ghost use Rattle.model_lab.specs.ManagerSteps.{board_plans};
-ghost use Rattle.model_lab.specs.Lab.{Lab, Noise, Idles};
-ghost use Rattle.model_lab.specs.declared.fault.Fault.TheVariants.{Changing, Impersonates};
-ghost use Rattle.model_lab.specs.Faults.{fault_of as fault_of_event, first_of, check, is_own, message_changes};
-ghost use Rattle.two_wire.specs.declared.Bus.TheVariants.{Ipmb, Smbus};
-ghost use Rattle.bmc_board.specs.Table.{is_changing};
+ghost use Rattle.model_lab.specs.Faults.{first_of, is_own, message_changes};
 ghost use Rattle.model_lab.specs.Meaning.{request_of};
+ghost use Rattle.lab_run.specs.Checked.{TellsNoise, TellsIdle, request_checks, message_checks};
 
 use crate::marks::is_still_open;
 use bmc_board::is_changing;
@@ -26,8 +21,7 @@ use undo_plans::Names;
 
 /// What is wrong with noise.
 pub fn noise_fault(on: Bus, bytes: &[u8]) -> Option<Fault>
-    ensures { (names : AnyNames) (x : Lab (board_plans names))
-        → result ≡ fault_of_event (board_plans names) x (Noise on bytes.now) }
+    ensures { TellsNoise on bytes.now result }
 {
     let reads = match on {
         Bus::Ipmb => read_frame(bytes).is_ok(),
@@ -38,9 +32,7 @@ pub fn noise_fault(on: Bus, bytes: &[u8]) -> Option<Fault>
 
 /// What is wrong with forgetting a requester's window, where a request of the manager is open on that bus or on none.
 pub fn idle_fault(names: &Names, on: Bus, requester: u8, opened_on: Option<Bus>) -> Option<Fault>
-    ensures { (x : Lab (board_plans names.now)) → x.manager.names ≡ names.now
-        → open_bus (board_plans names.now).words x.manager.machine ≡ opened_on
-        → result ≡ fault_of_event (board_plans names.now) x (Idles on requester) }
+    ensures { TellsIdle names.now on requester opened_on result }
 {
     if is_still_open(names, on, requester, opened_on) {
         Some(Fault::StillOpen)
@@ -74,9 +66,7 @@ fn is_own(on: Bus, names: &Names, from: u8) -> bool
 
 /// What is wrong with another requester's request but for want of room.
 pub fn request_fault(names: &Names, request: &OtherRequest) -> Option<Fault>
-    ensures { result ≡ first_of (
-        check Changing (is_changing (asked_in (request_of names.now request.now)))
-        ∷ check Impersonates (is_own Ipmb names.now request.now.requester.address) ∷ []) }
+    ensures { result ≡ first_of (request_checks names.now request.now) }
 {
     if is_changing(&asked(request)) {
         return Some(Fault::Changing);
@@ -111,9 +101,7 @@ fn message_changes(from: u8, bytes: &[u8]) -> bool
 
 /// What is wrong with another requester's message but for want of room.
 pub fn message_fault(names: &Names, message: &OtherMessage) -> Option<Fault>
-    ensures { result ≡ first_of (
-        check Changing (message_changes message.now.from message.now.body)
-        ∷ check Impersonates (is_own Smbus names.now message.now.from) ∷ []) }
+    ensures { result ≡ first_of (message_checks names.now message.now) }
 {
     if message_changes(message.from, message.body.as_slice()) {
         return Some(Fault::Changing);

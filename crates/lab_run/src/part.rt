@@ -1,10 +1,7 @@
 //! What is looked at of a packet that comes to the controller's port.
 ghost use Rattle.std.specs.Prelude.{◌≡◌, ◌==◌, ◌||◌};
 ghost use Rattle.two_wire.specs.declared.Bus.TheVariants.{Smbus};
-ghost use Rattle.cfg_records.specs.declared.board_file.BoardFile.{BoardFile as AnyFile};
-ghost use Rattle.model_lab.specs.Lab.{LabFrame, Lab as LabModel};
-ghost use Rattle.model_lab.specs.Played.{plans};
-ghost use Rattle.lab_run.specs.Shown.{Shows, ForShown, IsSentFrame};
+ghost use Rattle.lab_run.specs.Shown.{ForShown, ForSent};
 ghost use Rattle.lab_run.specs.Parts.{part_of, part_at};
 
 use crate::frames::SentFrame;
@@ -35,9 +32,8 @@ fn goes_to(to: u8, own: u8) -> bool
 impl Lab {
     /// What is looked at of the packet that a frame on the System Management Bus is.
     fn packet_of(&self, frame: &SentFrame) -> Option<ManagerPart>
-        ensures { (file : AnyFile) (x : LabModel plans) (f : LabFrame)
-            → Shows file self.now x → IsSentFrame frame.now f → f.on ≡ Smbus
-            → result ≡ part_of x f.request f.value }
+        ensures { ForSent self.now frame.now (λ x f.
+            f.on ≡ Smbus → result ≡ part_of x f.request f.value) }
     {
         let Ok(packet) = read_packet(frame.bytes.as_slice()) else {
             return None;
@@ -55,9 +51,7 @@ impl Lab {
 
     /// What is looked at of a frame, if it is a packet.
     fn part_of(&self, frame: &SentFrame) -> Option<ManagerPart>
-        ensures { (file : AnyFile) (x : LabModel plans) (f : LabFrame)
-            → Shows file self.now x → IsSentFrame frame.now f
-            → result ≡ part_of x f.request f.value }
+        ensures { ForSent self.now frame.now (λ x f. result ≡ part_of x f.request f.value) }
     {
         match frame.mark.on {
             Bus::Ipmb => None,

@@ -1,19 +1,18 @@
 //! What the controller's ports hear, and what they forget.
-ghost use Rattle.std.specs.Prelude.{◌≡◌, ◌≤◌, List, Some, map, OnOk, suc, slice_get, false};
+ghost use Rattle.std.specs.Prelude.{◌≡◌, ◌≤◌, map, OnOk, suc, slice_get};
 ghost use Rattle.std.specs.List.{AllZip};
 ghost use Rattle.two_wire.specs.declared.Bus.{Bus as AnyBus};
 ghost use Rattle.two_wire.specs.declared.Bus.TheVariants.{Ipmb, Smbus};
 ghost use Rattle.ipmb_frame.specs.Grammar.{IsRequest};
-ghost use Rattle.cfg_records.specs.declared.board_file.BoardFile.{BoardFile as AnyFile};
-ghost use Rattle.model_ports.specs.Values.{Value, Asks, Part, IsFrameOn, parts_of};
-ghost use Rattle.model_ports.specs.PortSteps.{hears, hears_all, idles, stays};
+ghost use Rattle.model_ports.specs.Values.{Asks, Part, IsFrameOn, parts_of};
+ghost use Rattle.model_ports.specs.PortSteps.{hears, hears_all, idles};
 ghost use Rattle.model_lab.specs.declared.way.Way.TheVariants.{ToOthers};
-ghost use Rattle.model_lab.specs.Lab.{LabFrame, Lab as LabModel, delivered, port_does, port_on, with_port, with_frames};
+ghost use Rattle.model_lab.specs.Lab.{delivered, port_does, port_on, with_port};
 ghost use Rattle.model_lab.specs.Meaning.{lab_names as the_names, other_wire, request_of, message_of};
-ghost use Rattle.model_lab.specs.Faults.{is_frame};
 ghost use Rattle.model_lab.specs.Played.{plans};
-ghost use Rattle.lab_run.specs.Shown.{Shows, ForShown, Becomes, CanCountOn, idles_in};
-ghost use Rattle.lab_run.specs.Hearing.{HasFrames, HasHeard, done_on, Ignores};
+ghost use Rattle.lab_run.specs.Shown.{Becomes, CanCountOn, idles_in};
+ghost use Rattle.text_schedule.specs.declared.event.Event.TheVariants.{ToBmc};
+ghost use Rattle.lab_run.specs.Hearing.{Did, SendsOut, PortHears, HearsOther, StaysAtNoise, IgnoresNoise};
 
 use crate::lab_state::Lab;
 use crate::marks::Mark;
@@ -76,9 +75,7 @@ impl Lab {
     pub(crate) fn to_port(&mut self, number: u32) -> Result<(), AllocError>
         ensures becomes { OnOk result (Becomes self.old self.new (λ file x.
             delivered plans file (slice_get x.frames number) x)) }
-        ensures done { OnOk result ((file : AnyFile) (x : LabModel plans) (f : LabFrame)
-            → Shows file self.old x → slice_get x.frames number ≡ Some f
-            → self.new.out.done ≡ done_on f.on (port_on plans f.on x) f.value) }
+        ensures done { OnOk result (Did (ToBmc number) self.old self.new) }
         ensures idles { self.new.idles ≡ self.old.idles }
     {
         let Some(frame) = self.frames.get(number) else {
@@ -118,14 +115,9 @@ impl Lab {
 
     /// Somebody else's frame comes to the port on its bus, and what the port sends goes to others. Bytes that are no frame change nothing.
     pub(crate) fn hear_other(&mut self, on: Bus, bytes: &[u8]) -> Result<(), AllocError>
-        ensures becomes { OnOk result ((file : AnyFile) (x : LabModel plans) (v : Value)
-            → Shows file self.old x → IsFrameOn on v bytes.now
-            → Shows file self.new (port_does plans on ToOthers 0
-            (hears file (port_on plans on x) x.board v) x)) }
-        ensures noise { OnOk result (ForShown self.old (λ file x.
-            is_frame on bytes.now ≡ false → Shows file self.new x)) }
-        ensures ignored { OnOk result (ForShown self.old (λ _ _.
-            is_frame on bytes.now ≡ false → Ignores on bytes.now self.new.out.done)) }
+        ensures becomes { OnOk result (HearsOther on bytes.now self.old self.new) }
+        ensures noise { OnOk result (StaysAtNoise on bytes.now self.old self.new) }
+        ensures ignored { OnOk result (IgnoresNoise on bytes.now self.old self.new) }
         ensures idles { self.new.idles ≡ self.old.idles }
     {
         self.hear(on, bytes);
@@ -139,16 +131,7 @@ impl Lab {
 
     /// A frame comes to the port on its bus, which fills in what it sends. Of other bytes it says what is wrong with them.
     fn hear(&mut self, on: Bus, bytes: &[u8])
-        ensures heard { (file : AnyFile) (x : LabModel plans) (v : Value)
-            → Shows file self.old x → IsFrameOn on v bytes.now
-            → HasHeard file on x (hears file (port_on plans on x) x.board v) self.new }
-        ensures done { (file : AnyFile) (x : LabModel plans) (v : Value)
-            → Shows file self.old x → IsFrameOn on v bytes.now
-            → self.new.out.done ≡ done_on on (port_on plans on x) v }
-        ensures noise { ForShown self.old (λ file x. is_frame on bytes.now ≡ false
-            → HasHeard file on x (stays (port_on plans on x) x.board) self.new) }
-        ensures ignored { ForShown self.old (λ _ _.
-            is_frame on bytes.now ≡ false → Ignores on bytes.now self.new.out.done) }
+        ensures port { PortHears on bytes.now self.old self.new }
         ensures idles { self.new.idles ≡ self.old.idles }
     {
         match on {
@@ -160,9 +143,7 @@ impl Lab {
     /// The lab sends what a port filled in last, this way and with this mark.
     fn send_out(&mut self, way: Way, mark: Mark) -> Result<(), AllocError>
         requires { mark.idles ≡ idles_in mark.on self.old.idles }
-        ensures sent { OnOk result ((file : AnyFile) (x : LabModel plans) (values : List Value)
-            → Shows file self.old x → HasFrames mark.on values self.old.out
-            → Shows file self.new (with_frames plans mark.on way mark.request values x)) }
+        ensures sent { OnOk result (SendsOut way mark self.old self.new) }
         ensures out { self.new.out ≡ self.old.out }
         ensures idles { self.new.idles ≡ self.old.idles }
     {

@@ -7,5 +7,6 @@ pub mod Exchange
 pub mod Course
 pub mod Coming
 pub mod Going
+pub mod Replied
 pub mod ShortValues
 pub mod JoinedBodies

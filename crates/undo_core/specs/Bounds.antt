@@ -1,8 +1,9 @@
 -- How far a manager's numbers go.
-use Rattle.std.specs.Prelude.{ℕ, suc, ◌+◌, ◌-◌, ◌*◌, List, [], drop}
+use Rattle.std.specs.Prelude.{ℕ, suc, ◌+◌, ◌-◌, ◌*◌, ◌<◌, ◌≤◌, List, [], length, drop}
 use Rattle.record_base.specs.declared.op.Op.{Op}
 use Rattle.undo_plans.specs.Steps.{most_steps}
 use Rattle.undo_plans.specs.Fitting.{most_requests}
+use Rattle.undo_plans.specs.Requests.{RequestList}
 use Rattle.undo_core.specs.declared.stage.Task.{Task}
 use Rattle.undo_core.specs.declared.stage.Task.TheVariants.{Gets, Sets, Undoes}
 use Rattle.undo_core.specs.declared.stage.Stage.{Stage}
@@ -75,6 +76,22 @@ replies_left steps backs AtEnd = most_requests * backs
 replies_left steps backs (AtHalt step why) = most_requests * backs
 replies_left steps backs AtUndone = 0
 replies_left steps backs (AtRefused step code) = 0
+
+-- how many replies are left to a plan with these requests that undo
+abbrev pub left_at : List Op → RequestList → Stage → ℕ
+left_at plan requests stage = replies_left (length plan) (length requests.members) stage
+
+-- and while a task's request is open, after so many others
+abbrev pub left_of : List Op → RequestList → Task → (parts : ℕ) → ℕ
+left_of plan requests task parts = task_left (length plan) (length requests.members) task parts
+
+-- whatever requests undo, fewer replies are left at the stage than while the task's request is open after so many others
+abbrev pub LeavesFewer : List Op → Task → (parts : ℕ) → Stage → Type 0
+LeavesFewer plan task parts stage = (any : RequestList) → left_at plan any stage < left_of plan any task parts
+
+-- or no more are left
+abbrev pub LeavesNoMore : List Op → Task → (parts : ℕ) → Stage → Type 0
+LeavesNoMore plan task parts stage = (any : RequestList) → left_at plan any stage ≤ left_of plan any task parts
 
 -- the steps of a plan whose requests that undo are still to be written
 abbrev pub task_ahead : List Op → Task → List Op

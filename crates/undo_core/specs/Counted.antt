@@ -1,10 +1,13 @@
 -- How many of a manager's requests were answered, as its machine counts them.
-use Rattle.std.specs.Prelude.{List}
+use Rattle.std.specs.Prelude.{◌≡◌, ℕ, ◌%◌, true, List, map}
+use Rattle.std.specs.List.{AllZip}
 use Rattle.record_base.specs.declared.message.Asked.{Asked}
 use Rattle.undo_plans.specs.declared.names.Names.{Names}
 use Rattle.model_undo.specs.Machine.{Counts as MachineCounts, count_of}
 use Rattle.model_ports.specs.Wires.{bus_of}
-use Rattle.model_ports.specs.Values.{Value}
+use Rattle.model_ports.specs.Values.{Value, written, IsFrameOn}
+use Rattle.mctp_net.specs.declared.packet.Envelope.{Envelope}
+use Rattle.model_bus.specs.Circle.{tags}
 use Rattle.model_lab.specs.ManagerSteps.{values_of}
 use Rattle.undo_core.specs.declared.sending.Counts.{Counts}
 
@@ -15,3 +18,19 @@ counts_of counts = record { ipmb = counts.ipmb; smbus = counts.smbus }
 -- the frames of the request that follows so many
 abbrev pub values_at : Names → Counts → Asked → List Value
 values_at names counts asked = values_of names (count_of (bus_of asked) (counts_of counts)) asked
+
+-- these are the frames of the request that follows so many, and a reader of each frame gives its value
+pub record AreFramesOf (names : Names) (counts : Counts) (asked : Asked) (frames : List (List ℕ)) : Type 0 where
+  pub written_as : frames ≡ map written (values_at names counts asked)
+  pub read : AllZip (IsFrameOn (bus_of asked)) (values_at names counts asked) frames
+
+-- the sender, the receiver and the tag of the message of the request on SMBus that follows so many
+abbrev pub envelope_at : Names → Counts → Envelope
+envelope_at names counts = record {
+  destination = names.peer_wire;
+  source = names.own_wire;
+  destination_eid = names.peer_eid;
+  source_eid = names.own_eid;
+  tag_owner = true;
+  tag = counts.smbus % tags;
+}

@@ -1,5 +1,5 @@
 -- What the replies to a Get that goes in parts show together.
-use Rattle.std.specs.Prelude.{◌≡◌, ℕ, zero, suc, ◌+◌, ◌*◌, List, [], ◌∷◌, ◌++◌, Option, Some, None, if◌then◌else◌}
+use Rattle.std.specs.Prelude.{◌≡◌, ℕ, zero, suc, ◌+◌, ◌*◌, List, [], ◌∷◌, ◌++◌, length, Option, Some, None, if◌then◌else◌}
 use Rattle.std.specs.List.{flat_map}
 use Rattle.record_base.specs.declared.key.Key.{Key}
 use Rattle.record_base.specs.declared.key.Key.TheVariants as key
@@ -15,6 +15,10 @@ whole_of bodies = no_handle ++ start_and_end ∷ flat_map entry_in bodies
 abbrev pub AreJoined : (bytes : List ℕ) → (before : List (List ℕ)) → Type 0
 AreJoined bytes [] = Unit {0}
 AreJoined bytes (body ∷ bodies) = bytes ≡ whole_of (body ∷ bodies)
+
+-- this holds of each list of so many replies whose data these are
+abbrev pub ForJoined : (parts : ℕ) → (bytes : List ℕ) → (List (List ℕ) → Type 0) → Type 0
+ForJoined parts bytes Holds = (before : List (List ℕ)) → length before ≡ parts → AreJoined bytes before → Holds before
 
 -- how many bytes the data of so many replies have at most
 abbrev pub most_joined : ℕ → ℕ

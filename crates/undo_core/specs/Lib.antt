@@ -1,7 +1,9 @@
 pub mod Counted
 pub mod Joining
 pub mod Bounds
+pub mod Stages
 pub mod Room
 pub mod Shown
+pub mod Entered
 pub mod Exchange
 pub mod Course

@@ -1,23 +1,35 @@
 -- The machine that a manager shows, and the packets that wait at it.
-use Rattle.std.specs.Prelude.{◌≡◌, ◌≢◌, Result, Ok, Err, ℕ, suc, ◌<◌, Bool, List, ◌∷◌, length, map, take, reverse, Option, Some, None, slice_get, if◌then◌else◌}
+use Rattle.std.specs.Prelude.{◌≡◌, ◌≢◌, Result, Ok, Err, ℕ, suc, ◌<◌, Bool, not, List, ◌∷◌, length, map, take, reverse, Option, Some, None, slice_get, if◌then◌else◌}
 use Rattle.std.specs.List.{AllZip}
+use Rattle.std.specs.Option.{option_map}
 use Rattle.two_wire.specs.declared.Bus.TheVariants.{Ipmb, Smbus}
+use Rattle.ipmb_frame.specs.declared.message.Response.{Response}
+use Rattle.ipmb_frame.specs.Grammar.{IsResponse}
 use Rattle.record_base.specs.declared.op.Op.{Op}
 use Rattle.record_base.specs.declared.message.Asked.{Asked}
 use Rattle.record_kinds.specs.Series.{Series, Sends, set_whole}
 use Rattle.undo_plans.specs.declared.names.Names.{Names}
+use Rattle.undo_plans.specs.declared.undo_list.UndoList.{UndoList}
 use Rattle.undo_plans.specs.Requests.{RequestList}
+use Rattle.mctp_net.specs.declared.packet.Packet.{Packet}
+use Rattle.mctp_net.specs.Grammar.{IsPacket}
+use Rattle.mctp_net.specs.Assembly.{nothing}
 use Rattle.mctp_net.specs.Places.{seen}
 use Rattle.model_bus.specs.Answered.{Answered}
-use Rattle.model_undo.specs.Words.{Words}
+use Rattle.model_bus.specs.Bytes.{ipmb_answers, pldm_answers}
+use Rattle.model_undo.specs.Words.{Words, is_busy}
 use Rattle.model_undo.specs.Machine as machine
 use Rattle.model_undo.specs.Machine.{reply_of}
+use Rattle.model_undo.specs.Resume.{resumed}
 use Rattle.model_undo.specs.Wires.{number_of}
 use Rattle.undo_core.specs.declared.phase.WrongPhase.{WrongPhase}
 use Rattle.model_lab.specs.ManagerWords.{from_manager}
+use Rattle.model_ports.specs.Bytes.{response_bytes}
+use Rattle.model_ports.specs.Wires.{bus_of, bytes_of, answered_from}
 use Rattle.model_ports.specs.Values.{written, IsFrameOn}
 use Rattle.model_undo.specs.declared.call.Call.{Call}
-use Rattle.model_lab.specs.ManagerSteps.{addresses, board_plans, Sent as AllSent, ManagerState, ManagerDeed, called, rests, taken_or}
+use Rattle.model_lab.specs.ManagerSteps.{addresses, board_plans, Sent as AllSent, ManagerState, ManagerDeed, sent_of, called, rests, taken_or, hears_reply, hears_response, hears_packet, joins}
+use Rattle.undo_core.specs.declared.entering.Reply.{Reply}
 use Rattle.undo_core.specs.declared.stage.Task.{Task}
 use Rattle.undo_core.specs.declared.stage.Task.TheVariants as task
 use Rattle.undo_core.specs.declared.stage.Stage.{Stage}
@@ -92,6 +104,26 @@ pub record Shows (names : Names) (manager : Manager) (state : ManagerState (boar
   pub instance : manager.undo.next.smbus ≡ number_of Smbus manager.counts.smbus
   pub joined : state.joined ≡ seen manager.joined
 
+-- a manager that was opened with a plan
+abbrev pub opened_with : (names : Names) → (plan : List Op) → (retries : ℕ) → ManagerState (board_plans names)
+opened_with names plan retries = record { machine = machine.opened (words_of names) plan retries; names = names; listed = Some names; joined = nothing }
+
+-- a manager that goes on from a list of requests that undo
+abbrev pub resumed_from : (names : Names) → UndoList → (retries : ℕ) → ManagerState (board_plans names)
+resumed_from names list retries = record {
+  machine = resumed (words_of names) retries (record { series = backs list.requests.members; next = record { ipmb = list.next.ipmb; smbus = list.next.smbus } });
+  names = names;
+  listed = list.names;
+  joined = nothing;
+}
+
+-- the list is this manager's: its requests that undo, the numbers of the next requests, and the names
+pub record IsListOf (named : Names) (list : UndoList) (state : ManagerState (board_plans named)) : Type 0 where
+  pub requests : backs list.requests.members ≡ state.machine.undo
+  pub sequence : list.next.ipmb ≡ number_of Ipmb state.machine.counts.ipmb
+  pub instance : list.next.smbus ≡ number_of Smbus state.machine.counts.smbus
+  pub names : list.names ≡ state.listed
+
 -- The manager sends what the machine sends: the frames of its values, on its bus, as that request. A reader of each frame gives its value.
 abbrev pub IsSent : Option Sent → Option AllSent → Type 0
 IsSent (Some sent) (Some all_sent) =
@@ -129,3 +161,64 @@ Takes answered = DoesAs (λ names s. taken_or (board_plans names) s (reply_of (w
 -- the manager takes the controller's reply where the reply passed the test against the open request
 abbrev pub taken_if : (names : Names) → Bool → Answered → ManagerState (board_plans names) → ManagerDeed (board_plans names)
 taken_if names passes answered state = if passes then taken_or (board_plans names) state (reply_of (words_of names) answered state.machine) else rests (board_plans names) state
+
+-- whatever stage of the machine the manager is at, the manager sends what the machine sends as it enters that stage
+abbrev pub SendsOpen : Manager → Option Sent → Type 0
+SendsOpen manager sent = (names : Names) (plan : List Op) (requests : RequestList) (replies : List ℕ) (at : machine.Stage (words_of names)) → manager.names ≡ names
+    → IsStage names plan requests replies manager.stage at
+    → IsSent sent (option_map (sent_of (board_plans names) names) (machine.sends_at (words_of names) at (counts_of manager.counts)))
+
+-- ---- what is heard
+
+-- the answer that a response gives, and the answer that a reply gives
+abbrev pub answered_by : Response → Answered
+answered_by response = record { code = response.code; body = response.body }
+
+abbrev pub answered_in : Reply → Answered
+answered_in reply = record { code = reply.code; body = reply.body.now }
+
+-- the test says whether the response answers this request on IPMB, under this number and whatever the names are
+abbrev pub TellsResponse : Asked → (sequence : ℕ) → Response → Bool → Type 0
+TellsResponse asked sequence response passes = (names : Names) → bus_of asked ≡ Ipmb → ipmb_answers (bytes_of sequence (own names asked)) (response_bytes response) ≡ passes
+
+-- and whether the message answers this request on SMBus
+abbrev pub TellsMessage : Asked → (instance : ℕ) → (message : List ℕ) → Bool → Type 0
+TellsMessage asked instance message passes = (names : Names) → bus_of asked ≡ Smbus → pldm_answers (bytes_of instance (own names asked)) message ≡ passes
+
+-- the message gives the reply's answer, and answers this request unless the reply's code is that of a busy port
+pub record IsReplyTo (asked : Asked) (instance : ℕ) (message : List ℕ) (reply : Reply) : Type 0 where
+  pub answer : answered_from Smbus message ≡ answered_in reply
+  pub tells : TellsMessage asked instance message (not (is_busy reply.code))
+
+-- whatever machine the manager shows, the machine takes the response where it passed the test
+abbrev pub IsTakenIf : Bool → Response → Manager → Type 0
+IsTakenIf passes response manager = ForShown manager (λ names s. hears_response (board_plans names) response s ≡ taken_if names passes (answered_by response) s)
+
+-- whatever machine the manager shows, the packet joins those that wait where it passed the test
+abbrev pub IsJoinedIf : Bool → Packet → Manager → Type 0
+IsJoinedIf passes packet manager =
+    ForShown manager (λ names s. hears_packet (board_plans names) packet s ≡ (if passes then joins (board_plans names) packet s else rests (board_plans names) s))
+
+-- whatever machine the manager showed, it hears the response, the packet or the message as the machine does
+abbrev pub HearsResponse : Response → Manager → Manager → Option Sent → Type 0
+HearsResponse response = DoesAs (λ names. hears_response (board_plans names) response)
+
+abbrev pub HearsPacket : Packet → Manager → Manager → Option Sent → Type 0
+HearsPacket packet = DoesAs (λ names. hears_packet (board_plans names) packet)
+
+abbrev pub HearsMessage : (message : List ℕ) → Manager → Manager → Option Sent → Type 0
+HearsMessage message = DoesAs (λ names. hears_reply (board_plans names) Smbus message)
+
+-- the manager hears the response that the bytes are, or the packet
+abbrev pub HearsResponseIn : (bytes : List ℕ) → Manager → Manager → Option Sent → Type 0
+HearsResponseIn bytes old new sent = (response : Response) → IsResponse response bytes → HearsResponse response old new sent
+
+abbrev pub HearsPacketIn : (bytes : List ℕ) → Manager → Manager → Option Sent → Type 0
+HearsPacketIn bytes old new sent = (packet : Packet) → IsPacket packet bytes → HearsPacket packet old new sent
+
+-- the bytes are no response, or no packet
+abbrev pub IsNoResponse : (bytes : List ℕ) → Type 0
+IsNoResponse bytes = (response : Response) → IsResponse response bytes → ⊥
+
+abbrev pub IsNoPacket : (bytes : List ℕ) → Type 0
+IsNoPacket bytes = (packet : Packet) → IsPacket packet bytes → ⊥

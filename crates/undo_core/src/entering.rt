@@ -1,16 +1,13 @@
 //! The stages that a manager enters, and what a reply does with the list of requests that undo.
-ghost use Rattle.std.specs.Prelude.{◌≡◌, ◌+◌, ◌-◌, ◌*◌, ◌≤◌, ◌<◌, ℕ, Bool, suc, length, take, drop, slice_get, List, Some};
+ghost use Rattle.std.specs.Prelude.{◌≡◌, ◌*◌, ◌≤◌, ◌<◌, ℕ, Bool, suc, length, drop, List};
 ghost use Rattle.record_base.specs.declared.op.Op.{Op};
-ghost use Rattle.record_kinds.specs.Series.{Series, set_whole};
-ghost use Rattle.undo_plans.specs.declared.names.Names.{Names};
 ghost use Rattle.undo_plans.specs.Fitting.{most_requests};
 ghost use Rattle.undo_plans.specs.Steps.{most_steps};
 ghost use Rattle.undo_plans.specs.Requests.{RequestList};
-ghost use Rattle.model_undo.specs.Machine as machine;
-ghost use Rattle.undo_core.specs.declared.stage.Task.TheVariants.{Undoes as IsUndoes};
+ghost use Rattle.undo_core.specs.declared.stage.Task.TheVariants.{Gets as IsGets, Sets as IsSets, Undoes as IsUndoes};
 ghost use Rattle.undo_core.specs.Joining.{most_joined};
-ghost use Rattle.undo_core.specs.Shown.{words_of, backs, IsTask, IsGot, IsStage};
-ghost use Rattle.undo_core.specs.Bounds.{replies_of_step, parts_at, most_got, most_replied, task_steps, steps_needed, task_undone, undone_needed, task_backs, most_backs, task_left, replies_left, task_ahead, steps_ahead};
+ghost use Rattle.undo_core.specs.Entered.{EntersStep, EntersUndo, AfterReply};
+ghost use Rattle.undo_core.specs.Bounds.{parts_at, most_got, most_replied, task_steps, steps_needed, task_undone, undone_needed, task_backs, most_backs, replies_left, left_of, left_at, LeavesFewer, LeavesNoMore, task_ahead, steps_ahead};
 ghost use Rattle.undo_core.specs.Room.{HasRoom};
 
 use crate::Why;
@@ -32,16 +29,13 @@ pub(crate) struct Reply<'a> {
 /// The stage of a step: its Get, or the plan's end, or a halt before it.
 pub(crate) fn step_stage(steps: &Steps, stopped: bool, step: usize) -> Stage
     requires { step ≤ length steps.now }
-    ensures stage { (names : Names) (requests : RequestList) (replies : List ℕ)
-        → IsStage names steps.now requests replies result
-        (machine.next_stage (words_of names) stopped step (slice_get steps.now step)) }
+    ensures stage { EntersStep steps.now stopped step result }
     ensures planned { steps_needed result ≤ length steps.now }
     ensures kept { undone_needed result ≡ 0 }
     ensures few { step ≤ most_backs result }
-    ensures left { (undone : ℕ) → replies_left (length steps.now) undone result
-        ≤ replies_of_step * (length steps.now - step) + most_requests * undone }
-    ensures room { (requests : RequestList) → HasRoom (drop step steps.now) requests
-        → HasRoom (steps_ahead steps.now result) requests }
+    ensures left { LeavesNoMore steps.now (IsGets step) 0 result }
+    ensures room { (any : RequestList)
+        → HasRoom (drop step steps.now) any → HasRoom (steps_ahead steps.now result) any }
     ensures first { parts_at result ≡ 0 }
 {
     let _steps = steps.len();
@@ -64,9 +58,7 @@ pub(crate) fn step_stage(steps: &Steps, stopped: bool, step: usize) -> Stage
 /// The stage in which this many steps are still to be undone.
 pub(crate) fn undo_stage(requests: &Requests, left: usize) -> Stage
     requires { left ≤ length requests.now.members }
-    ensures stage { (names : Names) (plan : List Op) (replies : List ℕ)
-        → IsStage names plan requests.now replies result
-        (machine.undo_stage (words_of names) (backs (take left requests.now.members))) }
+    ensures stage { EntersUndo requests.now left result }
     ensures planned { steps_needed result ≡ 0 }
     ensures kept { undone_needed result ≤ left }
     ensures few { most_backs result ≡ most_steps }
@@ -106,22 +98,13 @@ pub(crate) fn stage_after(
     requires room { HasRoom (task_ahead steps.now task) requests.old }
     requires parts { parts < most_requests }
     requires filled { length replies.old ≤ most_got task parts }
-    ensures stage { (names : Names) (of : machine.Task (words_of names))
-        (part : machine.Part (words_of names)) → IsTask names steps.now requests.old task of
-        → length part.before ≡ parts → IsGot task replies.old part.before
-        → IsStage names steps.now requests.new replies.new result
-        (machine.stage_after (words_of names) stopped steps.now
-        (record { code = reply.entry.code; body = reply.entry.body.now }) of part) }
-    ensures undo { (names : Names) (of : machine.Task (words_of names))
-        (part : machine.Part (words_of names)) → IsTask names steps.now requests.old task of
-        → length part.before ≡ parts → machine.undo_after (words_of names)
-        (record { code = reply.entry.code; body = reply.entry.body.now }) of part
-        (backs requests.old.members) ≡ backs requests.new.members }
+    ensures after { AfterReply steps.now stopped task parts reply.entry
+        requests.old requests.new replies.old replies.new result }
     ensures planned { steps_needed result ≤ length steps.now }
     ensures kept { undone_needed result ≤ length requests.new.members }
     ensures few { length requests.new.members ≤ most_backs result }
-    ensures left { suc (replies_left (length steps.now) (length requests.new.members) result)
-        ≤ task_left (length steps.now) (length requests.old.members) task parts }
+    ensures left { left_at steps.now requests.new result
+        < left_of steps.now requests.old task parts }
     ensures room { HasRoom (steps_ahead steps.now result) requests.new }
     ensures parted { parts_at result < most_requests }
     ensures filled { length replies.new ≤ most_replied result }
@@ -147,26 +130,13 @@ fn after_set(
     requires few { length requests.old.members ≤ step }
     requires room { HasRoom (drop (suc step) steps.now) requests.old }
     requires parts { parts < most_requests }
-    ensures stage { (names : Names) (op back : Op) (part : machine.Part (words_of names))
-        (replies : List ℕ) → slice_get steps.now step ≡ Some op
-        → requests.old.waiting ≡ Some (set_whole back) → length part.before ≡ parts
-        → IsStage names steps.now requests.new replies result
-        (machine.stage_after (words_of names) stopped steps.now
-        (record { code = reply.entry.code; body = reply.entry.body.now })
-        (machine.Sets step op back) part) }
-    ensures undo { (names : Names) (op back : Op) (part : machine.Part (words_of names))
-        → slice_get steps.now step ≡ Some op
-        → requests.old.waiting ≡ Some (set_whole back) → length part.before ≡ parts
-        → machine.undo_after (words_of names)
-        (record { code = reply.entry.code; body = reply.entry.body.now })
-        (machine.Sets step op back) part (backs requests.old.members)
-        ≡ backs requests.new.members }
+    ensures after { (any : List ℕ) → AfterReply steps.now stopped (IsSets step) parts
+        reply.entry requests.old requests.new any any result }
     ensures planned { steps_needed result ≤ length steps.now }
     ensures kept { undone_needed result ≡ 0 }
     ensures few { length requests.new.members ≤ most_backs result }
-    ensures left { suc (replies_left (length steps.now) (length requests.new.members) result)
-        ≤ replies_of_step * (length steps.now - step) - most_requests - parts
-        + most_requests * length requests.old.members }
+    ensures left { left_at steps.now requests.new result
+        < left_of steps.now requests.old (IsSets step) parts }
     ensures room { HasRoom (steps_ahead steps.now result) requests.new }
     ensures parted { parts_at result < most_requests }
     ensures free { most_replied result ≡ most_joined 0 }
@@ -194,18 +164,13 @@ fn after_set(
 fn after_undo(requests: &Requests, step: usize, parts: u8, reply: Reply<'_>) -> Stage
     requires step { step < length requests.now.members }
     requires parts { parts < most_requests }
-    ensures stage { (names : Names) (plan : List Op) (stopped : Bool) (first : Series)
-        (rest : List Series) (part : machine.Part (words_of names)) (replies : List ℕ)
-        → IsTask names plan requests.now (IsUndoes step) (machine.Undoes first rest)
-        → length part.before ≡ parts → IsStage names plan requests.now replies result
-        (machine.stage_after (words_of names) stopped plan
-        (record { code = reply.entry.code; body = reply.entry.body.now })
-        (machine.Undoes first rest) part) }
+    ensures after { (plan : List Op) (stopped : Bool) (any : List ℕ)
+        → AfterReply plan stopped (IsUndoes step) parts
+        reply.entry requests.now requests.now any any result }
     ensures planned { steps_needed result ≡ 0 }
     ensures kept { undone_needed result ≤ suc step }
     ensures few { most_backs result ≡ most_steps }
-    ensures left { (steps undone : ℕ) → suc (replies_left steps undone result)
-        ≤ most_requests * suc step - parts }
+    ensures left { (plan : List Op) → LeavesFewer plan (IsUndoes step) parts result }
     ensures room { (plan : List Op) (any : RequestList) → HasRoom (steps_ahead plan result) any }
     ensures parted { parts_at result < most_requests }
     ensures free { most_replied result ≡ most_joined 0 }

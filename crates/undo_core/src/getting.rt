@@ -1,13 +1,10 @@
 //! What the replies to a Get lead to.
-ghost use Rattle.std.specs.Prelude.{◌≡◌, ◌+◌, ◌*◌, ◌-◌, ◌≤◌, ◌<◌, ℕ, suc, length, drop, slice_get, List, Some};
-ghost use Rattle.record_base.specs.declared.op.Op.{Op};
-ghost use Rattle.record_kinds.specs.Limits.{inverse};
-ghost use Rattle.undo_plans.specs.declared.names.Names.{Names};
+ghost use Rattle.std.specs.Prelude.{◌≡◌, ◌+◌, ◌≤◌, ◌<◌, length, drop};
 ghost use Rattle.undo_plans.specs.Fitting.{most_requests};
-ghost use Rattle.model_undo.specs.Machine as machine;
-ghost use Rattle.undo_core.specs.Joining.{AreJoined, most_joined, get_after_reply};
-ghost use Rattle.undo_core.specs.Shown.{words_of, IsStage};
-ghost use Rattle.undo_core.specs.Bounds.{replies_of_step, parts_at, most_replied, steps_needed, undone_needed, most_backs, replies_left, steps_ahead};
+ghost use Rattle.undo_core.specs.declared.stage.Task.TheVariants.{Gets as IsGets, Sets as IsSets};
+ghost use Rattle.undo_core.specs.Joining.{most_joined, get_after_reply};
+ghost use Rattle.undo_core.specs.Entered.{EntersSet, AfterReply};
+ghost use Rattle.undo_core.specs.Bounds.{parts_at, most_replied, steps_needed, undone_needed, most_backs, LeavesFewer, LeavesNoMore, steps_ahead};
 ghost use Rattle.undo_core.specs.Room.{HasRoom};
 
 use crate::Why;
@@ -47,19 +44,13 @@ pub(crate) fn after_get(
     requires room { HasRoom (drop step steps.now) requests.old }
     requires parts { parts < most_requests }
     requires filled { length replies.old ≤ most_joined parts }
-    ensures stage { (names : Names) (op : Op) (part : machine.Part (words_of names))
-        → slice_get steps.now step ≡ Some op → length part.before ≡ parts
-        → AreJoined replies.old part.before
-        → IsStage names steps.now requests.new replies.new result
-        (machine.stage_after (words_of names) stopped steps.now
-        (record { code = reply.entry.code; body = reply.entry.body.now })
-        (machine.Gets step op) part) }
+    ensures after { AfterReply steps.now stopped (IsGets step) parts reply.entry
+        requests.old requests.new replies.old replies.new result }
     ensures members { requests.new.members ≡ requests.old.members }
     ensures planned { steps_needed result ≤ length steps.now }
     ensures kept { undone_needed result ≡ 0 }
     ensures few { step ≤ most_backs result }
-    ensures left { (undone : ℕ) → suc (replies_left (length steps.now) undone result)
-        ≤ replies_of_step * (length steps.now - step) - parts + most_requests * undone }
+    ensures left { LeavesFewer steps.now (IsGets step) parts result }
     ensures room { HasRoom (steps_ahead steps.now result) requests.new }
     ensures parted { parts_at result < most_requests }
     ensures filled { length replies.new ≤ most_replied result }
@@ -100,17 +91,12 @@ fn got_stage(
     requires step { step < length steps.now }
     requires few { length requests.old.members ≤ step }
     requires room { HasRoom (drop step steps.now) requests.old }
-    ensures stage { (names : Names) (op : Op) (replies : List ℕ)
-        → slice_get steps.now step ≡ Some op
-        → IsStage names steps.now requests.new replies result
-        (machine.set_stage (words_of names) stopped step op (inverse op shown.now)) }
+    ensures stage { EntersSet steps.now stopped step shown.now requests.new result }
     ensures members { requests.new.members ≡ requests.old.members }
     ensures planned { steps_needed result ≤ length steps.now }
     ensures kept { undone_needed result ≡ 0 }
     ensures few { step ≤ most_backs result }
-    ensures left { (undone : ℕ) → replies_left (length steps.now) undone result
-        ≤ replies_of_step * (length steps.now - step) - most_requests
-        + most_requests * undone }
+    ensures left { LeavesNoMore steps.now (IsSets step) 0 result }
     ensures room { HasRoom (steps_ahead steps.now result) requests.new }
     ensures first { parts_at result ≡ 0 }
     ensures free { most_replied result ≡ most_joined 0 }

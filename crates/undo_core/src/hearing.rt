@@ -1,19 +1,11 @@
 //! Frames that come to a manager.
-ghost use Rattle.std.specs.Prelude.{◌≡◌, ◌&&◌, not, ◌≤◌, length, None, IfSome, false, if◌then◌else◌};
+ghost use Rattle.std.specs.Prelude.{◌≡◌, ◌&&◌, not, ◌≤◌, length, None, IfSome, false};
 ghost use Rattle.two_wire.specs.Sizes.{most_message_bytes};
-ghost use Rattle.undo_plans.specs.declared.names.Names.{Names};
-ghost use Rattle.undo_core.specs.Shown.{own, ForShown, DoesAs, Takes, taken_if};
+ghost use Rattle.undo_core.specs.Shown.{ForShown, Takes, answered_in, TellsResponse, TellsMessage, IsReplyTo, IsTakenIf, IsJoinedIf, HearsResponse, HearsPacket, HearsMessage, HearsResponseIn, HearsPacketIn, IsNoResponse, IsNoPacket};
 ghost use Rattle.model_undo.specs.Words.{is_busy as is_busy_code};
 ghost use Rattle.undo_core.specs.Course.{Hears, Comes};
 ghost use Rattle.two_wire.specs.declared.Bus.TheVariants.{Ipmb as IsIpmb, Smbus as IsSmbus};
-ghost use Rattle.model_bus.specs.Bytes.{ipmb_answers, pldm_answers};
-ghost use Rattle.ipmb_frame.specs.declared.message.Response.{Response as AnyResponse};
-ghost use Rattle.ipmb_frame.specs.Grammar.{IsResponse};
-ghost use Rattle.mctp_net.specs.declared.packet.Packet.{Packet as AnyPacket};
-ghost use Rattle.mctp_net.specs.Grammar.{IsPacket};
-ghost use Rattle.model_ports.specs.Wires.{bus_of as bus_of_request, bytes_of, answered_from};
-ghost use Rattle.model_ports.specs.Bytes.{response_bytes};
-ghost use Rattle.model_lab.specs.ManagerSteps.{board_plans, hears_response, is_answer as is_answer_of, rests, hears_packet, hears_reply, is_part as is_part_of, joins as joins_packet};
+ghost use Rattle.model_lab.specs.ManagerSteps.{is_answer as is_answer_of, is_part as is_part_of};
 
 use crate::entering::{Reply, stage_after};
 use crate::manager::Manager;
@@ -32,19 +24,15 @@ impl Manager {
     /// Hears the bytes of a frame.
     pub fn on_frame(&mut self, bus: Bus, bytes: &[u8]) -> Option<Sent>
         // A response on IPMB, and a packet on SMBus, is heard as the machine hears it.
-        ensures response { (r : AnyResponse) → bus ≡ IsIpmb → IsResponse r bytes.now
-            → DoesAs (λ names. hears_response (board_plans names) r) self.old self.new result }
-        ensures packet { (p : AnyPacket) → bus ≡ IsSmbus → IsPacket p bytes.now
-            → DoesAs (λ names. hears_packet (board_plans names) p) self.old self.new result }
+        ensures response { bus ≡ IsIpmb → HearsResponseIn bytes.now self.old self.new result }
+        ensures packet { bus ≡ IsSmbus → HearsPacketIn bytes.now self.old self.new result }
         // Of all bytes one thing comes: of a frame what comes of its value, and of others nothing.
         ensures heard { ForShown self.old (λ names s.
             Comes names (Hears bus bytes.now) s self.new result) }
         // Nothing else changes the manager, and it sends nothing then.
-        ensures no_response { bus ≡ IsIpmb
-            → ((r : AnyResponse) → IsResponse r bytes.now → ⊥)
+        ensures no_response { bus ≡ IsIpmb → IsNoResponse bytes.now
             → (self.new ≡ self.old) × (result ≡ None) }
-        ensures no_packet { bus ≡ IsSmbus
-            → ((p : AnyPacket) → IsPacket p bytes.now → ⊥)
+        ensures no_packet { bus ≡ IsSmbus → IsNoPacket bytes.now
             → (self.new ≡ self.old) × (result ≡ None) }
     {
         match bus {
@@ -61,8 +49,7 @@ impl Manager {
 
     /// Hears a response.
     fn on_response(&mut self, response: &Response<'_>) -> Option<Sent>
-        ensures { DoesAs (λ names. hears_response (board_plans names) response.now)
-            self.old self.new result }
+        ensures { HearsResponse response.now self.old self.new result }
     {
         if !self.is_answered_by(response) {
             return None;
@@ -75,9 +62,7 @@ impl Manager {
 
     /// Whether the response comes from the controller, and answers the open request.
     fn is_answered_by(&self, response: &Response<'_>) -> bool
-        ensures { ForShown self.now (λ names s.
-            hears_response (board_plans names) response.now s ≡ taken_if names result
-            (record { code = response.now.code; body = response.now.body }) s) }
+        ensures { IsTakenIf result response.now self.now }
     {
         let Some(asked) = self.stage.heeded_on(Bus::Ipmb) else {
             return false;
@@ -96,8 +81,7 @@ impl Manager {
 
     /// Hears a packet.
     fn on_packet(&mut self, packet: &Packet<'_>) -> Option<Sent>
-        ensures { DoesAs (λ names. hears_packet (board_plans names) packet.now)
-            self.old self.new result }
+        ensures { HearsPacket packet.now self.old self.new result }
     {
         if !self.joins(packet) {
             return None;
@@ -111,9 +95,7 @@ impl Manager {
 
     /// Whether the packet comes from the controller while a request is open on its bus.
     fn joins(&self, packet: &Packet<'_>) -> bool
-        ensures { ForShown self.now (λ names s. hears_packet (board_plans names) packet.now s
-            ≡ (if result then joins_packet (board_plans names) packet.now s
-            else rests (board_plans names) s)) }
+        ensures { IsJoinedIf result packet.now self.now }
     {
         let Some(_) = self.stage.heeded_on(Bus::Smbus) else {
             return false;
@@ -136,8 +118,7 @@ impl Manager {
     /// Hears a whole message.
     fn on_message(&mut self, message: &[u8]) -> Option<Sent>
         requires { length message.now ≤ most_message_bytes }
-        ensures { DoesAs (λ names. hears_reply (board_plans names) IsSmbus message.now)
-            self.old self.new result }
+        ensures { HearsMessage message.now self.old self.new result }
     {
         let Some(asked) = self.stage.heeded_on(Bus::Smbus) else {
             return None;
@@ -150,8 +131,7 @@ impl Manager {
 
     /// Takes the reply to the open request. The codes of a busy controller count as none.
     fn on_reply(&mut self, reply: Reply<'_>) -> Option<Sent>
-        ensures { Takes (record { code = reply.entry.code; body = reply.entry.body.now })
-            self.old self.new result }
+        ensures { Takes (answered_in reply.entry) self.old self.new result }
     {
         if is_busy(reply.code) {
             return None;
@@ -188,9 +168,8 @@ impl Manager {
 
 /// Whether the response has the number, the network function and the command of the request.
 fn is_answer_to(asked: &Asked, sequence: Sequence, response: &Response<'_>) -> bool
-    ensures { (names : Names) → bus_of_request asked.now ≡ IsIpmb
-        → ipmb_answers (bytes_of sequence (own names asked.now)) (response_bytes response.now)
-        ≡ (result && not (is_busy_code response.now.code)) }
+    ensures { TellsResponse asked.now sequence response.now
+        (result && not (is_busy_code response.now.code)) }
 {
     let header = response.header;
     let _luns = (header.responder.lun.number(), header.requester.lun.number());
@@ -211,13 +190,8 @@ fn is_answer_to(asked: &Asked, sequence: Sequence, response: &Response<'_>) -> b
 /// The reply that a message is, where it has the instance, the type and the command of the request.
 fn reply_to<'a>(asked: &Asked, instance: Instance, message: &'a [u8]) -> Option<Reply<'a>>
     requires { length message.now ≤ most_message_bytes }
-    ensures some { IfSome result (λ r.
-        (answered_from IsSmbus message.now ≡ record { code = r.code; body = r.body.now })
-        × ((names : Names) → bus_of_request asked.now ≡ IsSmbus
-        → pldm_answers (bytes_of instance (own names asked.now)) message.now
-        ≡ not (is_busy_code r.code))) }
-    ensures none { result ≡ None → (names : Names) → bus_of_request asked.now ≡ IsSmbus
-        → pldm_answers (bytes_of instance (own names asked.now)) message.now ≡ false }
+    ensures some { IfSome result (λ r. IsReplyTo asked.now instance message.now r) }
+    ensures none { result ≡ None → TellsMessage asked.now instance message.now false }
 {
     let Asked::Pldm { kind, command, .. } = asked else {
         return None;

@@ -1,10 +1,7 @@
 //! How a manager begins.
-ghost use Rattle.std.specs.Prelude.{◌≡◌, ◌<◌, ◌≤◌, ◌↔◌, IfOk, SomeIff, true, Some, Err};
+ghost use Rattle.std.specs.Prelude.{◌≡◌, ◌<◌, ◌≤◌, ◌↔◌, IfOk, SomeIff, true, Err};
 ghost use Rattle.two_wire.specs.Retries.{most_retries};
-ghost use Rattle.mctp_net.specs.Assembly.{nothing};
-ghost use Rattle.model_undo.specs.Machine as machine;
-ghost use Rattle.model_undo.specs.Resume.{resumed};
-ghost use Rattle.undo_core.specs.Shown.{words_of, backs, AreOthers, Shows};
+ghost use Rattle.undo_core.specs.Shown.{AreOthers, Shows, opened_with, resumed_from};
 
 use crate::Why;
 use crate::joining::JoinedReplies;
@@ -21,12 +18,8 @@ impl Manager {
     /// A manager of a plan, which it hasn't begun.
     pub fn open(alloc: Global, plan: Plan, names: Names, retries: u8) -> Result<Self, OpenFault>
         ensures refused { (result ≡ Err OpenFault.Retries) ↔ (most_retries < retries) }
-        ensures opened { IfOk result (λ m. Shows names m (record {
-          machine = machine.opened (words_of names) plan.steps retries;
-          names = names;
-          listed = Some names;
-          joined = nothing;
-        })) }
+        ensures opened { IfOk result (λ m.
+            Shows names m (opened_with names plan.steps retries)) }
     {
         let next = NextNumbers {
             ipmb: Below::new(0),
@@ -73,15 +66,7 @@ impl Manager {
         ensures refused { (result ≡ Err ResumeFault.Retries) ↔ (most_retries < retries) }
         ensures others { (result ≡ Err ResumeFault.OtherNames)
             ↔ ((retries ≤ most_retries) × AreOthers names undo.names) }
-        ensures resumed { IfOk result (λ m. Shows names m (record {
-          machine = resumed (words_of names) retries (record {
-            series = backs undo.requests.members;
-            next = record { ipmb = undo.next.ipmb; smbus = undo.next.smbus };
-          });
-          names = names;
-          listed = undo.names;
-          joined = nothing;
-        })) }
+        ensures resumed { IfOk result (λ m. Shows names m (resumed_from names undo retries)) }
     {
         let Some(retries) = retries_of(retries) else {
             return Err(ResumeFault::Retries);

@@ -1,16 +1,13 @@
 //! Requests as the frames that are sent.
-ghost use Rattle.std.specs.Prelude.{◌≡◌, ◌+◌, ◌%◌, ◌<◌, suc, true, [], ◌∷◌, ℕ, map};
-ghost use Rattle.model_ports.specs.Values.{written, IsFrameOn};
-ghost use Rattle.model_lab.specs.ManagerSteps.{values_of};
+ghost use Rattle.std.specs.Prelude.{◌≡◌, ◌+◌, ◌%◌, ◌<◌, suc, [], ◌∷◌, ℕ};
 ghost use Rattle.model_undo.specs.Machine.{count_of, one_answered};
 ghost use Rattle.model_undo.specs.Wires.{number_of};
 ghost use Rattle.model_ports.specs.Wires.{bus_of as bus_of_request};
 ghost use Rattle.record_base.specs.declared.message.Asked.TheVariants as asked_as;
-ghost use Rattle.std.specs.List.{AllZip};
 ghost use Rattle.two_wire.specs.Circles.{tags};
 ghost use Rattle.two_wire.specs.declared.Bus.TheVariants.{Ipmb as IsIpmb, Smbus as IsSmbus};
 ghost use Rattle.undo_core.specs.Bounds.{most_replies};
-ghost use Rattle.undo_core.specs.Counted.{counts_of, values_at};
+ghost use Rattle.undo_core.specs.Counted.{counts_of, AreFramesOf, envelope_at};
 
 use arrayvec::ArrayVec;
 use cfg_records::Asked;
@@ -95,9 +92,7 @@ pub fn bus_of(asked: &Asked) -> Bus
 pub fn frames_of(names: &Names, counts: Counts, asked: &Asked) -> Sent
     ensures bus { result.bus ≡ bus_of_request asked.now }
     ensures request { result.request ≡ count_of (bus_of_request asked.now) (counts_of counts) }
-    ensures frames { result.frames.items ≡ map written (values_at names.now counts asked.now) }
-    ensures read { AllZip (IsFrameOn (bus_of_request asked.now))
-        (values_at names.now counts asked.now) result.frames.items }
+    ensures frames { AreFramesOf names.now counts asked.now result.frames.items }
 {
     match asked {
         Asked::Ipmi {
@@ -137,11 +132,8 @@ fn request_frame(
     command: u8,
     body: &Bytes<{ MOST_IPMI_REQUEST_DATA }>,
 ) -> Frame
-    ensures frames { (from : ℕ) → result ∷ [] ≡ map written
-        (values_of names.now counts.ipmb (asked_as.Ipmi from net_fn lun command body.now)) }
-    ensures read { (from : ℕ) → AllZip (IsFrameOn IsIpmb)
-        (values_of names.now counts.ipmb (asked_as.Ipmi from net_fn lun command body.now))
-        (result ∷ []) }
+    ensures { (from : ℕ) → AreFramesOf names.now counts
+        (asked_as.Ipmi from net_fn lun command body.now) (result ∷ []) }
 {
     let header = ipmb_frame::Header {
         responder: Party {
@@ -168,11 +160,8 @@ fn message_frames(
     command: u8,
     body: &Bytes<{ MOST_PLDM_REQUEST_DATA }>,
 ) -> ArrayVec<Frame, 4>
-    ensures frames { (from : ℕ) → result.items ≡ map written
-        (values_of names.now counts.smbus (asked_as.Pldm from kind command body.now)) }
-    ensures read { (from : ℕ) → AllZip (IsFrameOn IsSmbus)
-        (values_of names.now counts.smbus (asked_as.Pldm from kind command body.now))
-        result.items }
+    ensures { (from : ℕ) → AreFramesOf names.now counts
+        (asked_as.Pldm from kind command body.now) result.items }
 {
     let header = pldm_base::Header {
         instance: counts.instance(),
@@ -191,14 +180,7 @@ fn message_frames(
 
 /// The sender, the receiver and the tag of a request's message.
 fn envelope_of(names: &Names, counts: Counts) -> Envelope
-    ensures { result ≡ record {
-      destination = names.now.peer_wire;
-      source = names.now.own_wire;
-      destination_eid = names.now.peer_eid;
-      source_eid = names.now.own_eid;
-      tag_owner = true;
-      tag = counts.smbus % tags;
-    } }
+    ensures { result ≡ envelope_at names.now counts }
 {
     Envelope {
         destination: names.peer_wire,

@@ -1,11 +1,10 @@
 //! How far a manager is.
-ghost use Rattle.std.specs.Prelude.{◌≡◌, ◌⊎◌, ℕ, Bool, true, false, Option, IfSome, IsSome};
-ghost use Rattle.model_ports.specs.Wires.{bus_of as bus_of_request};
-ghost use Rattle.undo_core.specs.declared.stage.Stage.TheVariants.{Opened as IsOpened, AtEnd as IsAtEnd, AtHalt as IsAtHalt};
+ghost use Rattle.std.specs.Prelude.{◌≡◌, ◌⊎◌, ℕ, true, false, IfSome, IsSome};
+ghost use Rattle.undo_core.specs.declared.stage.Stage.TheVariants.{AtEnd as IsAtEnd, AtHalt as IsAtHalt};
 ghost use Rattle.model_undo.specs.declared.phase.Why.{Why as AnyWhy};
-ghost use Rattle.record_base.specs.declared.message.Asked.{Asked as AnyAsked};
 ghost use Rattle.model_undo.specs.Machine as machine;
 ghost use Rattle.undo_core.specs.Shown.{words_of, ForTask, ForStage};
+ghost use Rattle.undo_core.specs.Stages.{IsOpen, ForOpen, IsHeededOn, ForHeededOn, IsHalted};
 
 use crate::sending::bus_of;
 use crate::{Phase, Why};
@@ -90,7 +89,7 @@ impl Stage {
     /// Whether the plan ended or halted, so that its undo may begin.
     pub fn is_over(&self) -> bool
         ensures over { result ≡ true → (self.now ≡ IsAtEnd)
-            ⊎ ((k : ℕ) × (why : AnyWhy) × (self.now ≡ IsAtHalt k why)) }
+            ⊎ IsHalted self.now }
         ensures no_end { result ≡ false → self.now ≡ IsAtEnd → ⊥ }
         ensures no_halt { result ≡ false → (k : ℕ) (why : AnyWhy)
             → self.now ≡ IsAtHalt k why → ⊥ }
@@ -103,11 +102,8 @@ impl Stage {
 
     /// The open request.
     pub fn open(&self) -> Option<&Asked>
-        ensures some { IfSome result (λ asked.
-            (heeded : Bool) × (task : Task) × (parts : ℕ)
-            × (self.now ≡ IsOpened heeded task parts asked.now)) }
-        ensures none { (heeded : Bool) (task : Task) (parts : ℕ) (asked : AnyAsked)
-            → self.now ≡ IsOpened heeded task parts asked → IsSome result }
+        ensures some { IfSome result (λ asked. IsOpen self.now asked.now) }
+        ensures none { ForOpen self.now (λ _. IsSome result) }
     {
         match self {
             Stage::Opened { asked, .. } => Some(asked),
@@ -117,12 +113,8 @@ impl Stage {
 
     /// The open request, where it is heeded and goes on this bus.
     pub fn heeded_on(&self, bus: Bus) -> Option<&Asked>
-        ensures some { IfSome result (λ asked. (task : Task) × (parts : ℕ)
-            × (self.now ≡ IsOpened true task parts asked.now)
-            × (bus_of_request asked.now ≡ bus)) }
-        ensures none { (task : Task) (parts : ℕ) (asked : AnyAsked)
-            → self.now ≡ IsOpened true task parts asked
-            → bus_of_request asked ≡ bus → IsSome result }
+        ensures some { IfSome result (λ asked. IsHeededOn bus self.now asked.now) }
+        ensures none { ForHeededOn bus self.now (λ _. IsSome result) }
     {
         match self {
             Stage::Opened {

@@ -1,4 +1,4 @@
-use Rattle.std.proofs.Common.{rules, ◌≡◌, ◌+◌, ℕ, drop, Some, None, sym, ◌∙◌, ap, subst, add-one, arith}
+use Rattle.std.proofs.Common.{rules, ◌≡◌, ◌+◌, ℕ, drop, Some, None, true, sym, ◌∙◌, ap, subst, add-one, arith}
 use Rattle.std.specs.Prelude.{slice_get}
 use Rattle.std.proofs.lemmas.Option.{same_Some}
 use Rattle.record_base.specs.declared.op.Op.{Op}
@@ -10,28 +10,31 @@ use Rattle.undo_core.specs.Shown.{words_of, backs, IsStage}
 use Rattle.undo_core.specs.Room.{HasRoom}
 use Rattle.undo_core.proofs.Going.{next_sent, not_yet, acknowledged}
 use Rattle.undo_core.proofs.Replies.{set_goes_on, set_ends, waited}
+use Rattle.undo_core.specs.declared.stage.Stage.TheVariants.{Opened}
+use Rattle.undo_core.specs.declared.stage.Task.TheVariants.{Sets}
+use Rattle.undo_core.proofs.Replied as replied
 use Rattle.undo_core.proofs.entering.after_set.Goals as goal
 
-pub returns-in-Some-set_next-clause-stage : goal.returns-in-Some-set_next-clause-stage
-returns-in-Some-set_next-clause-stage c names op back part replies there waits many =
+pub returns-in-Some-set_next-clause-after : goal.returns-in-Some-set_next-clause-after
+returns-in-Some-set_next-clause-after c = replied.set c.args.steps.now c.args.stopped c.args.step c.args.parts c.args.reply c.args.requests.now c.args.requests.now (Opened true (Sets c.args.step) (c.args.parts + 1) c.in-Some-set_next.asked)
+    (λ names op back part replies there waits many.
     let a : Answered = record { code = c.args.reply.code; body = c.args.reply.body.now } in
     let is_op : c.unwrap-op.result ≡ op = same_Some c.unwrap-op.result op (sym c.unwrap-op.ensures ∙ c.get.ensures ∙ there) in
     let done : c.args.reply.code ≡ 0 = search rules in
     let made : request_at (set_whole op) (c.args.parts + 1) ≡ Some c.in-Some-set_next.asked =
     ap (λ (o : Op). request_at (set_whole o) (c.args.parts + 1)) (sym is_op) ∙ sym c.set_next.ensures ∙ c.in-Some-set_next.is in
-    set_goes_on names c.args.steps.now c.args.stopped c.args.requests.now replies c.args.step c.args.parts a op back c.in-Some-set_next.asked part there waits many done made
-
-pub returns-in-Some-set_next-clause-undo : goal.returns-in-Some-set_next-clause-undo
-returns-in-Some-set_next-clause-undo c names op back part there waits many =
+    set_goes_on names c.args.steps.now c.args.stopped c.args.requests.now replies c.args.step c.args.parts a op back c.in-Some-set_next.asked part there waits many done made)
+    (λ names op back part there waits many.
     let a : Answered = record { code = c.args.reply.code; body = c.args.reply.body.now } in
     let is_op : c.unwrap-op.result ≡ op = same_Some c.unwrap-op.result op (sym c.unwrap-op.ensures ∙ c.get.ensures ∙ there) in
     let done : c.args.reply.code ≡ 0 = search rules in
     let made : request_at (set_whole op) (c.args.parts + 1) ≡ Some c.in-Some-set_next.asked =
     ap (λ (o : Op). request_at (set_whole o) (c.args.parts + 1)) (sym is_op) ∙ sym c.set_next.ensures ∙ c.in-Some-set_next.is in
-    not_yet names a c.args.step op back part (backs c.args.requests.now.members) c.in-Some-set_next.asked _ done (next_sent names (set_whole op) part.before a.body c.args.parts many) made
+    not_yet names a c.args.step op back part (backs c.args.requests.now.members) c.in-Some-set_next.asked _ done (next_sent names (set_whole op) part.before a.body c.args.parts many) made)
 
-pub returns-in-None-clause-stage : goal.returns-in-None-clause-stage
-returns-in-None-clause-stage c names op back part replies there waits many =
+pub returns-in-None-clause-after : goal.returns-in-None-clause-after
+returns-in-None-clause-after c = replied.set c.args.steps.now c.args.stopped c.args.step c.args.parts c.args.reply c.args.requests.now c.keep.new.self c.step_stage.result
+    (λ names op back part replies there waits many.
     let a : Answered = record { code = c.args.reply.code; body = c.args.reply.body.now } in
     let is_op : c.unwrap-op.result ≡ op = same_Some c.unwrap-op.result op (sym c.unwrap-op.ensures ∙ c.get.ensures ∙ there) in
     let done : c.args.reply.code ≡ 0 = search rules in
@@ -39,17 +42,15 @@ returns-in-None-clause-stage c names op back part replies there waits many =
     ap (λ (o : Op). request_at (set_whole o) (c.args.parts + 1)) (sym is_op) ∙ sym c.set_next.ensures ∙ c.in-None.is in
     set_ends names c.args.steps.now c.args.stopped c.keep.new.self replies c.args.step c.args.parts a op back c.step_stage.result part many done made
     (subst (λ (n : ℕ). IsStage names c.args.steps.now c.keep.new.self replies c.step_stage.result (machine.next_stage (words_of names) c.args.stopped n (slice_get c.args.steps.now n))) (add-one c.args.step)
-    (c.step_stage.ensures.stage names c.keep.new.self replies))
-
-pub returns-in-None-clause-undo : goal.returns-in-None-clause-undo
-returns-in-None-clause-undo c names op back part there waits many =
+    (c.step_stage.ensures.stage names c.keep.new.self replies)))
+    (λ names op back part there waits many.
     let a : Answered = record { code = c.args.reply.code; body = c.args.reply.body.now } in
     let is_op : c.unwrap-op.result ≡ op = same_Some c.unwrap-op.result op (sym c.unwrap-op.ensures ∙ c.get.ensures ∙ there) in
     let done : c.args.reply.code ≡ 0 = search rules in
     let made : request_at (set_whole op) (c.args.parts + 1) ≡ None =
     ap (λ (o : Op). request_at (set_whole o) (c.args.parts + 1)) (sym is_op) ∙ sym c.set_next.ensures ∙ c.in-None.is in
     acknowledged names a c.args.step op back part (backs c.args.requests.now.members) _ done (next_sent names (set_whole op) part.before a.body c.args.parts many) made
-    ∙ waited c.args.requests.now.members c.args.requests.now.waiting (set_whole back) waits ∙ ap backs (sym c.keep.ensures.members)
+    ∙ waited c.args.requests.now.members c.args.requests.now.waiting (set_whole back) waits ∙ ap backs (sym c.keep.ensures.members))
 
 pub returns-in-None-clause-room : goal.returns-in-None-clause-room
 returns-in-None-clause-room c =

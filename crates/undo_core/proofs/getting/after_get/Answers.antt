@@ -11,10 +11,11 @@ use Rattle.undo_core.specs.declared.stage.Stage.TheVariants.{Opened, AtHalt}
 use Rattle.undo_core.specs.declared.stage.Task.TheVariants.{Gets}
 use Rattle.undo_core.proofs.JoinedBodies.{are_joined}
 use Rattle.undo_core.proofs.Going.{one_more, next_got, more_stage, last_stage}
+use Rattle.undo_core.proofs.Replied as replied
 use Rattle.undo_core.proofs.getting.after_get.Goals as goal
 
-pub returns-clause-stage : goal.returns-clause-stage
-returns-clause-stage c names op part there many got =
+pub returns-clause-after : goal.returns-clause-after
+returns-clause-after c = replied.got c.args.steps.now c.args.stopped c.args.step c.args.parts c.args.reply c.args.requests.now c.got_stage-2.new.requests c.got_stage-2.result c.args.replies.now c.end.new.self c.got_stage-2.ensures.members (λ names op part there many got.
     let a : Answered = record { code = c.args.reply.code; body = c.args.reply.body.now } in
     let is_op : c.unwrap-op.result ≡ op = same_Some c.unwrap-op.result op (sym c.unwrap-op.ensures ∙ c.get.ensures ∙ there) in
     let done : c.args.reply.code ≡ 0 = search rules in
@@ -24,10 +25,10 @@ returns-clause-stage c names op part there many got =
     subst (IsStage names c.args.steps.now c.got_stage-2.new.requests c.end.new.self c.got_stage-2.result)
     (ap (λ (l : List ℕ). machine.set_stage (words_of names) c.args.stopped c.args.step op (inverse op l)) shown
     ∙ sym (last_stage names c.args.stopped c.args.steps.now a (machine.Gets c.args.step op) part _ done (next_got names (key_of op) part.before a.body c.args.parts many) last))
-    (c.got_stage-2.ensures.stage names op c.end.new.self there)
+    (c.got_stage-2.ensures.stage names op c.end.new.self there))
 
-pub returns-then-stopped-clause-stage : goal.returns-then-stopped-clause-stage
-returns-then-stopped-clause-stage c names op part there many got =
+pub returns-then-stopped-clause-after : goal.returns-then-stopped-clause-after
+returns-then-stopped-clause-after c = replied.got c.args.steps.now c.args.stopped c.args.step c.args.parts c.args.reply c.args.requests.now c.args.requests.now (AtHalt c.args.step Stop) c.args.replies.now c.args.replies.now refl (λ names op part there many got.
     let a : Answered = record { code = c.args.reply.code; body = c.args.reply.body.now } in
     let is_op : c.unwrap-op.result ≡ op = same_Some c.unwrap-op.result op (sym c.unwrap-op.ensures ∙ c.get.ensures ∙ there) in
     let done : c.args.reply.code ≡ 0 = search rules in
@@ -38,10 +39,10 @@ returns-then-stopped-clause-stage c names op part there many got =
     let next : machine.Part (words_of names) = record { asked = own names asked; before = machine.bodies_with (words_of names) a part } in
     subst (IsStage names c.args.steps.now c.args.requests.now c.args.replies.now (AtHalt c.args.step Stop))
     (sym (more_stage names c.args.stopped c.args.steps.now a (machine.Gets c.args.step op) part asked _ done (next_got names (key_of op) part.before a.body c.args.parts many) made
-    ∙ ap (λ (b : Bool). if b then machine.AtHalt c.args.step Stop else machine.Opened true (machine.Gets c.args.step op) next) stops)) (refl, refl)
+    ∙ ap (λ (b : Bool). if b then machine.AtHalt c.args.step Stop else machine.Opened true (machine.Gets c.args.step op) next) stops)) (refl, refl))
 
-pub returns-in-Some-next_part-clause-stage : goal.returns-in-Some-next_part-clause-stage
-returns-in-Some-next_part-clause-stage c names op part there many got =
+pub returns-in-Some-next_part-clause-after : goal.returns-in-Some-next_part-clause-after
+returns-in-Some-next_part-clause-after c = replied.got c.args.steps.now c.args.stopped c.args.step c.args.parts c.args.reply c.args.requests.now c.args.requests.now (Opened true (Gets c.args.step) (c.args.parts + 1) c.in-Some-next_part.asked) c.args.replies.now c.take.new.self refl (λ names op part there many got.
     let a : Answered = record { code = c.args.reply.code; body = c.args.reply.body.now } in
     let is_op : c.unwrap-op.result ≡ op = same_Some c.unwrap-op.result op (sym c.unwrap-op.ensures ∙ c.get.ensures ∙ there) in
     let done : c.args.reply.code ≡ 0 = search rules in
@@ -53,4 +54,4 @@ returns-in-Some-next_part-clause-stage c names op part there many got =
     subst (IsStage names c.args.steps.now c.args.requests.now c.take.new.self (Opened true (Gets c.args.step) (c.args.parts + 1) asked))
     (sym (more_stage names c.args.stopped c.args.steps.now a (machine.Gets c.args.step op) part asked _ done (next_got names (key_of op) part.before a.body c.args.parts many) made
     ∙ ap (λ (b : Bool). if b then machine.AtHalt c.args.step Stop else machine.Opened true (machine.Gets c.args.step op) next) goes))
-    (refl, (refl, there), one_more part.before a.body c.args.parts many, are_joined c.take.new.self part.before a.body (c.take.ensures.joined part.before many got), refl)
+    (refl, (refl, there), one_more part.before a.body c.args.parts many, are_joined c.take.new.self part.before a.body (c.take.ensures.joined part.before many got), refl))

@@ -1,7 +1,6 @@
 use Rattle.std.proofs.Common.{◌≡◌, length, Some, None, sym, ◌∙◌, ap, arith}
 use Rattle.record_base.specs.declared.message.Asked.{Asked}
 use Rattle.bios_attr.specs.EntryParts.{request_at}
-use Rattle.record_kinds.specs.Limits.{set_asked}
 use Rattle.record_kinds.specs.Series.{set_whole}
 use Rattle.undo_plans.specs.Fitting.{data_of, from_nobody}
 use Rattle.undo_plans.specs.Requests.{meant}

@@ -12,16 +12,16 @@ use Rattle.lab_run.proofs.lab_state.Lab.hear_other.Goals as goal
 
 pub returns-clause-becomes : goal.returns-clause-becomes
 returns-clause-becomes c = on_ok c.send_out.result c.send_out.ensures.sent (λ sends file x v shows is.
-    let heard = c.hear.ensures.heard file x v shows is in
+    let heard = c.hear.ensures.port.heard file x v shows is in
     let d = hears file (port_on plans c.args.on x) x.board v in
     sends file (with_port plans c.args.on d.port (record x { board = d.board })) d.sent heard.shows heard.out)
 
 pub returns-clause-noise : goal.returns-clause-noise
 returns-clause-noise c = on_ok c.send_out.result c.send_out.ensures.sent (λ sends file x shows noise.
     let on = c.args.on in
-    let heard = c.hear.ensures.noise file x shows noise in
+    let heard = c.hear.ensures.port.noise file x shows noise in
     subst (Shows file c.send_out.new.self) (none_sent on ToOthers 0 x) (sends file (with_port plans on (port_on plans on x) (record x { board = x.board })) [] heard.shows heard.out))
 
 pub returns-clause-ignored : goal.returns-clause-ignored
 returns-clause-ignored c = on_any c.send_out.result (λ file x shows noise.
-    subst (λ (o : Out). Ignores c.args.on c.args.bytes.now o.done) (sym c.send_out.ensures.out) (c.hear.ensures.ignored file x shows noise))
+    subst (λ (o : Out). Ignores c.args.on c.args.bytes.now o.done) (sym c.send_out.ensures.out) (c.hear.ensures.port.ignored file x shows noise))

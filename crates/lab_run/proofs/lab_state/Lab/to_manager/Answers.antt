@@ -17,8 +17,8 @@ returns-clause-becomes c = on_ok c.send.result c.send.ensures.becomes (λ sends 
     let is = c.as_slice.ensures.value in
     let heard = c.on_frame-sent.ensures in
     let hears : Hearing s.mark.on s.bytes old.manager m c.on_frame-sent.result = record {
-      response = λ r on bytes. heard.response r on (subst (IsResponse r) (sym is) bytes) lab_names;
-      packet = λ p on bytes. heard.packet p on (subst (IsPacket p) (sym is) bytes) lab_names;
+      response = λ r on bytes. heard.response on r (subst (IsResponse r) (sym is) bytes) lab_names;
+      packet = λ p on bytes. heard.packet on p (subst (IsPacket p) (sym is) bytes) lab_names;
       no_response = λ on none. heard.no_response on (λ r bytes. none r (subst (IsResponse r) is bytes));
     } in
     returned_shown file old x c.args.number shows s m c.on_frame-sent.result c.send.new.self c.in-Some.ensures.some hears (sends file))

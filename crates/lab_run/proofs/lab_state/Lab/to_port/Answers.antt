@@ -24,7 +24,7 @@ returns-clause-becomes c = on_ok c.send_out.result c.send_out.ensures.sent (λ s
     let bytes : c.as_slice.result.now ≡ s.bytes = c.as_slice.ensures.value ∙ c.copy-bytes.ensures in
     let d = hears file (port_on plans s.mark.on y) y.board v in
     let z = with_port plans s.mark.on d.port (record y { board = d.board }) in
-    let heard = c.hear.ensures.heard file y v shown (subst (IsFrameOn s.mark.on v) (sym bytes) is) in
+    let heard = c.hear.ensures.port.heard file y v shown (subst (IsFrameOn s.mark.on v) (sym bytes) is) in
     subst (λ (m : Mark). Shows file new (with_frames plans m.on ToManager m.request d.sent z)) mark
     (sends file z d.sent heard.shows (subst (λ (m : Mark). HasFrames m.on d.sent c.hear.new.self.out) (sym mark) heard.out))))
 
@@ -37,4 +37,4 @@ returns-clause-done c = on_any c.send_out.result (λ file x f shows is.
     let s = c.in-Some.frame.now in
     let bytes : c.as_slice.result.now ≡ s.bytes = c.as_slice.ensures.value ∙ c.copy-bytes.ensures in
     done_shown file c.args.self.now x c.args.number s f c.send_out.new.self.out.done shows c.in-Some.ensures.some is
-    (λ v read. ap (λ (o : Out). o.done) c.send_out.ensures.out ∙ c.hear.ensures.done file x v shows (subst (IsFrameOn s.mark.on v) (sym bytes) read)))
+    (λ v read. ap (λ (o : Out). o.done) c.send_out.ensures.out ∙ c.hear.ensures.port.done file x v shows (subst (IsFrameOn s.mark.on v) (sym bytes) read)))

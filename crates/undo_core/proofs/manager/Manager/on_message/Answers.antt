@@ -24,5 +24,5 @@ returns c names s shows =
     let reply = c.in-Some-reply_to.ensures.some in
     let a : Answered = record { code = c.in-Some-reply_to.reply.code; body = c.in-Some-reply_to.reply.body.now } in
     let test : pldm_answers (bytes_of (m.counts.smbus % 32) (own names asked)) bytes ≡ not (is_busy a.code) =
-    (λ i. pldm_answers (bytes_of (sym c.instance.ensures i) (own names asked)) bytes) ∙ reply.1 names is.3 in
-    subst (Does names c.on_reply.new.self c.on_reply.result) (sym (heard_message names m s bytes is.0 is.1 asked true a shows is.2 is.3 reply.0 test)) (c.on_reply.ensures names s shows)
+    (λ i. pldm_answers (bytes_of (sym c.instance.ensures i) (own names asked)) bytes) ∙ reply.tells names is.3 in
+    subst (Does names c.on_reply.new.self c.on_reply.result) (sym (heard_message names m s bytes is.0 is.1 asked true a shows is.2 is.3 reply.answer test)) (c.on_reply.ensures names s shows)

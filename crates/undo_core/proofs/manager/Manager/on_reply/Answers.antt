@@ -31,10 +31,10 @@ returns c names s shows =
       stopped = refl;
       resent = refl;
       joined = refl;
-      undo = c.stage_after-self.ensures.undo names;
+      undo = c.stage_after-self.ensures.after.undo names;
       counts = counted;
       sequence = c.sequence.ensures;
       instance = c.instance.ensures;
-      stage = c.stage_after-self.ensures.stage names;
+      stage = c.stage_after-self.ensures.after.stage names;
       sends = λ at named shown. c.open_frames.ensures names c.args.self.now.steps c.stage_after-self.new.requests c.stage_after-self.new.replies at named shown;
     })

@@ -42,6 +42,7 @@ returns c names plan requests replies at named is =
     let counts = counts_of c.args.self.now.counts in
     let opened = c.in_ok-asked.ensures.some in
     let sent = c.frames_of.ensures in
+    let frames = sent.frames in
     let all : IsSent (Some c.frames_of.result) (Some (sent_with names counts asked)) =
-    subst (λ (n : Names). IsSent (Some c.frames_of.result) (Some (sent_with n counts asked))) named (sent.bus, sent.request, sent.frames, sent.read) in
+    subst (λ (n : Names). IsSent (Some c.frames_of.result) (Some (sent_with n counts asked))) named (sent.bus, sent.request, frames.written_as, frames.read) in
     open_sent names plan requests replies counts c.frames_of.result opened.0 opened.1 opened.2 asked at (subst (λ (r : Stage). IsStage names plan requests replies r at) opened.3 is) all
