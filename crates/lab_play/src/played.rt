@@ -108,10 +108,14 @@ impl Played {
             (on : AnyBus) → idles_in on played.lab.idles ≡ 0) }
     {
         let _steps = plan.steps.len();
-        let start = file.records(alloc)?;
-        let lab = Lab::open(alloc, file, plan)?;
         let watch = Watch::new();
-        Ok(Played { start, lab, watch })
+        match file.records(alloc) {
+            Ok(start) => match Lab::open(alloc, file, plan) {
+                Ok(lab) => Ok(Played { start, lab, watch }),
+                Err(why) => Err(why),
+            },
+            Err(why) => Err(why),
+        }
     }
 
     /// What is given of a play whose events ended so.

@@ -1,12 +1,12 @@
 //! Which values a field can have: of which type, and in which range.
-ghost use Rattle.std.specs.Prelude.{◌≡◌, ◌∷◌, [], ℕ, ◌&&◌, if◌then◌else◌, None, Some, IfSome, is_some, nat_le, length};
+ghost use Rattle.std.specs.Prelude.{◌≡◌, ◌∷◌, [], ℕ, ◌&&◌, None, Some, IfSome, is_some, nat_le, length};
 ghost use Rattle.std.specs.List.{list_all};
 ghost use Rattle.hex.specs.Hex.{decode_of};
 ghost use Rattle.record_base.specs.BootParam.{flag_bytes, parameter_of, change_bytes};
 ghost use Rattle.toml.specs.Data.{as_str};
 ghost use Rattle.toml.specs.View.{view, table_view};
 ghost use Rattle.text_fields.specs.Trees.{members, or_none, natural, naturals_in, bytes_in, number_in};
-ghost use Rattle.text_fields.specs.Ranges.{passes, is_integer, is_table, is_array_of, has_type, is_between, are_digits, is_enables_byte, are_masks, are_flags, is_text, is_record, record_of, record_in, are_settings, is_selection, is_offset, are_five_bits, are_boot_data, parameter_in, is_in_range, settings};
+ghost use Rattle.text_fields.specs.Ranges.{passes, is_integer, is_table, is_array_of, has_type, is_between, are_digits, is_enables_byte, are_masks, are_flags, is_text, record_of, record_in, are_settings, is_selection, is_offset, are_five_bits, are_boot_data, parameter_in, is_in_range, settings};
 
 use crate::attributes::{
     are_only_indexes, are_own_indexes, are_values, is_kind, is_most, is_only_text, is_sized_text,
@@ -225,13 +225,6 @@ fn are_supported(item: &Table, value: &Value) -> bool
     are_within(events, supported)
 }
 
-/// The sensor data record of these bytes.
-fn record_of(bytes: &[u8]) -> Option<SdrRecord>
-    ensures { result ≡ (if is_record bytes.now then Some bytes.now else None) }
-{
-    SdrRecord::new(bytes)
-}
-
 /// The sensor data record that the text says in hexadecimal digits.
 fn record_in_text(text: &str) -> Option<SdrRecord>
     ensures { result ≡ record_of (decode_of text.now) }
@@ -243,7 +236,7 @@ fn record_in_text(text: &str) -> Option<SdrRecord>
     let mut bytes = [0; MOST_SDR_BYTES];
     let bytes = &mut bytes[..size];
     match hex::decode_to_slice(text, bytes) {
-        Ok(()) => record_of(bytes),
+        Ok(()) => SdrRecord::new(bytes),
         Err(_) => None,
     }
 }

@@ -142,18 +142,24 @@ impl<S: Store> Board<S> {
         ensures setup { IfOk result (λ board. board.setup ≡ file) }
         ensures state { IfOk result (λ board. state_of S.records board ≡ opened file) }
     {
-        let activity = Activity::opening(alloc, &file)?;
-        let tables = Tables::open(alloc, &file.attributes)?;
-        let setup = Setup::new(alloc, file)?;
-        Ok(Board {
-            setup,
-            activity,
-            store,
-            made_over_pldm: Value::new(),
-            tables,
-            made_over_ipmi: Value::new(),
-            kept: Kept::Stale,
-        })
+        match Activity::opening(alloc, &file) {
+            Ok(activity) => match Tables::open(alloc, &file.attributes) {
+                Ok(tables) => match Setup::new(alloc, file) {
+                    Ok(setup) => Ok(Board {
+                        setup,
+                        activity,
+                        store,
+                        made_over_pldm: Value::new(),
+                        tables,
+                        made_over_ipmi: Value::new(),
+                        kept: Kept::Stale,
+                    }),
+                    Err(why) => Err(why),
+                },
+                Err(why) => Err(why),
+            },
+            Err(why) => Err(why),
+        }
     }
 
     /// Where its records are.

@@ -203,6 +203,15 @@ fn a_manager_is_opened_and_called(rt: HostRuntime) {
     expect_sent(&rt, manager.again());
 }
 
+#[test]
+fn a_manager_counts_how_often_it_sent_a_request_again(rt: HostRuntime) {
+    let mut manager = manager(&rt, rt.alloc());
+    expect_sent(&rt, manager.start());
+    assert_eq!(rt; manager.resent(), 0);
+    expect_sent(&rt, manager.quiet());
+    assert_eq!(rt; manager.resent(), 1);
+}
+
 /// The phase is called so.
 fn expect_name(rt: &impl Abort, alloc: Global, phase: Phase, name: &str) {
     let text = format!(in alloc; "{phase}").expect(rt, "memory");

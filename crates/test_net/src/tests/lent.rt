@@ -8,6 +8,7 @@ use super::wired::{open_sample, port_on};
 use bmc_board::{Board, Records};
 use bmc_links::MemLink;
 use bmc_ports::{End, Lane, Lanes, Opening, Shared, Sliced, Timetable, run_slices};
+use net_serve::serve_periods;
 use std::alloc::Global;
 use std::marker::Brand;
 use std::process::Abort;
@@ -141,4 +142,17 @@ fn a_request_answered_before_a_change_gets_its_kept_reply_after_it(rt: HostRunti
     // The Set's repeat is no event, and the Get that found no room is one.
     expect_left(&rt, &second, 1, End::Turns, 0);
     expect_sent(&rt, second.lanes.first.link.sent());
+}
+
+#[test]
+fn a_board_is_served_in_periods_until_all_turns_are_made(rt: HostRuntime) {
+    let alloc = rt.alloc();
+    let lanes = new_lanes(&rt, alloc);
+    let table = Timetable::new(&[], None);
+    let served = serve_periods(&rt, alloc, open_sample(&rt, alloc), lanes, table, None);
+    let course = served.ok().expect(&rt, "two threads");
+    // Both repeats are no events.
+    assert_eq!(rt; course.events, 3);
+    assert_eq!(rt; course.lanes.first.turns, 0);
+    assert_eq!(rt; course.lanes.first.link.sent().len(), 5);
 }
