@@ -39,7 +39,7 @@ pub record IsSentFrame (sent : SentFrame) (frame : LabFrame) : Type 0 where
   pub is : IsFrame sent frame
   pub read : IsFrameOn frame.on frame.value sent.bytes
 
--- the lab is this one of the model, on a board of this file
+-- the lab is this lab of the model, on a board of this file
 pub record Shows (file : BoardFile) (lab : Lab) (lab_model : LabModel plans) : Type 0 where
   pub setup : lab.board.setup ≡ file
   pub board : lab_model.board ≡ state_of own_records lab.board
@@ -56,7 +56,7 @@ pub record Shows (file : BoardFile) (lab : Lab) (lab_model : LabModel plans) : T
 abbrev pub ForShown : Lab → (BoardFile → LabModel plans → Type 0) → Type 0
 ForShown lab Holds = (file : BoardFile) (lab_model : LabModel plans) → Shows file lab lab_model → Holds file lab_model
 
--- whatever lab of the model it showed, on a board of whatever file, it goes on to this one
+-- whatever lab of the model the lab showed, on a board of whatever file, it goes on to the lab that `makes` gives
 abbrev pub Becomes : Lab → Lab → (BoardFile → LabModel plans → LabModel plans) → Type 0
 Becomes old new makes = ForShown old (λ file x. Shows file new (makes file x))
 
