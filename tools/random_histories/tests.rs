@@ -26,7 +26,7 @@ use tally::{Tally, expect_often};
 /// Of so many runs one is made by `run_two`, over ports of its own.
 const OWN_OF: u64 = 8;
 
-/// Ports that are lent to runs: those of the workers, and those that are told what the history has.
+/// Ports that are lent to runs: those of the workers, and those that get what the history has.
 #[derive(Drop)]
 struct Lent {
     worked: Ports,

@@ -47,7 +47,7 @@ impl<J: Opening> Opened<J> {
         };
         if let Step::Ask(pending) = port.hear(bytes, &mut self.out) {
             if let Ok(answered) = self.held.exchange(bus as u8, &pending.asked()) {
-                port.told(pending, &answered, &mut self.out);
+                port.answer(pending, &answered, &mut self.out);
             }
         }
     }

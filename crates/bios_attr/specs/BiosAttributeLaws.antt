@@ -1,5 +1,5 @@
 -- The laws of the value of a BIOS attribute, as a kind of record.
-use Rattle.std.proofs.Common.{◌≡◌, ℕ, ◌+◌, ◌*◌, ◌/◌, ◌%◌, List, length, drop, Bool, true, false, ◌==◌, not, if◌then◌else◌, is_some, Option, Some, None, Ok, Err, refl, sym, ◌∙◌, ap, subst, lit<, arith}
+use Rattle.std.proofs.Common.{◌≡◌, ℕ, ◌%◌, List, length, drop, Bool, true, false, ◌==◌, not, if◌then◌else◌, is_some, Option, Some, None, Ok, Err, refl, sym, ◌∙◌, ap, subst, lit<, arith}
 use Rattle.std.specs.Option.{IsSomeAnd, option_map}
 use Rattle.std.proofs.Props.{props}
 use Rattle.two_wire.specs.Codes.{pldm_invalid_data, pldm_invalid_length, pldm_invalid_attribute}
@@ -12,7 +12,7 @@ use Rattle.record_base.specs.declared.attribute_range.AttributeRange.TheVariants
 use Rattle.record_base.specs.declared.attribute_value.AttributeValue.{AttributeValue}
 use Rattle.record_base.specs.declared.attribute_value.AttributeValue.TheVariants.{Indexes, Text, Number}
 use Rattle.record_base.specs.BiosAttributeLaws.{sent_whole}
-use Rattle.record_base.specs.AttributeRangeLaws.{le_true, true_allows, allows_true, Allows-prop, value_length, length_tested}
+use Rattle.record_base.specs.AttributeRangeLaws.{le_true, true_allows, allows_true, Allows-prop, value_length, length_tested, number_back}
 use Rattle.bios_attr.specs.declared.value_entry.ValueEntry.{ValueEntry}
 use Rattle.bios_attr.specs.declared.bios_attribute.AttributeLimits.{AttributeLimits}
 use Rattle.record_base.specs.declared.bios_attribute.SetBiosAttribute.{SetBiosAttribute}
@@ -117,13 +117,9 @@ reply_is limits value is = record {
       (subst (λ (code : ℕ). IsSomeAnd (value_in code value) (Allows limits.range)) (sym (type_kept limits.read_only limits.range)) is);
 }
 
--- a handle is told by its two bytes
-handle_told : (n : ℕ) → n % 256 + 256 * (n / 256) ≡ n
-handle_told n = omega arith
-
 undoes_attribute : (limits : AttributeLimits) (old : List ℕ) → limits.read_only ≡ false → IsValue limits.range old → SetsAttribute limits (undo_attribute (attribute_view limits old)) old
 undoes_attribute limits old can is = record {
-  own = handle_told limits.handle;
+  own = number_back limits.handle;
   of_type = ap (λ (read_only : Bool). shown_type read_only (type_of limits.range)) can;
   can_be_set = can;
   is_new = sym (sent_whole old (let size = value_length limits.range old is in omega (arith, size.most)));
@@ -155,7 +151,7 @@ record_laws limits = record {
   steady = λ value live other. refl;
   tells = λ value other live is_valid is_other same. ap (drop 8) same;
   same_record = λ op made value live here is_valid is.
-      ap (λ (o : SetBiosAttribute). o.attribute) (sym (made_where (is_attribute_reply (attribute_view limits value)) (undo_attribute (attribute_view limits value)) made is).1) ∙ handle_told limits.handle ∙ sym here;
+      ap (λ (o : SetBiosAttribute). o.attribute) (sym (made_where (is_attribute_reply (attribute_view limits value)) (undo_attribute (attribute_view limits value)) made is).1) ∙ number_back limits.handle ∙ sym here;
   undoes = λ op made old new live is_valid done is.
       subst (λ (o : SetBiosAttribute). SetsAttribute limits o old) (made_where (is_attribute_reply (attribute_view limits old)) (undo_attribute (attribute_view limits old)) made is).1 (undoes_attribute limits old done.can_be_set is_valid);
 }

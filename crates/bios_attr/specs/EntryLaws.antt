@@ -7,7 +7,7 @@ use Rattle.std.proofs.lemmas.Bool.Decides.{nat_tests}
 use Rattle.std.proofs.Math.Seq.{take-append_seam, drop-append_seam}
 use Rattle.std.proofs.lemmas.Nat.{from_le_bytes-to_le_bytes_4, from_le_bytes-to_le_bytes_8, le_bytes_4, le_bytes_8}
 use Rattle.record_base.specs.InverseLaws.{tested_same}
-use Rattle.record_base.specs.AttributeRangeLaws.{le_true, true_le}
+use Rattle.record_base.specs.AttributeRangeLaws.{le_true, true_le, number_back}
 use Rattle.record_base.specs.AttributeValue.{two_bytes, number_of, enumeration_type, string_type, integer_type}
 use Rattle.bios_attr.specs.declared.string_entry.StringEntry.{StringEntry}
 use Rattle.bios_attr.specs.declared.attribute_entry.AttributeEntry.{AttributeEntry}
@@ -16,9 +16,6 @@ use Rattle.bios_attr.specs.declared.attribute_entry.KindFields.TheVariants.{Enum
 use Rattle.bios_attr.specs.ValueEntry.{shown_type, AreBytes}
 use Rattle.bios_attr.specs.StringEntry.{piece, string_bytes, string_at}
 use Rattle.bios_attr.specs.AttributeEntry.{HasItsBytes, type_of_fields, fields_bytes, attribute_bytes, default_at, enumeration_at, text_at, numbers_in, integer_at, fields_at, attribute_at}
-
-pub told : (n : ℕ) → n % 256 + 256 * (n / 256) ≡ n
-told n = omega arith
 
 -- ---- pieces
 
@@ -52,8 +49,8 @@ two_back low high rest small =
 
 pub string_back : (entry : StringEntry) (rest : List ℕ) → string_at (string_bytes entry ++ rest) ≡ Some (entry, rest)
 string_back entry rest =
-    piece_back (number_of (length entry.text % 256) (length entry.text / 256)) entry.text rest (λ text rest. Some (record { handle = number_of (entry.handle % 256) (entry.handle / 256); text = text }, rest)) (told (length entry.text))
-    ∙ (λ i. Some (record { handle = told entry.handle i; text = entry.text }, rest))
+    piece_back (number_of (length entry.text % 256) (length entry.text / 256)) entry.text rest (λ text rest. Some (record { handle = number_of (entry.handle % 256) (entry.handle / 256); text = text }, rest)) (number_back (length entry.text))
+    ∙ (λ i. Some (record { handle = number_back entry.handle i; text = entry.text }, rest))
 
 pub string_told : (bytes : List ℕ) (entry : StringEntry) (rest : List ℕ) → AreBytes bytes → string_at bytes ≡ Some (entry, rest) → string_bytes entry ++ rest ≡ bytes
 string_told [] entry rest small h = absurd cc
@@ -82,8 +79,8 @@ fields_back (Enumeration e) rest pairs =
 fields_back (Text t) rest tt =
     piece_back (number_of (length t.default % 256) (length t.default / 256)) t.default rest
     (λ default rest. Some (Text (record { string_type = t.string_type; least = number_of (t.least % 256) (t.least / 256); most = number_of (t.most % 256) (t.most / 256); default = default }), rest))
-    (told (length t.default))
-    ∙ (λ i. Some (Text (record { string_type = t.string_type; least = told t.least i; most = told t.most i; default = t.default }), rest))
+    (number_back (length t.default))
+    ∙ (λ i. Some (Text (record { string_type = t.string_type; least = number_back t.least i; most = number_back t.most i; default = t.default }), rest))
 fields_back (Integer n) rest small =
     let within : nat_le 28 (length (fields_bytes (Integer n) ++ rest)) ≡ true = le_true _ _ (omega arith) in
     fits _ _ within
@@ -119,7 +116,7 @@ attribute_back entry rest whole =
     let make : KindFields × List ℕ → AttributeEntry × List ℕ = λ found. (record { attribute = number_of (entry.attribute % 256) (entry.attribute / 256); read_only = nat_le 128 code; name = number_of (entry.name % 256) (entry.name / 256); kind = found.0 }, found.1) in
     ap (λ (kind : ℕ). option_map make (fields_at kind (fields_bytes entry.kind ++ rest))) (type_back entry.read_only entry.kind)
     ∙ ap (option_map make) (fields_back entry.kind rest whole)
-    ∙ (λ i. Some (record { attribute = told entry.attribute i; read_only = bit_back entry.read_only entry.kind i; name = told entry.name i; kind = entry.kind }, rest))
+    ∙ (λ i. Some (record { attribute = number_back entry.attribute i; read_only = bit_back entry.read_only entry.kind i; name = number_back entry.name i; kind = entry.kind }, rest))
 
 -- ---- attribute entries, read, then written
 

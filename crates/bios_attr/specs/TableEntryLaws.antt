@@ -3,7 +3,7 @@ use Rattle.std.proofs.Common.{◌≡◌, ℕ, suc, ◌/◌, ◌%◌, ◌≤◌, 
 use Rattle.std.specs.Option.{option_map}
 use Rattle.std.specs.Int.{w64, from_le_bytes}
 use Rattle.std.proofs.lemmas.List.{take-append-drop}
-use Rattle.record_base.specs.AttributeRangeLaws.{value_back}
+use Rattle.record_base.specs.AttributeRangeLaws.{value_back, number_back}
 use Rattle.record_base.specs.declared.attribute_value.AttributeValue.{AttributeValue}
 use Rattle.record_base.specs.declared.attribute_value.AttributeValue.TheVariants.{Indexes, Text, Number}
 use Rattle.record_base.specs.AttributeValue.{number_of, type_of_value, value_bytes, indexes_in, text_in, number_in, value_in, HasEightBytes}
@@ -18,14 +18,14 @@ use Rattle.bios_attr.specs.ValueEntry.{shown_type, entry_bytes, AreBytes}
 use Rattle.bios_attr.specs.ValueEntryLaws.{entry_told, type_back, bit_back}
 use Rattle.bios_attr.specs.StringEntry.{piece, string_at}
 use Rattle.bios_attr.specs.AttributeEntry.{attribute_bytes, attribute_at}
-use Rattle.bios_attr.specs.EntryLaws.{told, comes_of, piece_back, piece_told, fits_eight, mapped, small_front, string_back, string_told, attribute_back, attribute_told}
+use Rattle.bios_attr.specs.EntryLaws.{comes_of, piece_back, piece_told, fits_eight, mapped, small_front, string_back, string_told, attribute_back, attribute_told}
 use Rattle.bios_attr.specs.TableEntry.{value_size, value_at, table_of, written, IsWhole, IsRead, entry_at}
 
 -- ---- value entries, written, then read
 
 size_back : (v : AttributeValue) (rest : List ℕ) → value_size (type_of_value v) (value_bytes v ++ rest) ≡ length (value_bytes v)
 size_back (Indexes indexes) rest = omega arith
-size_back (Text text) rest = omega (arith, told (length text))
+size_back (Text text) rest = omega (arith, number_back (length text))
 size_back (Number n) rest = refl
 
 value_entry_back : (entry : ValueEntry) (rest : List ℕ) → HasEightBytes entry.value → value_at (entry_bytes entry ++ rest) ≡ Some (entry, rest)
@@ -39,7 +39,7 @@ value_entry_back entry rest whole =
     ap (λ (kind : ℕ). piece (value_size kind (bytes ++ rest)) (bytes ++ rest) (next kind)) (type_back entry.read_only entry.value)
     ∙ piece_back (value_size kind (bytes ++ rest)) bytes rest (next kind) size
     ∙ ap (option_map (λ v. make v rest)) (value_back entry.value whole)
-    ∙ (λ i. Some (record { attribute = told entry.attribute i; read_only = bit_back entry.read_only entry.value i; value = entry.value }, rest))
+    ∙ (λ i. Some (record { attribute = number_back entry.attribute i; read_only = bit_back entry.read_only entry.value i; value = entry.value }, rest))
 
 -- ---- value entries, read, then written
 

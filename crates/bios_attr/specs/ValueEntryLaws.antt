@@ -7,13 +7,10 @@ use Rattle.std.proofs.lemmas.Bool.Decides.{nat_tests}
 use Rattle.record_base.specs.InverseLaws.{tested_same}
 use Rattle.record_base.specs.declared.attribute_value.AttributeValue.{AttributeValue}
 use Rattle.record_base.specs.declared.attribute_value.AttributeValue.TheVariants.{Indexes, Text, Number}
-use Rattle.record_base.specs.AttributeRangeLaws.{value_back}
+use Rattle.record_base.specs.AttributeRangeLaws.{value_back, number_back}
 use Rattle.bios_attr.specs.declared.value_entry.ValueEntry.{ValueEntry}
 use Rattle.record_base.specs.AttributeValue.{number_of, enumeration_type, string_type, integer_type, type_of_value, value_bytes, indexes_in, text_in, number_in, value_in, HasEightBytes}
 use Rattle.bios_attr.specs.ValueEntry.{shown_type, entry_bytes, entry_in, AreBytes}
-
-told : (n : ℕ) → n % 256 + 256 * (n / 256) ≡ n
-told n = omega arith
 
 -- where one of two comes, the test holds
 comes_of : {X : Type 0} (b : Bool) (x y : X) → (if b then Some x else None) ≡ Some y → (b ≡ true) × (x ≡ y)
@@ -44,7 +41,7 @@ entry_back entry small =
     let make : AttributeValue → ValueEntry = λ v. record { attribute = number_of (entry.attribute % 256) (entry.attribute / 256); read_only = nat_le 128 code; value = v } in
     ap (λ (kind : ℕ). option_map make (value_in kind (value_bytes entry.value))) (type_back entry.read_only entry.value)
     ∙ ap (option_map make) (value_back entry.value small)
-    ∙ (λ i. Some (record { attribute = told entry.attribute i; read_only = bit_back entry.read_only entry.value i; value = entry.value }))
+    ∙ (λ i. Some (record { attribute = number_back entry.attribute i; read_only = bit_back entry.read_only entry.value i; value = entry.value }))
 
 -- ---- read, then written
 

@@ -16,7 +16,7 @@ use Rattle.record_base.specs.declared.state_effecter.SetStateEffecter.{SetStateE
 use Rattle.record_base.specs.declared.bios_attribute.SetBiosAttribute.{SetBiosAttribute}
 use Rattle.record_base.specs.AttributeSizes.{most_sent}
 use Rattle.record_base.specs.BiosAttribute.{setting}
-use Rattle.record_base.specs.AttributeRangeLaws.{le_true}
+use Rattle.record_base.specs.AttributeRangeLaws.{le_true, number_back}
 use Rattle.two_wire.specs.Codes.{pldm_invalid_length}
 use Rattle.record_base.specs.BiosAttributeLaws.{few_sent, same_setting, sent_whole}
 use Rattle.record_base.specs.declared.op.Op.TheVariants as op
@@ -78,10 +78,6 @@ thresholds_read o =
     ap (λ (made : SetThresholds). Ok (request.Set (op.Thresholds made))) (same_thresholds o.sensor o.mask v v refl is refl))
     o.values o.six o.six
 
--- a number is its low byte and what is above it
-two_bytes : (n : ℕ) → n % 256 + 256 * (n / 256) ≡ n
-two_bytes n = omega arith
-
 abbrev set_watchdog : SetWatchdog → ℕ → Op
 set_watchdog o initial = op.Watchdog (record { timer_use = o.timer_use; actions = o.actions; pre_timeout = o.pre_timeout; flags_to_clear = o.flags_to_clear; initial = initial })
 
@@ -97,8 +93,8 @@ masks_read : (to : EventMasks → EventChange) (sensor : ℕ) (messages scanning
     → Ok (request.Set (op.EventEnable (set_events sensor messages scanning (to (record { assertions = masks.assertions % 256 + 256 * (masks.assertions / 256); deassertions = masks.deassertions % 256 + 256 * (masks.deassertions / 256) })))))
     ≡ (let asked : Result Request ℕ = Ok (request.Set (op.EventEnable (set_events sensor messages scanning (to masks)))) in asked)
 masks_read to sensor messages scanning masks =
-    ap (λ (a : ℕ). Ok (request.Set (op.EventEnable (set_events sensor messages scanning (to (record { assertions = a; deassertions = masks.deassertions % 256 + 256 * (masks.deassertions / 256) })))))) (two_bytes masks.assertions)
-    ∙ ap (λ (d : ℕ). Ok (request.Set (op.EventEnable (set_events sensor messages scanning (to (record { assertions = masks.assertions; deassertions = d })))))) (two_bytes masks.deassertions)
+    ap (λ (a : ℕ). Ok (request.Set (op.EventEnable (set_events sensor messages scanning (to (record { assertions = a; deassertions = masks.deassertions % 256 + 256 * (masks.deassertions / 256) })))))) (number_back masks.assertions)
+    ∙ ap (λ (d : ℕ). Ok (request.Set (op.EventEnable (set_events sensor messages scanning (to (record { assertions = masks.assertions; deassertions = d })))))) (number_back masks.deassertions)
 
 events_read : (sensor : ℕ) (messages scanning : Bool) (change : EventChange) → EventsAreRead (set_events sensor messages scanning change)
 events_read sensor true true (Enable masks) = masks_read Enable sensor true true masks
@@ -145,7 +141,7 @@ NumberIsRead o = asked_by (set_whole (op.NumericEffecter o)) ≡ Ok (request.Set
 
 -- its id is read
 id_read : (effecter size : ℕ) (value : NumericBytes) → Ok (request.Set (op.NumericEffecter (set_numeric (effecter % 256 + 256 * (effecter / 256)) size value))) ≡ (let asked : Result Request ℕ = Ok (request.Set (op.NumericEffecter (set_numeric effecter size value))) in asked)
-id_read effecter size value = ap (λ (n : ℕ). Ok (request.Set (op.NumericEffecter (set_numeric n size value)))) (two_bytes effecter)
+id_read effecter size value = ap (λ (n : ℕ). Ok (request.Set (op.NumericEffecter (set_numeric n size value)))) (number_back effecter)
 
 number_read : (effecter size : ℕ) (value : NumericBytes) → NumberIsRead (set_numeric effecter size value)
 number_read effecter size (One a) = id_read effecter size (One a)
@@ -162,7 +158,7 @@ states_read : (o : SetStateEffecter) → asked_by (set_whole (op.StateEffecter o
 states_read o =
     where_taken (allow (PairsCountedAt 2) (state_body o)) _ _ pldm_invalid_length
     (same_tested _ _ (omega (arith, two_each o.changes)))
-    (ap (λ (made : SetStateEffecter). Ok (request.Set (op.StateEffecter made))) (same_states _ _ _ _ _ _ (two_bytes o.effecter) (all_read o.changes o.few)))
+    (ap (λ (made : SetStateEffecter). Ok (request.Set (op.StateEffecter made))) (same_states _ _ _ _ _ _ (number_back o.effecter) (all_read o.changes o.few)))
 
 -- so is a request for a name
 abbrev set_name : (user : ℕ) (name : List ℕ) → length name ≡ user_name_size → SetUserName
@@ -260,7 +256,7 @@ attribute_read : (o : SetBiosAttribute) → asked_by (set_whole (op.BiosAttribut
 attribute_read o =
     let size : ℕ = length (attribute_request o) in
     (λ i. read_where (long_enough o i) (not_less size 6 (omega arith) i) (not_less size 8 (omega arith) i) (setting (o.attribute % 256 + 256 * (o.attribute / 256)) o.attribute_type o.value))
-    ∙ ap (λ (n : ℕ). Ok (request.Set (op.BiosAttribute (setting n o.attribute_type o.value)))) (two_bytes o.attribute)
+    ∙ ap (λ (n : ℕ). Ok (request.Set (op.BiosAttribute (setting n o.attribute_type o.value)))) (number_back o.attribute)
     ∙ ap (λ (change : SetBiosAttribute). Ok (request.Set (op.BiosAttribute change))) (same_setting o.attribute o.attribute_type (take most_sent o.value) o.value (few_sent o.value) o.fits (sent_whole o.value o.fits))
 
 pub gets_are_read : GetsAreRead
@@ -271,16 +267,16 @@ gets_are_read (key.BootParam parameter.ValidBitClearing) = record { is_read = re
 gets_are_read (key.BootParam parameter.InfoAcknowledge) = record { is_read = refl; from_nobody = (refl, refl) }
 gets_are_read (key.BootParam parameter.Flags) = record { is_read = refl; from_nobody = (refl, refl) }
 gets_are_read (key.Thresholds sensor) = record { is_read = refl; from_nobody = (refl, refl) }
-gets_are_read (key.NumericEffecter id) = record { is_read = ap (λ (n : ℕ). Ok (request.Get (key.NumericEffecter n))) (two_bytes id); from_nobody = refl }
-gets_are_read (key.StateEffecter id) = record { is_read = ap (λ (n : ℕ). Ok (request.Get (key.StateEffecter n))) (two_bytes id); from_nobody = refl }
-gets_are_read (key.BiosAttribute handle) = record { is_read = ap (λ (n : ℕ). Ok (request.Get (key.BiosAttribute n))) (two_bytes handle); from_nobody = refl }
+gets_are_read (key.NumericEffecter id) = record { is_read = ap (λ (n : ℕ). Ok (request.Get (key.NumericEffecter n))) (number_back id); from_nobody = refl }
+gets_are_read (key.StateEffecter id) = record { is_read = ap (λ (n : ℕ). Ok (request.Get (key.StateEffecter n))) (number_back id); from_nobody = refl }
+gets_are_read (key.BiosAttribute handle) = record { is_read = ap (λ (n : ℕ). Ok (request.Get (key.BiosAttribute n))) (number_back handle); from_nobody = refl }
 gets_are_read (key.LanParam on) = record { is_read = lan.get_read on.channel on.parameter; from_nobody = (refl, refl) }
 gets_are_read _ = record { is_read = refl; from_nobody = (refl, refl) }
 
 pub sets_are_read : SetsAreRead
 sets_are_read (op.Thresholds o) = record { is_read = thresholds_read o; from_nobody = (refl, refl) }
 sets_are_read (op.EventEnable o) = record { is_read = events_read o.sensor o.messages o.scanning o.change; from_nobody = (refl, refl) }
-sets_are_read (op.Watchdog o) = record { is_read = ap (λ n. Ok (request.Set (set_watchdog o n))) (two_bytes o.initial); from_nobody = (refl, refl) }
+sets_are_read (op.Watchdog o) = record { is_read = ap (λ n. Ok (request.Set (set_watchdog o n))) (number_back o.initial); from_nobody = (refl, refl) }
 sets_are_read (op.BootParam o) = record { is_read = boot_read o.invalid o.change; from_nobody = (refl, refl) }
 sets_are_read (op.NumericEffecter o) = record { is_read = number_read o.effecter o.size o.value; from_nobody = refl }
 sets_are_read (op.StateEffecter o) = record { is_read = states_read o; from_nobody = refl }

@@ -1,5 +1,5 @@
 -- The requests of a series are read as what the series does.
-use Rattle.std.proofs.Common.{◌≡◌, ℕ, zero, suc, ◌+◌, ◌*◌, ◌/◌, ◌%◌, ◌^◌, ◌<◌, ◌≤◌, nat_lt, subst, List, ◌∷◌, ◌++◌, length, drop, Bool, true, false, not, if◌then◌else◌, ◌==◌, Option, Some, None, Result, Ok, Err, refl, arith}
+use Rattle.std.proofs.Common.{◌≡◌, ℕ, zero, suc, ◌*◌, ◌^◌, ◌<◌, ◌≤◌, nat_lt, subst, List, ◌∷◌, ◌++◌, length, drop, Bool, true, false, not, if◌then◌else◌, ◌==◌, Option, Some, None, Result, Ok, Err, refl, arith}
 use Rattle.std.specs.Int.{w32, to_le_bytes}
 use Rattle.std.specs.Option.{option_map}
 use Rattle.std.proofs.lemmas.Bool.Decides.{nat_tests}
@@ -13,7 +13,7 @@ use Rattle.record_base.specs.declared.key.Key.TheVariants as key
 use Rattle.record_base.specs.declared.op.Op.TheVariants as op
 use Rattle.record_base.specs.declared.message.Asked.{Asked}
 use Rattle.record_base.specs.declared.message.Asked.TheVariants.{Ipmi, Pldm}
-use Rattle.record_base.specs.AttributeRangeLaws.{le_true}
+use Rattle.record_base.specs.AttributeRangeLaws.{le_true, number_back}
 use Rattle.record_base.specs.declared.bios_attribute.SetBiosAttribute.{SetBiosAttribute}
 use Rattle.record_kinds.specs.Series.{Reads, Sends, next_after}
 use Rattle.bios_attr.specs.BiosAttribute.{op_entry, attribute_body}
@@ -137,12 +137,9 @@ sets_begin _ = record { first = refl; in_place = refl }
 
 -- ---- a later part of a Get
 
-two_read : (n : ℕ) → n % 256 + 256 * (n / 256) ≡ n
-two_read n = omega arith
-
 pub later_parts_are_read : LaterPartsAreRead
 later_parts_are_read handle transfer fits = record {
-  is_read = λ i. Ok (LaterPart (two_read handle i) (from_le_bytes-to_le_bytes_4 transfer fits i));
+  is_read = λ i. Ok (LaterPart (number_back handle i) (from_le_bytes-to_le_bytes_4 transfer fits i));
   from_nobody = refl;
 }
 

@@ -18,7 +18,7 @@ use Rattle.bmc_core.specs.declared.step.Step.TheVariants as step
 use Rattle.bmc_core.specs.declared.ipmb_port.IpmbPort.{IpmbPort}
 use Rattle.bmc_core.specs.Outs.{sends, done_by, AreRead}
 use Rattle.bmc_core.proofs.OwnBytes.{none_read}
-use Rattle.bmc_core.specs.IpmbShown.{Shows, Does, IsSettled, next_of, Steps, deed_of, done_of, outcome_at, after, answers, response_told, carries, kept_of, first_answer, first_response}
+use Rattle.bmc_core.specs.IpmbShown.{Shows, Does, IsSettled, next_of, Steps, deed_of, done_of, outcome_at, after, out_after, response_at, carries, kept_of, first_answer, first_response}
 
 -- what comes of a request after this turn
 abbrev deed_by : PortState → Request → Turn → Deed
@@ -76,7 +76,7 @@ module _ (setup : BoardFile) (before : State) where
   settled_heard p (Ok r) next out is shows = settled_request p r next out is.0 is.1 is.2 shows
   settled_heard p (Err why) next out is shows = record { shows = shows; left = refl; sent = is.1; read = none_read Ipmb }
 
--- ---- an answer that is told
+-- ---- an answer that a port gets
 
 module _ (p : PortState) (r : Request) (a : Answered) where
   -- the rule, where this is done with the request
@@ -90,20 +90,20 @@ module _ (p : PortState) (r : Request) (a : Answered) where
   answers_by o = sends (written (response_by o) ∷ []) (done_by o)
 
   -- the port goes on by the rule, and sends what that says, which is read as itself
-  abbrev IsToldBy : IpmbPort → Out → Outcome → Type 0
-  IsToldBy port out o = Shows port (after_by o) × (out ≡ answers_by o) × AreRead Ipmb (response_by o ∷ [])
+  abbrev IsAnsweredSo : IpmbPort → Out → Outcome → Type 0
+  IsAnsweredSo port out o = Shows port (after_by o) × (out ≡ answers_by o) × AreRead Ipmb (response_by o ∷ [])
 
-  settled_told : (port : IpmbPort) (out : Out) (o : Outcome) → IsSettled r o out true → Shows port p → IsToldBy port out o
-  settled_told port out (Repeats reply) settles shows = (shows, settles.1.0, settles.1.1)
-  settled_told port out IsBusy settles shows = (shows, settles.1.0, settles.1.1)
-  settled_told port out IsNew settles shows = absurd (true≢false settles)
+  settled_answered : (port : IpmbPort) (out : Out) (o : Outcome) → IsSettled r o out true → Shows port p → IsAnsweredSo port out o
+  settled_answered port out (Repeats reply) settles shows = (shows, settles.1.0, settles.1.1)
+  settled_answered port out IsBusy settles shows = (shows, settles.1.0, settles.1.1)
+  settled_answered port out IsNew settles shows = absurd (true≢false settles)
 
   -- to a request that isn't new any more
-  pub told_settled : (port : IpmbPort) (out : Out) → IsSettled r (outcome_at p r) out true → Shows port p
-      → Shows port (after p r a) × (out ≡ answers p r a) × AreRead Ipmb (response_told p r a ∷ [])
-  told_settled port out settles shows = settled_told port out (outcome_at p r) settles shows
+  pub answered_settled : (port : IpmbPort) (out : Out) → IsSettled r (outcome_at p r) out true → Shows port p
+      → Shows port (after p r a) × (out ≡ out_after p r a) × AreRead Ipmb (response_at p r a ∷ [])
+  answered_settled port out settles shows = settled_answered port out (outcome_at p r) settles shows
 
   -- to a new one
-  pub told_new : (next : IpmbPort) (out : Out) → outcome_at p r ≡ IsNew → Shows next (carries p r a) → out ≡ first_answer r a → AreRead Ipmb (first_response r a ∷ [])
-      → Shows next (after p r a) × (out ≡ answers p r a) × AreRead Ipmb (response_told p r a ∷ [])
-  told_new next out is shows sent read = subst (IsToldBy next out) (sym is) (shows, sent, read)
+  pub answered_new : (next : IpmbPort) (out : Out) → outcome_at p r ≡ IsNew → Shows next (carries p r a) → out ≡ first_answer r a → AreRead Ipmb (first_response r a ∷ [])
+      → Shows next (after p r a) × (out ≡ out_after p r a) × AreRead Ipmb (response_at p r a ∷ [])
+  answered_new next out is shows sent read = subst (IsAnsweredSo next out) (sym is) (shows, sent, read)

@@ -83,7 +83,7 @@ carried_of old next heard r a bytes given same is written carried p of new fresh
         log = Carried (kept_as whole heard given) ∷ of.frames.log;
         keeps = carried whole of.frames.log of.frames.keeps (ap (λ (q : Asking). outcome (is_above 64) q of.frames.log) same ∙ fresh of.frames.log of.frames.keeps);
         answered = (
-          record { asked = r; code = a.code; body = a.body; same = sym same; frame = subst (λ (xs : List ℕ). IsResponse (response_giving r a) xs) (sym written) is },
+          record { request = r; code = a.code; body = a.body; same = sym same; frame = subst (λ (xs : List ℕ). IsResponse (response_giving r a) xs) (sym written) is },
           of.frames.answered,
         );
       };

@@ -11,7 +11,7 @@ use Rattle.model_ports.specs.Values.{written}
 use Rattle.model_ports.specs.PortSteps.{PortState, Deed, left_by, asked_in, response_after, hears_request, turn}
 use Rattle.bmc_core.specs.Rule.{logs_with, replies}
 use Rattle.bmc_core.specs.IpmbShown.{outcome_at, kept_of}
-use Rattle.bmc_core.specs.IpmbRuns.{IsHeardThenTold, Coming, Comes, IsTold, IsIdle, port_after, ports_after, brought, done_with_told, Replied, response_of, settled_then, replied, sent_when_heard, all_sent, KeepsTheRule, Happening, Hears, Idles, Others, Ends, ends_after, all_after, heard_in_all, done_in_all, requests_in, responses, sent_in_all, CarriesTheRule}
+use Rattle.bmc_core.specs.IpmbRuns.{IsHeardThenAnswered, Coming, Comes, Answers, IsIdle, port_after, ports_after, brought, done_with_answered, Replied, response_of, settled_then, replied, sent_when_heard, all_sent, KeepsTheRule, Happening, Hears, Idles, Others, Ends, ends_after, all_after, heard_in_all, done_in_all, requests_in, responses, sent_in_all, CarriesTheRule}
 
 -- ---- one request
 
@@ -31,27 +31,27 @@ module _ (setup : BoardFile) (p : PortState) (before : State) (r : Request) wher
   none_new IsBusy j k new apart = refl
   none_new IsNew j k new apart = absurd (apart refl)
 
-  pub heard_then_told : IsHeardThenTold setup p before r
-  heard_then_told =
+  pub heard_then_answered : IsHeardThenAnswered setup p before r
+  heard_then_answered =
       let given = answer_of setup before (asked_in r) in
       record {
-        asked = λ is. deed_is ∙ ap (λ (o : Outcome). let d : Deed = record { port = record p { log = log_after (outcome_at p r) (kept_of r given.0) p.log }; board = left_by o given.1 before; sent = response_after r (reply_after (outcome_at p r) (kept_of r given.0)) ∷ [] } in d) is;
+        answered = λ is. deed_is ∙ ap (λ (o : Outcome). let d : Deed = record { port = record p { log = log_after (outcome_at p r) (kept_of r given.0) p.log }; board = left_by o given.1 before; sent = response_after r (reply_after (outcome_at p r) (kept_of r given.0)) ∷ [] } in d) is;
         settled = λ apart a. deed_is ∙ none_new (outcome_at p r) (kept_of r given.0) (kept_of r a) given.1 apart;
       }
 
 -- ---- lists with no board in them
 
-told_log : (p : PortState) (cs : List Coming) → (ports_after p cs).log ≡ logs_with (is_above 64) (brought cs) p.log
-told_log p [] = refl
-told_log p (Comes heard ∷ cs) = told_log p cs
-told_log p (IsTold r a ∷ cs) = told_log (port_after p (IsTold r a)) cs
-told_log p (IsIdle requester ∷ cs) = told_log (port_after p (IsIdle requester)) cs
+answered_log : (p : PortState) (cs : List Coming) → (ports_after p cs).log ≡ logs_with (is_above 64) (brought cs) p.log
+answered_log p [] = refl
+answered_log p (Comes heard ∷ cs) = answered_log p cs
+answered_log p (Answers r a ∷ cs) = answered_log (port_after p (Answers r a)) cs
+answered_log p (IsIdle requester ∷ cs) = answered_log (port_after p (IsIdle requester)) cs
 
-told_done : (p : PortState) (cs : List Coming) → done_with_told p cs ≡ outcomes (is_above 64) p.log (brought cs)
-told_done p [] = refl
-told_done p (Comes heard ∷ cs) = told_done p cs
-told_done p (IsTold r a ∷ cs) = ap (λ (os : List Outcome). outcome_at p r ∷ os) (told_done (port_after p (IsTold r a)) cs)
-told_done p (IsIdle requester ∷ cs) = told_done (port_after p (IsIdle requester)) cs
+answered_done : (p : PortState) (cs : List Coming) → done_with_answered p cs ≡ outcomes (is_above 64) p.log (brought cs)
+answered_done p [] = refl
+answered_done p (Comes heard ∷ cs) = answered_done p cs
+answered_done p (Answers r a ∷ cs) = ap (λ (os : List Outcome). outcome_at p r ∷ os) (answered_done (port_after p (Answers r a)) cs)
+answered_done p (IsIdle requester ∷ cs) = answered_done (port_after p (IsIdle requester)) cs
 
 settled_sent : (r : Request) (o : Outcome) (frames : List (List ℕ)) (rest : List Replied) → frames ≡ map response_of rest
     → sent_when_heard r o ++ frames ≡ map response_of (settled_then r o rest)
@@ -59,16 +59,16 @@ settled_sent r (Repeats reply) frames rest same = ap (λ (fs : List (List ℕ)).
 settled_sent r IsBusy frames rest same = ap (λ (fs : List (List ℕ)). written (response_after r None) ∷ fs) same
 settled_sent r IsNew frames rest same = same
 
-told_sent : (p : PortState) (cs : List Coming) → all_sent p cs ≡ map response_of (replied p.log cs)
-told_sent p [] = refl
-told_sent p (Comes (Ok r) ∷ cs) = settled_sent r (outcome_at p r) (all_sent p cs) (replied p.log cs) (told_sent p cs)
-told_sent p (Comes (Err why) ∷ cs) = told_sent p cs
-told_sent p (IsTold r a ∷ cs) =
-    ap (λ (fs : List (List ℕ)). written (response_after r (reply_after (outcome_at p r) (kept_of r a))) ∷ fs) (told_sent (port_after p (IsTold r a)) cs)
-told_sent p (IsIdle requester ∷ cs) = told_sent (port_after p (IsIdle requester)) cs
+answered_sent : (p : PortState) (cs : List Coming) → all_sent p cs ≡ map response_of (replied p.log cs)
+answered_sent p [] = refl
+answered_sent p (Comes (Ok r) ∷ cs) = settled_sent r (outcome_at p r) (all_sent p cs) (replied p.log cs) (answered_sent p cs)
+answered_sent p (Comes (Err why) ∷ cs) = answered_sent p cs
+answered_sent p (Answers r a ∷ cs) =
+    ap (λ (fs : List (List ℕ)). written (response_after r (reply_after (outcome_at p r) (kept_of r a))) ∷ fs) (answered_sent (port_after p (Answers r a)) cs)
+answered_sent p (IsIdle requester ∷ cs) = answered_sent (port_after p (IsIdle requester)) cs
 
 pub keeps_the_rule : (p : PortState) (cs : List Coming) → KeepsTheRule p cs
-keeps_the_rule p cs = record { log = told_log p cs; done = told_done p cs; sent = told_sent p cs }
+keeps_the_rule p cs = record { log = answered_log p cs; done = answered_done p cs; sent = answered_sent p cs }
 
 -- ---- lists at a board
 

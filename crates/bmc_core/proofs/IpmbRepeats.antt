@@ -30,11 +30,11 @@ found_answers r log reply is all =
     let h = (sentence_64.repeats r log reply).0 is in
     let a : IsAnswered h.kept = answered_in h.newer h.kept h.older (subst (λ (l : List Entry). AllAnswered l) h.whole all) in
     record {
-      asked = a.asked;
+      request = a.request;
       code = a.code;
       body = a.body;
       same = a.same ∙ sym h.same;
-      frame = subst (λ (bytes : List ℕ). IsResponse (response a.asked.header a.code a.body) bytes) h.replied a.frame;
+      frame = subst (λ (bytes : List ℕ). IsResponse (response a.request.header a.code a.body) bytes) h.replied a.frame;
     }
 
 -- from the request's own address, it is the response that repeats it
@@ -42,7 +42,7 @@ pub repeats : (r : Request) (kept : List ℕ) → HasUnits r.header → IsAnswer
     → slice_index kept 3 ≡ r.header.responder.address
     → IsResponse (response r.header (slice_index (reading.reply kept) 3) (drop 4 (reading.reply kept))) kept
 repeats r kept units a at =
-    let q = a.asked in
+    let q = a.request in
     let bytes : request_bytes q ≡ request_bytes r = ap (λ (h : Asking). h.bytes) a.same in
     let parts = bytes-one q r a.frame.header.responder.lun units.responder a.frame.header.requester.lun units.requester bytes in
     let from : q.header.requester.address ≡ r.header.requester.address = ap (λ (h : Asking). h.requester) a.same in

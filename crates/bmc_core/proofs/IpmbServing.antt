@@ -1,4 +1,4 @@
--- A port on IPMB that has a request carried out hears it, and then is told the answer.
+-- A port on IPMB that has a request carried out hears it, and then gets the answer.
 use Rattle.std.proofs.Common.{◌≡◌, ℕ, false, List, Option, Some, Result, Ok, Err, refl, sym, ap, subst}
 use Rattle.ipmb_frame.specs.declared.message.Request.{Request}
 use Rattle.record_base.specs.declared.message.Asked.{Asked}
@@ -19,10 +19,10 @@ use Rattle.bmc_core.specs.declared.step.Served.TheVariants.{CarriedOut, NothingA
 use Rattle.bmc_core.specs.declared.step.Step.TheVariants as step
 use Rattle.bmc_core.specs.declared.ipmb_port.IpmbPort.{IpmbPort}
 use Rattle.bmc_core.specs.IpmbHeard.{IsHeard}
-use Rattle.bmc_core.specs.IpmbShown.{AreOf, Shows, Hears, IsFresh, IsHeardAt, IsStep, IsTold, IsSettled, Steps, step_of, outcome_at}
+use Rattle.bmc_core.specs.IpmbShown.{AreOf, Shows, Hears, IsFresh, IsHeardAt, IsStep, Answers, IsSettled, Steps, step_of, outcome_at}
 use Rattle.bmc_core.specs.Served.{HasCarried}
 use Rattle.bmc_core.specs.IpmbServed.{IsCarriedOut, Serves}
-use Rattle.bmc_core.proofs.IpmbDeeds.{told_new, step_new}
+use Rattle.bmc_core.proofs.IpmbDeeds.{answered_new, step_new}
 use Rattle.bmc_core.proofs.PortSteps.{ipmb_settled, ipmb_asked}
 
 -- what is to be carried out is that, whatever is sent
@@ -47,17 +47,17 @@ module _ (port : IpmbPort) (bytes : List ℕ) where
     stays = λ i. record { wire = port.wire; windows = same i };
   }
 
-  -- a new request that was carried out was heard, and then told the answer
+  -- a new request that was carried out was heard, and then answered
   pub carried_so : {K : Type 0} (carries : Asked → Answered → K → Type 0) (r : Request) (first out : Out) (new : Held) (after : K)
       → IsHeardAt port.wire port.windows bytes (Some r) first
       → IsFresh port.windows r
       → ((p : PortState) → AreOf port.windows p.log → outcome_at p r ≡ IsNew)
       → IsCarriedOut carries port.windows r after new out
-      → HasCarried (λ between heard step. IsStep port bytes between heard step) IsTold asked_in carries (record { wire = port.wire; windows = new }) out after
+      → HasCarried (λ between heard step. IsStep port bytes between heard step) Answers asked_in carries (record { wire = port.wire; windows = new }) out after
   carried_so carries r first out new after at fresh is_new done =
       let next : IpmbPort = record { wire = port.wire; windows = new } in
-      let told = λ (p : PortState) (shows : Shows port p).
-      told_new p r done.answered next out (is_new p shows.log) (record { wire = shows.wire; log = done.kept p shows.log (is_new p shows.log) fresh }) done.sent done.read in
+      let answers = λ (p : PortState) (shows : Shows port p).
+      answered_new p r done.answered next out (is_new p shows.log) (record { wire = shows.wire; log = done.kept p shows.log (is_new p shows.log) fresh }) done.sent done.read in
       record {
         between = port;
         heard = first;
@@ -65,7 +65,7 @@ module _ (port : IpmbPort) (bytes : List ℕ) where
         answered = done.answered;
         asks = heard_so (Some r) first at;
         carried = done.carried;
-        told = record { shows = λ p shows. (told p shows).0; sent = λ p shows. (told p shows).1; read = λ p shows. (told p shows).2 };
+        replied = record { shows = λ p shows. (answers p shows).0; sent = λ p shows. (answers p shows).1; read = λ p shows. (answers p shows).2 };
       }
 
 -- a port that has a board alone carry requests out hears as one of that board
@@ -76,9 +76,9 @@ alone_hears records port next bytes before after out (Ok CarriedOut) done =
     let given : Given = given_by records before (asked_in done.pending) in
     let reply : done.answered ≡ given.0 = ap (λ (g : Given). g.0) done.carried.answer in
     let left : state_of records after ≡ given.1 = ap (λ (g : Given). g.1) done.carried.answer in
-    let told : IsTold done.between done.pending given.0 next out = subst (λ (a : Answered). IsTold done.between done.pending a next out) reply done.told in (
+    let answers : Answers done.between done.pending given.0 next out = subst (λ (a : Answered). Answers done.between done.pending a next out) reply done.replied in (
       subst (λ (now : State). Hears before.setup port (state_of records before) bytes out next now) (sym left)
-          (ipmb_asked before.setup (state_of records before) port done.between next bytes done.heard out done.pending done.asks told),
+          (ipmb_asked before.setup (state_of records before) port done.between next bytes done.heard out done.pending done.asks answers),
       done.carried.setup,
     )
 alone_hears {S} {E} {g} {h} records port next bytes before after out (Ok NothingAsked) done = (

@@ -23,7 +23,7 @@ module _ {K E : Type 0} (carries : Asked → Answered → K → Type 0) (refuses
     answered = done.answered;
     asks = done.asks;
     carried = done.carried;
-    told = done.told;
+    replied = done.replied;
   }
   of_ipmb port next out after (Ok NothingAsked) done = done
   of_ipmb port next out after (Err why) done = ((pending.Ipmb done.0.0, done.0.1), done.1)
@@ -37,7 +37,7 @@ module _ {K E : Type 0} (carries : Asked → Answered → K → Type 0) (refuses
     answered = done.answered;
     asks = done.asks;
     carried = done.carried;
-    told = done.told;
+    replied = done.replied;
   }
   of_smbus port next out after (Ok NothingAsked) done = done
   of_smbus port next out after (Err why) done = ((pending.Smbus done.0.0, done.0.1), done.1)

@@ -22,9 +22,9 @@ use Rattle.bmc_core.specs.Outs.{done_by, AreRead}
 use Rattle.bmc_core.specs.IpmbShown as ipmb
 use Rattle.bmc_core.specs.SmbusShown as smbus
 use Rattle.bmc_core.specs.SmbusHeard.{InMessage, Heard, Ignored, Waiting, Control, Asks, taken, heard_in, asked_of as message_asked, asks_of, found, asks, done_of}
-use Rattle.bmc_core.specs.Port.{asked_of, Hears, IsStep, IsTold, IsHeardThenTold}
+use Rattle.bmc_core.specs.Port.{asked_of, Hears, IsStep, Answers, IsHeardThenAnswered}
 use Rattle.bmc_core.proofs.IpmbDeeds.{step_new, settled_heard}
-use Rattle.bmc_core.proofs.IpmbLists.{heard_then_told as request_heard_then_told}
+use Rattle.bmc_core.proofs.IpmbLists.{heard_then_answered as request_heard_then_answered}
 use Rattle.bmc_core.proofs.SmbusLists.{new_one}
 use Rattle.bmc_core.proofs.SmbusPorts.{answer_for, left_after, deed_of, hears_bytes, left_new, does}
 
@@ -35,26 +35,26 @@ module _ (setup : BoardFile) (before : State) where
   ipmb_settled port next bytes out is p shows heard at =
       settled_heard setup before p heard next out (is.steps p shows heard at) (subst (λ (x : IpmbPort). ipmb.Shows x p) (sym is.stays) shows)
 
-  told_request : (p : PortState) (r : Request) (next : IpmbPort) (out : Out) → let given = answer_of setup before (asked_in r) in
-      ipmb.outcome_at p r ≡ IsNew → ipmb.Shows next (ipmb.after p r given.0) → out ≡ ipmb.answers p r given.0 → AreRead on.Ipmb (ipmb.response_told p r given.0 ∷ [])
+  answered_request : (p : PortState) (r : Request) (next : IpmbPort) (out : Out) → let given = answer_of setup before (asked_in r) in
+      ipmb.outcome_at p r ≡ IsNew → ipmb.Shows next (ipmb.after p r given.0) → out ≡ ipmb.out_after p r given.0 → AreRead on.Ipmb (ipmb.response_at p r given.0 ∷ [])
       → ipmb.Does (hears_request setup p before r) (done_by (ipmb.outcome_at p r)) next given.1 out
-  told_request p r next out is shows sent read =
+  answered_request p r next out is shows sent read =
       subst (λ (d : Deed). ipmb.Does d (done_by (ipmb.outcome_at p r)) next (answer_of setup before (asked_in r)).1 out)
-      (sym ((request_heard_then_told setup p before r).asked is)) (record { shows = shows; left = refl; sent = sent; read = read })
+      (sym ((request_heard_then_answered setup p before r).answered is)) (record { shows = shows; left = refl; sent = sent; read = read })
 
   asked_heard : (p : PortState) (heard : Result Request Reason) (q : Request) (next : IpmbPort) (first out : Out) → let given = answer_of setup before (asked_in q) in
-      ipmb.Steps p heard (step.Ask q) first → ipmb.Shows next (ipmb.after p q given.0) → out ≡ ipmb.answers p q given.0 → AreRead on.Ipmb (ipmb.response_told p q given.0 ∷ [])
+      ipmb.Steps p heard (step.Ask q) first → ipmb.Shows next (ipmb.after p q given.0) → out ≡ ipmb.out_after p q given.0 → AreRead on.Ipmb (ipmb.response_at p q given.0 ∷ [])
       → ipmb.Does (ipmb.deed_of setup p before heard) (ipmb.done_of p heard) next given.1 out
   asked_heard p heard q next first out is shows sent read =
       let so = step_new p heard q first is in
       subst (λ (h : Result Request Reason). ipmb.Does (ipmb.deed_of setup p before h) (ipmb.done_of p h) next (answer_of setup before (asked_in q)).1 out) (sym so.0)
-      (told_request p q next out so.1 shows sent read)
+      (answered_request p q next out so.1 shows sent read)
 
   pub ipmb_asked : (port between next : IpmbPort) (bytes : List ℕ) (first out : Out) (q : Request) → let given = answer_of setup before (asked_in q) in
-      ipmb.IsStep port bytes between first (step.Ask q) → ipmb.IsTold between q given.0 next out → ipmb.Hears setup port before bytes out next given.1
-  ipmb_asked port between next bytes first out q is told p shows heard at =
+      ipmb.IsStep port bytes between first (step.Ask q) → ipmb.Answers between q given.0 next out → ipmb.Hears setup port before bytes out next given.1
+  ipmb_asked port between next bytes first out q is answers p shows heard at =
       let shown : ipmb.Shows between p = subst (λ (x : IpmbPort). ipmb.Shows x p) (sym is.stays) shows in
-      asked_heard p heard q next first out (is.steps p shows heard at) (told.shows p shown) (told.sent p shown) (told.read p shown)
+      asked_heard p heard q next first out (is.steps p shows heard at) (answers.shows p shown) (answers.sent p shown) (answers.read p shown)
 
 -- ---- on the System Management Bus
 
@@ -96,21 +96,21 @@ module _ (setup : BoardFile) (before : State) where
   ask_step : (between next : SmbusPort) (first out : Out) (asked : SmbusPending) (port : PortState) (h : Heard) → let given = answer_of setup before (message_asked (smbus.request_in asked)) in
       smbus.IsStep between first (step.Ask asked) port h → ((p : PortState) → smbus.Shows between p → smbus.Ends next out p (Asks (smbus.request_in asked)) given.0)
       → smbus.Does next out given.1 (deed_of setup before port h) (done_of port h)
-  ask_step between next first out asked port h is told =
+  ask_step between next first out asked port h is answers =
       let m : InMessage = smbus.request_in asked in
       let so = is_asked port h m is.0 in
       subst (λ (x : Heard). smbus.Does next out (answer_of setup before (message_asked m)).1 (deed_of setup before port x) (done_of port x)) (sym so.0)
-      (does setup before next out (answer_of setup before (message_asked m)).1 port (Asks m) (told port is.1) (left_new setup before port m so.1))
+      (does setup before next out (answer_of setup before (message_asked m)).1 port (Asks m) (answers port is.1) (left_new setup before port m so.1))
 
   pub smbus_asked : (port between next : SmbusPort) (bytes : List ℕ) (first out : Out) (asked : SmbusPending) → let given = answer_of setup before (message_asked (smbus.request_in asked)) in
       ((p : PortState) → smbus.Shows port p → smbus.Hearing p bytes (smbus.IsStep between first (step.Ask asked)))
       → ((p : PortState) → smbus.Shows between p → smbus.Ends next out p (Asks (smbus.request_in asked)) given.0)
       → (p : PortState) → smbus.Shows port p → smbus.HearsBytes setup p before bytes next out given.1
-  smbus_asked port between next bytes first out asked hears told p shows =
+  smbus_asked port between next bytes first out asked hears answers p shows =
       let h = hears p shows in
       hears_bytes setup before p bytes next out (answer_of setup before (message_asked (smbus.request_in asked))).1 (record {
-        faulty = λ fault is. ask_step between next first out asked p (Ignored (reason.Packet fault)) (h.faulty fault is) told;
-        packet = λ q is. ask_step between next first out asked (taken p q) (heard_in p q) (h.packet q is) told;
+        faulty = λ fault is. ask_step between next first out asked p (Ignored (reason.Packet fault)) (h.faulty fault is) answers;
+        packet = λ q is. ask_step between next first out asked (taken p q) (heard_in p q) (h.packet q is) answers;
       })
 
 -- ---- on either
@@ -123,18 +123,18 @@ module _ (setup : BoardFile) (before : State) (bytes : List ℕ) where
   settled_at (Smbus port) (Smbus next) out is = smbus_settled setup before port next bytes out is
 
   asked_at : (port between next : Port) (first out : Out) (asked : Pending) → IsStep port bytes between first (step.Ask asked)
-      → let given = answer_of setup before (asked_of asked) in IsTold between asked given.0 next out → Hears setup port before bytes out next given.1
-  asked_at (Ipmb port) (Ipmb between) (Ipmb next) first out (pending.Ipmb r) is told = ipmb_asked setup before port between next bytes first out r is told
-  asked_at (Ipmb port) (Ipmb between) (Smbus next) first out (pending.Ipmb r) is told = absurd told
-  asked_at (Ipmb port) (Ipmb between) next first out (pending.Smbus m) is told = absurd is
-  asked_at (Ipmb port) (Smbus between) next first out asked is told = absurd is
-  asked_at (Smbus port) (Ipmb between) next first out asked is told = absurd is
-  asked_at (Smbus port) (Smbus between) next first out (pending.Ipmb r) is told = absurd is
-  asked_at (Smbus port) (Smbus between) (Ipmb next) first out (pending.Smbus m) is told = absurd told
-  asked_at (Smbus port) (Smbus between) (Smbus next) first out (pending.Smbus m) is told = smbus_asked setup before port between next bytes first out m is told
+      → let given = answer_of setup before (asked_of asked) in Answers between asked given.0 next out → Hears setup port before bytes out next given.1
+  asked_at (Ipmb port) (Ipmb between) (Ipmb next) first out (pending.Ipmb r) is answers = ipmb_asked setup before port between next bytes first out r is answers
+  asked_at (Ipmb port) (Ipmb between) (Smbus next) first out (pending.Ipmb r) is answers = absurd answers
+  asked_at (Ipmb port) (Ipmb between) next first out (pending.Smbus m) is answers = absurd is
+  asked_at (Ipmb port) (Smbus between) next first out asked is answers = absurd is
+  asked_at (Smbus port) (Ipmb between) next first out asked is answers = absurd is
+  asked_at (Smbus port) (Smbus between) next first out (pending.Ipmb r) is answers = absurd is
+  asked_at (Smbus port) (Smbus between) (Ipmb next) first out (pending.Smbus m) is answers = absurd answers
+  asked_at (Smbus port) (Smbus between) (Smbus next) first out (pending.Smbus m) is answers = smbus_asked setup before port between next bytes first out m is answers
 
-pub heard_then_told : (setup : BoardFile) (port : Port) (before : State) (bytes : List ℕ) → IsHeardThenTold setup port before bytes
-heard_then_told setup port before bytes = record {
-  asked = λ between next first out asked is told. asked_at setup before bytes port between next first out asked is told;
+pub heard_then_answered : (setup : BoardFile) (port : Port) (before : State) (bytes : List ℕ) → IsHeardThenAnswered setup port before bytes
+heard_then_answered setup port before bytes = record {
+  answered = λ between next first out asked is answers. asked_at setup before bytes port between next first out asked is answers;
   settled = λ next out is. settled_at setup before bytes port next out is;
 }

@@ -14,7 +14,7 @@ use Rattle.model_ports.specs.Values.{written, Part, parts_of}
 use Rattle.model_ports.specs.PortSteps.{PortState, Deed, left_by}
 use Rattle.bmc_core.specs.SmbusHeard.{InMessage, Heard, Ignored, Waiting, Control, Asks, taken, heard_in, asked_of, asks_of, found, asks, kept_with, asks_effect, effect}
 use Rattle.bmc_core.specs.Rule.{logs_with}
-use Rattle.bmc_core.specs.SmbusRuns.{with_board, IsHeardThenTold, Coming, Comes, IsTold, IsIdle, once_heard, port_after, ports_after, brought, done_with_told, reply_of, reply_saying, all_frames, settled_then, replied_then, replied, sent_once_heard, all_sent, KeepsTheRule, Happening, Hears, Idles, Others, Ends, ends_after, all_after, heard_then, heard_in_all, done_then, done_in_all, answered_then, answered_in_all, sent_in_all, CarriesTheRule}
+use Rattle.bmc_core.specs.SmbusRuns.{with_board, IsHeardThenAnswered, Coming, Comes, Answers, IsIdle, once_heard, port_after, ports_after, brought, done_with_answered, reply_of, reply_saying, all_frames, settled_then, replied_then, replied, sent_once_heard, all_sent, KeepsTheRule, Happening, Hears, Idles, Others, Ends, ends_after, all_after, heard_then, heard_in_all, done_then, done_in_all, answered_then, answered_in_all, sent_in_all, CarriesTheRule}
 use Rattle.bmc_core.proofs.SmbusPorts.{deed_of, packet_deed}
 
 -- ---- one packet
@@ -51,9 +51,9 @@ settled_deed setup before port (Control e r) a is = refl
 settled_deed setup before port (Asks m) a is =
     none_new before (answer_of setup before (asked_of m)).1 port m (found port m) (kept_with m (answer_of setup before (asked_of m)).0) (kept_with m a) is
 
-pub heard_then_told : (setup : BoardFile) (port : PortState) (before : State) (p : Packet) → IsHeardThenTold setup port before p
-heard_then_told setup port before p = record {
-  asked = λ m is. packet_deed setup before port p ∙ asked_deed setup before (taken port p) (heard_in port p) m is;
+pub heard_then_answered : (setup : BoardFile) (port : PortState) (before : State) (p : Packet) → IsHeardThenAnswered setup port before p
+heard_then_answered setup port before p = record {
+  answered = λ m is. packet_deed setup before port p ∙ asked_deed setup before (taken port p) (heard_in port p) m is;
   settled = λ is a. packet_deed setup before port p ∙ settled_deed setup before (taken port p) (heard_in port p) a is;
 }
 
@@ -64,7 +64,7 @@ log_stays m (Repeats reply) k log is = refl
 log_stays m IsBusy k log is = refl
 log_stays m IsNew k log is = absurd cc
 
--- what is heard and not told changes no log
+-- a request that is heard and not answered changes no log
 heard_log : (port : PortState) (h : Heard) (o : Option InMessage) → asks port h ≡ o → (once_heard port h o).log ≡ port.log
 heard_log port h (Some m) is = refl
 heard_log port (Ignored why) None is = refl
@@ -75,18 +75,18 @@ heard_log port (Asks m) None is = log_stays m (found port m) (kept_with m (recor
 packet_log : (port : PortState) (p : Packet) → (port_after port (Comes p)).log ≡ port.log
 packet_log port p = heard_log (taken port p) (heard_in port p) (asks (taken port p) (heard_in port p)) refl
 
-told_log : (port : PortState) (cs : List Coming) → (ports_after port cs).log ≡ logs_with (is_above 32) (brought cs) port.log
-told_log port [] = refl
-told_log port (Comes p ∷ cs) = told_log (port_after port (Comes p)) cs ∙ ap (logs_with (is_above 32) (brought cs)) (packet_log port p)
-told_log port (IsTold m a ∷ cs) = told_log (port_after port (IsTold m a)) cs
-told_log port (IsIdle requester ∷ cs) = told_log (port_after port (IsIdle requester)) cs
+answered_log : (port : PortState) (cs : List Coming) → (ports_after port cs).log ≡ logs_with (is_above 32) (brought cs) port.log
+answered_log port [] = refl
+answered_log port (Comes p ∷ cs) = answered_log (port_after port (Comes p)) cs ∙ ap (logs_with (is_above 32) (brought cs)) (packet_log port p)
+answered_log port (Answers m a ∷ cs) = answered_log (port_after port (Answers m a)) cs
+answered_log port (IsIdle requester ∷ cs) = answered_log (port_after port (IsIdle requester)) cs
 
-told_done : (port : PortState) (cs : List Coming) → done_with_told port cs ≡ outcomes (is_above 32) port.log (brought cs)
-told_done port [] = refl
-told_done port (Comes p ∷ cs) =
-    told_done (port_after port (Comes p)) cs ∙ ap (λ (log : List Entry). outcomes (is_above 32) log (brought cs)) (packet_log port p)
-told_done port (IsTold m a ∷ cs) = ap (λ (os : List Outcome). found port m ∷ os) (told_done (port_after port (IsTold m a)) cs)
-told_done port (IsIdle requester ∷ cs) = told_done (port_after port (IsIdle requester)) cs
+answered_done : (port : PortState) (cs : List Coming) → done_with_answered port cs ≡ outcomes (is_above 32) port.log (brought cs)
+answered_done port [] = refl
+answered_done port (Comes p ∷ cs) =
+    answered_done (port_after port (Comes p)) cs ∙ ap (λ (log : List Entry). outcomes (is_above 32) log (brought cs)) (packet_log port p)
+answered_done port (Answers m a ∷ cs) = ap (λ (os : List Outcome). found port m ∷ os) (answered_done (port_after port (Answers m a)) cs)
+answered_done port (IsIdle requester ∷ cs) = answered_done (port_after port (IsIdle requester)) cs
 
 -- one message's frames before others
 with_frames : (m : Message) (frames : List (List ℕ)) (ms : List Message) → frames ≡ all_frames ms → map written (map (λ p. Part p) (parts_of m)) ++ frames ≡ all_frames (m ∷ ms)
@@ -110,18 +110,18 @@ heard_sent port (Control e r) None frames ms is same =
     with_frames (reply_of (record port { eid = eid_after port.eid r.command r.content }) e (control_reply_to port.eid r)) frames ms same
 heard_sent port (Asks m) None frames ms is same = settled_sent port m (found port m) (kept_with m (record { code = 0; body = [] })) frames ms is same
 
-told_sent : (port : PortState) (cs : List Coming) → all_sent port cs ≡ all_frames (replied port cs)
-told_sent port [] = refl
-told_sent port (Comes p ∷ cs) =
+answered_sent : (port : PortState) (cs : List Coming) → all_sent port cs ≡ all_frames (replied port cs)
+answered_sent port [] = refl
+answered_sent port (Comes p ∷ cs) =
     let next = port_after port (Comes p) in
-    heard_sent (taken port p) (heard_in port p) (asks (taken port p) (heard_in port p)) (all_sent next cs) (replied next cs) refl (told_sent next cs)
-told_sent port (IsTold m a ∷ cs) =
-    let next = port_after port (IsTold m a) in
-    with_frames (reply_saying port m (reply_after (found port m) (kept_with m a))) (all_sent next cs) (replied next cs) (told_sent next cs)
-told_sent port (IsIdle requester ∷ cs) = told_sent (port_after port (IsIdle requester)) cs
+    heard_sent (taken port p) (heard_in port p) (asks (taken port p) (heard_in port p)) (all_sent next cs) (replied next cs) refl (answered_sent next cs)
+answered_sent port (Answers m a ∷ cs) =
+    let next = port_after port (Answers m a) in
+    with_frames (reply_saying port m (reply_after (found port m) (kept_with m a))) (all_sent next cs) (replied next cs) (answered_sent next cs)
+answered_sent port (IsIdle requester ∷ cs) = answered_sent (port_after port (IsIdle requester)) cs
 
 pub keeps_the_rule : (port : PortState) (cs : List Coming) → KeepsTheRule port cs
-keeps_the_rule port cs = record { log = told_log port cs; done = told_done port cs; sent = told_sent port cs }
+keeps_the_rule port cs = record { log = answered_log port cs; done = answered_done port cs; sent = answered_sent port cs }
 
 -- ---- lists at a board
 

@@ -101,11 +101,11 @@ replied wire own e (Some r) reply eid out is after sent =
     (after, so.0, refl, so.1)
 
 -- a request is what was heard
-pub asked : (wire own : ℕ) (h : Heard) (eid : ℕ) (out : Out) (m : InMessage) → HasHeard wire own h eid out (Some m) → (eid ≡ own) × (h ≡ Asks m)
-asked wire own (Ignored why) eid out m is = let no : Some m ≡ None = is.2 in absurd cc
-asked wire own Waiting eid out m is = let no : Some m ≡ None = is.2 in absurd cc
-asked wire own (Control e r) eid out m is = let no : Some m ≡ None = is.2 in absurd cc
-asked wire own (Asks n) eid out m is = let yes : Some m ≡ Some n = is.1 in let same : n ≡ m = cc in (is.0, ap Asks same)
+pub given_is_heard : (wire own : ℕ) (h : Heard) (eid : ℕ) (out : Out) (m : InMessage) → HasHeard wire own h eid out (Some m) → (eid ≡ own) × (h ≡ Asks m)
+given_is_heard wire own (Ignored why) eid out m is = let no : Some m ≡ None = is.2 in absurd cc
+given_is_heard wire own Waiting eid out m is = let no : Some m ≡ None = is.2 in absurd cc
+given_is_heard wire own (Control e r) eid out m is = let no : Some m ≡ None = is.2 in absurd cc
+given_is_heard wire own (Asks n) eid out m is = let yes : Some m ≡ Some n = is.1 in let same : n ≡ m = cc in (is.0, ap Asks same)
 
 -- what is heard at the place that the port has
 pub heard_at : (p : PortState) (h : Heard) (wire own eid : ℕ) (out : Out) (given is : Option InMessage) → p.wire ≡ wire → p.eid ≡ own → given ≡ is
@@ -166,7 +166,7 @@ answered next out port m a is shows sent read =
 -- ---- with the board
 
 module _ (setup : BoardFile) (before : State) where
-  -- what the board would answer, if it's asked
+  -- what the board would answer, if it's given_is_heard
   abbrev pub answer_for : Heard → Answered
   answer_for (Asks m) = (answer_of setup before (asked_of m)).0
   answer_for _ = record { code = 0; body = [] }

@@ -1,4 +1,4 @@
--- A port on the System Management Bus that has a request carried out hears it, and then is told the answer.
+-- A port on the System Management Bus that has a request carried out hears it, and then gets the answer.
 use Rattle.std.proofs.Common.{◌≡◌, ℕ, List, Option, Some, None, Result, Ok, Err, refl, sym, ◌∙◌, ap, subst}
 use Rattle.mctp_net.specs.declared.packet.Packet.{Packet}
 use Rattle.mctp_net.specs.Assembly.{message_of}
@@ -23,7 +23,7 @@ use Rattle.bmc_core.specs.declared.smbus_port.SmbusPort.{SmbusPort}
 use Rattle.bmc_core.specs.declared.smbus_port.pending.SmbusPending.{SmbusPending}
 use Rattle.bmc_core.specs.Outs.{sends}
 use Rattle.bmc_core.specs.SmbusHeard.{InMessage, Heard, message_heard, asked_of, found, kept_with}
-use Rattle.bmc_core.specs.SmbusShown.{AreOf, Shows, ForPortsAt, Hearing, HearsBytes, IsGiven, IsStep, IsTold, IsRead, frames_from, request_in}
+use Rattle.bmc_core.specs.SmbusShown.{AreOf, Shows, ForPortsAt, Hearing, HearsBytes, IsGiven, IsStep, Answers, IsRead, frames_from, request_in}
 use Rattle.bmc_core.specs.Served.{HasCarried}
 use Rattle.bmc_core.specs.SmbusServed.{IsCarriedOut, Serves}
 use Rattle.bmc_core.proofs.SmbusPorts.{hearing_map, ended, message_is, parts_at, answered}
@@ -90,11 +90,11 @@ module _ (port now : SmbusPort) (bytes : List ℕ) (packet : Packet) (body : Lis
       (λ x h is. (is.1.0, record { wire = is.1.1.wire; eid = is.1.1.eid; kept = is.1.1.kept; log = subst (λ (w : Held). AreOf w x.log) (sym same) is.1.1.log }))
       (given_so first (Some m) heard p shows)
 
-  -- a new request that was carried out was heard, and then told the answer
+  -- a new request that was carried out was heard, and then answered
   pub carried_so : {K : Type 0} (carries : Asked → Answered → K → Type 0) (heard : Out) (m : InMessage) (next : SmbusPort) (eid : ℕ) (out : Out) (after : K)
       → HeardBy port now packet body heard (Some m) → now.endpoint ≡ eid
       → IsCarriedOut carries (record { wire = port.wire; eid = eid }) port.windows m after next.windows out
-      → HasCarried (λ between heard step. (p : PortState) → Shows port p → Hearing p bytes (IsStep between heard step)) IsTold (λ q. asked_of (request_in q)) carries
+      → HasCarried (λ between heard step. (p : PortState) → Shows port p → Hearing p bytes (IsStep between heard step)) Answers (λ q. asked_of (request_in q)) carries
       (record heard_port { windows = next.windows; made = next.made }) out after
   carried_so carries heard m next eid out after hears own done =
       let a : Answered = done.answered in
@@ -109,7 +109,7 @@ module _ (port now : SmbusPort) (bytes : List ℕ) (packet : Packet) (body : Lis
         answered = a;
         asks = asked_so heard m hears;
         carried = done.carried;
-        told = λ p shows.
+        replied = λ p shows.
             let at_eid : p.eid ≡ eid = shows.eid ∙ own in
             answered last out p m a (is_new p shows)
             (record { wire = shows.wire; eid = shows.eid; kept = shows.kept; log = done.kept p.log shows.log (is_new p shows) })
@@ -125,9 +125,9 @@ alone_hears records port next bytes before after out (Ok CarriedOut) done =
     let given : Given = given_by records before (asked_of (request_in done.pending)) in
     let reply : done.answered ≡ given.0 = ap (λ (g : Given). g.0) done.carried.answer in
     let left : state_of records after ≡ given.1 = ap (λ (g : Given). g.1) done.carried.answer in
-    let told : IsTold done.between done.pending given.0 next out = subst (λ (a : Answered). IsTold done.between done.pending a next out) reply done.told in (
+    let answers : Answers done.between done.pending given.0 next out = subst (λ (a : Answered). Answers done.between done.pending a next out) reply done.replied in (
       λ p shows. subst (λ (now : State). HearsBytes before.setup p (state_of records before) bytes next out now) (sym left)
-          (smbus_asked before.setup (state_of records before) port done.between next bytes done.heard out done.pending done.asks told p shows),
+          (smbus_asked before.setup (state_of records before) port done.between next bytes done.heard out done.pending done.asks answers p shows),
       done.carried.setup,
     )
 alone_hears {S} {E} {g} {h} records port next bytes before after out (Ok NothingAsked) done = (

@@ -15,33 +15,33 @@ use Rattle.model_ports.specs.PortSteps.{PortState, Deed, asked_in, response_afte
 use Rattle.bmc_core.specs.declared.out.Reason.{Reason}
 use Rattle.bmc_core.specs.Outs.{sent}
 use Rattle.bmc_core.specs.Rule.{logs_with, replies}
-use Rattle.bmc_core.specs.IpmbShown.{outcome_at, kept_of, after, answers, deed_of}
+use Rattle.bmc_core.specs.IpmbShown.{outcome_at, kept_of, after, out_after, deed_of}
 
 -- ---- one request
 
--- what becomes of the port once it is told this answer to the request, beside this board
-abbrev pub told_deed : PortState → Request → Answered → State → Deed
-told_deed port request answered board = record { port = after port request answered; board = board; sent = response_after request (reply_after (outcome_at port request) (kept_of request answered)) ∷ [] }
+-- what becomes of the port once it gets this answer to the request, beside this board
+abbrev pub answered_deed : PortState → Request → Answered → State → Deed
+answered_deed port request answered board = record { port = after port request answered; board = board; sent = response_after request (reply_after (outcome_at port request) (kept_of request answered)) ∷ [] }
 
--- A request comes to a port of a board. The board answers a new request at that moment, and the port does what it does once it is told that
+-- A request comes to a port of a board. The board answers a new request at that moment, and the port does what it does once it gets that
 -- answer. Of any other request the board stays as it was, and the port does the same whatever the board would answer.
-pub record IsHeardThenTold (setup : BoardFile) (port : PortState) (before : State) (request : Request) : Type 0 where
-  pub asked : outcome_at port request ≡ IsNew → let given = answer_of setup before (asked_in request) in hears_request setup port before request ≡ told_deed port request given.0 given.1
-  pub settled : outcome_at port request ≢ IsNew → (answered : Answered) → hears_request setup port before request ≡ told_deed port request answered before
+pub record IsHeardThenAnswered (setup : BoardFile) (port : PortState) (before : State) (request : Request) : Type 0 where
+  pub answered : outcome_at port request ≡ IsNew → let given = answer_of setup before (asked_in request) in hears_request setup port before request ≡ answered_deed port request given.0 given.1
+  pub settled : outcome_at port request ≢ IsNew → (answered : Answered) → hears_request setup port before request ≡ answered_deed port request answered before
 
 -- ---- lists with no board in them
 
 -- What comes to a port: a frame in which it hears this, an answer to a request that it heard, or the news that a requester is idle. A new
--- request is dropped if the port hears it and is never told its answer.
+-- request is dropped if the port hears it and never gets its answer.
 pub data Coming : Type 0 where
   Comes : Result Request Reason → Coming
-  IsTold : Request → Answered → Coming
+  Answers : Request → Answered → Coming
   IsIdle : ℕ → Coming
 
 -- the port after one more event: a frame that it hears changes nothing by itself
 abbrev pub port_after : PortState → Coming → PortState
 port_after port (Comes heard) = port
-port_after port (IsTold asking answered) = after port asking answered
+port_after port (Answers asking answered) = after port asking answered
 port_after port (IsIdle requester) = idles requester port
 
 -- and after all
@@ -49,19 +49,19 @@ abbrev pub ports_after : PortState → List Coming → PortState
 ports_after port [] = port
 ports_after port (coming ∷ comings) = ports_after (port_after port coming) comings
 
--- the requests of the list whose answers the port was told, and the idle requesters
+-- the requests of the list whose answers the port got, and the idle requesters
 abbrev pub brought : List Coming → List Brought
 brought [] = []
 brought (Comes heard ∷ comings) = brought comings
-brought (IsTold asking answered ∷ comings) = HeardRequest (kept_of asking answered) ∷ brought comings
+brought (Answers asking answered ∷ comings) = HeardRequest (kept_of asking answered) ∷ brought comings
 brought (IsIdle requester ∷ comings) = HeardIdle requester ∷ brought comings
 
--- what the port does with each request whose answer it is told
-abbrev pub done_with_told : PortState → List Coming → List Outcome
-done_with_told port [] = []
-done_with_told port (Comes heard ∷ comings) = done_with_told port comings
-done_with_told port (IsTold asking answered ∷ comings) = outcome_at port asking ∷ done_with_told (after port asking answered) comings
-done_with_told port (IsIdle requester ∷ comings) = done_with_told (idles requester port) comings
+-- what the port does with each request whose answer it gets
+abbrev pub done_with_answered : PortState → List Coming → List Outcome
+done_with_answered port [] = []
+done_with_answered port (Comes heard ∷ comings) = done_with_answered port comings
+done_with_answered port (Answers asking answered ∷ comings) = outcome_at port asking ∷ done_with_answered (after port asking answered) comings
+done_with_answered port (IsIdle requester ∷ comings) = done_with_answered (idles requester port) comings
 
 -- a request and the reply to it, none where the port is busy
 pub record Replied : Type 0 where
@@ -81,9 +81,9 @@ settled_then request IsNew rest = rest
 -- the replies to a list of events, by the rule
 abbrev pub replied : List Entry → List Coming → List Replied
 replied log [] = []
-replied log (Comes (Ok r) ∷ comings) = settled_then r (outcome (is_above sequence_numbers) (heard_in r) log) (replied log comings)
+replied log (Comes (Ok request) ∷ comings) = settled_then request (outcome (is_above sequence_numbers) (heard_in request) log) (replied log comings)
 replied log (Comes (Err why) ∷ comings) = replied log comings
-replied log (IsTold asking answered ∷ comings) =
+replied log (Answers asking answered ∷ comings) =
     record { request = asking; reply = reply_after (outcome (is_above sequence_numbers) (heard_in asking) log) (kept_of asking answered) } ∷ replied (log_with (is_above sequence_numbers) (HeardRequest (kept_of asking answered)) log) comings
 replied log (IsIdle requester ∷ comings) = replied (Idled requester ∷ log) comings
 
@@ -95,9 +95,9 @@ sent_when_heard request IsNew = []
 
 -- the frames that a port sends at one event
 abbrev pub sent_at : PortState → Coming → List (List ℕ)
-sent_at port (Comes (Ok r)) = sent_when_heard r (outcome_at port r)
+sent_at port (Comes (Ok request)) = sent_when_heard request (outcome_at port request)
 sent_at port (Comes (Err why)) = []
-sent_at port (IsTold asking answered) = sent (answers port asking answered)
+sent_at port (Answers asking answered) = sent (out_after port asking answered)
 sent_at port (IsIdle requester) = []
 
 -- and in all
@@ -105,11 +105,11 @@ abbrev pub all_sent : PortState → List Coming → List (List ℕ)
 all_sent port [] = []
 all_sent port (coming ∷ comings) = sent_at port coming ++ all_sent (port_after port coming) comings
 
--- The port carries out and keeps the requests of the rule, over the requests whose answers it is told, whatever frames it hears between and
+-- The port carries out and keeps the requests of the rule, over the requests whose answers it gets, whatever frames it hears between and
 -- whatever requests are dropped. It sends, frame for frame, the responses with the rule's replies.
 pub record KeepsTheRule (port : PortState) (cs : List Coming) : Type 0 where
   pub log : (ports_after port cs).log ≡ logs_with (is_above sequence_numbers) (brought cs) port.log
-  pub done : done_with_told port cs ≡ outcomes (is_above sequence_numbers) port.log (brought cs)
+  pub done : done_with_answered port cs ≡ outcomes (is_above sequence_numbers) port.log (brought cs)
   pub sent : all_sent port cs ≡ map response_of (replied port.log cs)
 
 -- ---- lists at a board
@@ -127,7 +127,7 @@ pub record Ends : Type 0 where
 
 -- the port and its board after one more event
 abbrev pub ends_after : BoardFile → Ends → Happening → Ends
-ends_after setup ends (Hears heard) = let d = deed_of setup ends.port ends.board heard in record { port = d.port; board = d.board }
+ends_after setup ends (Hears heard) = let deed = deed_of setup ends.port ends.board heard in record { port = deed.port; board = deed.board }
 ends_after setup ends (Idles requester) = record { port = idles requester ends.port; board = ends.board }
 ends_after setup ends (Others board) = record { port = ends.port; board = board }
 
@@ -139,8 +139,8 @@ all_after setup ends (happening ∷ happenings) = all_after setup (ends_after se
 -- the requests that the port hears, each with the board's answer at that moment, and the idle requesters
 abbrev pub heard_in_all : BoardFile → Ends → List Happening → List Brought
 heard_in_all setup ends [] = []
-heard_in_all setup ends (Hears (Ok r) ∷ happenings) =
-    HeardRequest (kept_of r (answer_of setup ends.board (asked_in r)).0) ∷ heard_in_all setup (ends_after setup ends (Hears (Ok r))) happenings
+heard_in_all setup ends (Hears (Ok request) ∷ happenings) =
+    HeardRequest (kept_of request (answer_of setup ends.board (asked_in request)).0) ∷ heard_in_all setup (ends_after setup ends (Hears (Ok request))) happenings
 heard_in_all setup ends (Hears (Err why) ∷ happenings) = heard_in_all setup ends happenings
 heard_in_all setup ends (Idles requester ∷ happenings) = HeardIdle requester ∷ heard_in_all setup (ends_after setup ends (Idles requester)) happenings
 heard_in_all setup ends (Others board ∷ happenings) = heard_in_all setup (ends_after setup ends (Others board)) happenings
@@ -148,7 +148,7 @@ heard_in_all setup ends (Others board ∷ happenings) = heard_in_all setup (ends
 -- what the port does with each request that it hears
 abbrev pub done_in_all : BoardFile → Ends → List Happening → List Outcome
 done_in_all setup ends [] = []
-done_in_all setup ends (Hears (Ok r) ∷ happenings) = outcome_at ends.port r ∷ done_in_all setup (ends_after setup ends (Hears (Ok r))) happenings
+done_in_all setup ends (Hears (Ok request) ∷ happenings) = outcome_at ends.port request ∷ done_in_all setup (ends_after setup ends (Hears (Ok request))) happenings
 done_in_all setup ends (Hears (Err why) ∷ happenings) = done_in_all setup ends happenings
 done_in_all setup ends (Idles requester ∷ happenings) = done_in_all setup (ends_after setup ends (Idles requester)) happenings
 done_in_all setup ends (Others board ∷ happenings) = done_in_all setup (ends_after setup ends (Others board)) happenings
@@ -156,7 +156,7 @@ done_in_all setup ends (Others board ∷ happenings) = done_in_all setup (ends_a
 -- the requests that the port hears
 abbrev pub requests_in : List Happening → List Request
 requests_in [] = []
-requests_in (Hears (Ok r) ∷ happenings) = r ∷ requests_in happenings
+requests_in (Hears (Ok request) ∷ happenings) = request ∷ requests_in happenings
 requests_in (Hears (Err why) ∷ happenings) = requests_in happenings
 requests_in (Idles requester ∷ happenings) = requests_in happenings
 requests_in (Others board ∷ happenings) = requests_in happenings

@@ -14,7 +14,7 @@ use Rattle.bmc_core.specs.declared.out.Out.{Out}
 use Rattle.bmc_core.specs.declared.step.Served.{Served}
 use Rattle.bmc_core.specs.declared.ipmb_port.IpmbPort.{IpmbPort}
 use Rattle.bmc_core.specs.Outs.{AreRead}
-use Rattle.bmc_core.specs.IpmbShown.{IsStep, IsTold, IsKept, response_giving, first_response, first_answer}
+use Rattle.bmc_core.specs.IpmbShown.{IsStep, Answers, IsKept, response_giving, first_response, first_answer}
 use Rattle.bmc_core.specs.Served.{ServesBy}
 
 -- the data of some answer that isn't refused stand behind the start of its response
@@ -39,6 +39,6 @@ pub record IsCarriedOut {K : Type 0} (carries : Asked → Answered → K → Typ
   pub read : AreRead Ipmb (first_response request answered ∷ [])
 
 -- the port took the bytes
-abbrev pub Serves : {K E : Type 0} → (Asked → Answered → K → Type 0) → (E → K → Type 0) → IpmbPort → List ℕ → K → Result Served E → IpmbPort → Out → K → Type 0
+abbrev pub Serves : {K Error : Type 0} → (Asked → Answered → K → Type 0) → (Error → K → Type 0) → IpmbPort → List ℕ → K → Result Served Error → IpmbPort → Out → K → Type 0
 Serves carries refuses port bytes before result next out after =
-    ServesBy (λ between heard step. IsStep port bytes between heard step) IsTold asked_in carries refuses before result next out after
+    ServesBy (λ between heard step. IsStep port bytes between heard step) Answers asked_in carries refuses before result next out after

@@ -28,19 +28,19 @@ use Rattle.bmc_core.specs.IpmbHeard.{IsHeard}
 
 -- The windows keep a request as it is, and a reply as its frame: the reply is the frame's bytes without the addresses and the check bytes.
 abbrev pub reading : Reading
-reading = record { request = λ bytes. bytes; reply = λ kept. slice_index kept 1 ∷ drop 4 (take (length kept - 1) kept); same = λ a b. refl }
+reading = record { request = λ bytes. bytes; reply = λ kept. slice_index kept 1 ∷ drop 4 (take (length kept - 1) kept); same = λ one other. refl }
 
 -- where the whole frame is looked at
 abbrev pub whole : Reading
-whole = record { request = λ bytes. bytes; reply = λ kept. kept; same = λ a b. refl }
+whole = record { request = λ bytes. bytes; reply = λ kept. kept; same = λ one other. refl }
 
 -- the windows keep, for the request, the frame of a response to it, whichever address the request came to
 pub record IsAnswered (kept : Kept) : Type 0 where
-  pub asked : Request
+  pub request : Request
   pub code : ℕ
   pub body : List ℕ
-  pub same : heard_in asked ≡ kept.request
-  pub frame : IsResponse (record { header = asked.header; code = code; body = body }) kept.reply
+  pub same : heard_in request ≡ kept.request
+  pub frame : IsResponse (record { header = request.header; code = code; body = body }) kept.reply
 
 -- the numbers of a header's logical units are below 4
 pub record HasUnits (header : Header) : Type 0 where
@@ -160,16 +160,16 @@ pub record IsStep (port : IpmbPort) (bytes : List ℕ) (next : IpmbPort) (out : 
 abbrev pub kept_of : Request → Answered → Kept
 kept_of request answered = record { request = heard_in request; reply = spelled Ipmb (heard_in request) answered }
 
--- the lab's port once it was told this answer to the request: by the rule it keeps a new request alone
+-- the lab's port once it got this answer to the request: by the rule it keeps a new request alone
 abbrev pub after : PortState → Request → Answered → PortState
 after port request answered = record port { log = log_after (outcome_at port request) (kept_of request answered) port.log }
 
 -- the response that the port then sends, and all that it sends
-abbrev pub response_told : PortState → Request → Answered → Value
-response_told port request answered = response_after request (reply_after (outcome_at port request) (kept_of request answered))
+abbrev pub response_at : PortState → Request → Answered → Value
+response_at port request answered = response_after request (reply_after (outcome_at port request) (kept_of request answered))
 
-abbrev pub answers : PortState → Request → Answered → Out
-answers port request answered = sends (written (response_told port request answered) ∷ []) (done_by (outcome_at port request))
+abbrev pub out_after : PortState → Request → Answered → Out
+out_after port request answered = sends (written (response_at port request answered) ∷ []) (done_by (outcome_at port request))
 
 -- the port, the response and all that it sends, where the request is new
 abbrev pub carries : PortState → Request → Answered → PortState
@@ -185,9 +185,9 @@ first_answer request answered = sends (written (first_response request answered)
 abbrev pub IsKept : Held → Request → Answered → Held → Type 0
 IsKept old request answered new = (port : PortState) → AreOf old port.log → outcome_at port request ≡ IsNew → IsFresh old request → AreOf new (carries port request answered).log
 
--- A port is told this answer to the request. For each port of the lab that it shows, it then shows the port that the rule leaves. It sends the
+-- A port answers the request with this answer. For each port of the lab that it shows, it then shows the port that the rule leaves. It sends the
 -- rule's response, and a reader of the response's bytes gives that response.
-pub record IsTold (port : IpmbPort) (request : Request) (answered : Answered) (next : IpmbPort) (out : Out) : Type 0 where
+pub record Answers (port : IpmbPort) (request : Request) (answered : Answered) (next : IpmbPort) (out : Out) : Type 0 where
   pub shows : (at : PortState) → Shows port at → Shows next (after at request answered)
-  pub sent : (at : PortState) → Shows port at → out ≡ answers at request answered
-  pub read : (at : PortState) → Shows port at → AreRead Ipmb (response_told at request answered ∷ [])
+  pub sent : (at : PortState) → Shows port at → out ≡ out_after at request answered
+  pub read : (at : PortState) → Shows port at → AreRead Ipmb (response_at at request answered ∷ [])

@@ -52,7 +52,7 @@ asked_of (pending.Smbus request) = smbus_heard.asked_of (smbus.request_in reques
 
 -- the request that the board is to be asked came over this bus
 abbrev pub IsOn : Bus → Step Pending → Type 0
-IsOn on (Ask asked) = bus_asked asked ≡ on
+IsOn on (Ask pending) = bus_asked pending ≡ on
 IsOn on Done = Unit {0}
 
 -- A port hears the bytes up to where the caller asks the board. A port on IPMB stays as it was, and a port on the System Management Bus has taken
@@ -64,23 +64,23 @@ IsStep (Smbus port) bytes (Smbus next) out (Ask (pending.Smbus request)) = (at :
 IsStep (Smbus port) bytes (Smbus next) out Done = (at : PortState) → smbus.Shows port at → smbus.Hearing at bytes (smbus.IsStep next out Done)
 IsStep _ bytes _ out _ = ⊥
 
--- a port is told this answer to a request
-abbrev pub IsTold : Port → Pending → Answered → Port → Out → Type 0
-IsTold (Ipmb port) (pending.Ipmb request) answered (Ipmb next) out = ipmb.IsTold port request answered next out
-IsTold (Smbus port) (pending.Smbus request) answered (Smbus next) out = smbus.IsTold port request answered next out
-IsTold _ _ answered _ out = ⊥
+-- a port answers a request that it heard, with this answer
+abbrev pub Answers : Port → Pending → Answered → Port → Out → Type 0
+Answers (Ipmb port) (pending.Ipmb request) answered (Ipmb next) out = ipmb.Answers port request answered next out
+Answers (Smbus port) (pending.Smbus request) answered (Smbus next) out = smbus.Answers port request answered next out
+Answers _ _ answered _ out = ⊥
 
--- A port of a board hears the bytes, and the caller asks the board and tells the port the board's answer at that moment: so the port has heard
+-- A port of a board hears the bytes, and the caller asks the board and gives the port the board's answer at that moment: so the port has heard
 -- the bytes as a whole. Where the bytes ask nothing, it has heard them at once, and the board stays as it was.
-pub record IsHeardThenTold (setup : BoardFile) (port : Port) (before : State) (bytes : List ℕ) : Type 0 where
-  pub asked : (between next : Port) (first out : Out) (asked : Pending) → IsStep port bytes between first (Ask asked)
-      → let given = answer_of setup before (asked_of asked) in IsTold between asked given.0 next out → Hears setup port before bytes out next given.1
+pub record IsHeardThenAnswered (setup : BoardFile) (port : Port) (before : State) (bytes : List ℕ) : Type 0 where
+  pub answered : (between next : Port) (first out : Out) (pending : Pending) → IsStep port bytes between first (Ask pending)
+      → let given = answer_of setup before (asked_of pending) in Answers between pending given.0 next out → Hears setup port before bytes out next given.1
   pub settled : (next : Port) (out : Out) → IsStep port bytes next out Done → Hears setup port before bytes out next before
 
 -- ---- in one step, with a carrier beside it
 
--- A port took the bytes, with a carrier beside it. The bytes asked nothing; or the carrier carried out their request, and the port was told the
--- answer; or the carrier refused the request, and the port was told no answer.
-abbrev pub Serves : {K E : Type 0} → (Asked → Answered → K → Type 0) → (E → K → Type 0) → Port → List ℕ → K → Result Served E → Port → Out → K → Type 0
+-- A port took the bytes, with a carrier beside it. The bytes asked nothing; or the carrier carried out their request, and the port got the
+-- answer; or the carrier refused the request, and the port got no answer.
+abbrev pub Serves : {K Error : Type 0} → (Asked → Answered → K → Type 0) → (Error → K → Type 0) → Port → List ℕ → K → Result Served Error → Port → Out → K → Type 0
 Serves carries refuses port bytes before result next out after =
-    ServesBy (λ between heard step. IsStep port bytes between heard step) IsTold asked_of carries refuses before result next out after
+    ServesBy (λ between heard step. IsStep port bytes between heard step) Answers asked_of carries refuses before result next out after

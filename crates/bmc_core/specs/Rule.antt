@@ -17,4 +17,4 @@ replies above log (HeardIdle requester ∷ broughts) = replies above (Idled requ
 
 -- a requester has a window
 abbrev pub has_window : ℕ → List Entry → Bool
-has_window requester log = list_any (λ q. q == requester) (requesters log)
+has_window requester log = list_any (λ other. other == requester) (requesters log)

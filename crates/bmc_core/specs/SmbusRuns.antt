@@ -24,21 +24,21 @@ abbrev pub with_board : State → Effect → Deed
 with_board after effect = record { port = effect.port; board = after; sent = effect.sent }
 
 -- A packet comes to a port of a board. The board answers the new request that the packet completes at that moment, and the port does what it does
--- once it is told that answer. Where the packet completes none, the board stays as it was, and the port does the same whatever the board would
+-- once it gets that answer. Where the packet completes none, the board stays as it was, and the port does the same whatever the board would
 -- answer.
-pub record IsHeardThenTold (setup : BoardFile) (port : PortState) (before : State) (packet : Packet) : Type 0 where
-  pub asked : (asking : InMessage) → asks (taken port packet) (heard_in port packet) ≡ Some asking
+pub record IsHeardThenAnswered (setup : BoardFile) (port : PortState) (before : State) (packet : Packet) : Type 0 where
+  pub answered : (asking : InMessage) → asks (taken port packet) (heard_in port packet) ≡ Some asking
       → let given = answer_of setup before (asked_of asking) in hears setup port before (Part packet) ≡ with_board given.1 (effect (taken port packet) (Asks asking) given.0)
-  pub settled : asks (taken port packet) (heard_in port packet) ≡ None → (a : Answered)
-      → hears setup port before (Part packet) ≡ with_board before (effect (taken port packet) (heard_in port packet) a)
+  pub settled : asks (taken port packet) (heard_in port packet) ≡ None → (answered : Answered)
+      → hears setup port before (Part packet) ≡ with_board before (effect (taken port packet) (heard_in port packet) answered)
 
 -- ---- lists with no board in them
 
 -- What comes to a port: a packet, an answer to a request that it heard, or the news that a requester is idle. A new request is dropped if the port
--- hears it and is never told its answer.
+-- hears it and never gets its answer.
 pub data Coming : Type 0 where
   Comes : Packet → Coming
-  IsTold : InMessage → Answered → Coming
+  Answers : InMessage → Answered → Coming
   IsIdle : ℕ → Coming
 
 -- the port that has heard this: where the board is asked a new request, the port has taken the packet and nothing else
@@ -49,7 +49,7 @@ once_heard port heard None = (effect port heard (record { code = 0; body = [] })
 -- the port after one more event
 abbrev pub port_after : PortState → Coming → PortState
 port_after port (Comes packet) = once_heard (taken port packet) (heard_in port packet) (asks (taken port packet) (heard_in port packet))
-port_after port (IsTold asking answered) = (effect port (Asks asking) answered).port
+port_after port (Answers asking answered) = (effect port (Asks asking) answered).port
 port_after port (IsIdle requester) = idles requester port
 
 -- and after all
@@ -57,19 +57,19 @@ abbrev pub ports_after : PortState → List Coming → PortState
 ports_after port [] = port
 ports_after port (coming ∷ comings) = ports_after (port_after port coming) comings
 
--- the requests of the list whose answers the port was told, and the idle requesters
+-- the requests of the list whose answers the port got, and the idle requesters
 abbrev pub brought : List Coming → List Brought
 brought [] = []
 brought (Comes packet ∷ comings) = brought comings
-brought (IsTold asking answered ∷ comings) = HeardRequest (kept_with asking answered) ∷ brought comings
+brought (Answers asking answered ∷ comings) = HeardRequest (kept_with asking answered) ∷ brought comings
 brought (IsIdle requester ∷ comings) = HeardIdle requester ∷ brought comings
 
--- what the port does with each request whose answer it is told
-abbrev pub done_with_told : PortState → List Coming → List Outcome
-done_with_told port [] = []
-done_with_told port (Comes packet ∷ comings) = done_with_told (port_after port (Comes packet)) comings
-done_with_told port (IsTold asking answered ∷ comings) = found port asking ∷ done_with_told (port_after port (IsTold asking answered)) comings
-done_with_told port (IsIdle requester ∷ comings) = done_with_told (port_after port (IsIdle requester)) comings
+-- what the port does with each request whose answer it gets
+abbrev pub done_with_answered : PortState → List Coming → List Outcome
+done_with_answered port [] = []
+done_with_answered port (Comes packet ∷ comings) = done_with_answered (port_after port (Comes packet)) comings
+done_with_answered port (Answers asking answered ∷ comings) = found port asking ∷ done_with_answered (port_after port (Answers asking answered)) comings
+done_with_answered port (IsIdle requester ∷ comings) = done_with_answered (port_after port (IsIdle requester)) comings
 
 -- a reply of these bytes, to a message of this envelope
 abbrev pub reply_of : PortState → Envelope → List ℕ → Message
@@ -82,7 +82,7 @@ reply_saying port message reply = reply_of port message.envelope (said Smbus (as
 -- the frames of messages
 abbrev pub all_frames : List Message → List (List ℕ)
 all_frames [] = []
-all_frames (message ∷ messages) = map written (map (λ p. Part p) (parts_of message)) ++ all_frames messages
+all_frames (message ∷ messages) = map written (map (λ packet. Part packet) (parts_of message)) ++ all_frames messages
 
 -- the replies with that to a request before them: the port sends it when it hears the request, unless the request is new
 abbrev pub settled_then : PortState → InMessage → Outcome → List Message → List Message
@@ -101,7 +101,7 @@ replied_then port (Asks request) rest = settled_then port request (found port re
 abbrev pub replied : PortState → List Coming → List Message
 replied port [] = []
 replied port (Comes packet ∷ comings) = replied_then (taken port packet) (heard_in port packet) (replied (port_after port (Comes packet)) comings)
-replied port (IsTold asking answered ∷ comings) = reply_saying port asking (reply_after (found port asking) (kept_with asking answered)) ∷ replied (port_after port (IsTold asking answered)) comings
+replied port (Answers asking answered ∷ comings) = reply_saying port asking (reply_after (found port asking) (kept_with asking answered)) ∷ replied (port_after port (Answers asking answered)) comings
 replied port (IsIdle requester ∷ comings) = replied (port_after port (IsIdle requester)) comings
 
 -- the frames that a port sends when it hears this, by the new request that the board is asked, if any
@@ -112,7 +112,7 @@ sent_once_heard port heard None = map written (effect port heard (record { code 
 -- the frames that a port sends at one event
 abbrev pub sent_at : PortState → Coming → List (List ℕ)
 sent_at port (Comes packet) = sent_once_heard (taken port packet) (heard_in port packet) (asks (taken port packet) (heard_in port packet))
-sent_at port (IsTold asking answered) = map written (effect port (Asks asking) answered).sent
+sent_at port (Answers asking answered) = map written (effect port (Asks asking) answered).sent
 sent_at port (IsIdle requester) = []
 
 -- and in all
@@ -120,11 +120,11 @@ abbrev pub all_sent : PortState → List Coming → List (List ℕ)
 all_sent port [] = []
 all_sent port (coming ∷ comings) = sent_at port coming ++ all_sent (port_after port coming) comings
 
--- The port carries out and keeps the requests of the rule, over the requests whose answers it is told, whatever packets it hears between and
+-- The port carries out and keeps the requests of the rule, over the requests whose answers it gets, whatever packets it hears between and
 -- whatever requests are dropped. It sends, frame for frame, the replies of the rule, and the endpoint's to control messages.
 pub record KeepsTheRule (port : PortState) (cs : List Coming) : Type 0 where
   pub log : (ports_after port cs).log ≡ logs_with (is_above instances) (brought cs) port.log
-  pub done : done_with_told port cs ≡ outcomes (is_above instances) port.log (brought cs)
+  pub done : done_with_answered port cs ≡ outcomes (is_above instances) port.log (brought cs)
   pub sent : all_sent port cs ≡ all_frames (replied port cs)
 
 -- ---- lists at a board
@@ -142,7 +142,7 @@ pub record Ends : Type 0 where
 
 -- the port and its board after one more event
 abbrev pub ends_after : BoardFile → Ends → Happening → Ends
-ends_after setup ends (Hears packet) = let d = hears setup ends.port ends.board (Part packet) in record { port = d.port; board = d.board }
+ends_after setup ends (Hears packet) = let deed = hears setup ends.port ends.board (Part packet) in record { port = deed.port; board = deed.board }
 ends_after setup ends (Idles requester) = record { port = idles requester ends.port; board = ends.board }
 ends_after setup ends (Others board) = record { port = ends.port; board = board }
 

@@ -10,7 +10,7 @@ use Rattle.bmc_core.specs.declared.port.At.{At}
 use Rattle.bmc_core.specs.declared.step.Served.{Served}
 use Rattle.bmc_core.specs.declared.smbus_port.SmbusPort.{SmbusPort}
 use Rattle.bmc_core.specs.SmbusHeard.{InMessage, asked_of, kept_with}
-use Rattle.bmc_core.specs.SmbusShown.{Shows, Hearing, IsStep, IsTold, IsKept, Replies, request_in}
+use Rattle.bmc_core.specs.SmbusShown.{Shows, Hearing, IsStep, Answers, IsKept, Replies, request_in}
 use Rattle.bmc_core.specs.Served.{ServesBy}
 
 -- the bytes are the reply to the request, with the answer with which it was carried out
@@ -27,7 +27,7 @@ pub record IsCarriedOut {K : Type 0} (carries : Asked → Answered → K → Typ
   pub sent : Replies at asking.envelope (kept_with asking answered).reply IsAnswered out
 
 -- the port took the bytes
-abbrev pub Serves : {K E : Type 0} → (Asked → Answered → K → Type 0) → (E → K → Type 0) → SmbusPort → List ℕ → K → Result Served E → SmbusPort → Out → K → Type 0
+abbrev pub Serves : {K Error : Type 0} → (Asked → Answered → K → Type 0) → (Error → K → Type 0) → SmbusPort → List ℕ → K → Result Served Error → SmbusPort → Out → K → Type 0
 Serves carries refuses port bytes before result next out after =
-    ServesBy (λ between heard step. (at : PortState) → Shows port at → Hearing at bytes (IsStep between heard step)) IsTold (λ q. asked_of (request_in q)) carries refuses
+    ServesBy (λ between heard step. (at : PortState) → Shows port at → Hearing at bytes (IsStep between heard step)) Answers (λ pending. asked_of (request_in pending)) carries refuses
     before result next out after

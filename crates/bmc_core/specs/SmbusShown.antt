@@ -35,7 +35,7 @@ use Rattle.bmc_core.specs.SmbusHeard.{InMessage, Heard, Ignored, Waiting, Contro
 
 -- How the windows keep a request and its reply: the request without its type byte, with the ignored bit 0, and the reply whole.
 abbrev pub pldm_reading : Reading
-pldm_reading = record { request = λ bytes. pldm_message_type ∷ bytes; reply = λ bytes. bytes; same = λ a b. refl }
+pldm_reading = record { request = λ bytes. pldm_message_type ∷ bytes; reply = λ bytes. bytes; same = λ one other. refl }
 
 -- each reply that was kept has some bytes
 abbrev pub AreReplies : List Entry → Type 0
@@ -64,7 +64,7 @@ ForPortsAt wire eid waits Holds = (at : PortState) → at.wire ≡ wire → at.e
 -- The bytes have a fault, or they are one packet. The relation holds of the port of the lab that has taken the packet, and of what the port hears.
 pub record Hearing (port : PortState) (bytes : List ℕ) (Holds : PortState → Heard → Type 0) : Type 0 where
   pub faulty : (fault : PacketFault) → find (has_fault bytes) faults ≡ Some fault → Holds port (Ignored (reason.Packet fault))
-  pub packet : (p : Packet) → IsPacket p bytes → Holds (taken port p) (heard_in port p)
+  pub packet : (packet : Packet) → IsPacket packet bytes → Holds (taken port packet) (heard_in port packet)
 
 -- The port then shows the effect's port, and sends the effect's packets. A reader of each packet's bytes gives the packet. `Out` names what was done.
 pub record HasEffect (next : SmbusPort) (out : Out) (effect : Effect) (what : Done) : Type 0 where
@@ -80,9 +80,9 @@ Ends next out port heard answered = HasEffect next out (effect port heard answer
 abbrev pub request_in : SmbusPending → InMessage
 request_in pending = record { envelope = pending.envelope; request = record { header = pending.header; body = pending.body } }
 
--- A port is told this answer to a request. For each port of the lab that it shows, it has the effect of the request at the lab's port.
-abbrev pub IsTold : SmbusPort → SmbusPending → Answered → SmbusPort → Out → Type 0
-IsTold port pending answered next out = (at : PortState) → Shows port at → Ends next out at (Asks (request_in pending)) answered
+-- A port answers a request that it heard, with this answer. For each port of the lab that it shows, it has the effect of the request at the lab's port.
+abbrev pub Answers : SmbusPort → SmbusPending → Answered → SmbusPort → Out → Type 0
+Answers port pending answered next out = (at : PortState) → Shows port at → Ends next out at (Asks (request_in pending)) answered
 
 -- A request that is given is new. Where none is given, the board is asked nothing, and the port has the effect of what it heard, whatever the board
 -- would answer.
@@ -107,7 +107,7 @@ pub record Does (next : SmbusPort) (out : Out) (after : State) (deed : Deed) (wh
 -- packet change nothing.
 pub record HearsBytes (setup : BoardFile) (port : PortState) (before : State) (bytes : List ℕ) (next : SmbusPort) (out : Out) (after : State) : Type 0 where
   pub faulty : (fault : PacketFault) → find (has_fault bytes) faults ≡ Some fault → Does next out after (stays port before) (done.Ignored (reason.Packet fault))
-  pub packet : (p : Packet) → IsPacket p bytes → Does next out after (hears setup port before (Part p)) (done_of (taken port p) (heard_in port p))
+  pub packet : (packet : Packet) → IsPacket packet bytes → Does next out after (hears setup port before (Part packet)) (done_of (taken port packet) (heard_in port packet))
 
 -- ---- on the way there, with the endpoint apart from the windows
 

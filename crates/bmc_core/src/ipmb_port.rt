@@ -6,7 +6,7 @@ ghost use Rattle.bmc_board.specs.State.{state_of};
 ghost use Rattle.model_ports.specs.PortSteps.{PortState, quiet_port, idles};
 ghost use Rattle.bmc_core.specs.Rule.{has_window};
 ghost use Rattle.bmc_core.specs.IpmbHeard.{IsHeard};
-ghost use Rattle.bmc_core.specs.IpmbShown.{AreOf, Shows, Hears, IsHeardAt, IsFresh, IsStep, IsTold, outcome_at};
+ghost use Rattle.bmc_core.specs.IpmbShown.{AreOf, Shows, Hears, IsHeardAt, IsFresh, IsStep, Answers, outcome_at};
 ghost use Rattle.bmc_core.specs.IpmbServed.{Serves};
 ghost use Rattle.model_bus.specs.Carried.{IsNew};
 
@@ -139,9 +139,9 @@ impl IpmbPort {
     /// Takes the answer to a request that `hear` gave, and fills in what is to be sent. Where the request repeats another by
     /// now, it gets the kept response; where no window is free any more, the port answers that it's busy. The answer's
     /// data fit a response, as those of a board's answer to this request do.
-    pub fn told(&mut self, pending: IpmbPending, answered: &Answered, out: &mut Out)
+    pub fn answer(&mut self, pending: IpmbPending, answered: &Answered, out: &mut Out)
         requires { length answered.now.body ≤ most_ipmi_reply_data }
-        ensures { IsTold self.old pending answered.now self.new out.new }
+        ensures { Answers self.old pending answered.now self.new out.new }
     {
         let rest = pending.rest();
         let request = pending.request(&rest);

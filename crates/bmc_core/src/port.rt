@@ -4,7 +4,7 @@ ghost use Rattle.record_base.specs.Meaning.{room_for};
 ghost use Rattle.bmc_board.specs.State.{state_of};
 ghost use Rattle.model_ports.specs.PortSteps.{PortState, quiet_port, idles};
 ghost use Rattle.bmc_core.specs.Rule.{has_window};
-ghost use Rattle.bmc_core.specs.Port.{bus_of, bus_asked, asked_of, Shows, Hears, IsStep, IsOn, IsTold, Serves};
+ghost use Rattle.bmc_core.specs.Port.{bus_of, bus_asked, asked_of, Shows, Hears, IsStep, IsOn, Answers, Serves};
 
 pub mod laws;
 
@@ -118,20 +118,20 @@ impl Port {
     /// Takes the answer to a request that a port of this bus heard, and fills in what is to be sent. It takes no memory. Where the
     /// request repeats another by now, it gets the kept reply; where no window is free any more, the port answers that it's busy. The
     /// answer fits a reply, as a board's does.
-    pub fn told(&mut self, pending: Pending, answered: &Answered, out: &mut Out)
+    pub fn answer(&mut self, pending: Pending, answered: &Answered, out: &mut Out)
         requires bus { bus_asked pending ≡ bus_of self.old }
         requires fits { length answered.now.body ≤ room_for (asked_of pending) }
-        ensures told { IsTold self.old pending answered.now self.new out.new }
+        ensures answers { Answers self.old pending answered.now self.new out.new }
         ensures bus { bus_of self.new ≡ bus_of self.old }
     {
         match self {
             Port::Ipmb(port) => match pending {
-                Pending::Ipmb(pending) => port.told(pending, answered, out),
+                Pending::Ipmb(pending) => port.answer(pending, answered, out),
                 Pending::Smbus(_) => unreachable!(),
             },
             Port::Smbus(port) => match pending {
                 Pending::Ipmb(_) => unreachable!(),
-                Pending::Smbus(pending) => port.told(pending, answered, out),
+                Pending::Smbus(pending) => port.answer(pending, answered, out),
             },
         }
     }

@@ -7,7 +7,7 @@ ghost use Rattle.model_ports.specs.PortSteps.{PortState, quiet_port, idles};
 ghost use Rattle.bmc_core.specs.declared.smbus_port.SmbusPort.{SmbusPort as AnyPort};
 ghost use Rattle.bmc_core.specs.Rule.{has_window};
 ghost use Rattle.bmc_core.specs.SmbusHeard.{message_heard};
-ghost use Rattle.bmc_core.specs.SmbusShown.{AreOf, Shows, ForPortsAt, Hearing, IsGiven, IsStep, IsTold, IsRead, HearsBytes};
+ghost use Rattle.bmc_core.specs.SmbusShown.{AreOf, Shows, ForPortsAt, Hearing, IsGiven, IsStep, Answers, IsRead, HearsBytes};
 ghost use Rattle.bmc_core.specs.SmbusServed.{Serves};
 
 mod hearing;
@@ -144,8 +144,8 @@ impl SmbusPort {
 
     /// Takes the answer to what was asked, and fills in what is to be sent. It takes no memory. Where the request
     /// repeats another by now, it gets the kept reply; where no window is free any more, the port answers that it's busy.
-    pub fn told(&mut self, pending: SmbusPending, answered: &Answered, out: &mut Out)
-        ensures { IsTold self.old pending answered.now self.new out.new }
+    pub fn answer(&mut self, pending: SmbusPending, answered: &Answered, out: &mut Out)
+        ensures { Answers self.old pending answered.now self.new out.new }
     {
         let at = self.at();
         let bytes = pending.bytes();

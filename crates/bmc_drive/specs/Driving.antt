@@ -103,13 +103,13 @@ module _ (names : Names) where
   IsOpenFor (Answers on answer) s = open_at s ≡ Some on
   IsOpenFor (FailsToSend on) s = Unit {0}
 
-  -- the calls for these, one after another, make this manager of that one
+  -- the calls for the turnouts, one after another, make the second manager of the first
   abbrev pub Reaches : List Turnout → State → State → Type 0
   Reaches [] before after = before ≡ after
   Reaches (came ∷ later) before after =
       (d : ManagerDeed (board_plans names)) × IsOpenFor came before × IsDeed names (call_for came) before d × Reaches later d.manager after
 
-  -- so many turns lead from this manager and these counts to those
+  -- so many turns lead from the manager and the counts before to the manager and the counts after
   pub record Leads (turns : ℕ) (before after : State) (had has : Links) : Type 0 where
     pub came : List Turnout
     pub turns_made : turns_in came ≡ turns
@@ -129,7 +129,7 @@ module _ (names : Names) where
     pub shown : Shows names m after
     pub leads : Leads turns before after had has
 
-  -- what drives a manager for so many turns leaves this one, in this phase
+  -- what drives a manager for so many turns leaves this manager, in this phase
   pub record Drives (turns : ℕ) (before : State) (m : Manager) (phase : Phase) (had has : Links) : Type 0 where
     pub after : State
     pub shown : Shows names m after

@@ -6,7 +6,7 @@ use Rattle.bmc_lab.specs.declared.console.Stream.{Stream}
 use Rattle.bmc_lab.specs.declared.console.Stream.TheVariants.{Output, Error}
 
 -- a write failed
-abbrev pub HasFailed : {W E : Type 0} → Console W E → Type 0
+abbrev pub HasFailed : {Stdout Stderr : Type 0} → Console Stdout Stderr → Type 0
 HasFailed console = IsTrue console.failed
 
 -- the stream grows by the text, and the other one stays as it was
@@ -15,6 +15,6 @@ Written Output text out_old out_new err_old err_new = Appends out_old out_new te
 Written Error text out_old out_new err_old err_new = Keeps out_old out_new × Appends err_old err_new text
 
 -- once a write gave this, the console has failed if that is a failure, and else where it had failed before
-abbrev pub Notes : {A E : Type 0} → (old : Bool) → Result A E → (new : Bool) → Type 0
+abbrev pub Notes : {A Failure : Type 0} → (old : Bool) → Result A Failure → (new : Bool) → Type 0
 Notes old (Ok done) new = new ≡ old
 Notes old (Err why) new = IsTrue new

@@ -18,9 +18,9 @@ complaint_of Memory = codes "memory\n"
 complaint_of _ = []
 
 -- a report goes to its stream and gives its status; without memory for one, standard error says so
-abbrev pub Ends : {E : Type 0} → Result Report E → Stream → List ℕ → Status → Type 0
+abbrev pub Ends : {Failure : Type 0} → Result Report Failure → Stream → List ℕ → Status → Type 0
 Ends (Ok report) stream text status = (stream ≡ report.stream) × (text ≡ string_bytes report.text) × (status ≡ report.status)
-Ends (Err e) stream text status = (stream ≡ Error) × (text ≡ codes "memory\n") × (status ≡ Memory)
+Ends (Err failure) stream text status = (stream ≡ Error) × (text ≡ codes "memory\n") × (status ≡ Memory)
 
 -- what a run may say: where, in which text, and with which status
 abbrev pub Saying : Type 1
@@ -28,7 +28,7 @@ Saying = Stream → List ℕ → Status → Type 0
 
 -- How a run of this console ends that has something to say, and with which status: `Output` where a write failed, `Memory` where memory was refused,
 -- which standard error says, or that of what it says, once that is written.
-abbrev pub RunEnds : {W E : Type 0} → (out : W → Option (List ℕ)) → (err : E → Option (List ℕ)) → Saying → (old new : Console W E) → ℕ → Type 0
+abbrev pub RunEnds : {Stdout Stderr : Type 0} → (out : Stdout → Option (List ℕ)) → (err : Stderr → Option (List ℕ)) → Saying → (old new : Console Stdout Stderr) → ℕ → Type 0
 RunEnds out err says old new result =
     ((result ≡ byte_of Output) × HasFailed new)
     ⊎ (((result ≡ byte_of Memory) × Appends (err old.err) (err new.err) (codes "memory\n") × Keeps (out old.out) (out new.out))

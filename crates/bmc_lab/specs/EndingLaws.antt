@@ -9,7 +9,7 @@ use Rattle.bmc_lab.specs.declared.ending.Untold.{Untold}
 use Rattle.bmc_lab.specs.declared.ending.Untold.TheVariants as untold
 use Rattle.bmc_lab.specs.Ending.{Saying, RunEnds, SaysReport, Tells}
 
--- a run that says what another may say, too, ends as that one does
+-- Where a second run may say all that a first may say, and the first ends so, the second ends so too.
 pub run_ends_as : {W E : Type 0} (out : W → Option (List ℕ)) (err : E → Option (List ℕ)) (says other : Saying) (old new : Console W E) (result : ℕ)
     → ((stream : Stream) (text : List ℕ) (status : Status) → says stream text status → other stream text status)
     → RunEnds out err says old new result → RunEnds out err other old new result

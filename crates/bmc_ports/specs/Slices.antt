@@ -88,7 +88,7 @@ AreTurns counts_of Turns = FindRoom counts_of
 AreTurns counts_of Full = FindRoomButLast counts_of
 
 -- A worker made these turns of a lane, each one call of the link's `next`, and ended so; the others are left. In each turn the port took what
--- the link heard, and was told the replies that the seat's list gained. Where the port forgets requesters, each one's silence is counted.
+-- the link heard, and got the replies that the seat's list gained. Where the port forgets requesters, the silence of each requester is counted.
 pub record Makes {L : Type 0} (counts_of : L → Counts) (end : End) (heard : List Hearing) (held kept : List Call) (before after : Lane L) : Type 0 where
   pub turns : length heard + after.turns ≡ before.turns
   pub calls : (counts_of after.link).calls ≡ counted_on (counts_of before.link).calls (length heard)

@@ -9,7 +9,7 @@ use Rattle.model_bus.specs.Slots.{AreSlots}
 use Rattle.bmc_windows.specs.Circle.{is_circle}
 use Rattle.bmc_windows.specs.Window.{Pair, Room, pair_at}
 
--- `most_windows` windows: which one each requester has, which requester has each one, and what it holds
+-- `most_windows` windows: the window of each requester, the requester of each window, and what each window holds
 pub record Held : Type 0 where
   pub slots : List (Option ℕ)
   pub owners : List (Option ℕ)
@@ -27,7 +27,7 @@ pub record AreSound (numbers capacity : ℕ) (held : Held) : Type 0 where
 pub record Reading : Type 0 where
   pub request : List ℕ → List ℕ
   pub reply : List ℕ → List ℕ
-  pub same : (a b : List ℕ) → bytes_eq (request a) (request b) ≡ bytes_eq a b
+  pub same : (one other : List ℕ) → bytes_eq (request one) (request other) ≡ bytes_eq one other
 
 -- the window that a requester has
 abbrev pub slot_of : Held → ℕ → Option ℕ
@@ -55,7 +55,7 @@ row reading held requester number = option_map (kept_from reading requester numb
 abbrev pub somes : List (Option ℕ) → List ℕ
 somes [] = []
 somes (None ∷ options) = somes options
-somes (Some q ∷ options) = q ∷ somes options
+somes (Some requester ∷ options) = requester ∷ somes options
 
 -- the windows are those that a log of what was carried out, and of idle requesters, leaves
 pub record Keeps (numbers : ℕ) (reading : Reading) (held : Held) (log : List Entry) : Type 0 where

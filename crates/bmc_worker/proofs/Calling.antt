@@ -16,7 +16,7 @@ use Rattle.bmc_shared.specs.declared.seat.Seat.{Seat}
 use Rattle.bmc_worker.specs.Calling.{HasCalled, HasFoundNoRoom}
 use Rattle.bmc_worker.specs.Serving.{Takes}
 use Rattle.bmc_worker.specs.declared.worker.End.TheVariants.{Turns, Full}
-use Rattle.bmc_worker.proofs.Turning.{settled, asked}
+use Rattle.bmc_worker.proofs.Turning.{settled, answered_or_refused}
 
 module _ {J : Type 0} {g : _} (port next : Port) (frame : List ℕ) (seat now : Seat J g) (out : Out) where
   -- the port served the frame by a call of the shared board, if it made one
@@ -28,8 +28,8 @@ module _ {J : Type 0} {g : _} (port next : Port) (frame : List ℕ) (seat now : 
   pub takes : (served : Served) → ServesBy (Ok served) → Takes Turns (frame ∷ []) port next seat.calls.items now.calls.items
   takes CarriedOut done =
       let call : Call = Exchanged (asked_of done.pending) done.answered in
-      asked port frame done.between next done.heard done.pending seat.calls.items now.calls.items (Ok tt) done.asks
-      (call ∷ [], done.carried.gained, (done.answered, out, refl, done.told)) tt tt
+      answered_or_refused port frame done.between next done.heard done.pending seat.calls.items now.calls.items (Ok tt) done.asks
+      (call ∷ [], done.carried.gained, (done.answered, out, refl, done.replied)) tt tt
   takes NothingAsked done = subst (λ (calls : List Call). Takes Turns (frame ∷ []) port next seat.calls.items calls) (sym (ap (λ (s : Seat J g). s.calls.items) done.1)) (settled port frame next out seat.calls.items done.0)
 
   -- the seat is marked as it was, and has its number
@@ -43,7 +43,7 @@ module _ {J : Type 0} {g : _} (port next : Port) (frame : List ℕ) (seat now : 
 
   -- or it drops the request
   pub drops : (why : PeriodFull) → ServesBy (Err why) → Takes Full (frame ∷ []) port next seat.calls.items now.calls.items
-  drops why done = asked port frame next next out done.0.0 seat.calls.items now.calls.items (Err why) done.0.1 tt done.1.list refl
+  drops why done = answered_or_refused port frame next next out done.0.0 seat.calls.items now.calls.items (Err why) done.0.1 tt done.1.list refl
 
 -- ---- the call itself
 module _ {J : Type 0} {g : _} (seat now : Seat J g) where

@@ -107,18 +107,18 @@ module _ (before : Port) (frame : List ℕ) where
   }
 
   -- a request was asked, and answered or refused
-  pub asked : (between after : Port) (out : Out) (pending : Pending) (held kept : List Call) (result : Result (Unit {0}) PeriodFull)
+  pub answered_or_refused : (between after : Port) (out : Out) (pending : Pending) (held kept : List Call) (result : Result (Unit {0}) PeriodFull)
       → IsStep before frame between out (Ask pending)
       → OnOk result (Carries pending between held kept after)
       → OnErr result (kept ≡ held)
       → OnErr result (after ≡ between)
       → Takes (end_of result) (frame ∷ []) before after held kept
-  asked between after out pending held kept (Ok done) step carries list port = record {
+  answered_or_refused between after out pending held kept (Ok done) step carries list port = record {
     gained = carries.0;
     list = carries.1;
     serves = (after, carries.0, [], sym (append-nil carries.0), record { between = between; out = out; step = Ask pending; heard = step; settles = carries.2 }, (refl, refl));
   }
-  asked between after out pending held kept (Err full) step carries list port = record {
+  answered_or_refused between after out pending held kept (Err full) step carries list port = record {
     gained = [];
     list = list ∙ sym (append-nil held);
     serves = record {

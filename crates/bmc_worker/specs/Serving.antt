@@ -6,7 +6,7 @@ use Rattle.bmc_core.specs.declared.step.Step.{Step}
 use Rattle.bmc_core.specs.declared.step.Step.TheVariants.{Ask, Done}
 use Rattle.bmc_core.specs.declared.port.Port.{Port}
 use Rattle.bmc_core.specs.declared.port.Pending.{Pending}
-use Rattle.bmc_core.specs.Port.{asked_of, IsStep, IsTold}
+use Rattle.bmc_core.specs.Port.{asked_of, IsStep, Answers}
 use Rattle.bmc_links.specs.declared.link.Counts.{Counts}
 use Rattle.bmc_links.specs.Counted.{counted_on}
 use Rattle.bmc_history.specs.declared.event.Call.{Call}
@@ -27,12 +27,12 @@ frames_in (Some frame) = frame ∷ []
 
 -- ---- the port
 
--- After the first step of a port, nothing is left to do, or the board was asked what the request asks, and the port was told the reply.
+-- After the first step of a port, nothing is left to do, or the board was asked what the request asks, and the port got the reply.
 abbrev pub Settles : Step Pending → Port → List Call → Port → Type 0
 Settles Done between calls after = (calls ≡ []) × (between ≡ after)
 Settles (Ask pending) between calls after =
     (answered : Answered) × (out : Out) × (calls ≡ Exchanged (asked_of pending) answered ∷ [])
-    × IsTold between pending answered after out
+    × Answers between pending answered after out
 
 -- a port heard the frame, and the board was called so for it
 pub record Hears (before : Port) (frame : List ℕ) (calls : List Call) (after : Port) : Type 0 where
@@ -42,7 +42,7 @@ pub record Hears (before : Port) (frame : List ℕ) (calls : List Call) (after :
   pub heard : IsStep before frame between out step
   pub settles : Settles step between calls after
 
--- the board was asked so, and the seat's list gained the request with the reply that the port was told
+-- the board was asked so, and the seat's list gained the request with the reply that the port got
 abbrev pub Carries : Pending → Port → List Call → List Call → Port → Type 0
 Carries pending before held kept after = (calls : List Call) × (kept ≡ held ++ calls) × Settles (Ask pending) before calls after
 
@@ -85,7 +85,7 @@ abbrev pub MadeAll : End → ℕ → Counts → Counts → Type 0
 MadeAll Turns turns before after = after.calls ≡ counted_on before.calls turns
 MadeAll Full turns before after = (made : ℕ) × (1 ≤ made) × (made ≤ turns) × (after.calls ≡ counted_on before.calls made)
 
--- A port took frames, and its worker ends so by the last of them, or would. The seat's list gained the replies that the port was told.
+-- A port took frames, and its worker ends so by the last of them, or would. The seat's list gained the replies that the port got.
 pub record Takes (end : End) (frames : List (List ℕ)) (before after : Port) (held kept : List Call) : Type 0 where
   pub gained : List Call
   pub list : kept ≡ held ++ gained
@@ -96,7 +96,7 @@ pub record MakesTurn (end : End) (heard : Option (List ℕ)) (before after : Por
   pub next : CallsNext (frames_in heard) counted counts
   pub takes : Takes end (frames_in heard) before after held kept
 
--- A worker made turns and ended so. Its port heard as many frames as its link counted, and was told the replies that its seat's list
+-- A worker made turns and ended so. Its port heard as many frames as its link counted, and got the replies that its seat's list
 -- gained, in their order.
 pub record Worked (end : End) (turns : ℕ) (before after : Port) (held kept : List Call) (counted counts : Counts) : Type 0 where
   pub frames : List (List ℕ)

@@ -19,7 +19,7 @@ use Rattle.lab_play.specs.declared.played.LabFault.{LabFault}
 use Rattle.lab_play.specs.declared.played.LabFault.TheVariants as fault
 use Rattle.lab_play.specs.Watched.{Watches}
 
--- this is told: of a lab that began with these records, each listed once, and is this one now
+-- what a play tells of a lab that began with these records, each listed once, and of the lab as it is now
 pub record Tells (played : Played) (told : Told) : Type 0 where
   pub file : BoardFile
   pub first : LabModel plans

@@ -17,23 +17,23 @@ pub record HasMark (frame : LabFrame) (mark : Mark) : Type 0 where
   pub request : frame.request ≡ mark.request
   pub idles : frame.idles ≡ mark.idles
 
-module _ (P : Plans) where
+module _ (plans : Plans) where
   -- the manager began so many requests on the bus, and the port there forgot the manager's window so often
-  pub record IsKnown (lab : Lab P) (on : Bus) (known : Known) : Type 0 where
-    pub begun : begun_on P.words on lab.manager.machine ≡ known.begun
-    pub idles : idles_on P on lab ≡ known.idles
+  pub record IsKnown (lab : Lab plans) (on : Bus) (known : Known) : Type 0 where
+    pub begun : begun_on plans.words on lab.manager.machine ≡ known.begun
+    pub idles : idles_on plans on lab ≡ known.idles
 
   -- the test says whether a frame with the mark is live
   abbrev pub TellsLive : Mark → Known → Bool → Type 0
-  TellsLive mark known live = (lab : Lab P) (frame : LabFrame) → HasMark frame mark → IsKnown lab mark.on known → is_live P lab frame ≡ live
+  TellsLive mark known live = (lab : Lab plans) (frame : LabFrame) → HasMark frame mark → IsKnown lab mark.on known → is_live plans lab frame ≡ live
 
   -- each frame that the port sends when a frame with the mark comes has this mark, where the manager's window was forgotten so often by then
   abbrev pub MarksReplies : BoardFile → Mark → ℕ → Mark → Type 0
-  MarksReplies setup delivered idles mark = (lab : Lab P) (number : ℕ) (frame : LabFrame) → slice_get lab.frames number ≡ Some frame → HasMark frame delivered
-      → idles_on P frame.on (step P setup lab (ToBmc number)) ≡ idles
-      → (place : ℕ) (reply : LabFrame) → slice_get (step P setup lab (ToBmc number)).frames (length lab.frames + place) ≡ Some reply → HasMark reply mark
+  MarksReplies setup delivered idles mark = (lab : Lab plans) (number : ℕ) (frame : LabFrame) → slice_get lab.frames number ≡ Some frame → HasMark frame delivered
+      → idles_on plans frame.on (step plans setup lab (ToBmc number)) ≡ idles
+      → (place : ℕ) (reply : LabFrame) → slice_get (step plans setup lab (ToBmc number)).frames (length lab.frames + place) ≡ Some reply → HasMark reply mark
 
   -- the test says whether the lab refuses to forget a requester's window, where a request is open on this bus or on none
   abbrev pub TellsOpen : Names → Bus → ℕ → Option Bus → Bool → Type 0
-  TellsOpen names on requester where_open refused = (lab : Lab P) → lab.manager.names ≡ names → open_bus P.words lab.manager.machine ≡ where_open
-      → fault_of P lab (Idles on requester) ≡ (if refused then Some StillOpen else None)
+  TellsOpen names on requester where_open refused = (lab : Lab plans) → lab.manager.names ≡ names → open_bus plans.words lab.manager.machine ≡ where_open
+      → fault_of plans lab (Idles on requester) ≡ (if refused then Some StillOpen else None)

@@ -32,7 +32,7 @@ fn any_query(place: u32) -> Query {
 }
 
 /// GetTID, GetPLDMTypes, Get Endpoint ID, Get Message Type Support, and a message in two packets of a type that isn't there.
-fn told(place: u32) -> &'static [u8] {
+fn other_body(place: u32) -> &'static [u8] {
     match place {
         0 => &[0x01, 0x80, 0x00, 0x02],
         1 => &[0x01, 0x81, 0x00, 0x04],
@@ -75,7 +75,7 @@ fn other_request(dice: &mut Dice) -> Option<OtherRequest> {
 /// A message to the controller on the System Management Bus, from one of four others.
 fn other_message(alloc: Global, dice: &mut Dice) -> Result<Option<OtherMessage>, AllocError> {
     let mut bytes = Vec::new(alloc);
-    bytes.extend_from_slice(told(dice.below(5)))?;
+    bytes.extend_from_slice(other_body(dice.below(5)))?;
     let from = 0x10 + dice.below(4) as u8;
     let Some(body) = Octets::new(bytes) else {
         return Ok(None);

@@ -14,11 +14,11 @@ use Rattle.mctp_net.specs.Cut.{Piece, piece, carried, IsCut}
 
 -- a message's name: source endpoint, tag owner and tag
 abbrev pub name_of : Envelope → Name
-name_of e = record { source_eid = e.source_eid; tag_owner = e.tag_owner; tag = e.tag }
+name_of envelope = record { source_eid = envelope.source_eid; tag_owner = envelope.tag_owner; tag = envelope.tag }
 
 -- two names are the same
 abbrev pub is_name : Name → Name → Bool
-is_name m n = m.source_eid == n.source_eid && bit m.tag_owner == bit n.tag_owner && m.tag == n.tag
+is_name name other = name.source_eid == other.source_eid && bit name.tag_owner == bit other.tag_owner && name.tag == other.tag
 
 -- What an assembler keeps: the pieces that wait under each name, and how many names have some; and the bytes of the message that the
 -- last packet ended, where several packets made it.
@@ -29,7 +29,7 @@ pub record Assemblies : Type 0 where
 
 -- nothing is open
 abbrev pub nothing : Assemblies
-nothing = record { under = λ n. []; open_count = 0; made = [] }
+nothing = record { under = λ name. []; open_count = 0; made = [] }
 
 -- pieces wait
 abbrev pub is_open : List Piece → Bool
@@ -37,28 +37,28 @@ is_open ps = nat_lt 0 (length ps)
 
 -- the pieces that wait under the packet's name
 abbrev pub taken_under : Packet → Assemblies → List Piece
-taken_under p a = a.under (name_of p.envelope)
+taken_under packet assemblies = assemblies.under (name_of packet.envelope)
 
 -- the pieces to which the packet is joined: none where it is a start, which closes the open assembly of its name
 abbrev pub joined_to : Packet → Assemblies → List Piece
-joined_to p a = if p.start then [] else taken_under p a
+joined_to packet assemblies = if packet.start then [] else taken_under packet assemblies
 
 -- how many assemblies of other names are open
 abbrev pub open_beside : Name → Assemblies → ℕ
-open_beside n a = a.open_count - bit (is_open (a.under n))
+open_beside name assemblies = assemblies.open_count - bit (is_open (assemblies.under name))
 
 -- the packet goes to this endpoint, or to whichever has the address
 abbrev pub is_ours : ℕ → Packet → Bool
-is_ours own p = p.envelope.destination_eid == own || p.envelope.destination_eid == 0
+is_ours own packet = packet.envelope.destination_eid == own || packet.envelope.destination_eid == 0
 
 -- the packet is dropped for this cause, if for no earlier one
 abbrev pub fails : ℕ → Assemblies → Packet → DropCause → Bool
-fails own a p NotOurs = not (is_ours own p)
-fails own a p NoStart = not p.start && length (taken_under p a) == 0
-fails own a p TooLong = nat_le 4 (length (joined_to p a))
-fails own a p OutOfSequence = not (p.sequence == length (joined_to p a))
-fails own a p UnitSize = not p.end && not (length p.payload == unit_size)
-fails own a p NoSlot = p.start && not p.end && nat_le most_assemblies (open_beside (name_of p.envelope) a)
+fails own assemblies packet NotOurs = not (is_ours own packet)
+fails own assemblies packet NoStart = not packet.start && length (taken_under packet assemblies) == 0
+fails own assemblies packet TooLong = nat_le 4 (length (joined_to packet assemblies))
+fails own assemblies packet OutOfSequence = not (packet.sequence == length (joined_to packet assemblies))
+fails own assemblies packet UnitSize = not packet.end && not (length packet.payload == unit_size)
+fails own assemblies packet NoSlot = packet.start && not packet.end && nat_le most_assemblies (open_beside (name_of packet.envelope) assemblies)
 
 -- the causes in their order
 abbrev pub causes : List DropCause
@@ -75,69 +75,69 @@ cause_name NoSlot = codes "NoSlot"
 
 -- the first cause to drop the packet
 abbrev pub drop_cause : ℕ → Assemblies → Packet → Option DropCause
-drop_cause own a p = find (fails own a p) causes
+drop_cause own assemblies packet = find (fails own assemblies packet) causes
 
 -- the same, but that these pieces wait under the name
 abbrev pub with_under : Name → List Piece → Assemblies → Assemblies
-with_under n ps a = record {
-  under = λ m. if is_name m n then ps else a.under m;
-  open_count = open_beside n a + bit (is_open ps);
+with_under name ps assemblies = record {
+  under = λ other. if is_name other name then ps else assemblies.under other;
+  open_count = open_beside name assemblies + bit (is_open ps);
   made = [];
 }
 
 -- the same, and nothing was made
 abbrev pub unmade : Assemblies → Assemblies
-unmade a = record { under = a.under; open_count = a.open_count; made = [] }
+unmade assemblies = record { under = assemblies.under; open_count = assemblies.open_count; made = [] }
 
 -- the assembly of the packet's name is closed
 abbrev pub closed : Packet → Assemblies → Assemblies
-closed p a = with_under (name_of p.envelope) [] a
+closed packet assemblies = with_under (name_of packet.envelope) [] assemblies
 
 -- the packet waits behind those to which it's joined
 abbrev pub kept_with : Packet → Assemblies → Assemblies
-kept_with p a = with_under (name_of p.envelope) (joined_to p a ++ piece p ∷ []) a
+kept_with packet assemblies = with_under (name_of packet.envelope) (joined_to packet assemblies ++ piece packet ∷ []) assemblies
 
 -- the packet ends its message, whose assembly is closed; a message of one packet lies in its packet
 abbrev pub ended : Packet → Assemblies → Assemblies
-ended p a = record {
-  under = (closed p a).under;
-  open_count = (closed p a).open_count;
-  made = if p.start then [] else carried (taken_under p a ++ piece p ∷ []);
+ended packet assemblies = record {
+  under = (closed packet assemblies).under;
+  open_count = (closed packet assemblies).open_count;
+  made = if packet.start then [] else carried (taken_under packet assemblies ++ piece packet ∷ []);
 }
 
 -- what is kept after a packet, where it's dropped for the cause or for none
 abbrev pub after_where : Option DropCause → Packet → Assemblies → Assemblies
-after_where (Some NotOurs) p a = unmade a
-after_where (Some NoStart) p a = unmade a
-after_where (Some TooLong) p a = closed p a
-after_where (Some OutOfSequence) p a = closed p a
-after_where (Some UnitSize) p a = closed p a
-after_where (Some NoSlot) p a = closed p a
-after_where None p a = if p.end then ended p a else kept_with p a
+after_where (Some NotOurs) packet assemblies = unmade assemblies
+after_where (Some NoStart) packet assemblies = unmade assemblies
+after_where (Some TooLong) packet assemblies = closed packet assemblies
+after_where (Some OutOfSequence) packet assemblies = closed packet assemblies
+after_where (Some UnitSize) packet assemblies = closed packet assemblies
+after_where (Some NoSlot) packet assemblies = closed packet assemblies
+after_where None packet assemblies = if packet.end then ended packet assemblies else kept_with packet assemblies
 
 -- what is kept after a packet
 abbrev pub after : ℕ → Assemblies → Packet → Assemblies
-after own a p = after_where (drop_cause own a p) p a
+after own assemblies packet = after_where (drop_cause own assemblies packet) packet assemblies
 
 -- what waits under the packet's name after it, where it's dropped for the cause or for none
 abbrev pub named_where : Option DropCause → Packet → Assemblies → List Piece
-named_where (Some NotOurs) p a = taken_under p a
-named_where (Some NoStart) p a = taken_under p a
-named_where (Some TooLong) p a = []
-named_where (Some OutOfSequence) p a = []
-named_where (Some UnitSize) p a = []
-named_where (Some NoSlot) p a = []
-named_where None p a = if p.end then [] else joined_to p a ++ piece p ∷ []
+named_where (Some NotOurs) packet assemblies = taken_under packet assemblies
+named_where (Some NoStart) packet assemblies = taken_under packet assemblies
+named_where (Some TooLong) packet assemblies = []
+named_where (Some OutOfSequence) packet assemblies = []
+named_where (Some UnitSize) packet assemblies = []
+named_where (Some NoSlot) packet assemblies = []
+named_where None packet assemblies = if packet.end then [] else joined_to packet assemblies ++ piece packet ∷ []
 
 -- the message that the packet, the last that came, ended
 abbrev pub message_of : Assemblies → Packet → Message
-message_of a p = record { envelope = p.envelope; body = if p.start then p.payload else a.made }
+message_of assemblies packet = record { envelope = packet.envelope; body = if packet.start then packet.payload else assemblies.made }
 
 -- with the pieces to which it's joined, the packet makes the message whole
-pub record MakesWhole (own : ℕ) (a : Assemblies) (p : Packet) (m : Message) : Type 0 where
-  pub ours : is_ours own p ≡ true
-  pub enveloped : m.envelope ≡ p.envelope
-  pub cut : IsCut m.body (joined_to p a ++ piece p ∷ [])
+pub record MakesWhole (own : ℕ) (assemblies : Assemblies) (packet : Packet) (message : Message) : Type 0 where
+  pub ours : is_ours own packet ≡ true
+  pub enveloped : message.envelope ≡ packet.envelope
+  pub cut : IsCut message.body (joined_to packet assemblies ++ piece packet ∷ [])
 
 -- the cause for which the packet was dropped, if it was
 abbrev pub dropped_for : Taken → Option DropCause
@@ -146,12 +146,12 @@ dropped_for taken.Whole = None
 dropped_for (taken.Dropped cause) = Some cause
 
 -- the packet is taken, and others are to come
-pub record IsTaken (own : ℕ) (a : Assemblies) (p : Packet) : Type 0 where
-  pub kept_on : drop_cause own a p ≡ None
-  pub more : p.end ≡ false
+pub record IsTaken (own : ℕ) (assemblies : Assemblies) (packet : Packet) : Type 0 where
+  pub kept_on : drop_cause own assemblies packet ≡ None
+  pub more : packet.end ≡ false
 
 -- the packets come one after another: each but the last is taken, and the last makes the message whole
 abbrev pub ComesBack : ℕ → Assemblies → List Packet → Message → Type 0
-ComesBack own a [] m = ⊥
-ComesBack own a (p ∷ []) m = MakesWhole own a p m
-ComesBack own a (p ∷ q ∷ rest) m = IsTaken own a p × ComesBack own (after own a p) (q ∷ rest) m
+ComesBack own assemblies [] message = ⊥
+ComesBack own assemblies (packet ∷ []) message = MakesWhole own assemblies packet message
+ComesBack own assemblies (packet ∷ next ∷ rest) message = IsTaken own assemblies packet × ComesBack own (after own assemblies packet) (next ∷ rest) message

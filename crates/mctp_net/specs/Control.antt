@@ -63,4 +63,4 @@ request_of _ = None
 
 -- the body of the reply to a request
 abbrev pub reply_to : ℕ → Request → List ℕ
-reply_to eid r = 0 ∷ r.instance ∷ r.command ∷ coded (shown_for eid r.command r.content)
+reply_to eid request = 0 ∷ request.instance ∷ request.command ∷ coded (shown_for eid request.command request.content)

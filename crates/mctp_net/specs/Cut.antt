@@ -15,25 +15,25 @@ pub record Piece : Type 0 where
 
 -- the piece that a packet is
 abbrev pub piece : Packet → Piece
-piece p = record { start = p.start; end = p.end; sequence = p.sequence; payload = p.payload }
+piece packet = record { start = packet.start; end = packet.end; sequence = packet.sequence; payload = packet.payload }
 
 -- the piece is the one of this number, of so many
-pub record IsPiece (count number : ℕ) (p : Piece) : Type 0 where
-  pub numbered : p.sequence ≡ number
-  pub started : p.start ≡ (number == 0)
-  pub ended : p.end ≡ (number + 1 == count)
-  pub some : 0 < length p.payload
-  pub fits : length p.payload ≤ unit_size
-  pub full : number + 1 < count → length p.payload ≡ unit_size
+pub record IsPiece (count number : ℕ) (piece : Piece) : Type 0 where
+  pub numbered : piece.sequence ≡ number
+  pub started : piece.start ≡ (number == 0)
+  pub ended : piece.end ≡ (number + 1 == count)
+  pub some : 0 < length piece.payload
+  pub fits : length piece.payload ≤ unit_size
+  pub full : number + 1 < count → length piece.payload ≡ unit_size
 
--- each piece meets the relation with its number, where the first has this one
+-- each piece meets the relation with its number, where the first piece has this number
 abbrev pub EachFrom : (ℕ → Piece → Type 0) → ℕ → List Piece → Type 0
-EachFrom P number [] = Unit {0}
-EachFrom P number (p ∷ ps) = P number p × EachFrom P (number + 1) ps
+EachFrom Holds number [] = Unit {0}
+EachFrom Holds number (piece ∷ pieces) = Holds number piece × EachFrom Holds (number + 1) pieces
 
 -- the bytes that the pieces carry
 abbrev pub carried : List Piece → List ℕ
-carried ps = flat_map (λ p. p.payload) ps
+carried ps = flat_map (λ piece. piece.payload) ps
 
 -- The pieces are a cut of the bytes: at most four runs, all but the last of a unit, numbered from 0, the first marked
 -- as start and the last as end.
@@ -44,10 +44,10 @@ pub record IsCut (body : List ℕ) (ps : List Piece) : Type 0 where
   pub joined : body ≡ carried ps
 
 -- the packets are the message's
-pub record IsCutOf (m : Message) (ps : List Packet) : Type 0 where
-  pub cut : IsCut m.body (map piece ps)
-  pub enveloped : All (λ p. p.envelope ≡ m.envelope) ps
+pub record IsCutOf (message : Message) (ps : List Packet) : Type 0 where
+  pub cut : IsCut message.body (map piece ps)
+  pub enveloped : All (λ packet. packet.envelope ≡ message.envelope) ps
 
 -- the frames are the packets, each with the ignored bits 0
 abbrev pub AreWritten : List Packet → List (List ℕ) → Type 0
-AreWritten ps frames = AllZip (λ p frame. IsSpelled p 0 frame) ps frames
+AreWritten ps frames = AllZip (λ packet frame. IsSpelled packet 0 frame) ps frames

@@ -14,37 +14,37 @@ bit flag = if flag then 1 else 0
 
 -- the flags, from the highest bit down: start, end, two bits of sequence, tag owner, three bits of tag
 abbrev pub flags_of : Packet → ℕ
-flags_of p = 128 * bit p.start + 64 * bit p.end + 16 * p.sequence + 8 * bit p.envelope.tag_owner + p.envelope.tag
+flags_of packet = 128 * bit packet.start + 64 * bit packet.end + 16 * packet.sequence + 8 * bit packet.envelope.tag_owner + packet.envelope.tag
 
 -- the bytes before the packet error code, where the ignored bits of the version byte are these
 abbrev pub unchecked : Packet → ℕ → List ℕ
-unchecked p ignored =
-    p.envelope.destination ∷ 15 ∷ (5 + length p.payload) ∷ (p.envelope.source + 1) ∷ (16 * ignored + 1)
-    ∷ p.envelope.destination_eid ∷ p.envelope.source_eid ∷ flags_of p ∷ p.payload
+unchecked packet ignored =
+    packet.envelope.destination ∷ 15 ∷ (5 + length packet.payload) ∷ (packet.envelope.source + 1) ∷ (16 * ignored + 1)
+    ∷ packet.envelope.destination_eid ∷ packet.envelope.source_eid ∷ flags_of packet ∷ packet.payload
 
 -- bytes, and behind them their packet error code
 abbrev pub with_pec : List ℕ → List ℕ
 with_pec bytes = bytes ++ pec bytes ∷ []
 
 -- the fields are in their ranges
-pub record IsEnvelope (e : Envelope) : Type 0 where
-  pub destination : (e.destination < 256) × (e.destination % 2 ≡ 0)
-  pub source : (e.source < 256) × (e.source % 2 ≡ 0)
-  pub destination_eid : e.destination_eid < 256
-  pub source_eid : e.source_eid < 256
-  pub tag : e.tag < tags
+pub record IsEnvelope (envelope : Envelope) : Type 0 where
+  pub destination : (envelope.destination < 256) × (envelope.destination % 2 ≡ 0)
+  pub source : (envelope.source < 256) × (envelope.source % 2 ≡ 0)
+  pub destination_eid : envelope.destination_eid < 256
+  pub source_eid : envelope.source_eid < 256
+  pub tag : envelope.tag < 8
 
 -- the bytes are the packet, with these ignored bits
-pub record IsSpelled (p : Packet) (ignored : ℕ) (bytes : List ℕ) : Type 0 where
-  pub envelope : IsEnvelope p.envelope
-  pub sequence : p.sequence < 4
-  pub some : 0 < length p.payload
-  pub fits : length p.payload ≤ unit_size
-  pub spelled : bytes ≡ with_pec (unchecked p ignored)
+pub record IsSpelled (packet : Packet) (ignored : ℕ) (bytes : List ℕ) : Type 0 where
+  pub envelope : IsEnvelope packet.envelope
+  pub sequence : packet.sequence < 4
+  pub some : 0 < length packet.payload
+  pub fits : length packet.payload ≤ unit_size
+  pub spelled : bytes ≡ with_pec (unchecked packet ignored)
 
 -- the bytes are the packet
 abbrev pub IsPacket : Packet → List ℕ → Type 0
-IsPacket p bytes = (ignored : ℕ) × (ignored < 16) × IsSpelled p ignored bytes
+IsPacket packet bytes = (ignored : ℕ) × (ignored < 16) × IsSpelled packet ignored bytes
 
 -- the bytes have the fault
 abbrev pub has_fault : List ℕ → PacketFault → Bool

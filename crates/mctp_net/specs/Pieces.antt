@@ -7,18 +7,18 @@ use Rattle.mctp_net.specs.Sizes.{unit_size}
 
 -- the message's packet of this number
 abbrev pub piece_of : Message → ℕ → Packet
-piece_of m number = record {
-  envelope = m.envelope;
+piece_of message number = record {
+  envelope = message.envelope;
   start = number == 0;
-  end = nat_le (length m.body) (unit_size * number + unit_size);
+  end = nat_le (length message.body) (unit_size * number + unit_size);
   sequence = number;
-  payload = take unit_size (drop (unit_size * number) m.body);
+  payload = take unit_size (drop (unit_size * number) message.body);
 }
 
 -- how many packets a message has
 abbrev pub count_of : Message → ℕ
-count_of m = (length m.body + 63) / 64
+count_of message = (length message.body + 63) / 64
 
 -- its first packets, so many
 abbrev pub pieces_of : Message → ℕ → List Packet
-pieces_of m count = map (piece_of m) (range_with_len 0 count)
+pieces_of message count = map (piece_of message) (range_with_len 0 count)

@@ -11,9 +11,9 @@ use Rattle.mctp_net.specs.Assembly.{Assemblies, is_name}
 
 -- both are one name, or none
 abbrev pub is_at : Option Name → Option Name → Bool
-is_at (Some m) (Some n) = is_name m n
-is_at (Some m) None = false
-is_at None (Some n) = false
+is_at (Some name) (Some other) = is_name name other
+is_at (Some name) None = false
+is_at None (Some other) = false
 is_at None None = true
 
 -- so many pieces that wait, from this number on: runs of a unit
@@ -27,11 +27,11 @@ runs bytes = runs_from 0 (length bytes / unit_size) bytes
 
 -- what a place has of a name's pieces
 abbrev pub part : Name → Place → List Piece
-part n s = if is_at s.name (Some n) then runs s.bytes else []
+part name place = if is_at place.name (Some name) then runs place.bytes else []
 
 -- what waits under each name
 abbrev pub under_in : List Place → Name → List Piece
-under_in ps n = flat_map (part n) ps
+under_in ps name = flat_map (part name) ps
 
 -- a place with nothing in it
 abbrev pub free_place : Place
@@ -39,7 +39,7 @@ free_place = record { name = None; bytes = [] }
 
 -- somebody's message is in the place
 abbrev pub is_used : Place → Bool
-is_used s = not (is_at s.name None)
+is_used place = not (is_at place.name None)
 
 -- how many places are used
 abbrev pub open_in : List Place → ℕ
@@ -48,7 +48,7 @@ open_in ps = length (filter is_used ps)
 -- the bytes in this place, or none
 abbrev pub made_in : List Place → Option ℕ → List ℕ
 made_in ps None = []
-made_in ps (Some i) = option_map_or (λ s. s.bytes) (slice_get ps i) []
+made_in ps (Some number) = option_map_or (λ place. place.bytes) (slice_get ps number) []
 
 -- what is kept in the places
 abbrev pub assemblies_in : List Place → Option ℕ → Assemblies
@@ -61,24 +61,24 @@ pub record Kept : Type 0 where
 
 -- what it keeps
 abbrev pub seen : Kept → Assemblies
-seen k = assemblies_in k.places k.made
+seen kept = assemblies_in kept.places kept.made
 
 -- a place that is used has some runs of a unit
 abbrev pub IsFilled : Place → Type 0
-IsFilled s = is_used s ≡ true → (0 < length s.bytes) × (length s.bytes % unit_size ≡ 0)
+IsFilled place = is_used place ≡ true → (0 < length place.bytes) × (length place.bytes % unit_size ≡ 0)
 
 -- there are eight places, each of another name or free
 pub record AreSound (ps : List Place) : Type 0 where
   pub eight : length ps ≡ most_assemblies
   pub filled : All IsFilled ps
-  pub fits : All (λ s. length s.bytes ≤ most_message_bytes) ps
-  pub apart : (n : Name) → length (filter (λ s. is_at s.name (Some n)) ps) ≤ 1
+  pub fits : All (λ place. length place.bytes ≤ most_message_bytes) ps
+  pub apart : (name : Name) → length (filter (λ place. is_at place.name (Some name)) ps) ≤ 1
 
 -- the place is the one of the name, or a free one; none where there is none
 abbrev pub IsPlaceOf : Option Name → List Place → Option ℕ → Type 0
-IsPlaceOf name ps None = filter (λ s. is_at s.name name) ps ≡ []
-IsPlaceOf name ps (Some i) = (i < length ps) × ((d : Place) → is_at (slice_index_or ps i d).name name ≡ true)
+IsPlaceOf name ps None = filter (λ place. is_at place.name name) ps ≡ []
+IsPlaceOf name ps (Some number) = (number < length ps) × ((place : Place) → is_at (slice_index_or ps number place).name name ≡ true)
 
 -- the place is the name's, or it's free and the name has none
 abbrev pub IsRoomFor : Name → List Place → ℕ → Type 0
-IsRoomFor name ps i = IsPlaceOf (Some name) ps (Some i) ⊎ (IsPlaceOf (Some name) ps None × IsPlaceOf None ps (Some i))
+IsRoomFor name ps number = IsPlaceOf (Some name) ps (Some number) ⊎ (IsPlaceOf (Some name) ps None × IsPlaceOf None ps (Some number))

@@ -7,22 +7,22 @@ use Rattle.mctp_net.specs.Cut.{Piece, EachFrom}
 use Rattle.mctp_net.specs.Assembly.{Assemblies, name_of, joined_to, open_beside}
 
 -- the piece waits at this place of its assembly
-pub record IsWaitingAt (number : ℕ) (p : Piece) : Type 0 where
-  pub numbered : p.sequence ≡ number
-  pub started : p.start ≡ (number == 0)
-  pub ended : p.end ≡ false
-  pub full : length p.payload ≡ unit_size
+pub record IsWaitingAt (number : ℕ) (piece : Piece) : Type 0 where
+  pub numbered : piece.sequence ≡ number
+  pub started : piece.start ≡ (number == 0)
+  pub ended : piece.end ≡ false
+  pub full : length piece.payload ≡ unit_size
 
 -- under each name the pieces are the first of a cut, at most four, and at most eight assemblies are open
-pub record IsSound (a : Assemblies) : Type 0 where
-  pub fronts : (n : Name) → EachFrom IsWaitingAt 0 (a.under n)
-  pub few : (n : Name) → length (a.under n) ≤ 4
-  pub slots : a.open_count ≤ most_assemblies
+pub record IsSound (assemblies : Assemblies) : Type 0 where
+  pub fronts : (name : Name) → EachFrom IsWaitingAt 0 (assemblies.under name)
+  pub few : (name : Name) → length (assemblies.under name) ≤ 4
+  pub slots : assemblies.open_count ≤ most_assemblies
 
 -- the packet has the next place of the assembly to which it's joined, and there is room for it
-pub record Fits (a : Assemblies) (p : Packet) : Type 0 where
-  pub few : length (joined_to p a) < 4
-  pub numbered : p.sequence ≡ length (joined_to p a)
-  pub started : p.start ≡ (length (joined_to p a) == 0)
-  pub full : p.end ≡ false → length p.payload ≡ unit_size
-  pub slots : p.start ≡ true → p.end ≡ false → open_beside (name_of p.envelope) a < most_assemblies
+pub record Fits (assemblies : Assemblies) (packet : Packet) : Type 0 where
+  pub few : length (joined_to packet assemblies) < 4
+  pub numbered : packet.sequence ≡ length (joined_to packet assemblies)
+  pub started : packet.start ≡ (length (joined_to packet assemblies) == 0)
+  pub full : packet.end ≡ false → length packet.payload ≡ unit_size
+  pub slots : packet.start ≡ true → packet.end ≡ false → open_beside (name_of packet.envelope) assemblies < most_assemblies

@@ -23,7 +23,7 @@ ipmb_accepts : (code : ℕ) (request reply : List ℕ) → is_busy_code code ≡
 ipmb_accepts code request reply free r =
     let h = r.header in
     let in_one = r.is_header.responder in let in_other = r.is_header.requester in
-    let asked = ipmb_request h r.number r.asked in
+    let asked = ipmb_request h r.number r.request_body in
     let next : (4 * (h.net_fn + 1) + h.requester_lun) / 4 ≡ (4 * h.net_fn + h.responder_lun) / 4 + 1 = omega arith in
     let same : (4 * r.number + h.responder_lun) / 4 ≡ (4 * r.number + h.requester_lun) / 4 = omega arith in
     ap (λ (x : List ℕ). ipmb_answers x reply) r.request_spelled
@@ -47,7 +47,7 @@ ipmb_number h g m n xs ys in_h in_g same =
 ipmb_numbered : (code m n : ℕ) (opened asked reply : List ℕ) → IsIpmbRequest m opened → IsIpmbRequest n asked → IsIpmbReply code asked reply → ipmb_answers opened reply ≡ true → n ≡ m
 ipmb_numbered code m n opened asked reply o a r passes =
     let h = r.header in
-    let own : n ≡ r.number = ipmb_number a.header h n r.number a.body r.asked a.is_header.requester r.is_header.requester (sym a.spelled ∙ r.request_spelled) in
+    let own : n ≡ r.number = ipmb_number a.header h n r.number a.body r.request_body a.is_header.requester r.is_header.requester (sym a.spelled ∙ r.request_spelled) in
     let here : ipmb_answers (ipmb_request o.header m o.body) (ipmb_reply h r.number code r.body) ≡ true =
     ap (λ (x : List ℕ). ipmb_answers x (ipmb_reply h r.number code r.body)) (sym o.spelled) ∙ ap (ipmb_answers opened) (sym r.reply_spelled) ∙ passes in
     own ∙ same_upper r.number m h.responder_lun o.header.requester_lun r.is_header.responder o.is_header.requester (eqb-true _ _ (and_parts _ _ (and_parts _ _ here).0).1)
@@ -56,7 +56,7 @@ pldm_accepts : (code : ℕ) (request reply : List ℕ) → is_busy_code code ≡
 pldm_accepts code request reply free r =
     let h = r.header in
     let small = r.instance in
-    let asked = pldm_request h r.number r.asked in
+    let asked = pldm_request h r.number r.request_body in
     let clear : r.number / 64 ≡ 0 = omega arith in
     let same : r.number % 32 ≡ (128 + r.number) % 32 = omega arith in
     ap (λ (x : List ℕ). pldm_answers x reply) r.request_spelled
@@ -108,24 +108,24 @@ module _ (on : Bus) (b : Rules) (numbers : IsNumbering b) (s : BusState) (h : Ho
   test_is_model n (Reply number (Some reply)) opened at live fits =
       let place = length s.taken in
       let k = fits.1.kept in
-      let asked_at = (h.sound.asked n k fits.1.at).0 in
+      let begun_at = (h.sound.in_order n k fits.1.at).0 in
       let r = written.replies n k fits.1.at in
       let answered : IsReplyOn on r.0 k.request.bytes reply = subst (IsReplyOn on r.0 k.request.bytes) fits.1.replied r.2 in
       let open_at : place < length s.begun = slice_get_within s.begun place opened at in
       let is_now : is_open s ≡ true = lt-ltb place (length s.begun) open_at in
       let one_open = h.sound.one_open in let below = h.sound.below in
-      let within = slice_get_within s.begun n k.request.bytes asked_at in
+      let within = slice_get_within s.begun n k.request.bytes begun_at in
       let none : Option (List ℕ) = None in
       elim (cases_Bool (answers on opened reply)) [
         | inl passes ↦
             let same : b.number_of n ≡ b.number_of place =
-            numbered on r.0 (b.number_of place) (b.number_of n) opened k.request.bytes reply (written.requests place opened at) (written.requests n k.request.bytes asked_at) answered passes in
+            numbered on r.0 (b.number_of place) (b.number_of n) opened k.request.bytes reply (written.requests place opened at) (written.requests n k.request.bytes begun_at) answered passes in
             cond-true _ _ _ (and_from _ _ is_now (eq-eqb number (b.number_of place) (fits.0 ∙ same))) ∙ sym (ap (λ (t : Bool). cond t (Some reply) none) passes)
         | inr fails ↦
             cond_both (is_open s && eqb number (b.number_of place)) (Some reply) none (λ (o : Option (List ℕ)). o ≡ none)
             (λ t.
             let same : n ≡ place = numbers.one n place (omega arith) (omega arith) (sym fits.0 ∙ eqb-true _ _ (and_parts _ _ t).1) in
-            let is : k.request.bytes ≡ opened = same_Some _ _ (sym asked_at ∙ ap (slice_get s.begun) same ∙ at) in
+            let is : k.request.bytes ≡ opened = same_Some _ _ (sym begun_at ∙ ap (slice_get s.begun) same ∙ at) in
             let passes : answers on opened reply ≡ true = subst (λ (x : List ℕ). answers on x reply ≡ true) is (accepts on r.0 k.request.bytes reply r.1 answered) in
             absurd (true≢false (sym passes ∙ fails)))
             (λ f. refl)

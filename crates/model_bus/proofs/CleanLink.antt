@@ -33,7 +33,7 @@ module _ (b : Rules) (numbers : IsNumbering b) (s : BusState) (h : Holds b s) wh
   open_is_new bytes none free =
       let answered = h.sound.answered in
       let top = ended s.carried (length s.taken) none in
-      let r = is_new b numbers s.begun s.carried h.sound.asked (carried_since b.manager s.log) [] h.floor (length s.carried) (length s.taken) bytes h.sound.since top (λ d from to. absurd (omega arith)) in
+      let r = is_new b numbers s.begun s.carried h.sound.in_order (carried_since b.manager s.log) [] h.floor (length s.carried) (length s.taken) bytes h.sound.since top (λ d from to. absurd (omega arith)) in
       ap (λ (o : Option (List ℕ)). outcome_of o (is_busy b.manager s.log)) r ∙ ap (outcome_of None) free
 
   -- the reply that is kept for the open request is taken where it comes

@@ -18,8 +18,8 @@ pub is_same-number : (r s : Request) → is_same r s ≡ true → r.number ≡ s
 is_same-number r s h = eqb-true _ _ (and_parts _ _ (and_parts _ _ h).0).1
 
 -- carried has request n at n
-abbrev pub Asked : Rules → List (List ℕ) → List Kept → Type 0
-Asked b begun carried = (n : ℕ) (k : Kept) → slice_get carried n ≡ Some k → (slice_get begun n ≡ Some k.request.bytes) × (k.request ≡ request_of b n k.request.bytes)
+abbrev pub InOrder : Rules → List (List ℕ) → List Kept → Type 0
+InOrder b begun carried = (n : ℕ) (k : Kept) → slice_get carried n ≡ Some k → (slice_get begun n ≡ Some k.request.bytes) × (k.request ≡ request_of b n k.request.bytes)
 
 -- a part of what was carried, newest first, from a number up to another
 abbrev pub IsRun : List Kept → ℕ → List Kept → ℕ → Type 0
@@ -36,14 +36,14 @@ list_all-has p [] x h fails = absurd h
 list_all-has p (y ∷ ys) x (inl e) fails = and_left _ _ (ap p e ∙ fails)
 list_all-has p (y ∷ ys) x (inr h) fails = and_right _ _ (list_all-has p ys x h fails)
 
-module _ (b : Rules) (numbers : IsNumbering b) (begun : List (List ℕ)) (carried : List Kept) (asked : Asked b begun carried) where
+module _ (b : Rules) (numbers : IsNumbering b) (begun : List (List ℕ)) (carried : List Kept) (in_order : InOrder b begun carried) where
   -- the number of a carried request
   pub number_at : (n : ℕ) (k : Kept) → slice_get carried n ≡ Some k → k.request.number ≡ b.number_of n
-  number_at n k at = ap (λ (r : Request). r.number) (asked n k at).1
+  number_at n k at = ap (λ (r : Request). r.number) (in_order n k at).1
 
   pub request_at : (n : ℕ) (k : Kept) (bytes : List ℕ) → slice_get carried n ≡ Some k → slice_get begun n ≡ Some bytes → k.request ≡ request_of b n bytes
   request_at n k bytes at begun_at =
-      let a = asked n k at in
+      let a = in_order n k at in
       a.1 ∙ ap (request_of b n) (same_Some _ _ (sym a.0 ∙ begun_at))
 
   pub repeats : (ks : List Kept) (newer : List ℕ) (low high m : ℕ) (bytes : List ℕ)

@@ -9,7 +9,7 @@ use Rattle.model_bus.specs.BusState.{request_of, Content, Ask, Reply, Frame}
 use Rattle.model_bus.specs.Effect.{IsKeptFor}
 use Rattle.model_bus.proofs.Lists.{Grows, grows, at_end, one_more, length_more}
 use Rattle.model_bus.proofs.NumberLaws.{IsNumbering}
-use Rattle.model_bus.proofs.Repeats.{Asked, IsRun}
+use Rattle.model_bus.proofs.Repeats.{InOrder, IsRun}
 
 pub IsRun-grows : (carried more : List Kept) → Grows carried more → (low : ℕ) (ks : List Kept) (high : ℕ) → IsRun carried low ks high → IsRun more low ks high
 IsRun-grows carried more g low [] high r = r
@@ -54,7 +54,7 @@ AllSent b floor begun carried idles frames = (i : ℕ) (f : Frame) → slice_get
 
 -- the invariant: what the manager's window holds are the carried requests from the floor on, newest first
 pub record Sound (b : Rules) (floor : ℕ) (begun : List (List ℕ)) (carried : List Kept) (taken : List (List ℕ)) (s : Seen) (sent_frames : List Frame) : Type 0 where
-  pub asked : Asked b begun carried
+  pub in_order : InOrder b begun carried
   pub replied : (n : ℕ) (reply : List ℕ) → slice_get taken n ≡ Some reply → IsKeptFor carried n reply
   pub since : IsRun carried floor s.since (length carried)
   pub floor_taken : floor ≤ length taken
@@ -89,7 +89,7 @@ module _ (b : Rules) (numbers : IsNumbering b) where
       let floor_taken = h.floor_taken in let answered = h.answered in let below = h.below in let one_open = h.one_open in
       let g = grows begun (bytes ∷ []) in
       record {
-        asked = λ n k at. (g n _ (h.asked n k at).0, (h.asked n k at).1);
+        in_order = λ n k at. (g n _ (h.in_order n k at).0, (h.in_order n k at).1);
         replied = h.replied;
         since = h.since;
         floor_taken = h.floor_taken;
@@ -105,7 +105,7 @@ module _ (b : Rules) (numbers : IsNumbering b) where
       → Sound b floor begun carried taken s (frames ++ record { request = length taken; idles = s.idles; content = Ask bytes } ∷ [])
   sound_again floor begun carried taken s frames bytes h at =
       record {
-        asked = h.asked;
+        in_order = h.in_order;
         replied = h.replied;
         since = h.since;
         floor_taken = h.floor_taken;
@@ -121,7 +121,7 @@ module _ (b : Rules) (numbers : IsNumbering b) where
       → Sound b floor begun carried taken s (frames ++ record { request = n; idles = s.idles; content = Reply (b.number_of n) reply } ∷ [])
   sound_reply floor begun carried taken s frames n reply h above fits =
       record {
-        asked = h.asked;
+        in_order = h.in_order;
         replied = h.replied;
         since = h.since;
         floor_taken = h.floor_taken;
@@ -142,8 +142,8 @@ module _ (b : Rules) (numbers : IsNumbering b) where
       let answered = h.answered in
       let g = grows carried (k ∷ []) in
       record {
-        asked = λ n x here. elim (one_more carried k n x here) [
-          | inl old ↦ h.asked n x old
+        in_order = λ n x here. elim (one_more carried k n x here) [
+          | inl old ↦ h.in_order n x old
           | inr new ↦ subst (λ (x : Kept). (slice_get begun n ≡ Some x.request.bytes) × (x.request ≡ request_of b n x.request.bytes)) new.1
               (subst (λ (n : ℕ). (slice_get begun n ≡ Some k.request.bytes) × (k.request ≡ request_of b n k.request.bytes)) (sym new.0) (at, is))
         ];
@@ -162,7 +162,7 @@ module _ (b : Rules) (numbers : IsNumbering b) where
   sound_idle floor begun carried taken s frames h closed =
       let answered = h.answered in let below = h.below in
       record {
-        asked = h.asked;
+        in_order = h.in_order;
         replied = h.replied;
         since = refl;
         floor_taken = omega arith;
@@ -182,7 +182,7 @@ module _ (b : Rules) (numbers : IsNumbering b) where
       let same : n ≡ length taken = numbers.one n (length taken) (omega arith) (omega arith) (sym was ∙ is) in
       let more = length_more taken reply in
       record {
-        asked = h.asked;
+        in_order = h.in_order;
         replied = λ m r t. elim (one_more taken reply m r t) [
           | inl old ↦ h.replied m r old
           | inr new ↦ subst (λ (r : List ℕ). IsKeptFor carried m r) new.1 (subst (λ (m : ℕ). IsKeptFor carried m reply) (same ∙ sym new.0) kept)

@@ -29,7 +29,7 @@ pub opening_holds : (b : Rules) (before : List Entry) → EmptyWindow b before �
 opening_holds b before empty = record {
   floor = 0;
   sound = subst (λ (since : List Kept). Sound b 0 [] [] [] (record { since = since; idles = idles_of b.manager before }) []) (sym empty) (record {
-    asked = λ n k e. absurd (none-some k e);
+    in_order = λ n k e. absurd (none-some k e);
     replied = λ n reply e. absurd (none-some reply e);
     since = refl;
     floor_taken = omega arith;
@@ -91,11 +91,11 @@ module _ (b : Rules) (numbers : IsNumbering b) where
       let busy = is_busy b.manager s.log in
       elim (cases_lt n (length s.carried)) [
         | inl before ↦
-            let r = repeats b numbers s.begun s.carried h.sound.asked window.since [] h.floor (length s.carried) n bytes h.sound.since above before (omega arith) at refl in
+            let r = repeats b numbers s.begun s.carried h.sound.in_order window.since [] h.floor (length s.carried) n bytes h.sound.since above before (omega arith) at refl in
             subst (λ (o : Option (List ℕ)). Holds b (heard s n k (outcome_of o busy))) (sym r.2)
             (repeat_holds s h n r.0.reply above (record { kept = r.0; at = r.1; replied = refl }))
         | inr after ↦
-            let r = is_new b numbers s.begun s.carried h.sound.asked window.since [] h.floor (length s.carried) n bytes h.sound.since after (λ d from to. absurd (omega arith)) in
+            let r = is_new b numbers s.begun s.carried h.sound.in_order window.since [] h.floor (length s.carried) n bytes h.sound.since after (λ d from to. absurd (omega arith)) in
             subst (λ (o : Option (List ℕ)). Holds b (heard s n k (outcome_of o busy))) (sym r)
             (new_holds s h n bytes answer busy above (omega arith) at)
       ]

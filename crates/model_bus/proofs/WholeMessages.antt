@@ -24,7 +24,7 @@ honest_rest b (e ∷ es) later s honest = honest_rest b es later (happens b s e)
 
 pub at_most_once_from : (b : Rules) (before : List Entry) (s : BusState) → Holds b s → LogShows b before s → AtMostOnce b before s
 at_most_once_from b before s h shows = record {
-  asked = h.sound.asked;
+  in_order = h.sound.in_order;
   replied = λ n reply e. let r = h.sound.replied n reply e in (r.kept, r.at, r.replied);
   answered = h.sound.answered;
   carried = h.sound.below;

@@ -40,7 +40,7 @@ abbrev pub takes : List Sent → Sent → Step × List Sent
 takes [] sent = if sent.packet.first then joined [] sent else (Drops, [])
 takes (sent ∷ sents) sending = if sending.packet.first then joined [] sending else joined (sent ∷ sents) sending
 
--- the packets that this one is joined to, if it is taken
+-- the packets that a packet is joined to, if the packet is taken
 abbrev pub waiting : List Sent → Sent → List Sent
 waiting taken sent = if sent.packet.first then [] else taken
 

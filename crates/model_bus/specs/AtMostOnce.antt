@@ -9,7 +9,7 @@ use Rattle.model_bus.specs.Start.{NothingUnderWay, EmptyWindow}
 -- what holds of the bus in this state, over a port that did this before
 pub record AtMostOnce (rules : Rules) (before : List Entry) (state : BusState) : Type 0 where
   -- the n-th request that was carried out is the n-th that was begun
-  pub asked : (number : ℕ) (entry : Kept) → slice_get state.carried number ≡ Some entry → (slice_get state.begun number ≡ Some entry.request.bytes) × (entry.request ≡ request_of rules number entry.request.bytes)
+  pub in_order : (number : ℕ) (entry : Kept) → slice_get state.carried number ≡ Some entry → (slice_get state.begun number ≡ Some entry.request.bytes) × (entry.request ≡ request_of rules number entry.request.bytes)
   -- the n-th reply that the manager took is the reply that the port keeps for the n-th request
   pub replied : (number : ℕ) (reply : List ℕ) → slice_get state.taken number ≡ Some reply → (entry : Kept) × (slice_get state.carried number ≡ Some entry) × (entry.reply ≡ reply)
   -- a request whose reply was taken was carried out

@@ -40,7 +40,7 @@ pub data Event : Type 0 where
   OtherReplies : (source number : ℕ) (reply : List ℕ) → Event
   -- the port forgets a requester's window
   IsIdle : (requester : ℕ) → Event
-  -- Another manager takes the place of this one, under the same address. Its requests go on from the number that comes
+  -- Another manager takes the manager's place, under the same address. Its requests go on from the number that comes
   -- next, and it knows nothing else of the bus.
   Resumes : Event
 
@@ -72,8 +72,8 @@ sends_again rules (Some bytes) state = sent rules (length state.taken) (Ask byte
 -- the port hears a request of the manager, and its reply is sent
 abbrev pub hears : Rules → ℕ → Kept → BusState → BusState
 hears rules place kept state =
-    let o = outcome rules.is_above kept.request state.log in
-    sent rules place (Reply kept.request.number (reply_after o kept)) (record state { carried = carried_after o kept state.carried; log = log_after o kept state.log })
+    let done = outcome rules.is_above kept.request state.log in
+    sent rules place (Reply kept.request.number (reply_after done kept)) (record state { carried = carried_after done kept state.carried; log = log_after done kept state.log })
 
 -- content of the request of this place comes to the port, which ignores replies
 abbrev pub comes : Rules → List ℕ → ℕ → Content → BusState → BusState

@@ -46,16 +46,16 @@ pub record IsIpmbReply (code : ℕ) (request reply : List ℕ) : Type 0 where
   pub header : IpmbHeader
   pub is_header : IsIpmbHeader header
   pub number : ℕ
-  pub asked : List ℕ
+  pub request_body : List ℕ
   pub body : List ℕ
-  pub request_spelled : request ≡ ipmb_request header number asked
+  pub request_spelled : request ≡ ipmb_request header number request_body
   pub reply_spelled : reply ≡ ipmb_reply header number code body
 
 -- The manager's test on the open request's bytes and a reply's: the next netFn, the same rqSeq, the same command, and a code
 -- that isn't one of a busy port. It doesn't look at LUNs.
 abbrev pub ipmb_answers : List ℕ → List ℕ → Bool
-ipmb_answers (asked_fn ∷ asked_number ∷ asked_command ∷ asked) (net_fn ∷ number ∷ command ∷ code ∷ body) =
-    ((net_fn / 4 == asked_fn / 4 + 1) && (number / 4 == asked_number / 4)) && ((command == asked_command) && not (is_busy_code code))
+ipmb_answers (opened_fn ∷ opened_number ∷ opened_command ∷ opened) (net_fn ∷ number ∷ command ∷ code ∷ body) =
+    ((net_fn / 4 == opened_fn / 4 + 1) && (number / 4 == opened_number / 4)) && ((command == opened_command) && not (is_busy_code code))
 ipmb_answers _ _ = false
 
 -- ---- PLDM, from the message's type byte, 01h
@@ -93,16 +93,16 @@ pub record IsPldmReply (code : ℕ) (request reply : List ℕ) : Type 0 where
   pub header : PldmHeader
   pub number : ℕ
   pub instance : number < instances
-  pub asked : List ℕ
+  pub request_body : List ℕ
   pub body : List ℕ
-  pub request_spelled : request ≡ pldm_request header number asked
+  pub request_spelled : request ≡ pldm_request header number request_body
   pub reply_spelled : reply ≡ pldm_reply header number code body
 
 -- the manager's test: type 01h, request and datagram bit clear, and the same instance, PLDM type and command, and a code that
 -- isn't one of a busy port
 abbrev pub pldm_answers : List ℕ → List ℕ → Bool
-pldm_answers (asked_kind ∷ asked_flags ∷ asked_type ∷ asked_command ∷ asked) (kind ∷ flags ∷ pldm_type ∷ command ∷ code ∷ body) =
-    (((kind == pldm_message_type) && (flags / 64 == 0)) && (flags % instances == asked_flags % instances)) && (((pldm_type == asked_type) && (command == asked_command)) && not (is_busy_code code))
+pldm_answers (opened_kind ∷ opened_flags ∷ opened_type ∷ opened_command ∷ opened) (kind ∷ flags ∷ pldm_type ∷ command ∷ code ∷ body) =
+    (((kind == pldm_message_type) && (flags / 64 == 0)) && (flags % instances == opened_flags % instances)) && (((pldm_type == opened_type) && (command == opened_command)) && not (is_busy_code code))
 pldm_answers _ _ = false
 
 -- The request that a whole message to the port is: with its instance, and the ignored bit 0. None where the message is of another

@@ -3,7 +3,7 @@ use Rattle.std.specs.Prelude.{ℕ, Bool, true, false, ◌==◌, nat_le, not, ◌
 use Rattle.std.specs.List.{list_all, list_any}
 use Rattle.model_bus.specs.Request.{Request, Kept, Entry, Carried, Idled, is_same, carried_since}
 
--- The reply of the carried request that this one repeats: the same request, above whose number stands each number that
+-- The reply of the carried request that the request repeats: the same request, above whose number stands each number that
 -- was carried between. The carried ones stand newest first; `newer` are the numbers carried between.
 abbrev pub kept_for : (ℕ → ℕ → Bool) → Request → List ℕ → List Kept → Option (List ℕ)
 kept_for is_above request newer [] = None
@@ -15,8 +15,8 @@ kept_for is_above request newer (kept ∷ kepts) =
 -- the requesters that had something carried out since their last idle, each once
 abbrev pub requesters : List Entry → List ℕ
 requesters [] = []
-requesters (Carried kept ∷ log) = if list_any (λ q. q == kept.request.requester) (requesters log) then requesters log else kept.request.requester ∷ requesters log
-requesters (Idled requester ∷ log) = filter (λ q. not (q == requester)) (requesters log)
+requesters (Carried kept ∷ log) = if list_any (λ other. other == kept.request.requester) (requesters log) then requesters log else kept.request.requester ∷ requesters log
+requesters (Idled requester ∷ log) = filter (λ other. not (other == requester)) (requesters log)
 
 -- how many requesters have a window at once
 abbrev pub most_windows : ℕ
@@ -24,7 +24,7 @@ most_windows = 8
 
 -- a requester has no window among these, and they are eight or more
 abbrev pub has_no_slot : ℕ → List ℕ → Bool
-has_no_slot requester slots = not (list_any (λ p. p == requester) slots) && nat_le most_windows (length slots)
+has_no_slot requester slots = not (list_any (λ other. other == requester) slots) && nat_le most_windows (length slots)
 
 -- a ninth window would be needed
 abbrev pub is_busy : ℕ → List Entry → Bool
@@ -32,7 +32,7 @@ is_busy requester log = has_no_slot requester (requesters log)
 
 -- what a port does with a request
 pub data Outcome : Type 0 where
-  -- it gives the reply kept for the request that this one repeats
+  -- it gives the reply that is kept for the repeated request
   Repeats : (reply : List ℕ) → Outcome
   -- it answers that it is busy, and changes nothing
   IsBusy : Outcome

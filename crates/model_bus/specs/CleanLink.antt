@@ -14,11 +14,11 @@ use Rattle.model_bus.specs.PacketSchedule.{JoinRule, AllPacketHonest}
 -- what becomes of the open request's frames
 pub record GoesThrough (rules : Rules) (state : BusState) : Type 0 where
   -- where it isn't carried out yet, and the controller isn't busy, any frame of it that comes is carried out
-  pub carried : (which : ℕ) (f : Frame) (bytes : List ℕ) → slice_get state.frames which ≡ Some f → f.request ≡ length state.taken → f.content ≡ Ask bytes
-      → slice_get state.carried (length state.taken) ≡ None → is_busy rules.manager state.log ≡ false → carried_now rules (Some f) state ≡ Some bytes
+  pub carried : (which : ℕ) (frame : Frame) (bytes : List ℕ) → slice_get state.frames which ≡ Some frame → frame.request ≡ length state.taken → frame.content ≡ Ask bytes
+      → slice_get state.carried (length state.taken) ≡ None → is_busy rules.manager state.log ≡ false → carried_now rules (Some frame) state ≡ Some bytes
   -- any frame with a reply to it holds the one that is kept, and where it comes, that is taken
-  pub answered : (which : ℕ) (f : Frame) (number : ℕ) (reply : List ℕ) → slice_get state.frames which ≡ Some f → f.request ≡ length state.taken → f.content ≡ Reply number (Some reply)
-      → is_open state ≡ true → IsKeptFor state.carried (length state.taken) reply × (taken_now rules (Some f) state ≡ Some reply)
+  pub answered : (which : ℕ) (frame : Frame) (number : ℕ) (reply : List ℕ) → slice_get state.frames which ≡ Some frame → frame.request ≡ length state.taken → frame.content ≡ Reply number (Some reply)
+      → is_open state ≡ true → IsKeptFor state.carried (length state.taken) reply × (taken_now rules (Some frame) state ≡ Some reply)
 
 -- so it is at every event of every honest schedule from a start
 abbrev pub OpenGoesThrough : Rules → Type 0
@@ -33,7 +33,7 @@ OpenGoesThroughInPackets rule = (bus : PacketBus) → IsCutting bus.split → (s
 
 -- packets as they are sent in a frame of this request
 abbrev pub sent_in : ℕ → ℕ → List Packet → List Sent
-sent_in request idles ps = map (λ (p : Packet). record { request = request; idles = idles; packet = p }) ps
+sent_in request idles ps = map (λ (packet : Packet). record { request = request; idles = idles; packet = packet }) ps
 
 -- packets that come one after another to what was taken: each waits, but the last, which completes these
 abbrev pub Completes : List Sent → List Sent → List Sent → Type 0

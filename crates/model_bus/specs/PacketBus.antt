@@ -48,7 +48,7 @@ pub data PacketEvent : Type 0 where
   Closes : (name : Name) → PacketEvent
   -- the manager drops what waits at it, as where it begins to undo
   Clears : PacketEvent
-  -- another manager takes the place of this one, at which nothing waits
+  -- another manager, at which nothing waits, takes the manager's place
   PacketResumes : PacketEvent
 
 -- the assemblies with one of them changed
@@ -83,8 +83,8 @@ hears_other rules answer (Some request) state = happens rules state (OtherAsks r
 abbrev pub port_takes : PacketBus → List ℕ → ℕ → ℕ → Option Packet → Ends → Ends
 port_takes bus answer request idles None ends = ends
 port_takes bus answer request idles (Some packet) ends =
-    let r = takes (ends.port (request_name bus request)) (record { request = request; idles = idles; packet = packet }) in
-    record ends { bus = whole_comes (rules_of bus) answer request r.0 ends.bus; port = set_at (request_name bus request) r.1 ends.port }
+    let taken = takes (ends.port (request_name bus request)) (record { request = request; idles = idles; packet = packet }) in
+    record ends { bus = whole_comes (rules_of bus) answer request taken.0 ends.bus; port = set_at (request_name bus request) taken.1 ends.port }
 
 -- the manager looks only at packets under the open request's tag
 abbrev pub is_awaited : PacketBus → ℕ → BusState → Bool
@@ -94,14 +94,14 @@ is_awaited bus request state = is_open state && (tag_of bus.first request == tag
 abbrev pub manager_takes : PacketBus → ℕ → ℕ → ℕ → Option Packet → Ends → Ends
 manager_takes bus number request idles None ends = ends
 manager_takes bus number request idles (Some packet) ends =
-    let r = takes (ends.manager (reply_name bus request)) (record { request = request; idles = idles; packet = packet }) in
-    record ends { bus = whole_returns (rules_of bus) number r.0 ends.bus; manager = set_at (reply_name bus request) r.1 ends.manager }
+    let taken = takes (ends.manager (reply_name bus request)) (record { request = request; idles = idles; packet = packet }) in
+    record ends { bus = whole_returns (rules_of bus) number taken.0 ends.bus; manager = set_at (reply_name bus request) taken.1 ends.manager }
 
 -- the port takes a packet of another requester
 abbrev pub other_takes : PacketBus → Name → Packet → List ℕ → Ends → Ends
 other_takes bus name packet answer ends =
-    let r = takes (ends.port name) (record { request = 0; idles = 0; packet = packet }) in
-    record ends { bus = hears_other (rules_of bus) answer (other_request name r.0) ends.bus; port = set_at name r.1 ends.port }
+    let taken = takes (ends.port name) (record { request = 0; idles = 0; packet = packet }) in
+    record ends { bus = hears_other (rules_of bus) answer (other_request name taken.0) ends.bus; port = set_at name taken.1 ends.port }
 
 -- the manager takes a packet of another only under the open request's reply's name
 abbrev pub other_returns : PacketBus → Name → Packet → ℕ → Ends → Ends

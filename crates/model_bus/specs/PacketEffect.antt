@@ -99,10 +99,10 @@ abbrev pub OthersAsk : Type 0
 OthersAsk = (bus : PacketBus) (ends : Ends) (name : Name) (packet : Packet) (answer : List ℕ)
     → let new = (packet_happens bus ends (OtherPacket name packet answer)).bus in
     MatchOption (other_request name (takes (ends.port name) (record { request = 0; idles = 0; packet = packet })).0) (new ≡ ends.bus)
-    (λ r. (r.requester ≡ name.source) × (new ≡ happens (rules_of bus) ends.bus (OtherAsks r answer)))
+    (λ heard. (heard.requester ≡ name.source) × (new ≡ happens (rules_of bus) ends.bus (OtherAsks heard answer)))
 
 -- of every event of every honest schedule of packets, by the rule, from a start
 abbrev pub EventsHavePacketEffects : JoinRule → Type 0
-EventsHavePacketEffects rule = (bus : PacketBus) → IsCutting bus.split → (start : Ends) (events : List PacketEvent) (e : PacketEvent)
+EventsHavePacketEffects rule = (bus : PacketBus) → IsCutting bus.split → (start : Ends) (events : List PacketEvent) (event : PacketEvent)
     → NothingUnderWay start.bus → NothingWaits bus start → EmptyWindow (rules_of bus) start.bus.log
-    → AllPacketHonest rule bus (events ++ e ∷ []) start → HasPacketEffect bus (packet_run bus events start) e
+    → AllPacketHonest rule bus (events ++ event ∷ []) start → HasPacketEffect bus (packet_run bus events start) event

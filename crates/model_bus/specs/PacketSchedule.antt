@@ -53,7 +53,7 @@ IsPlain _ = Unit {0}
 abbrev pub IsPacketHonest : JoinRule → PacketBus → Ends → PacketEvent → Type 0
 IsPacketHonest rule bus ends (Plain event) = IsPlain event × IsHonest (rules_of bus) ends.bus event
 IsPacketHonest rule bus ends (PacketReachesPort which place answer) =
-    IfSome (slice_get ends.bus.frames which) (λ f. IsLive (rules_of bus) ends.bus f × JoinsAtPort rule bus ends place f.request f.idles f.content)
+    IfSome (slice_get ends.bus.frames which) (λ frame. IsLive (rules_of bus) ends.bus frame × JoinsAtPort rule bus ends place frame.request frame.idles frame.content)
 IsPacketHonest rule bus ends (PacketReachesManager which place) =
     IfSome (slice_get ends.bus.frames which) (IsLive (rules_of bus) ends.bus)
 IsPacketHonest rule bus ends (OtherPacket name packet answer) = name.source ≢ bus.manager

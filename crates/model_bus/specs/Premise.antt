@@ -7,8 +7,8 @@ use Rattle.model_bus.specs.Example.{rounds}
 -- so many requests are begun, carried out and taken in the end
 abbrev pub Counts : Rules → List Event → ℕ → ℕ → ℕ → Type 0
 Counts rules events begun carried taken =
-    let s = run rules events (opening []) in
-    (length s.begun ≡ begun) × (length s.carried ≡ carried) × (length s.taken ≡ taken)
+    let state = run rules events (opening []) in
+    (length state.begun ≡ begun) × (length state.carried ≡ carried) × (length state.taken ≡ taken)
 
 -- a copy of request 0 comes after 32 newer requests
 abbrev pub too_old : List Event
@@ -37,5 +37,5 @@ resumed_while_open =
 abbrev pub InUseAtStart : Rules → Type 0
 InUseAtStart rules =
     let asked : List Event = OtherAsks (record { requester = 44; number = 0; bytes = 7 ∷ [] }) (9 ∷ []) ∷ [] in
-    let s = run rules (Begins (7 ∷ []) ∷ ReachesPort 0 (1 ∷ []) ∷ ReachesManager 1 ∷ []) (opening (run rules asked (opening [])).log) in
-    (length s.carried ≡ 0) × (s.taken ≡ (9 ∷ []) ∷ [])
+    let state = run rules (Begins (7 ∷ []) ∷ ReachesPort 0 (1 ∷ []) ∷ ReachesManager 1 ∷ []) (opening (run rules asked (opening [])).log) in
+    (length state.carried ≡ 0) × (state.taken ≡ (9 ∷ []) ∷ [])

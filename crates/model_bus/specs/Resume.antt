@@ -28,8 +28,8 @@ abbrev pub GoesOn : (ℕ → Rules) → Type 0
 GoesOn bus = (first : ℕ) (start : BusState) (events later : List Event) → NothingUnderWay start → EmptyWindow (bus first) start.log
     → AllHonest (bus first) (events ++ Resumes ∷ later) start
     → let old = run (bus first) events start in
-    let s = run (bus first) later old in
-    ActsAs (bus ((bus first).number_of (length old.begun))) (known_since old s) (bus first) s
+    let later_state = run (bus first) later old in
+    ActsAs (bus ((bus first).number_of (length old.begun))) (known_since old later_state) (bus first) later_state
 
 -- the tags go on as well, from the instance that came next
 abbrev pub TagsGoOn : Type 0
@@ -41,9 +41,9 @@ GoesOnInPackets rule = (bus : PacketBus) → IsCutting bus.split → (start : En
     → NothingUnderWay start.bus → NothingWaits bus start → EmptyWindow (rules_of bus) start.bus.log
     → AllPacketHonest rule bus (events ++ PacketResumes ∷ later) start
     → let old = packet_run bus events start in
-    let s = packet_run bus (PacketResumes ∷ later) old in
+    let later_state = packet_run bus (PacketResumes ∷ later) old in
     let own : PacketBus = record bus { first = (rules_of bus).number_of (length old.bus.begun) } in
-    ActsAs (rules_of own) (known_since old.bus s.bus) (rules_of bus) s.bus
+    ActsAs (rules_of own) (known_since old.bus later_state.bus) (rules_of bus) later_state.bus
 
 -- while no request is open nothing waits at the manager, so a resume drops nothing
 abbrev pub NothingWaitsWhereClosed : JoinRule → Type 0

@@ -28,7 +28,7 @@ window_of circle (kept ∷ kepts) = window_after circle kept (window_of circle k
 abbrev pub windows_of : ℕ → List Entry → ℕ → Window
 windows_of circle [] requester = empty_window
 windows_of circle (Carried kept ∷ log) requester = if kept.request.requester == requester then window_after circle kept (windows_of circle log requester) else windows_of circle log requester
-windows_of circle (Idled requester ∷ log) q = if requester == q then empty_window else windows_of circle log q
+windows_of circle (Idled other ∷ log) requester = if other == requester then empty_window else windows_of circle log requester
 
 -- the reply of the row, if the row is this very request's
 abbrev pub reply_in : Request → Option Kept → Option (List ℕ)
@@ -48,4 +48,4 @@ RowsAreTheRule circle = (request : Request) (log : List Entry) → request.numbe
 
 -- a requester's window is what its carried requests since its last idle leave
 abbrev pub WindowsApart : ℕ → Type 0
-WindowsApart circle = (log : List Entry) (q n : ℕ) → windows_of circle log q n ≡ window_of circle (carried_since q log) n
+WindowsApart circle = (log : List Entry) (requester number : ℕ) → windows_of circle log requester number ≡ window_of circle (carried_since requester log) number

@@ -9,7 +9,7 @@ use Rattle.record_base.specs.declared.message.Asked.TheVariants.{Ipmi, Pldm}
 use Rattle.record_base.specs.declared.message.Answered.{Answered}
 use Rattle.model_bus.specs.Bytes.{ipmb_answers, pldm_answers}
 use Rattle.model_bus.specs.Answered.{Answered as UndoAnswered}
-use Rattle.model_claim.specs.Manager.{told_in, read_in}
+use Rattle.model_claim.specs.Manager.{answer_in, read_in}
 use Rattle.model_claim.specs.Seen.{words_of}
 
 -- the code is one of a busy port
@@ -38,7 +38,7 @@ module _ {X : Type 0} (taken : UndoAnswered → X) (ignored : X) where
   pub responses_alike : (n from net_fn lun command : ℕ) (body : List ℕ) (r : Response) → lun < 4 → r.header.requester.lun < 4 → r.header.responder.lun < 4
       → cond (ipmb_answers ((4 * net_fn + lun) ∷ (4 * (n % 64) + 0) ∷ command ∷ body) (packed (r.header.net_fn + 1) r.header.requester.lun ∷ packed r.header.sequence r.header.responder.lun ∷ r.header.command ∷ r.code ∷ r.body))
       (taken (record { code = r.code; body = r.body })) ignored
-      ≡ of_answer (told_in n (Ipmi from net_fn lun command body) r)
+      ≡ of_answer (answer_in n (Ipmi from net_fn lun command body) r)
   responses_alike n from net_fn lun command body r low one two =
       let a : Answered = record { code = r.code; body = r.body } in
       let asked : (4 * net_fn + lun) / 4 ≡ net_fn = omega (arith, low) in

@@ -275,7 +275,7 @@ module _ (setup : BoardFile) (names : Names) (plan : List Op) (retries : ℕ) wh
         from_manager = is.from_manager;
         asks = is.asks;
         carried = is.carried;
-        answered = sym (has_one_answer setup x.board is.heard.asked (board_of a) (step (ours setup) names x s.here).board
+        gives = sym (has_one_answer setup x.board is.heard.asked (board_of a) (step (ours setup) names x s.here).board
             (subst (λ (q : Asked). Row setup x.board q (board_of a) (step (ours setup) names x s.here).board) (sym is.asks) is.row));
       }
 

@@ -23,7 +23,7 @@ use Rattle.model_lab.specs.Lab as lab
 use Rattle.model_headline.specs.Each.{Each}
 use Rattle.model_headline.proofs.Each.{each_at, each_append, each_map}
 use Rattle.model_claim.specs.Frames.{Value, Asks, Tells, Part, circle, envelope, packets_of, is_meant, is_taken, waits_after, whole}
-use Rattle.model_claim.specs.Manager.{Call, Start, Quiet, Stop, Again, Undo, Task, Gets, Sets, Undoes, Phase, Fresh, Open, Done, Halted, Undone, UndoRefused, Manager, Turn, rests, called, bus_of, series_of, next_after, asked_for, open_in, frames_of, carried_out, refused, told, told_in, is_part, read_in}
+use Rattle.model_claim.specs.Manager.{Call, Start, Quiet, Stop, Again, Undo, Task, Gets, Sets, Undoes, Phase, Fresh, Open, Done, Halted, Undone, UndoRefused, Manager, Turn, rests, called, bus_of, series_of, next_after, asked_for, open_in, frames_of, carried_out, refused, answered_by, answer_in, is_part, read_in}
 use Rattle.model_claim.specs.Manager as the_manager
 use Rattle.model_claim.specs.Lab.{Deed, stays, hears, hears_packets, Way, ToPort, ToManager, ToOthers, Frame, Event, Calls, ToBmc, ToMgr, OtherIpmb, OtherSmbus, Noise, Idles, OnBench, Lab, port_on, idles_on, with_frames, sends, goes_on, port_does, opens, delivered, returned, hears_all, step}
 use Rattle.model_claim.specs.Claim.{ours, IsDelivered, IsHonest}
@@ -98,7 +98,7 @@ refused_orderly (Gets k op) code m h = h
 refused_orderly (Sets k op back) code m h = h
 refused_orderly (Undoes back rest) code m h = h
 
-told_orderly : (names : Names) (task : Task) (bodies : List (List ℕ)) (o : Option Answered) (m : Manager) → IsOrderly m.waits → IsOrderly (told names task bodies o m).manager.waits
+told_orderly : (names : Names) (task : Task) (bodies : List (List ℕ)) (o : Option Answered) (m : Manager) → IsOrderly m.waits → IsOrderly (answered_by names task bodies o m).manager.waits
 told_orderly names task bodies None m h = h
 told_orderly names task bodies (Some a) m h =
     let next : Manager = record m { answered = the_manager.one_more (bus_of (asked_for names task bodies)) m.answered } in
@@ -111,7 +111,7 @@ hears_orderly : (names : Names) (v : Value) (phase : Phase) (m : Manager) → Is
 hears_orderly names (Asks r) phase m h = h
 hears_orderly names (Tells r) Fresh m h = h
 hears_orderly names (Tells r) (Open true task bodies) m h =
-    picks ((r.header.requester.address == names.own_address && r.header.responder.address == names.peer_address)) (told names task bodies (told_in (m.answered Ipmb) (asked_for names task bodies) r) m) (rests m) (told_orderly names task bodies (told_in (m.answered Ipmb) (asked_for names task bodies) r) m h) h
+    picks ((r.header.requester.address == names.own_address && r.header.responder.address == names.peer_address)) (answered_by names task bodies (answer_in (m.answered Ipmb) (asked_for names task bodies) r) m) (rests m) (told_orderly names task bodies (answer_in (m.answered Ipmb) (asked_for names task bodies) r) m h) h
 hears_orderly names (Tells r) (Open false task bodies) m h = h
 hears_orderly names (Tells r) Done m h = h
 hears_orderly names (Tells r) (Halted k why) m h = h
@@ -122,8 +122,8 @@ hears_orderly names (Part p) (Open true task bodies) m h =
     let next : Manager = record m { waits = waits_after names.own_eid p m.waits } in
     let message = read_in (m.answered Smbus) (asked_for names task bodies) (whole p m.waits) in
     let more = (is_kept p m.waits [] h names.own_eid).orderly_then in
-    picks (not (is_part names (m.answered Smbus) (asked_for names task bodies) p)) (rests m) (cond (is_taken names.own_eid p m.waits && p.end) (told names task bodies message next) (rests next)) h
-    (picks (is_taken names.own_eid p m.waits && p.end) (told names task bodies message next) (rests next) (told_orderly names task bodies message next more) more)
+    picks (not (is_part names (m.answered Smbus) (asked_for names task bodies) p)) (rests m) (cond (is_taken names.own_eid p m.waits && p.end) (answered_by names task bodies message next) (rests next)) h
+    (picks (is_taken names.own_eid p m.waits && p.end) (answered_by names task bodies message next) (rests next) (told_orderly names task bodies message next more) more)
 hears_orderly names (Part p) (Open false task bodies) m h = h
 hears_orderly names (Part p) Done m h = h
 hears_orderly names (Part p) (Halted k why) m h = h

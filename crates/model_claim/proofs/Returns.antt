@@ -20,7 +20,7 @@ use Rattle.model_lab.specs.ManagerSteps.{addresses}
 use Rattle.model_lab.specs.ManagerSteps as manager
 use Rattle.model_lab.specs.Lab as lab
 use Rattle.model_claim.specs.Frames.{Value, Asks, Tells, Part, is_taken, waits_after, whole}
-use Rattle.model_claim.specs.Manager.{Task, Gets, Sets, Undoes, Phase, Fresh, Open, Done, Halted, Undone, UndoRefused, Manager, Turn, rests, series_of, next_after, asked_for, told, told_in, is_part, read_in, hears, carried_out, refused}
+use Rattle.model_claim.specs.Manager.{Task, Gets, Sets, Undoes, Phase, Fresh, Open, Done, Halted, Undone, UndoRefused, Manager, Turn, rests, series_of, next_after, asked_for, answered_by, answer_in, is_part, read_in, hears, carried_out, refused}
 use Rattle.model_claim.specs.Lab.{Lab, goes_on}
 use Rattle.model_claim.proofs.Packets.{Agrees, IsKept, is_kept}
 use Rattle.model_claim.proofs.Answers.{is_busy, of_answer, responses_alike, messages_alike}
@@ -93,7 +93,7 @@ module _ (names : Names) (x : Lab) (made : Made) where
         ∙ goes_there (turn_so a) (waits_so a)
 
     -- what comes of an answer
-    pub answer_told : (o : Option Answered) → of_answer taken (manager.rests (seen_plans names) there) o ≡ seen_deed names made_then (told names task bodies o opened)
+    pub answer_told : (o : Option Answered) → of_answer taken (manager.rests (seen_plans names) there) o ≡ seen_deed names made_then (answered_by names task bodies o opened)
     answer_told None = refl
     answer_told (Some a) = answer_so a (is_busy a.code) refl
 
@@ -108,7 +108,7 @@ module _ (names : Names) (x : Lab) (made : Made) where
     LowAsked (Pldm from kind command body) = Unit {0}
 
     by_response : (r : Response) → IsLow names r.header → (asked : Asked) → LowAsked asked
-        → manager.tested (seen_plans names) Ipmb (response_bytes r) there (heeds Ipmb asked) ≡ of_answer taken (manager.rests (seen_plans names) there) (told_in (m.answered Ipmb) asked r)
+        → manager.tested (seen_plans names) Ipmb (response_bytes r) there (heeds Ipmb asked) ≡ of_answer taken (manager.rests (seen_plans names) there) (answer_in (m.answered Ipmb) asked r)
     by_response r low (Ipmi from net_fn lun command body) lun_low =
         responses_alike taken (manager.rests (seen_plans names) there) (m.answered Ipmb) from net_fn lun command body r lun_low low.requester low.responder
     by_response r low (Pldm from kind command body) lun_low = refl
@@ -120,15 +120,15 @@ module _ (names : Names) (x : Lab) (made : Made) where
     task_low : (task : Task) → LowAsked (asked_for names task bodies)
     task_low task = managers_low (asked_for names task bodies) (managers (addresses names) (asked_for names task bodies) (task_made names task bodies))
 
-    pub response_told : (r : Response) → IsLow names r.header → manager.hears_reply (seen_plans names) Ipmb (response_bytes r) there ≡ seen_deed names made_then (told names task bodies (told_in (m.answered Ipmb) (asked_for names task bodies) r) opened)
-    response_told r low = by_response r low (asked_for names task bodies) (task_low task) ∙ answer_told (told_in (m.answered Ipmb) (asked_for names task bodies) r)
+    pub response_told : (r : Response) → IsLow names r.header → manager.hears_reply (seen_plans names) Ipmb (response_bytes r) there ≡ seen_deed names made_then (answered_by names task bodies (answer_in (m.answered Ipmb) (asked_for names task bodies) r) opened)
+    response_told r low = by_response r low (asked_for names task bodies) (task_low task) ∙ answer_told (answer_in (m.answered Ipmb) (asked_for names task bodies) r)
 
     by_message : (reply : List ℕ) (asked : Asked)
         → manager.tested (seen_plans names) Smbus reply there (heeds Smbus asked) ≡ of_answer taken (manager.rests (seen_plans names) there) (read_in (m.answered Smbus) asked reply)
     by_message reply (Ipmi from net_fn lun command body) = refl
     by_message reply (Pldm from kind command body) = messages_alike taken (manager.rests (seen_plans names) there) (m.answered Smbus) from kind command body reply
 
-    pub message_told : (reply : List ℕ) → manager.hears_reply (seen_plans names) Smbus reply there ≡ seen_deed names made_then (told names task bodies (read_in (m.answered Smbus) (asked_for names task bodies) reply) opened)
+    pub message_told : (reply : List ℕ) → manager.hears_reply (seen_plans names) Smbus reply there ≡ seen_deed names made_then (answered_by names task bodies (read_in (m.answered Smbus) (asked_for names task bodies) reply) opened)
     message_told reply = by_message reply (asked_for names task bodies) ∙ answer_told (read_in (m.answered Smbus) (asked_for names task bodies) reply)
 
   -- ---- packets
@@ -149,7 +149,7 @@ module _ (names : Names) (x : Lab) (made : Made) where
 
     -- the turn that the packet makes
     abbrev turn_then : Bool → Turn
-    turn_then ends = cond ends (told names task bodies (read_in (m.answered Smbus) (asked_for names task bodies) (whole p m.waits)) (opened task bodies joined_manager kept.made_then)) (rests (opened task bodies joined_manager kept.made_then))
+    turn_then ends = cond ends (answered_by names task bodies (read_in (m.answered Smbus) (asked_for names task bodies) (whole p m.waits)) (opened task bodies joined_manager kept.made_then)) (rests (opened task bodies joined_manager kept.made_then))
 
     message_is : (ends : Bool) → p.end ≡ ends → is_taken names.own_eid p m.waits ≡ true
         → cond ends (manager.hears_reply (seen_plans names) Smbus (cond p.start p.payload kept.made_then) with_it) (manager.rests (seen_plans names) with_it) ≡ seen_deed names kept.made_then (turn_then ends)
@@ -207,8 +207,8 @@ module _ (names : Names) (x : Lab) (made : Made) where
     unfolding manager.hears_response
     response_comes r task bodies low = at ((r.header.requester.address == names.own_address && r.header.responder.address == names.peer_address))
       where
-        at : (b : Bool) → Lands (cond b (manager.hears_reply (seen_plans names) Ipmb (response_bytes r) (there task bodies m made.manager)) (manager.rests (seen_plans names) (there task bodies m made.manager))) (cond b (told names task bodies (told_in (m.answered Ipmb) (asked_for names task bodies) r) (opened task bodies m made.manager)) (rests (opened task bodies m made.manager)))
-        at true = lands (manager.hears_reply (seen_plans names) Ipmb (response_bytes r) (there task bodies m made.manager)) (told names task bodies (told_in (m.answered Ipmb) (asked_for names task bodies) r) (opened task bodies m made.manager)) made.manager (response_told task bodies m made.manager r low)
+        at : (b : Bool) → Lands (cond b (manager.hears_reply (seen_plans names) Ipmb (response_bytes r) (there task bodies m made.manager)) (manager.rests (seen_plans names) (there task bodies m made.manager))) (cond b (answered_by names task bodies (answer_in (m.answered Ipmb) (asked_for names task bodies) r) (opened task bodies m made.manager)) (rests (opened task bodies m made.manager)))
+        at true = lands (manager.hears_reply (seen_plans names) Ipmb (response_bytes r) (there task bodies m made.manager)) (answered_by names task bodies (answer_in (m.answered Ipmb) (asked_for names task bodies) r) (opened task bodies m made.manager)) made.manager (response_told task bodies m made.manager r low)
         at false = lands (manager.rests (seen_plans names) (there task bodies m made.manager)) (rests (opened task bodies m made.manager)) made.manager refl
 
     unheard : (p : Packet) (phase : Phase) → manager.heeded_on (seen_plans names) Smbus (stage_of names phase) ≡ None

@@ -135,7 +135,7 @@ module _ (setup : BoardFile) (names : Names) (plan : List Op) (retries : ℕ) wh
         asks = reads.0 g.from_manager ∙ g.asks;
         replies = refl;
         row = subst (λ (q : Asked). Row setup x.board q (board_of a) y.board) g.asks
-            (subst (λ (given : Given). Row setup x.board g.heard.asked given.0 given.1) g.answered (has_answer setup x.board g.heard.asked));
+            (subst (λ (given : Given). Row setup x.board g.heard.asked given.0 given.1) g.gives (has_answer setup x.board g.heard.asked));
       } in
       record {
         before = map seen_event g.before;

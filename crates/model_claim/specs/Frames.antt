@@ -38,44 +38,44 @@ envelope to from to_eid from_eid owner tag =
 
 -- the packets of bytes from a place on, at most so many: each but the last carries 64 bytes
 abbrev pub packets_from : (most place : ℕ) → Envelope → List ℕ → List Packet
-packets_from zero place e bytes = []
-packets_from (suc most) place e bytes =
-    if nat_le (length bytes) 64 then record { envelope = e; start = place == 0; end = true; sequence = place; payload = bytes } ∷ []
-    else record { envelope = e; start = place == 0; end = false; sequence = place; payload = take 64 bytes } ∷ packets_from most (suc place) e (drop 64 bytes)
+packets_from zero place envelope bytes = []
+packets_from (suc most) place envelope bytes =
+    if nat_le (length bytes) 64 then record { envelope = envelope; start = place == 0; end = true; sequence = place; payload = bytes } ∷ []
+    else record { envelope = envelope; start = place == 0; end = false; sequence = place; payload = take 64 bytes } ∷ packets_from most (suc place) envelope (drop 64 bytes)
 
 -- the packets of a message, at most four; of a longer one none is sent
 abbrev pub packets_of : Envelope → List ℕ → List Packet
-packets_of e bytes = if nat_le (length bytes) 256 then packets_from 4 0 e bytes else []
+packets_of envelope bytes = if nat_le (length bytes) 256 then packets_from 4 0 envelope bytes else []
 
 -- ---- packets put together: those that wait are a list, each assembly's in the order in which they came
 
 -- An assembly has a name: the source, whether that owns the tag, and the tag.
 abbrev pub is_named : Envelope → Packet → Bool
-is_named e p = p.envelope.source_eid == e.source_eid && bit p.envelope.tag_owner == bit e.tag_owner && p.envelope.tag == e.tag
+is_named envelope packet = packet.envelope.source_eid == envelope.source_eid && bit packet.envelope.tag_owner == bit envelope.tag_owner && packet.envelope.tag == envelope.tag
 
 -- the packets of its name that the packet joins: none where it's a start
 abbrev pub joined : Packet → List Packet → List Packet
-joined p waits = if p.start then [] else filter (is_named p.envelope) waits
+joined packet waits = if packet.start then [] else filter (is_named packet.envelope) waits
 
 -- those of other names
 abbrev pub others : Packet → List Packet → List Packet
-others p waits = filter (λ q. not (is_named p.envelope q)) waits
+others packet waits = filter (λ other. not (is_named packet.envelope other)) waits
 
 -- the packet goes to this endpoint, or to whichever has the address
 abbrev pub is_meant : ℕ → Packet → Bool
-is_meant eid p = p.envelope.destination_eid == eid || p.envelope.destination_eid == 0
+is_meant eid packet = packet.envelope.destination_eid == eid || packet.envelope.destination_eid == 0
 
 -- The packet is taken: it's meant for the endpoint, starts or joins others, is the next of at most four, full or the last, and opens no ninth assembly.
 abbrev pub is_taken : ℕ → Packet → List Packet → Bool
-is_taken eid p waits =
-    is_meant eid p && (((p.start || nat_lt 0 (length (joined p waits))) && nat_lt (length (joined p waits)) 4) && (p.sequence == length (joined p waits)
-    && ((p.end || length p.payload == 64) && (not p.start || p.end || nat_lt (length (filter (λ q. q.start) (others p waits))) 8))))
+is_taken eid packet waits =
+    is_meant eid packet && (((packet.start || nat_lt 0 (length (joined packet waits))) && nat_lt (length (joined packet waits)) 4) && (packet.sequence == length (joined packet waits)
+    && ((packet.end || length packet.payload == 64) && (not packet.start || packet.end || nat_lt (length (filter (λ other. other.start) (others packet waits))) 8))))
 
 -- What waits after it. The last packet of a message closes its assembly, and so does one that isn't taken.
 abbrev pub waits_after : ℕ → Packet → List Packet → List Packet
-waits_after eid p waits =
-    if is_meant eid p then others p waits ++ (if is_taken eid p waits && not p.end then joined p waits ++ p ∷ [] else []) else waits
+waits_after eid packet waits =
+    if is_meant eid packet then others packet waits ++ (if is_taken eid packet waits && not packet.end then joined packet waits ++ packet ∷ [] else []) else waits
 
 -- the message that the packet ends
 abbrev pub whole : Packet → List Packet → List ℕ
-whole p waits = flat_map (λ q. q.payload) (joined p waits ++ p ∷ [])
+whole packet waits = flat_map (λ other. other.payload) (joined packet waits ++ packet ∷ [])

@@ -43,25 +43,25 @@ pub record Port : Type 0 where
 abbrev pub is_above : Bus → ℕ → ℕ → Bool
 is_above on low high = let distance = (high + circle on - low) % circle on in nat_lt 0 distance && nat_lt distance (circle on / 2)
 
--- The answer to the request that this one repeats. That has the same requester, number and bytes, and was carried out since the requester was
--- last forgotten; and each number of the requester that was carried out in between (`newer`) is above its number.
+-- The answer to the earlier request that the request repeats. The earlier one has the same requester, number and bytes, and was carried out since the
+-- requester was last forgotten; and each number of the requester that was carried out in between (`newer`) is above the earlier number.
 abbrev pub repeated : Bus → Heard → (newer : List ℕ) → List Entry → Option Answered
-repeated on r newer [] = None
-repeated on r newer (Carried s a ∷ log) =
-    if not (s.requester == r.requester) then repeated on r newer log
-    else if r.number == s.number && bytes_eq r.bytes s.bytes && list_all (is_above on s.number) newer then Some a
-    else repeated on r (s.number ∷ newer) log
-repeated on r newer (Idled q ∷ log) = if q == r.requester then None else repeated on r newer log
+repeated on request newer [] = None
+repeated on request newer (Carried earlier answered ∷ log) =
+    if not (earlier.requester == request.requester) then repeated on request newer log
+    else if request.number == earlier.number && bytes_eq request.bytes earlier.bytes && list_all (is_above on earlier.number) newer then Some answered
+    else repeated on request (earlier.number ∷ newer) log
+repeated on request newer (Idled requester ∷ log) = if requester == request.requester then None else repeated on request newer log
 
 -- the requesters that had something carried out since they were last forgotten, each once
 abbrev pub requesters : List Entry → List ℕ
 requesters [] = []
-requesters (Carried r a ∷ log) = if list_any (λ q. q == r.requester) (requesters log) then requesters log else r.requester ∷ requesters log
-requesters (Idled p ∷ log) = filter (λ q. not (q == p)) (requesters log)
+requesters (Carried request answered ∷ log) = if list_any (λ other. other == request.requester) (requesters log) then requesters log else request.requester ∷ requesters log
+requesters (Idled requester ∷ log) = filter (λ other. not (other == requester)) (requesters log)
 
 -- a requester would be a ninth
 abbrev pub is_ninth : ℕ → List ℕ → Bool
-is_ninth requester known = not (list_any (λ q. q == requester) known) && nat_le 8 (length known)
+is_ninth requester known = not (list_any (λ other. other == requester) known) && nat_le 8 (length known)
 
 -- the code of a busy port
 abbrev pub busy_on : Bus → ℕ
@@ -76,13 +76,13 @@ pub record Outcome : Type 0 where
 
 -- A repeat gets the answer that was given. Who would be a ninth is told that the port is busy. Any other request is carried out.
 abbrev pub turn_where : Option Answered → (ninth : Bool) → Bus → Heard → Controller → List Entry → State → Outcome
-turn_where (Some a) ninth on r c log before = record { log = log; board = before; answer = a }
-turn_where None true on r c log before = record { log = log; board = before; answer = record { code = busy_on on; body = [] } }
-turn_where None false on r c log before =
-    let given = c.answer before r.asked in record { log = Carried r given.0 ∷ log; board = given.1; answer = given.0 }
+turn_where (Some answered) ninth on request controller log before = record { log = log; board = before; answer = answered }
+turn_where None true on request controller log before = record { log = log; board = before; answer = record { code = busy_on on; body = [] } }
+turn_where None false on request controller log before =
+    let given = controller.answer before request.asked in record { log = Carried request given.0 ∷ log; board = given.1; answer = given.0 }
 
 unfoldable pub turn : Bus → Heard → Controller → List Entry → State → Outcome
-turn on r c log before = turn_where (repeated on r [] log) (is_ninth r.requester (requesters log)) on r c log before
+turn on request controller log before = turn_where (repeated on request [] log) (is_ninth request.requester (requesters log)) on request controller log before
 
 -- the port and the board after something came, and what is sent
 pub record Deed : Type 0 where
@@ -96,63 +96,64 @@ stays port before = record { port = port; board = before; sent = [] }
 
 -- a request on IPMB
 abbrev pub heard_in : Request → Heard
-heard_in r =
-    let asked = Ipmi r.header.requester.address r.header.net_fn r.header.responder.lun r.header.command r.body in
-    record { requester = r.header.requester.address; number = r.header.sequence; bytes = request_bytes r; asked = asked }
+heard_in request =
+    let asked = Ipmi request.header.requester.address request.header.net_fn request.header.responder.lun request.header.command request.body in
+    record { requester = request.header.requester.address; number = request.header.sequence; bytes = request_bytes request; asked = asked }
 
 abbrev pub hears_request : Controller → Port → State → Request → Deed
-hears_request c port before r =
-    let t = turn Ipmb (heard_in r) c port.log before in
-    record { port = record port { log = t.log }; board = t.board; sent = Tells (record { header = r.header; code = t.answer.code; body = t.answer.body }) ∷ [] }
+hears_request controller port before request =
+    let outcome = turn Ipmb (heard_in request) controller port.log before in
+    record { port = record port { log = outcome.log }; board = outcome.board; sent = Tells (record { header = request.header; code = outcome.answer.code; body = outcome.answer.body }) ∷ [] }
 
 -- the packets of the reply to a message
 abbrev pub replies : Port → Envelope → List ℕ → List Value
-replies port e body = map Part (packets_of (envelope e.source port.wire e.source_eid port.eid false e.tag) body)
+replies port asking body = map Part (packets_of (envelope asking.source port.wire asking.source_eid port.eid false asking.tag) body)
 
 -- a control message: the endpoint has this identifier then, from which it replies so
 abbrev pub hears_control : Port → State → Envelope → Option (ℕ × List ℕ) → Deed
-hears_control port before e None = stays port before
-hears_control port before e (Some told) =
-    let next : Port = record port { eid = told.0 } in record { port = next; board = before; sent = replies next e told.1 }
+hears_control port before asking None = stays port before
+hears_control port before asking (Some effect) =
+    let next : Port = record port { eid = effect.0 } in record { port = next; board = before; sent = replies next asking effect.1 }
 
 -- a PLDM request from an endpoint
 abbrev pub pldm_heard : ℕ → PldmRequest → Heard
-pldm_heard from r = record { requester = from; number = r.header.instance; bytes = 1 ∷ pldm_bytes r; asked = Pldm from r.header.pldm_type r.header.command r.body }
+pldm_heard from request =
+    record { requester = from; number = request.header.instance; bytes = 1 ∷ pldm_bytes request; asked = Pldm from request.header.pldm_type request.header.command request.body }
 
 abbrev pub hears_pldm : Controller → Port → State → Envelope → Option PldmRequest → Deed
-hears_pldm c port before e None = stays port before
-hears_pldm c port before e (Some r) =
-    let t = turn Smbus (pldm_heard e.source_eid r) c port.log before in
-    record { port = record port { log = t.log }; board = t.board; sent = replies port e (1 ∷ pldm_reply (record { header = r.header; code = t.answer.code; body = t.answer.body })) }
+hears_pldm controller port before asking None = stays port before
+hears_pldm controller port before asking (Some request) =
+    let outcome = turn Smbus (pldm_heard asking.source_eid request) controller port.log before in
+    let sent = replies port asking (1 ∷ pldm_reply (record { header = request.header; code = outcome.answer.code; body = outcome.answer.body })) in
+    record { port = record port { log = outcome.log }; board = outcome.board; sent = sent }
 
 -- a whole message, by its type: 00h control, 01h PLDM
 abbrev pub hears_typed : Controller → Port → State → Envelope → List ℕ → Deed
-hears_typed c port before e [] = stays port before
-hears_typed c port before e (kind ∷ rest) =
-    if kind == 0 then hears_control port before e (c.control port.eid (kind ∷ rest))
-    else if kind == 1 then hears_pldm c port before e (pldm_in rest)
-    else stays port before
+hears_typed controller port before asking [] = stays port before
+hears_typed controller port before asking (kind ∷ rest) =
+    if kind == 0 then hears_control port before asking (controller.control port.eid (kind ∷ rest))
+    else if kind == 1 then hears_pldm controller port before asking (pldm_in rest) else stays port before
 
 -- a packet; a message whose sender doesn't own its tag is a reply, and nothing to a port
 unfoldable pub hears_packet : Controller → Port → State → Packet → Deed
-hears_packet c port before p =
-    let next : Port = record port { waits = waits_after port.eid p port.waits } in
-    if is_taken port.eid p port.waits && (p.end && p.envelope.tag_owner) then hears_typed c next before p.envelope (whole p port.waits)
+hears_packet controller port before packet =
+    let next : Port = record port { waits = waits_after port.eid packet port.waits } in
+    if is_taken port.eid packet port.waits && (packet.end && packet.envelope.tag_owner) then hears_typed controller next before packet.envelope (whole packet port.waits)
     else stays next before
 
 -- packets, one after another
 abbrev pub hears_packets : Controller → Port → State → List Packet → Deed
-hears_packets c port before [] = stays port before
-hears_packets c port before (p ∷ ps) =
-    let first = hears_packet c port before p in
-    let rest = hears_packets c first.port first.board ps in
+hears_packets controller port before [] = stays port before
+hears_packets controller port before (packet ∷ packets) =
+    let first = hears_packet controller port before packet in
+    let rest = hears_packets controller first.port first.board packets in
     record { port = rest.port; board = rest.board; sent = first.sent ++ rest.sent }
 
 -- any frame, if it goes to the port's address; a response is nothing to it
 abbrev pub hears : Controller → Port → State → Value → Deed
-hears c port before (Asks r) = if r.header.responder.address == port.wire then hears_request c port before r else stays port before
-hears c port before (Tells r) = stays port before
-hears c port before (Part p) = if p.envelope.destination == port.wire then hears_packet c port before p else stays port before
+hears controller port before (Asks request) = if request.header.responder.address == port.wire then hears_request controller port before request else stays port before
+hears controller port before (Tells request) = stays port before
+hears controller port before (Part packet) = if packet.envelope.destination == port.wire then hears_packet controller port before packet else stays port before
 
 -- ---- the lab
 
@@ -195,82 +196,83 @@ pub record Lab : Type 0 where
   pub opened : ℕ → ℕ
 
 abbrev pub port_on : Bus → Lab → Port
-port_on Ipmb x = x.ipmb
-port_on Smbus x = x.smbus
+port_on Ipmb lab = lab.ipmb
+port_on Smbus lab = lab.smbus
 
 abbrev pub with_port : Bus → Port → Lab → Lab
-with_port Ipmb port x = record x { ipmb = port }
-with_port Smbus port x = record x { smbus = port }
+with_port Ipmb port lab = record lab { ipmb = port }
+with_port Smbus port lab = record lab { smbus = port }
 
 -- how often a requester was forgotten
 abbrev pub idles_of : ℕ → List Entry → ℕ
-idles_of q [] = 0
-idles_of q (Carried r a ∷ log) = idles_of q log
-idles_of q (Idled p ∷ log) = if p == q then idles_of q log + 1 else idles_of q log
+idles_of requester [] = 0
+idles_of requester (Carried request answered ∷ log) = idles_of requester log
+idles_of requester (Idled other ∷ log) = if other == requester then idles_of requester log + 1 else idles_of requester log
 
 module _ (names : Names) where
   -- how often the manager was, on a bus
   abbrev pub idles_on : Bus → Lab → ℕ
-  idles_on on x = idles_of (own_on on names) (port_on on x).log
+  idles_on on lab = idles_of (own_on on names) (port_on on lab).log
 
   -- frames are sent
   abbrev pub with_frames : Bus → Way → ℕ → List Value → Lab → Lab
-  with_frames on way request values x =
-      record x { frames = x.frames ++ map (λ v. record { on = on; way = way; request = request; idles = idles_on on x; value = v }) values }
+  with_frames on way request values lab =
+      record lab { frames = lab.frames ++ map (λ value. record { on = on; way = way; request = request; idles = idles_on on lab; value = value }) values }
 
   -- the manager's open request, if there is one, is sent
   abbrev pub sends : Option Asked → Lab → Lab
-  sends None x = x
-  sends (Some asked) x = let n = x.manager.answered (bus_of asked) in with_frames (bus_of asked) ToPort n (frames_of names n asked) x
+  sends None lab = lab
+  sends (Some asked) lab = let number = lab.manager.answered (bus_of asked) in with_frames (bus_of asked) ToPort number (frames_of names number asked) lab
 
   -- the manager went on
   abbrev pub goes_on : Turn → Lab → Lab
-  goes_on t x = let next : Lab = record x { manager = t.manager } in if t.sends then sends (open_in names t.manager.phase) next else next
+  goes_on turn lab =
+      let next : Lab = record lab { manager = turn.manager } in if turn.sends then sends (open_in names turn.manager.phase) next else next
 
   -- what a port did, and the frames that it sent
   abbrev pub port_does : Bus → Way → ℕ → Deed → Lab → Lab
-  port_does on way request d x = with_frames on way request d.sent (with_port on d.port (record x { board = d.board }))
+  port_does on way request deed lab = with_frames on way request deed.sent (with_port on deed.port (record lab { board = deed.board }))
 
 -- a frame of a request comes to the port
 abbrev pub opens : Value → ℕ → Lab → Lab
-opens (Part p) request x =
-    if p.start && is_meant x.smbus.eid p then record x { opened = λ tag. if tag == p.envelope.tag then request else x.opened tag } else x
-opens value request x = x
+opens (Part packet) request lab =
+    if packet.start && is_meant lab.smbus.eid packet then record lab { opened = λ tag. if tag == packet.envelope.tag then request else lab.opened tag } else lab
+opens value request lab = lab
 
-module _ (c : Controller) (names : Names) where
+module _ (controller : Controller) (names : Names) where
   -- a frame comes to the port, or to the manager, if there is such a frame
   abbrev pub delivered : Option Frame → Lab → Lab
-  delivered None x = x
-  delivered (Some f) x = port_does names f.on ToManager f.request (hears c (port_on f.on x) x.board f.value) (opens f.value f.request x)
+  delivered None lab = lab
+  delivered (Some frame) lab = port_does names frame.on ToManager frame.request (hears controller (port_on frame.on lab) lab.board frame.value) (opens frame.value frame.request lab)
 
   abbrev pub returned : Option Frame → Lab → Lab
-  returned None x = x
-  returned (Some f) x = goes_on names (manager_hears names f.value x.manager.phase x.manager) x
+  returned None lab = lab
+  returned (Some frame) lab = goes_on names (manager_hears names frame.value lab.manager.phase lab.manager) lab
 
   -- all packets of a message come, if it goes to the port's address
   abbrev pub hears_all : Message → Port → State → Deed
-  hears_all m port before = if m.envelope.destination == port.wire then hears_packets c port before (packets_of m.envelope m.body) else stays port before
+  hears_all message port before = if message.envelope.destination == port.wire then hears_packets controller port before (packets_of message.envelope message.body) else stays port before
 
   -- the lab after an event
   unfoldable pub step : Lab → Event → Lab
-  step x (Calls call) = goes_on names (called call x.manager.phase x.manager) x
-  step x (ToBmc place) = delivered (slice_get x.frames place) x
-  step x (ToMgr place) = returned (slice_get x.frames place) x
-  step x (OtherIpmb r) = port_does names Ipmb ToOthers 0 (hears c x.ipmb x.board (Asks r)) x
-  step x (OtherSmbus m) = port_does names Smbus ToOthers 0 (hears_all m x.smbus x.board) x
-  step x (Noise on bytes) = x
-  step x (Idles on requester) = with_port on (record (port_on on x) { log = Idled requester ∷ (port_on on x).log }) x
-  step x (OnBench activity) = record x { board = on_bench x.board activity }
+  step lab (Calls call) = goes_on names (called call lab.manager.phase lab.manager) lab
+  step lab (ToBmc place) = delivered (slice_get lab.frames place) lab
+  step lab (ToMgr place) = returned (slice_get lab.frames place) lab
+  step lab (OtherIpmb request) = port_does names Ipmb ToOthers 0 (hears controller lab.ipmb lab.board (Asks request)) lab
+  step lab (OtherSmbus message) = port_does names Smbus ToOthers 0 (hears_all message lab.smbus lab.board) lab
+  step lab (Noise on bytes) = lab
+  step lab (Idles on requester) = with_port on (record (port_on on lab) { log = Idled requester ∷ (port_on on lab).log }) lab
+  step lab (OnBench activity) = record lab { board = on_bench lab.board activity }
 
   -- the lab after events
   unfoldable pub run : List Event → Lab → Lab
-  run [] x = x
-  run (e ∷ es) x = run es (step x e)
+  run [] lab = lab
+  run (event ∷ events) lab = run events (step lab event)
 
   -- a lab as it begins
   abbrev pub opening : List Op → (retries : ℕ) → Lab
   opening plan retries = record {
-    board = c.begins;
+    board = controller.begins;
     ipmb = record { wire = names.peer_address; eid = names.peer_eid; waits = []; log = [] };
     smbus = record { wire = names.peer_wire; eid = names.peer_eid; waits = []; log = [] };
     manager = record { plan = plan; retries = retries; resent = 0; phase = Fresh; stopped = false; undo = []; answered = λ on. 0; waits = [] };

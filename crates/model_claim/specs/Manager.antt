@@ -24,20 +24,20 @@ pub data Why : Type 0 where
 
 -- What a manager is at; steps count from 0. Each task is a series of requests, of which one is sent once the one before it was answered.
 pub data Task : Type 0 where
-  -- it gets the record that step k of the plan changes
-  Gets : (k : ℕ) (op : Op) → Task
-  -- it carries step k out, and keeps what undoes it
-  Sets : (k : ℕ) (op back : Op) → Task
+  -- it gets the record that this step of the plan changes
+  Gets : (step : ℕ) (op : Op) → Task
+  -- it carries this step out, and keeps what undoes it
+  Sets : (step : ℕ) (op back : Op) → Task
   -- it undoes a step by the first operation, and those before it by the rest
   Undoes : (back : Op) (rest : List Op) → Task
 
 -- Where it is with its plan. A task's request is open, after replies with these data to those before it: heeded, or unsettled, since it was
--- sent as often as is allowed, and then no reply is taken. A plan halted after k steps.
+-- sent as often as is allowed, and then no reply is taken. A plan halted after so many steps.
 pub data Phase : Type 0 where
   Fresh Done Undone : Phase
   Open : (heeded : Bool) (task : Task) (bodies : List (List ℕ)) → Phase
-  Halted : (k : ℕ) (why : Why) → Phase
-  UndoRefused : (k code : ℕ) → Phase
+  Halted : (steps : ℕ) (why : Why) → Phase
+  UndoRefused : (steps code : ℕ) → Phase
 
 pub record Manager : Type 0 where
   pub plan : List Op
@@ -72,8 +72,8 @@ by_manager names asked = sent_by (own_on (bus_of asked) names) asked
 
 -- the requests of a task, and the one after replies with these data
 abbrev pub series_of : Task → Series
-series_of (Gets k op) = Reads (key_of op)
-series_of (Sets k op back) = sends op
+series_of (Gets step op) = Reads (key_of op)
+series_of (Sets step op back) = sends op
 series_of (Undoes back rest) = sends back
 
 abbrev pub asked_for : Names → Task → (bodies : List (List ℕ)) → Asked
@@ -86,11 +86,11 @@ open_in names phase = None
 
 -- the frames of the manager's request of this number: one on IPMB, and on SMBus the packets of a message, whose tag is the number's
 abbrev pub frames_of : Names → ℕ → Asked → List Value
-frames_of names n (Ipmi from net_fn lun command body) =
-    Asks (record { header = record { responder = record { address = names.peer_address; lun = lun }; requester = record { address = names.own_address; lun = 0 }; net_fn = net_fn; sequence = n % circle Ipmb; command = command }; body = body }) ∷ []
-frames_of names n (Pldm from kind command body) =
-    map Part (packets_of (envelope names.peer_wire names.own_wire names.peer_eid names.own_eid true (n % tags))
-    (1 ∷ request_bytes (record { header = record { instance = n % circle Smbus; pldm_type = kind; command = command }; body = body })))
+frames_of names number (Ipmi from net_fn lun command body) =
+    Asks (record { header = record { responder = record { address = names.peer_address; lun = lun }; requester = record { address = names.own_address; lun = 0 }; net_fn = net_fn; sequence = number % circle Ipmb; command = command }; body = body }) ∷ []
+frames_of names number (Pldm from kind command body) =
+    map Part (packets_of (envelope names.peer_wire names.own_wire names.peer_eid names.own_eid true (number % 8))
+    (1 ∷ request_bytes (record { header = record { instance = number % circle Smbus; pldm_type = kind; command = command }; body = body })))
 
 -- ---- what becomes of the manager, and whether it sends the frames of its open request then
 
@@ -100,23 +100,23 @@ pub record Turn : Type 0 where
 
 -- a phase is entered, and the request that it opens, if it opens one, is sent
 abbrev pub enters : Phase → Manager → Turn
-enters phase m = record { manager = record m { phase = phase; resent = 0 }; sends = true }
+enters phase manager = record { manager = record manager { phase = phase; resent = 0 }; sends = true }
 
 -- nothing is sent
 abbrev pub rests : Manager → Turn
-rests m = record { manager = m; sends = false }
+rests manager = record { manager = manager; sends = false }
 
 -- the next step's Get, unless the plan ended or is to stop
 abbrev pub next_step : Bool → ℕ → Option Op → Phase
-next_step stopped k None = Done
-next_step true k (Some op) = Halted k Stopped
-next_step false k (Some op) = Open true (Gets k op) []
+next_step stopped step None = Done
+next_step true step (Some op) = Halted step Stopped
+next_step false step (Some op) = Open true (Gets step op) []
 
 -- the step's Set, unless it can't be undone or the plan is to stop
 abbrev pub set_step : Bool → ℕ → Op → Option Op → Phase
-set_step stopped k op None = Halted k NotRestorable
-set_step true k op (Some back) = Halted k Stopped
-set_step false k op (Some back) = Open true (Sets k op back) []
+set_step stopped step op None = Halted step NotRestorable
+set_step true step op (Some back) = Halted step Stopped
+set_step false step op (Some back) = Open true (Sets step op back) []
 
 -- what undoes is gone through, or nothing is left
 abbrev pub undo_step : List Op → Phase
@@ -125,30 +125,30 @@ undo_step (back ∷ rest) = Open true (Undoes back rest) []
 
 -- a call; in a phase that isn't one for the call nothing changes
 abbrev pub called : Call → Phase → Manager → Turn
-called Start Fresh m = enters (next_step false 0 (slice_get m.plan 0)) m
-called Quiet (Open true task bodies) m =
-    if nat_lt m.resent m.retries then record { manager = record m { resent = m.resent + 1 }; sends = true }
-    else rests (record m { phase = Open false task bodies })
-called Again (Open false task bodies) m = enters (Open true task bodies) m
-called Stop (Open true (Gets k op) bodies) m = rests (record m { stopped = true })
-called Stop (Open true (Sets k op back) bodies) m = rests (record m { stopped = true })
-called Undo Done m = enters (undo_step m.undo) (record m { waits = [] })
-called Undo (Halted k why) m = enters (undo_step m.undo) (record m { waits = [] })
-called call phase m = rests m
+called Start Fresh manager = enters (next_step false 0 (slice_get manager.plan 0)) manager
+called Quiet (Open true task bodies) manager =
+    if nat_lt manager.resent manager.retries then record { manager = record manager { resent = manager.resent + 1 }; sends = true }
+    else rests (record manager { phase = Open false task bodies })
+called Again (Open false task bodies) manager = enters (Open true task bodies) manager
+called Stop (Open true (Gets step op) bodies) manager = rests (record manager { stopped = true })
+called Stop (Open true (Sets step op back) bodies) manager = rests (record manager { stopped = true })
+called Undo Done manager = enters (undo_step manager.undo) (record manager { waits = [] })
+called Undo (Halted steps why) manager = enters (undo_step manager.undo) (record manager { waits = [] })
+called call phase manager = rests manager
 
 -- Requests of the task were carried out, whose replies have these data: another is to come, or they were all. A plan that is to stop gets no more.
 abbrev pub carried_out : (another : Option Asked) → Task → (bodies : List (List ℕ)) → Manager → Turn
-carried_out (Some asked) (Gets k op) bodies m = enters (if m.stopped then Halted k Stopped else Open true (Gets k op) bodies) m
-carried_out (Some asked) task bodies m = enters (Open true task bodies) m
-carried_out None (Gets k op) bodies m = enters (set_step m.stopped k op (inverse op (joined bodies))) m
-carried_out None (Sets k op back) bodies m = enters (next_step m.stopped (suc k) (slice_get m.plan (suc k))) (record m { undo = back ∷ m.undo })
-carried_out None (Undoes back rest) bodies m = enters (undo_step rest) m
+carried_out (Some asked) (Gets step op) bodies manager = enters (if manager.stopped then Halted step Stopped else Open true (Gets step op) bodies) manager
+carried_out (Some asked) task bodies manager = enters (Open true task bodies) manager
+carried_out None (Gets step op) bodies manager = enters (set_step manager.stopped step op (inverse op (joined bodies))) manager
+carried_out None (Sets step op back) bodies manager = enters (next_step manager.stopped (suc step) (slice_get manager.plan (suc step))) (record manager { undo = back ∷ manager.undo })
+carried_out None (Undoes back rest) bodies manager = enters (undo_step rest) manager
 
 -- it was refused
 abbrev pub refused : Task → ℕ → Manager → Turn
-refused (Gets k op) code m = enters (Halted k (GetRefused code)) m
-refused (Sets k op back) code m = enters (Halted k (SetRefused code)) m
-refused (Undoes back rest) code m = enters (UndoRefused (length rest) code) m
+refused (Gets step op) code manager = enters (Halted step (GetRefused code)) manager
+refused (Sets step op back) code manager = enters (Halted step (SetRefused code)) manager
+refused (Undoes back rest) code manager = enters (UndoRefused (length rest) code) manager
 
 -- one more was answered on the bus
 abbrev pub one_more : Bus → (Bus → ℕ) → Bus → ℕ
@@ -157,45 +157,46 @@ one_more Smbus answered Smbus = suc (answered Smbus)
 one_more bus answered on = answered on
 
 -- the answer to the task's open request comes, if one does; that of a busy port is none
-abbrev pub told : Names → Task → (bodies : List (List ℕ)) → Option Answered → Manager → Turn
-told names task bodies None m = rests m
-told names task bodies (Some a) m =
-    let next : Manager = record m { answered = one_more (bus_of (asked_for names task bodies)) m.answered } in
-    let with_it = bodies ++ a.body ∷ [] in
-    if a.code == node_busy || a.code == pldm_not_ready then rests m
-    else if a.code == success then carried_out (next_after (series_of task) with_it) task with_it next
-    else refused task a.code next
+abbrev pub answered_by : Names → Task → (bodies : List (List ℕ)) → Option Answered → Manager → Turn
+answered_by names task bodies None manager = rests manager
+answered_by names task bodies (Some answered) manager =
+    let next : Manager = record manager { answered = one_more (bus_of (asked_for names task bodies)) manager.answered } in
+    let with_it = bodies ++ answered.body ∷ [] in
+    if answered.code == node_busy || answered.code == pldm_not_ready then rests manager
+    else if answered.code == success then carried_out (next_after (series_of task) with_it) task with_it next
+    else refused task answered.code next
 
 -- ---- frames
 
 -- the answer that a response gives to the request of this number: it has the same netFn, number and command
-abbrev pub told_in : ℕ → Asked → Response → Option Answered
-told_in n (Ipmi from net_fn lun command body) r =
-    if r.header.net_fn == net_fn && r.header.sequence == n % circle Ipmb && r.header.command == command then Some (record { code = r.code; body = r.body }) else None
-told_in n (Pldm from kind command body) r = None
+abbrev pub answer_in : ℕ → Asked → Response → Option Answered
+answer_in number (Ipmi from net_fn lun command body) response =
+    if response.header.net_fn == net_fn && response.header.sequence == number % circle Ipmb && response.header.command == command
+    then Some (record { code = response.code; body = response.body }) else None
+answer_in number (Pldm from kind command body) response = None
 
 -- a packet goes from the controller to the manager, under the tag of the request of this number
 abbrev pub is_part : Names → ℕ → Asked → Packet → Bool
-is_part names n (Ipmi from net_fn lun command body) p = false
-is_part names n (Pldm from kind command body) p =
-    (p.envelope.destination == names.own_wire && p.envelope.source == names.peer_wire)
-    && (p.envelope.source_eid == names.peer_eid && (not p.envelope.tag_owner && p.envelope.tag == n % tags))
+is_part names number (Ipmi from net_fn lun command body) packet = false
+is_part names number (Pldm from kind command body) packet =
+    (packet.envelope.destination == names.own_wire && packet.envelope.source == names.peer_wire)
+    && (packet.envelope.source_eid == names.peer_eid && (not packet.envelope.tag_owner && packet.envelope.tag == number % 8))
 
 -- the answer that a message gives: type 01h, request and datagram bit clear, and the same number, PLDM type and command
 abbrev pub read_in : ℕ → Asked → List ℕ → Option Answered
-read_in n (Pldm from kind command asked) (one ∷ flags ∷ of_kind ∷ of_command ∷ code ∷ body) =
-    if one == 1 && flags / 64 == 0 && flags % circle Smbus == n % circle Smbus && of_kind == kind && of_command == command then Some (record { code = code; body = body }) else None
-read_in n asked bytes = None
+read_in number (Pldm from kind command sent) (one ∷ flags ∷ of_kind ∷ of_command ∷ code ∷ body) =
+    if one == 1 && flags / 64 == 0 && flags % 32 == number % circle Smbus && of_kind == kind && of_command == command then Some (record { code = code; body = body }) else None
+read_in number asked bytes = None
 
 -- a frame comes, which is nothing to a manager that heeds no request
 abbrev pub hears : Names → Value → Phase → Manager → Turn
-hears names (Tells r) (Open true task bodies) m =
-    if r.header.requester.address == names.own_address && r.header.responder.address == names.peer_address
-    then told names task bodies (told_in (m.answered Ipmb) (asked_for names task bodies) r) m else rests m
-hears names (Part p) (Open true task bodies) m =
+hears names (Tells response) (Open true task bodies) manager =
+    if response.header.requester.address == names.own_address && response.header.responder.address == names.peer_address
+    then answered_by names task bodies (answer_in (manager.answered Ipmb) (asked_for names task bodies) response) manager else rests manager
+hears names (Part packet) (Open true task bodies) manager =
     let asked = asked_for names task bodies in
-    let next : Manager = record m { waits = waits_after names.own_eid p m.waits } in
-    if not (is_part names (m.answered Smbus) asked p) then rests m
-    else if is_taken names.own_eid p m.waits && p.end then told names task bodies (read_in (m.answered Smbus) asked (whole p m.waits)) next
+    let next : Manager = record manager { waits = waits_after names.own_eid packet manager.waits } in
+    if not (is_part names (manager.answered Smbus) asked packet) then rests manager
+    else if is_taken names.own_eid packet manager.waits && packet.end then answered_by names task bodies (read_in (manager.answered Smbus) asked (whole packet manager.waits)) next
     else rests next
-hears names value phase m = rests m
+hears names value phase manager = rests manager

@@ -27,37 +27,38 @@ module _ (file : BoardFile) (plan : List Op) (start : Records) where
   -- what the phase says of the records: those after so many of the plan's steps, which count from 0
   abbrev pub Says : Phase → Records → Type 0
   Says Fresh now = now ≡ start
-  Says (Getting k) now = IsAfter file plan start k now
-  Says (Setting k) now = IsAfter file plan start k now ⊎ IsAfter file plan start (suc k) now
+  Says (Getting steps) now = IsAfter file plan start steps now
+  Says (Setting steps) now = IsAfter file plan start steps now ⊎ IsAfter file plan start (suc steps) now
   Says Done now = IsAfter file plan start (length plan) now
-  Says (Halted k why) now = IsAfter file plan start k now
-  Says (Unsettled k) now = IsAfter file plan start k now ⊎ IsAfter file plan start (suc k) now
-  Says (Undoing k) now = IsAfter file plan start k now ⊎ IsAfter file plan start (suc k) now
+  Says (Halted steps why) now = IsAfter file plan start steps now
+  Says (Unsettled steps) now = IsAfter file plan start steps now ⊎ IsAfter file plan start (suc steps) now
+  Says (Undoing steps) now = IsAfter file plan start steps now ⊎ IsAfter file plan start (suc steps) now
   Says Undone now = now ≡ start
-  Says (UndoRefused k code) now = ⊥
+  Says (UndoRefused steps code) now = ⊥
 
-  -- with the records after the plan's first k steps, the board answered the request so, whoever asked it
-  pub record Gave (k : ℕ) (asked : Asked) (a : Answered) : Type 0 where
+  -- with the records after so many of the plan's first steps, the board answered the request so, whoever asked it
+  pub record Gave (steps : ℕ) (asked : Asked) (answered : Answered) : Type 0 where
     pub before : State
     pub from : ℕ
-    pub at : IsAfter file plan start k before.records
-    pub answers : (answer_of file before (sent_by from asked)).0 ≡ a
+    pub at : IsAfter file plan start steps before.records
+    pub answers : (answer_of file before (sent_by from asked)).0 ≡ answered
 
-  -- why a plan halted at step k: the schedule has a call of `stop`, or the board refused a request of the step's Get or Set, or answered those of
-  -- its Get with data from which the step can't be undone. A watchdog's step can't while its timer runs, and a part of a Set is refused where those
-  -- before it aren't staged. Neither is configuration: so of such steps this says little, and the second tier says which answer it was.
+  -- why a plan halted after so many steps: the schedule has a call of `stop`, or the board refused a request of the step's Get or Set, or answered
+  -- those of its Get with data from which the step can't be undone. A watchdog's step can't while its timer runs, and a part of a Set is refused
+  -- where those before it aren't staged. Neither is configuration: so of such steps this says little, and the second tier says which answer it
+  -- was.
   abbrev pub IsWhy : List Event → ℕ → Why → Type 0
-  IsWhy events k Stop = (before : List Event) × (later : List Event) × (events ≡ before ++ Calls call.Stop ∷ later)
-  IsWhy events k (GetRefused code) = (op : Op) × (bodies : List (List ℕ)) × (body : List ℕ) × (slice_get plan k ≡ Some op)
-      × Gave k (request_after (Reads (key_of op)) bodies) (record { code = code; body = body }) × (code ≢ success)
-  IsWhy events k (Refused code) = (op : Op) × (bodies : List (List ℕ)) × (body : List ℕ) × (slice_get plan k ≡ Some op)
-      × Gave k (request_after (sends op) bodies) (record { code = code; body = body }) × (code ≢ success)
-  IsWhy events k NotRestorable = (op : Op) × (bodies : List (List ℕ)) × (slice_get plan k ≡ Some op)
-      × AreGiven (Gave k) (Reads (key_of op)) [] (Some (first_of (Reads (key_of op)))) bodies × (¬ restorable op (joined bodies))
+  IsWhy events steps Stop = (before : List Event) × (later : List Event) × (events ≡ before ++ Calls call.Stop ∷ later)
+  IsWhy events steps (GetRefused code) = (op : Op) × (bodies : List (List ℕ)) × (body : List ℕ) × (slice_get plan steps ≡ Some op)
+      × Gave steps (request_after (Reads (key_of op)) bodies) (record { code = code; body = body }) × (code ≢ success)
+  IsWhy events steps (Refused code) = (op : Op) × (bodies : List (List ℕ)) × (body : List ℕ) × (slice_get plan steps ≡ Some op)
+      × Gave steps (request_after (sends op) bodies) (record { code = code; body = body }) × (code ≢ success)
+  IsWhy events steps NotRestorable = (op : Op) × (bodies : List (List ℕ)) × (slice_get plan steps ≡ Some op)
+      × AreGiven (Gave steps) (Reads (key_of op)) [] (Some (first_of (Reads (key_of op)))) bodies × (¬ restorable op (joined bodies))
 
 -- In each phase, that says what the records are. Where the plan is undone, every record is what it was at the start. Where it halted, there is
 -- a reason.
 pub record Promise (file : BoardFile) (plan : List Op) (events : List Event) (told : Told) : Type 0 where
   pub says : Says file plan told.start told.phase told.records
   pub undone : told.phase ≡ Undone → told.records ≡ told.start
-  pub why : (k : ℕ) (why : Why) → told.phase ≡ Halted k why → IsWhy file plan told.start events k why
+  pub why : (steps : ℕ) (why : Why) → told.phase ≡ Halted steps why → IsWhy file plan told.start events steps why

@@ -22,5 +22,5 @@ pub record Refines (setup : BoardFile) (names : Names) (plan : List Op) (retries
   pub honest : (events : List Event) → AllHonest (ours setup) names events (first setup (ours setup) names plan retries) ↔ law.IsTrusted setup names plan retries (map seen_event events)
   pub alike : (events : List Event) → AllHonest (ours setup) names events (first setup (ours setup) names plan retries)
       → (made : Made) × (law.after setup names plan retries (map seen_event events) ≡ seen_lab names made (after setup (ours setup) names plan retries events))
-  pub rows : (before : State) (asked : Asked) (a : Answered) (after : State) → Row setup before asked a after → IsServed setup (asked_by asked) before a after
+  pub rows : (before : State) (asked : Asked) (answered : Answered) (after : State) → Row setup before asked answered after → IsServed setup (asked_by asked) before answered after
   pub strong : Claim setup (ours setup) names plan retries → law.Headline setup names plan retries (law.IsTrusted setup names plan retries)

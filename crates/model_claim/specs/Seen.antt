@@ -33,35 +33,35 @@ use Rattle.model_undo.specs.declared.phase.Why.TheVariants as undo_why
 
 -- the packet has the name
 abbrev pub has : Name → Packet → Bool
-has n q = is_name (name_of q.envelope) n
+has name packet = is_name (name_of packet.envelope) name
 
 -- what waits under a name
 abbrev pub under : Name → List Packet → List Packet
-under n waits = filter (has n) waits
+under name waits = filter (has name) waits
 
 -- how many starts there are
 abbrev pub starts : List Packet → ℕ
-starts waits = length (filter (λ q. q.start) waits)
+starts waits = length (filter (λ packet. packet.start) waits)
 
 -- what waits, as the assembler keeps it, with the bytes of the message that it made last
 abbrev pub seen_as : List Packet → List ℕ → Assemblies
-seen_as waits made = record { under = λ n. map piece (under n waits); open_count = starts waits; made = made }
+seen_as waits made = record { under = λ name. map piece (under name waits); open_count = starts waits; made = made }
 
 -- ---- what a port did
 
 -- a request in the words of the model
 abbrev pub bare : Heard → bus.Request
-bare r = record { requester = r.requester; number = r.number; bytes = r.bytes }
+bare heard = record { requester = heard.requester; number = heard.number; bytes = heard.bytes }
 
 -- an answer, in the words of the undo model
 abbrev pub words_of : Answered → UndoAnswered
-words_of a = record { code = a.code; body = a.body }
+words_of answered = record { code = answered.code; body = answered.body }
 
 module _ (spelled : List ℕ → Answered → List ℕ) where
   -- what a port did, where replies are spelled so
   abbrev pub seen_entry : Entry → bus.Entry
-  seen_entry (Carried r a) = bus.Carried (record { request = bare r; reply = spelled r.bytes a })
-  seen_entry (Idled q) = bus.Idled q
+  seen_entry (Carried heard answered) = bus.Carried (record { request = bare heard; reply = spelled heard.bytes answered })
+  seen_entry (Idled requester) = bus.Idled requester
 
   abbrev pub seen_log : List Entry → List bus.Entry
   seen_log log = map seen_entry log
@@ -69,9 +69,9 @@ module _ (spelled : List ℕ → Answered → List ℕ) where
 -- ---- frames and events
 
 abbrev pub seen_value : Value → values.Value
-seen_value (Asks r) = values.Asks r
-seen_value (Tells r) = values.Tells r
-seen_value (Part p) = values.Part p
+seen_value (Asks request) = values.Asks request
+seen_value (Tells response) = values.Tells response
+seen_value (Part packet) = values.Part packet
 
 abbrev pub seen_way : Way → LabWay
 seen_way ToPort = lab_way.ToPort
@@ -79,7 +79,7 @@ seen_way ToManager = lab_way.ToManager
 seen_way ToOthers = lab_way.ToOthers
 
 abbrev pub seen_frame : Frame → lab.LabFrame
-seen_frame f = record { on = f.on; way = seen_way f.way; request = f.request; idles = f.idles; value = seen_value f.value }
+seen_frame frame = record { on = frame.on; way = seen_way frame.way; request = frame.request; idles = frame.idles; value = seen_value frame.value }
 
 abbrev pub seen_call : Call → LabCall
 seen_call Start = lab_call.Start
@@ -92,8 +92,8 @@ abbrev pub seen_event : Event → lab.Event
 seen_event (Calls call) = lab.Calls (seen_call call)
 seen_event (ToBmc place) = lab.ToBmc place
 seen_event (ToMgr place) = lab.ToMgr place
-seen_event (OtherIpmb r) = lab.OtherIpmb r
-seen_event (OtherSmbus m) = lab.OtherSmbus m
+seen_event (OtherIpmb request) = lab.OtherIpmb request
+seen_event (OtherSmbus message) = lab.OtherSmbus message
 seen_event (Noise on bytes) = lab.Noise on bytes
 seen_event (Idles on requester) = lab.Idles on requester
 seen_event (OnBench activity) = lab.OnBench activity
@@ -102,13 +102,13 @@ seen_event (OnBench activity) = lab.OnBench activity
 
 -- how a reply is spelled there
 abbrev pub spell : Bus → List ℕ → Answered → List ℕ
-spell on bytes a = reply_to on bytes (words_of a)
+spell on bytes answered = reply_to on bytes (words_of answered)
 
 abbrev pub seen_port : Bus → (made : List ℕ) → Port → port.PortState
-seen_port on made p = record { wire = p.wire; eid = p.eid; kept = seen_as p.waits made; log = seen_log (spell on) p.log }
+seen_port on made at = record { wire = at.wire; eid = at.eid; kept = seen_as at.waits made; log = seen_log (spell on) at.log }
 
 abbrev pub seen_deed : Bus → (made : List ℕ) → Deed → port.Deed
-seen_deed on made d = record { port = seen_port on made d.port; board = d.board; sent = map seen_value d.sent }
+seen_deed on made deed = record { port = seen_port on made deed.port; board = deed.board; sent = map seen_value deed.sent }
 
 -- the bytes that an assembler made last, at both ports and at the manager
 pub record Made : Type 0 where
@@ -132,8 +132,8 @@ module _ (names : Names) where
   seen_why NotRestorable = undo_why.NotRestorable
 
   abbrev pub seen_task : Task → machine.Task seen_words
-  seen_task (Gets k op) = machine.Gets k op
-  seen_task (Sets k op back) = machine.Sets k op back
+  seen_task (Gets step op) = machine.Gets step op
+  seen_task (Sets step op back) = machine.Sets step op back
   seen_task (Undoes back rest) = machine.Undoes (sends back) (map sends rest)
 
   -- its open request, after replies with these data
@@ -144,35 +144,35 @@ module _ (names : Names) where
   stage_of Fresh = machine.AtStart
   stage_of (Open heeded task bodies) = machine.Opened heeded (seen_task task) (part_of (asked_for names task bodies) bodies)
   stage_of Done = machine.AtEnd
-  stage_of (Halted k why) = machine.AtHalt k (seen_why why)
+  stage_of (Halted steps why) = machine.AtHalt steps (seen_why why)
   stage_of Undone = machine.AtUndone
-  stage_of (UndoRefused k code) = machine.AtRefused k code
+  stage_of (UndoRefused steps code) = machine.AtRefused steps code
 
   abbrev pub counts_of : (Bus → ℕ) → machine.Counts
   counts_of answered = record { ipmb = answered Ipmb; smbus = answered Smbus }
 
   abbrev pub machine_of : Manager → machine.Machine seen_words
-  machine_of m = record {
-    plan = m.plan;
-    retries = m.retries;
-    stage = stage_of m.phase;
-    stopped = m.stopped;
-    resent = m.resent;
-    undo = map sends m.undo;
-    counts = counts_of m.answered;
+  machine_of state = record {
+    plan = state.plan;
+    retries = state.retries;
+    stage = stage_of state.phase;
+    stopped = state.stopped;
+    resent = state.resent;
+    undo = map sends state.undo;
+    counts = counts_of state.answered;
   }
 
   abbrev pub seen_manager : (made : List ℕ) → Manager → manager.ManagerState seen_plans
-  seen_manager made m = record { machine = machine_of m; names = names; listed = Some names; joined = seen_as m.waits made }
+  seen_manager made state = record { machine = machine_of state; names = names; listed = Some names; joined = seen_as state.waits made }
 
   -- ---- the lab
 
   abbrev pub seen_lab : Made → Lab → lab.Lab seen_plans
-  seen_lab made x = record {
-    board = x.board;
-    ipmb = seen_port Ipmb made.ipmb x.ipmb;
-    smbus = seen_port Smbus made.smbus x.smbus;
-    manager = seen_manager made.manager x.manager;
-    frames = map seen_frame x.frames;
-    opened = x.opened;
+  seen_lab made here = record {
+    board = here.board;
+    ipmb = seen_port Ipmb made.ipmb here.ipmb;
+    smbus = seen_port Smbus made.smbus here.smbus;
+    manager = seen_manager made.manager here.manager;
+    frames = map seen_frame here.frames;
+    opened = here.opened;
   }

@@ -232,7 +232,7 @@ module _ (setup : BoardFile) (names : Names) (plan : List Op) (start : Records) 
 
     -- ---- the manager asks
 
-    module _ (f : LabFrame) (hold : HoldsAsked setup names (on Ipmb).frames f) (live : IsLiveThere (ipmb_bus setup names) (on Ipmb) hold.frame) (same : hold.asked ≡ r) where
+    module _ (f : LabFrame) (hold : HoldsAsked setup names (on Ipmb).frames f) (live : IsLiveThere (ipmb_bus setup names) (on Ipmb) hold.frame) (same : hold.request ≡ r) where
       abbrev reaches_port : Event
       reaches_port = ReachesPort hold.which (answer_to setup x.board r)
 
@@ -305,7 +305,7 @@ module _ (setup : BoardFile) (names : Names) (plan : List Op) (start : Records) 
           request = hold.is_of.request;
           idles = ap (λ n. idles_of (own_on Ipmb n) (log_after done kept (on Ipmb).log)) (sym tied.named);
         };
-        told = response_to r (answered_from Ipmb (said Ipmb (heard_in r) (reply_after done kept)));
+        response = response_to r (answered_from Ipmb (said Ipmb (heard_in r) (reply_after done kept)));
         value = refl;
         held = says done refl;
         answers = and_from (r.header.requester.address == names.own_address) (r.header.responder.address == names.peer_address)

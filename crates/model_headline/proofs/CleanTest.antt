@@ -9,7 +9,7 @@ ipmb_accepts : (code : ℕ) (request reply : List ℕ) → is_busy_code code ≡
 ipmb_accepts code request reply free r =
     let h = r.header in
     let in_one = r.is_header.responder in let in_other = r.is_header.requester in
-    let asked = ipmb_request h r.number r.asked in
+    let asked = ipmb_request h r.number r.request_body in
     let next : (4 * (h.net_fn + 1) + h.requester_lun) / 4 ≡ (4 * h.net_fn + h.responder_lun) / 4 + 1 = omega arith in
     let same : (4 * r.number + h.responder_lun) / 4 ≡ (4 * r.number + h.requester_lun) / 4 = omega arith in
     ap (λ (x : List ℕ). ipmb_answers x reply) r.request_spelled
@@ -20,7 +20,7 @@ pldm_accepts : (code : ℕ) (request reply : List ℕ) → is_busy_code code ≡
 pldm_accepts code request reply free r =
     let h = r.header in
     let small = r.instance in
-    let asked = pldm_request h r.number r.asked in
+    let asked = pldm_request h r.number r.request_body in
     let clear : r.number / 64 ≡ 0 = omega arith in
     let same : r.number % 32 ≡ (128 + r.number) % 32 = omega arith in
     ap (λ (x : List ℕ). pldm_answers x reply) r.request_spelled

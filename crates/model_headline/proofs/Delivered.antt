@@ -26,11 +26,11 @@ module _ (setup : BoardFile) (names : Names) (plan : List Op) (start : Records) 
     by_bus f Ipmb at live mine hold =
         subst (λ bus. Goes setup names x on (port_does (own_plans setup names) bus ToManager f.request (hears setup (port_on (own_plans setup names) bus x) x.board f.value) (opens (own_plans setup names) f.value f.request x))) (sym at)
         (subst (λ v. Goes setup names x on (port_does (own_plans setup names) Ipmb ToManager f.request (hears setup x.ipmb x.board v) (opens (own_plans setup names) v f.request x))) (sym hold.value)
-        (asked_goes setup names plan start x on tied h hold.asked f hold (live_there setup names plan start x on tied h f hold.frame Ipmb at live hold.is_of.request hold.is_of.idles) refl))
+        (asked_goes setup names plan start x on tied h hold.request f hold (live_there setup names plan start x on tied h f hold.frame Ipmb at live hold.is_of.request hold.is_of.idles) refl))
     by_bus f Smbus at live mine hold =
         subst (λ bus. Goes setup names x on (port_does (own_plans setup names) bus ToManager f.request (hears setup (port_on (own_plans setup names) bus x) x.board f.value) (opens (own_plans setup names) f.value f.request x))) (sym at)
         (subst (λ v. Goes setup names x on (port_does (own_plans setup names) Smbus ToManager f.request (hears setup x.smbus x.board v) (opens (own_plans setup names) v f.request x))) (sym hold.value)
-        (part_goes setup names plan start x on tied h f hold (live_there setup names plan start x on tied h f hold.part.frame Smbus at live hold.request hold.idles) (subst (JoinsOwn (own_plans setup names) x f.request) hold.value mine)))
+        (part_goes setup names plan start x on tied h f hold (live_there setup names plan start x on tied h f hold.part.frame Smbus at live hold.same_request hold.same_idles) (subst (JoinsOwn (own_plans setup names) x f.request) hold.value mine)))
 
     -- a live frame of the manager comes to the port, and joins no other request's assembly
     pub delivered_goes : (number : ℕ) → IsDelivered (own_plans setup names) ToPort x number → IfSome (slice_get x.frames number) (λ f. JoinsOwn (own_plans setup names) x f.request f.value)

@@ -29,7 +29,7 @@ module _ (setup : BoardFile) (names : Names) where
     which = h.which;
     frame = h.frame;
     is_of = of_grows (on Ipmb).frames (now Ipmb).frames f h.which h.frame (more Ipmb) h.is_of;
-    asked = h.asked;
+    request = h.request;
     value = h.value;
     bytes = h.bytes;
     asks = h.asks;
@@ -47,12 +47,12 @@ module _ (setup : BoardFile) (names : Names) where
     packet = h.packet;
     value = h.value;
     part = record { frame = h.part.frame; bytes = h.part.bytes; sent = more Smbus h.which h.part.frame h.part.sent; asks = h.part.asks; part = h.part.part; named = h.part.named; read = h.part.read };
-    request = h.request;
-    idles = h.idles;
+    same_request = h.same_request;
+    same_idles = h.same_idles;
     small = h.small;
     to_port = h.to_port;
     from_manager = h.from_manager;
-    asked = h.asked;
+    request = h.request;
     rest = h.rest;
     typed = h.typed;
     says = h.says;
@@ -65,7 +65,7 @@ module _ (setup : BoardFile) (names : Names) where
     which = h.which;
     frame = h.frame;
     is_of = of_grows (on Ipmb).frames (now Ipmb).frames f h.which h.frame (more Ipmb) h.is_of;
-    told = h.told;
+    response = h.response;
     value = h.value;
     held = h.held;
     answers = h.answers;

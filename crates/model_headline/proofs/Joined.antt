@@ -88,7 +88,7 @@ module _ (setup : BoardFile) (names : Names) (plan : List Op) (start : Records) 
           let opened : t.request ≡ x.opened p.envelope.tag = tied.opened m t is ∙ ap x.opened (sym tag_is) in
           let most = most_begun setup names plan start x on tied h Smbus in
           let waited : length (on Smbus).bus.begun ≤ t.request + 8 = omega (arith, recent, opened, most) in
-          sym opened ∙ one_tag 0 t.request m (length (on Smbus).bus.begun) below was_begun waited live.0 tags ∙ hold.request
+          sym opened ∙ one_tag 0 t.request m (length (on Smbus).bus.begun) below was_begun waited live.0 tags ∙ hold.same_request
 
       pub joins_own : IsLiveThere (rules_on setup names Smbus) (on Smbus).bus hold.part.frame → JoinsLive (own_plans setup names) x (Part p) → JoinsOwn (own_plans setup names) x f.request (Part p)
       joins_own live recent more none =
@@ -105,7 +105,7 @@ module _ (setup : BoardFile) (names : Names) (plan : List Op) (start : Records) 
       own_on : (bus : Bus) → f.on ≡ bus → IsLive (own_plans setup names) x f → IsHeldBy setup names ToPort bus on f → Live f.value → Own f.value
       own_on Ipmb at live hold joins = subst Own (sym hold.value) tt
       own_on Smbus at live hold joins =
-          let there = live_there setup names plan start x on tied h f hold.part.frame Smbus at live hold.request hold.idles in
+          let there = live_there setup names plan start x on tied h f hold.part.frame Smbus at live hold.same_request hold.same_idles in
           subst Own (sym hold.value) (joins_own f hold there (subst Live hold.value joins))
 
       -- a packet that joins one of its own request, and is live, joins a recent one

@@ -88,7 +88,7 @@ module _ (setup : BoardFile) (names : Names) (plan : List Op) (start : Records) 
         by : (s : Bool) → p.start ≡ s → In t (cond s [] (ends.port (name_in p))) → length ends.bus.begun ≤ t.request + 8
         by true e is = absurd is
         by false e is =
-            let same : t.request ≡ g.request = waits_of t is ∙ mine e none ∙ sym hold.request in
+            let same : t.request ≡ g.request = waits_of t is ∙ mine e none ∙ sym hold.same_request in
             let most = live.0 in
             omega (arith, same, most)
 
@@ -210,7 +210,7 @@ module _ (setup : BoardFile) (names : Names) (plan : List Op) (start : Records) 
     pub waiting_opened : cause ≡ None → (t : Sent) → In t (waiting (ends.port (name_in p)) sent ++ sent ∷ []) → t.request ≡ opened_after p.envelope.tag
     waiting_opened none t is = elim (in_more (waiting (ends.port (name_in p)) sent) sent t is) [
       | inl there ↦ before p.start refl there
-      | inr same ↦ ap (λ (s : Sent). s.request) (sym same) ∙ hold.request ∙ own_opened none
+      | inr same ↦ ap (λ (s : Sent). s.request) (sym same) ∙ hold.same_request ∙ own_opened none
     ]
       where
         before : (s : Bool) → p.start ≡ s → In t (cond s [] (ends.port (name_in p))) → t.request ≡ opened_after p.envelope.tag

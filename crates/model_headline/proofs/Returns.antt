@@ -143,8 +143,8 @@ module _ (setup : BoardFile) (names : Names) (plan : List Op) (start : Records) 
     -- ---- IPMB
 
     module _ (f : LabFrame) (hold : HoldsTold setup names (on Ipmb).frames f) (live : IsLiveThere (ipmb_bus setup names) (on Ipmb) hold.frame) where
-      told_is : IsRepliesResponse m.names (ipmb_bus setup names) (on Ipmb) hold.which hold.told
-      told_is = record { frame = hold.frame; sent = hold.is_of.sent; live = live; held = hold.held; answers = ap (λ n. is_answer n hold.told) tied.named ∙ hold.answers }
+      told_is : IsRepliesResponse m.names (ipmb_bus setup names) (on Ipmb) hold.which hold.response
+      told_is = record { frame = hold.frame; sent = hold.is_of.sent; live = live; held = hold.held; answers = ap (λ n. is_answer n hold.response) tied.named ∙ hold.answers }
 
       abbrev comes : BusEvent
       comes = ReachesManager hold.which
@@ -190,20 +190,20 @@ module _ (setup : BoardFile) (names : Names) (plan : List Op) (start : Records) 
           goes_taken Ipmb comes task part at same tt refl honest_there reply m.joined e
           (took_ipmb reply (subst (λ o. MatchOption o (SameRequests (on Ipmb) after_it) (IsTaken (on Ipmb) after_it)) e (effect_is Ipmb comes task part at same tt refl honest_there)))
 
-      by_stage : (stage : Stage (words setup names)) → stage ≡ m.machine.stage → Goes setup names x on (manager_does (own_plans setup names) (hears_response (own_plans setup names) hold.told m) x)
+      by_stage : (stage : Stage (words setup names)) → stage ≡ m.machine.stage → Goes setup names x on (manager_does (own_plans setup names) (hears_response (own_plans setup names) hold.response m) x)
       by_stage (Opened true task part) at = elim (cases_bus Ipmb (bus_at (words setup names) part)) [
         | inl same ↦
             let opened : IsOpenOn (own_plans setup names) Ipmb m part (on Ipmb) = record { heeded = heeds Ipmb task part at same; opened = open_there Ipmb task part at same } in
-            let is = (replies_are_brought (own_plans setup names)).responses m part (ipmb_bus setup names) (on Ipmb) hold.which hold.told (ipmb_agrees setup names plan start x on tied h) opened told_is in
+            let is = (replies_are_brought (own_plans setup names)).responses m part (ipmb_bus setup names) (on Ipmb) hold.which hold.response (ipmb_agrees setup names plan start x on tied h) opened told_is in
             subst (λ d. Goes setup names x on (manager_does (own_plans setup names) d x)) (sym is) (by_brought task part at same (brings_whole (ipmb_bus setup names) (on Ipmb) comes) refl)
-        | inr other ↦ rest_goes _ ((replies_are_brought (own_plans setup names)).unheeded_response m hold.told (heeds_not Ipmb task part at other))
+        | inr other ↦ rest_goes _ ((replies_are_brought (own_plans setup names)).unheeded_response m hold.response (heeds_not Ipmb task part at other))
       ]
-      by_stage (Opened false task part) at = rest_goes _ ((replies_are_brought (own_plans setup names)).unheeded_response m hold.told (ap (heeded_on (own_plans setup names) Ipmb) (sym at)))
-      by_stage AtStart at = rest_goes _ ((replies_are_brought (own_plans setup names)).unheeded_response m hold.told (ap (heeded_on (own_plans setup names) Ipmb) (sym at)))
-      by_stage AtEnd at = rest_goes _ ((replies_are_brought (own_plans setup names)).unheeded_response m hold.told (ap (heeded_on (own_plans setup names) Ipmb) (sym at)))
-      by_stage (AtHalt k why) at = rest_goes _ ((replies_are_brought (own_plans setup names)).unheeded_response m hold.told (ap (heeded_on (own_plans setup names) Ipmb) (sym at)))
-      by_stage AtUndone at = rest_goes _ ((replies_are_brought (own_plans setup names)).unheeded_response m hold.told (ap (heeded_on (own_plans setup names) Ipmb) (sym at)))
-      by_stage (AtRefused k code) at = rest_goes _ ((replies_are_brought (own_plans setup names)).unheeded_response m hold.told (ap (heeded_on (own_plans setup names) Ipmb) (sym at)))
+      by_stage (Opened false task part) at = rest_goes _ ((replies_are_brought (own_plans setup names)).unheeded_response m hold.response (ap (heeded_on (own_plans setup names) Ipmb) (sym at)))
+      by_stage AtStart at = rest_goes _ ((replies_are_brought (own_plans setup names)).unheeded_response m hold.response (ap (heeded_on (own_plans setup names) Ipmb) (sym at)))
+      by_stage AtEnd at = rest_goes _ ((replies_are_brought (own_plans setup names)).unheeded_response m hold.response (ap (heeded_on (own_plans setup names) Ipmb) (sym at)))
+      by_stage (AtHalt k why) at = rest_goes _ ((replies_are_brought (own_plans setup names)).unheeded_response m hold.response (ap (heeded_on (own_plans setup names) Ipmb) (sym at)))
+      by_stage AtUndone at = rest_goes _ ((replies_are_brought (own_plans setup names)).unheeded_response m hold.response (ap (heeded_on (own_plans setup names) Ipmb) (sym at)))
+      by_stage (AtRefused k code) at = rest_goes _ ((replies_are_brought (own_plans setup names)).unheeded_response m hold.response (ap (heeded_on (own_plans setup names) Ipmb) (sym at)))
 
       pub told_goes : Goes setup names x on (manager_does (own_plans setup names) (manager_hears (own_plans setup names) f.value m) x)
       told_goes = subst (λ v. Goes setup names x on (manager_does (own_plans setup names) (manager_hears (own_plans setup names) v m) x)) (sym hold.value) (by_stage m.machine.stage refl)

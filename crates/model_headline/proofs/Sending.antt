@@ -206,7 +206,7 @@ module _ (setup : BoardFile) (names : Names) (now : States (own_lines setup name
           which = which;
           frame = g;
           is_of = record { sent = sent; request = request; idles = same };
-          asked = record {
+          request = record {
             header = record {
               responder = record { address = names.peer_address; lun = lun };
               requester = record { address = names.own_address; lun = 0 };
@@ -259,12 +259,12 @@ module _ (setup : BoardFile) (names : Names) (now : States (own_lines setup name
           named = ap (λ e. seen_name (name_of e)) (part_envelope m n p at) ∙ ap named_by (from_zero count) ∙ ap (request_name (smbus_bus setup names)) (sym request);
           read = reads from kind command body (made_type (addresses names) asked made) ∙ ap (λ (k : ℕ). Some (request_of (rules_of (smbus_bus setup names)) k (bytes_of (count % 32) asked))) (sym request);
         };
-        request = request;
-        idles = same;
+        same_request = request;
+        same_idles = same;
         small = small_part m n p at;
         to_port = ap (λ e. e.destination) (part_envelope m n p at);
         from_manager = ap (λ e. e.source) (part_envelope m n p at);
-        asked = pldm_of kind command body;
+        request = pldm_of kind command body;
         rest = (128 + count % 32) ∷ kind ∷ command ∷ body;
         typed = refl;
         says = request-in_back (pldm_of kind command body) ((128 + count % 32) ∷ kind ∷ command ∷ body) (spells kind command body (made_type (addresses names) asked made) (fits_packets m.body n _ (part_seen m n p at)));

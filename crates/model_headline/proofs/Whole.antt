@@ -91,7 +91,7 @@ module _ (setup : BoardFile) (names : Names) (plan : List Op) (start : Records) 
     whole = message_of (kept_after x.smbus.eid x.smbus.kept p) p
 
     abbrev q : PldmRequest
-    q = hold.asked
+    q = hold.request
 
     abbrev r : Heard
     r = pldm_heard_in names.own_eid q
@@ -245,7 +245,7 @@ module _ (setup : BoardFile) (names : Names) (plan : List Op) (start : Records) 
             frame = reply_frame;
             is_of = record {
               sent = at_end ends.bus.frames reply_frame;
-              request = hold.request;
+              request = hold.same_request;
               idles = ap (λ m. idles_of (own_on Smbus m) (log_after done kept ends.bus.log)) (sym tied.named);
             };
             packet = k;

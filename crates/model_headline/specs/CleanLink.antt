@@ -41,7 +41,7 @@ count_at _ = 0
 module _ (setup : BoardFile) (names : Names) (plan : List Op) (retries : ℕ) where
   -- so many requests of the manager were begun, on both buses
   abbrev pub begun_after : List Event → ℕ
-  begun_after events = let m = (after setup names plan retries events).manager.machine in begun_on (own_family setup names).words Ipmb m + begun_on (own_family setup names).words Smbus m
+  begun_after events = let machine = (after setup names plan retries events).manager.machine in begun_on (own_family setup names).words Ipmb machine + begun_on (own_family setup names).words Smbus machine
 
   -- the manager is in the phase, so many requests of it were begun, and none is open
   pub record HasEnded (events : List Event) (phase : Phase) (requests : ℕ) : Type 0 where

@@ -24,7 +24,7 @@ use Rattle.model_headline.specs.Tied.{own_family}
 abbrev pub parts_of : List ℕ → ℕ
 parts_of entry = if goes_whole entry then 1 else ((length entry + (part_length - 1)) / part_length)
 
--- how many requests carry this one out
+-- how many requests carry this request out
 abbrev pub set_count : Asked → ℕ
 set_count asked = if is_in_parts asked then parts_of (entry_of asked) else 1
 

@@ -27,7 +27,7 @@ module _ (file : BoardFile) (plan : List Op) (retries : ℕ) where
 
   -- so many requests of the manager were begun when the schedule was over
   abbrev pub begun_by : List Event → ℕ
-  begun_by events = let m = (after file events first).manager.machine in begun_on plans.words Ipmb m + begun_on plans.words Smbus m
+  begun_by events = let machine = (after file events first).manager.machine in begun_on plans.words Ipmb machine + begun_on plans.words Smbus machine
 
   -- the play took all events, and tells the phase that the plan ends in on a clean link, and the records after the steps that were done
   abbrev pub TellsRun : RunsOnCleanLink file lab_names plan retries → List Event → Ending → Type 0

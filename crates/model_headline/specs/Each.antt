@@ -2,5 +2,5 @@
 use Rattle.std.specs.Prelude.{List, [], ◌∷◌}
 
 abbrev pub Each : {X : Type 0} → (X → Type 0) → List X → Type 0
-Each Q [] = Unit {0}
-Each Q (x ∷ xs) = Q x × Each Q xs
+Each Holds [] = Unit {0}
+Each Holds (x ∷ xs) = Holds x × Each Holds xs

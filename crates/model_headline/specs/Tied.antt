@@ -88,28 +88,28 @@ module _ (setup : BoardFile) (names : Names) where
     pub which : ℕ
     pub frame : Frame
     pub is_of : IsOf frames lab_frame which frame
-    pub asked : Request
-    pub value : lab_frame.value ≡ Asks asked
+    pub request : Request
+    pub value : lab_frame.value ≡ Asks request
     pub bytes : List ℕ
     pub asks : frame.content ≡ Ask bytes
-    pub heard : heard_in asked ≡ request_of ipmb_bus frame.request bytes
-    pub to_port : asked.header.responder.address ≡ names.peer_address
-    pub read : asked_from (addresses names) Ipmb bytes ≡ asked_in asked
+    pub heard : heard_in request ≡ request_of ipmb_bus frame.request bytes
+    pub to_port : request.header.responder.address ≡ names.peer_address
+    pub read : asked_from (addresses names) Ipmb bytes ≡ asked_in request
     -- what a response to the request says
     pub number : ℕ
     pub spelled : IsRequestOn Ipmb number bytes
-    pub responds : (answered : Answered) → response_bytes (response_to asked answered) ≡ reply_to Ipmb bytes answered
-    pub from_manager : asked.header.requester.address ≡ names.own_address
+    pub responds : (answered : Answered) → response_bytes (response_to request answered) ≡ reply_to Ipmb bytes answered
+    pub from_manager : request.header.requester.address ≡ names.own_address
 
   -- the value is a response to the manager on IPMB, which the model's frame holds
   pub record HoldsTold (frames : List Frame) (lab_frame : LabFrame) : Type 0 where
     pub which : ℕ
     pub frame : Frame
     pub is_of : IsOf frames lab_frame which frame
-    pub told : Response
-    pub value : lab_frame.value ≡ Tells told
-    pub held : HoldsReply Ipmb (response_bytes told) frame.content
-    pub answers : is_answer names told ≡ true
+    pub response : Response
+    pub value : lab_frame.value ≡ Tells response
+    pub held : HoldsReply Ipmb (response_bytes response) frame.content
+    pub answers : is_answer names response ≡ true
 
   -- the value is a packet of a request of the manager on SMBus, which the model's frame holds
   pub record HoldsAskedPart (ends : Ends) (frame : LabFrame) : Type 0 where
@@ -118,18 +118,18 @@ module _ (setup : BoardFile) (names : Names) where
     pub packet : Packet
     pub value : frame.value ≡ Part packet
     pub part : IsManagersPart smbus_bus ends which place packet
-    pub request : part.frame.request ≡ frame.request
-    pub idles : part.frame.idles ≡ frame.idles
+    pub same_request : part.frame.request ≡ frame.request
+    pub same_idles : part.frame.idles ≡ frame.idles
     pub small : length packet.payload ≤ unit_size
     pub to_port : packet.envelope.destination ≡ names.peer_wire
     pub from_manager : packet.envelope.source ≡ names.own_wire
     -- what the message asks, and what a reply to the message says
-    pub asked : PldmRequest
+    pub request : PldmRequest
     pub rest : List ℕ
     pub typed : part.bytes ≡ 1 ∷ rest
-    pub says : pldm_request_in rest ≡ Some asked
-    pub heard : pldm_heard_in names.own_eid asked ≡ request_of (rules_of smbus_bus) part.frame.request part.bytes
-    pub reads : asked_from (addresses names) Smbus part.bytes ≡ pldm_asked names.own_eid asked
+    pub says : pldm_request_in rest ≡ Some request
+    pub heard : pldm_heard_in names.own_eid request ≡ request_of (rules_of smbus_bus) part.frame.request part.bytes
+    pub reads : asked_from (addresses names) Smbus part.bytes ≡ pldm_asked names.own_eid request
     pub number : ℕ
     pub spelled : IsRequestOn Smbus number part.bytes
 

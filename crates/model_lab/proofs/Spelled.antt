@@ -40,7 +40,7 @@ reply at n (Ipmi from net_fn lun command body) a is = record {
   header = record { net_fn = net_fn; responder_lun = lun; requester_lun = 0; command = command };
   is_header = record { responder = below_4 lun is.1; requester = lit< tt };
   number = n % 64;
-  asked = body;
+  request_body = body;
   body = a.body;
   request_spelled = refl;
   reply_spelled = λ i. ipmb_reply
@@ -51,7 +51,7 @@ reply at n (Pldm from kind command body) a is = record {
   header = record { pldm_type = kind; command = command };
   number = n % 32;
   instance = small n;
-  asked = body;
+  request_body = body;
   body = a.body;
   request_spelled = refl;
   reply_spelled = λ i. pldm_reply (record { pldm_type = kind; command = command }) (instance_back (n % 32) (small n) i) a.code a.body;

@@ -5,7 +5,7 @@ use Rattle.two_wire.specs.declared.Bus.TheVariants.{Ipmb, Smbus}
 use Rattle.record_base.specs.declared.message.Asked.{Asked}
 use Rattle.record_base.specs.declared.message.Asked.TheVariants.{Ipmi, Pldm}
 use Rattle.model_bus.specs.Bytes.{ipmb_reply, pldm_reply, IsRequestOn, IsReplyOn, IsIpmbRequest, IsIpmbReply, IsPldmRequest, IsPldmReply}
-use Rattle.model_bus.specs.Answered.{Answered as Told}
+use Rattle.model_bus.specs.Answered.{Answered}
 use Rattle.model_ports.specs.Wires.{bus_of, bytes_of, reply_to}
 use Rattle.model_ports.specs.Bytes.{Fits, IsNumber, AreTheModels}
 
@@ -27,14 +27,14 @@ request number (Ipmi from net_fn lun command body) fits is = record {
 }
 request number (Pldm from kind command body) fits is = record { header = record { pldm_type = kind; command = command }; instance = is; body = body; spelled = refl }
 
-ipmb_reply_is : (number : ℕ) (bytes : List ℕ) (a : Told) → IsIpmbRequest number bytes → IsIpmbReply a.code bytes (reply_to Ipmb bytes a)
+ipmb_reply_is : (number : ℕ) (bytes : List ℕ) (a : Answered) → IsIpmbRequest number bytes → IsIpmbReply a.code bytes (reply_to Ipmb bytes a)
 ipmb_reply_is number bytes a r =
     let h = r.header in
     record {
       header = h;
       is_header = r.is_header;
       number = number;
-      asked = r.body;
+      request_body = r.body;
       body = a.body;
       request_spelled = r.spelled;
       reply_spelled = ap (λ (x : List ℕ). reply_to Ipmb x a) r.spelled
@@ -43,18 +43,18 @@ ipmb_reply_is number bytes a r =
           (high number h.requester_lun r.is_header.requester i) a.code a.body);
     }
 
-pldm_reply_is : (number : ℕ) (bytes : List ℕ) (a : Told) → IsPldmRequest number bytes → IsPldmReply a.code bytes (reply_to Smbus bytes a)
+pldm_reply_is : (number : ℕ) (bytes : List ℕ) (a : Answered) → IsPldmRequest number bytes → IsPldmReply a.code bytes (reply_to Smbus bytes a)
 pldm_reply_is number bytes a r = record {
   header = r.header;
   number = number;
   instance = r.instance;
-  asked = r.body;
+  request_body = r.body;
   body = a.body;
   request_spelled = r.spelled;
   reply_spelled = ap (λ (x : List ℕ). reply_to Smbus x a) r.spelled ∙ (λ i. pldm_reply r.header (instance_back number r.instance i) a.code a.body);
 }
 
-reply : (on : Bus) (number : ℕ) (bytes : List ℕ) (a : Told) → IsRequestOn on number bytes → IsReplyOn on a.code bytes (reply_to on bytes a)
+reply : (on : Bus) (number : ℕ) (bytes : List ℕ) (a : Answered) → IsRequestOn on number bytes → IsReplyOn on a.code bytes (reply_to on bytes a)
 reply Ipmb number bytes a r = ipmb_reply_is number bytes a r
 reply Smbus number bytes a r = pldm_reply_is number bytes a r
 

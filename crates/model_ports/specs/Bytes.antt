@@ -14,7 +14,7 @@ use Rattle.model_bus.specs.Circle.{circle_of}
 use Rattle.model_bus.specs.Request.{Request as Heard}
 use Rattle.model_bus.specs.Bytes.{pldm_message_type, busy_code, is_busy_code, answers, IsRequestOn, IsReplyOn}
 use Rattle.bmc_board.specs.Decode.{sent_by}
-use Rattle.model_bus.specs.Answered.{Answered as Told}
+use Rattle.model_bus.specs.Answered.{Answered}
 use Rattle.model_ports.specs.Wires.{bus_of, bytes_of, asked_from, reply_to, answered_from}
 
 -- ---- requests
@@ -43,7 +43,7 @@ pldm_heard_in from request = record { requester = from; number = request.header.
 -- ---- replies
 
 -- the answer of a port that is busy
-abbrev pub busy_on : Bus → Told
+abbrev pub busy_on : Bus → Answered
 busy_on on = record { code = busy_code on; body = [] }
 
 -- what a port replies to a request: the reply, or that it is busy, where there is none
@@ -57,8 +57,8 @@ response_bytes response =
     packed (response.header.net_fn + 1) response.header.requester.lun ∷ packed response.header.sequence response.header.responder.lun ∷ response.header.command ∷ response.code ∷ response.body
 
 -- the response to a request that gives the answer
-abbrev pub response_to : Request → Told → Response
-response_to request told = record { header = request.header; code = told.code; body = told.body }
+abbrev pub response_to : Request → Answered → Response
+response_to request answered = record { header = request.header; code = answered.code; body = answered.body }
 
 -- the response of these bytes, which are the reply to the request
 abbrev pub response_of : Request → List ℕ → Response
@@ -69,19 +69,19 @@ response_of request bytes = response_to request (answered_from Ipmb bytes)
 -- a reader gives the request of a request's bytes, whoever sent it, and the answer of a reply's bytes
 pub record AreReadBack : Type 0 where
   pub request : (from number : ℕ) (asked : Asked) → Fits asked → asked_by_bytes from (bus_of asked) (bytes_of number asked) ≡ sent_by from asked
-  pub reply : (on : Bus) (bytes : List ℕ) (told : Told) → answered_from on (reply_to on bytes told) ≡ told
+  pub reply : (on : Bus) (bytes : List ℕ) (answered : Answered) → answered_from on (reply_to on bytes answered) ≡ answered
 
 -- the bytes are a request's and a reply's of the model
 pub record AreTheModels : Type 0 where
   pub request : (number : ℕ) (asked : Asked) → Fits asked → IsNumber (bus_of asked) number → IsRequestOn (bus_of asked) number (bytes_of number asked)
-  pub reply : (on : Bus) (number : ℕ) (bytes : List ℕ) (told : Told) → IsRequestOn on number bytes → IsReplyOn on told.code bytes (reply_to on bytes told)
+  pub reply : (on : Bus) (number : ℕ) (bytes : List ℕ) (answered : Answered) → IsRequestOn on number bytes → IsReplyOn on answered.code bytes (reply_to on bytes answered)
 
 -- the reply to a request passes the manager's test against it, unless its code is one of a busy port
 abbrev pub Accepts : Type 0
-Accepts = (on : Bus) (number : ℕ) (bytes : List ℕ) (told : Told) → IsRequestOn on number bytes → is_busy_code told.code ≡ false
-    → answers on bytes (reply_to on bytes told) ≡ true
+Accepts = (on : Bus) (number : ℕ) (bytes : List ℕ) (answered : Answered) → IsRequestOn on number bytes → is_busy_code answered.code ≡ false
+    → answers on bytes (reply_to on bytes answered) ≡ true
 
 -- a reply that passes the manager's test has the open request's number
 abbrev pub IsNumbered : Type 0
-IsNumbered = (on : Bus) (m n : ℕ) (opened bytes : List ℕ) (told : Told) → IsRequestOn on m opened → IsRequestOn on n bytes
-    → answers on opened (reply_to on bytes told) ≡ true → n ≡ m
+IsNumbered = (on : Bus) (open_number number : ℕ) (opened bytes : List ℕ) (answered : Answered) → IsRequestOn on open_number opened → IsRequestOn on number bytes
+    → answers on opened (reply_to on bytes answered) ≡ true → number ≡ open_number

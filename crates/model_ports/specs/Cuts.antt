@@ -16,7 +16,7 @@ use Rattle.model_ports.specs.PortSteps.{PortState, stays, hears_message, hears_p
 -- the packets of a message of at least one byte and at most `most_message_bytes` are a cut of it, and the model's cut
 pub record PartsAreCuts : Type 0 where
   pub cut : (message : Message) → 0 < length message.body → length message.body ≤ most_message_bytes → IsCutOf message (parts_of message)
-  pub seen_so : (message : Message) → map (λ (p : Packet). seen (piece p)) (parts_of message) ≡ packets_of message.body
+  pub seen_so : (message : Message) → map (λ (packet : Packet). seen (piece packet)) (parts_of message) ≡ packets_of message.body
 
 -- what an assembler keeps after packets, one after another
 abbrev pub kept_after_parts : ℕ → Assemblies → List Packet → Assemblies

@@ -102,8 +102,8 @@ pub record IsManagersPart (bus : PacketBus) (ends : Ends) (which place : ℕ) (p
 -- another requester's, or the manager's, where the event does what it does in each honest schedule.
 pub record PartsAreEvents (setup : BoardFile) (port : PortState) (before : State) (packet : Packet) (bus : PacketBus) (ends : Ends) : Type 0 where
   pub others : IsPortOf (after_part bus port packet (OtherPacket (name_in packet) (seen (piece packet)) (part_answer_to setup port before packet)) ends) (hears_part setup port before packet).port
-  pub managers : (which place : ℕ) → let e = PacketReachesPort which place (part_answer_to setup port before packet) in
-      IsManagersPart bus ends which place packet → HasPacketEffect bus ends e → IsPortOf (after_part bus port packet e ends) (hears_part setup port before packet).port
+  pub managers : (which place : ℕ) → let event = PacketReachesPort which place (part_answer_to setup port before packet) in
+      IsManagersPart bus ends which place packet → HasPacketEffect bus ends event → IsPortOf (after_part bus port packet event ends) (hears_part setup port before packet).port
 
 -- so it is with every packet
 abbrev pub PartsLeaveLog : Type 0

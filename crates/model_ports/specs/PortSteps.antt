@@ -59,10 +59,10 @@ left_by (Repeats reply) after before = before
 -- the turn of a request that asks this of a board: the board carries it out, or it repeats an earlier one, or it finds the port busy
 unfoldable pub turn : (ℕ → ℕ → Bool) → Heard → (Answered → List ℕ) → BoardFile → Asked → List Entry → State → Turn
 turn above heard spell setup asked log before =
-    let o = outcome above heard log in
+    let done = outcome above heard log in
     let given = answer_of setup before asked in
-    let k : Kept = record { request = heard; reply = spell given.0 } in
-    record { outcome = o; log = log_after o k log; left = left_by o given.1 before; replied = reply_after o k }
+    let kept : Kept = record { request = heard; reply = spell given.0 } in
+    record { outcome = done; log = log_after done kept log; left = left_by done given.1 before; replied = reply_after done kept }
 
 -- a port and the board after something came, and what the port sends
 pub record Deed : Type 0 where
@@ -91,8 +91,8 @@ response_after request replied = Tells (response_of request (said Ipmb (heard_in
 -- a request on IPMB comes
 unfoldable pub hears_request : BoardFile → PortState → State → Request → Deed
 hears_request setup port before request =
-    let t = request_turn setup port before request in
-    record { port = record port { log = t.log }; board = t.left; sent = response_after request t.replied ∷ [] }
+    let done = request_turn setup port before request in
+    record { port = record port { log = done.log }; board = done.left; sent = response_after request done.replied ∷ [] }
 
 -- ---- SMBus: messages
 
@@ -133,8 +133,8 @@ abbrev pub hears_pldm : BoardFile → PortState → State → Message → Option
 hears_pldm setup port before message None = stays port before
 hears_pldm setup port before message (Some request) =
     let from = message.envelope.source_eid in
-    let t = pldm_turn setup port before from request in
-    record { port = record port { log = t.log }; board = t.left; sent = replies port message (said Smbus (pldm_heard_in from request) t.replied) }
+    let done = pldm_turn setup port before from request in
+    record { port = record port { log = done.log }; board = done.left; sent = replies port message (said Smbus (pldm_heard_in from request) done.replied) }
 
 -- a port hears a message whose sender owns its tag, by the message's type: control, or PLDM
 abbrev pub hears_typed : BoardFile → PortState → State → Message → List ℕ → Deed

@@ -19,7 +19,7 @@ seen_name name = record { source = name.source_eid; owner = name.tag_owner; tag 
 
 -- the model's packets are these pieces
 abbrev pub AreSeen : List Sent → List Piece → Type 0
-AreSeen ss ps = map (λ (s : Sent). s.packet) ss ≡ map seen ps
+AreSeen ss ps = map (λ (sent : Sent). sent.packet) ss ≡ map seen ps
 
 -- under each name the same packets wait in the model and at the assembler
 abbrev pub WaitsAlike : (ModelName → List Sent) → Assemblies → Type 0

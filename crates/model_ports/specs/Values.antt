@@ -36,4 +36,4 @@ IsFrameOn Smbus (Tells response) bytes = ⊥
 
 -- the packets of a message: the runs of its bytes, each in its envelope
 abbrev pub parts_of : Message → List Packet
-parts_of message = map (λ q. record { envelope = message.envelope; start = q.first; end = q.last; sequence = q.sequence; payload = q.payload }) (packets_of message.body)
+parts_of message = map (λ part. record { envelope = message.envelope; start = part.first; end = part.last; sequence = part.sequence; payload = part.payload }) (packets_of message.body)

@@ -1,4 +1,4 @@
--- A manager as a machine: what each call and each reply makes of it, and which request it then sends.
+-- A manager as a machine: the machine after each call and each reply, and the request that the machine then sends.
 use Rattle.std.specs.Prelude.{ℕ, suc, ◌+◌, ◌==◌, nat_le, nat_lt, Bool, true, false, List, [], ◌∷◌, ◌++◌, length, Option, Some, None, if◌then◌else◌, slice_get}
 use Rattle.two_wire.specs.Codes.{success}
 use Rattle.two_wire.specs.Retries.{most_retries}

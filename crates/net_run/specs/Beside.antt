@@ -31,7 +31,7 @@ part_of word = word ++ codes ".part"
 abbrev pub next_of : (word : List ℕ) → List ℕ
 next_of word = word ++ codes ".next"
 
--- the words are this one, and those of the files beside it
+-- the words are that of the file, and those of the files beside it
 pub record IsBeside (word : List ℕ) (beside : Beside) : Type 0 where
   pub undo : beside.undo.now ≡ word
   pub part : string_bytes beside.part ≡ part_of word

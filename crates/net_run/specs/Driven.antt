@@ -44,8 +44,8 @@ resumed_from list = record {
 }
 
 -- nothing became of the manager and of its links
-pub record Rests (before : State) (m : Manager) (phase : Phase) (counted counts : Links) : Type 0 where
-  pub shown : Shows lab_names m before
+pub record Rests (before : State) (manager : Manager) (phase : Phase) (counted counts : Links) : Type 0 where
+  pub shown : Shows lab_names manager before
   pub phase_is : phase ≡ phase_of (words_of lab_names) before.machine
   pub same : counts ≡ counted
 
@@ -58,11 +58,11 @@ From Becomes None before = Rests before
 
 -- a request is open, and isn't heeded
 abbrev pub is_unsettled : Phase → Bool
-is_unsettled (Unsettled k) = true
+is_unsettled (Unsettled step) = true
 is_unsettled _ = false
 
 -- The manager was driven for so many turns, and not before the last of them was it unsettled by one.
-pub record UpToLast (turns : ℕ) (before : State) (m : Manager) (phase : Phase) (counted counts : Links) : Type 0 where
+pub record UpToLast (turns : ℕ) (before : State) (manager : Manager) (phase : Phase) (counted counts : Links) : Type 0 where
   pub fewer : ℕ
   pub one_more : suc fewer ≡ turns
   pub mid : Manager
@@ -70,16 +70,16 @@ pub record UpToLast (turns : ℕ) (before : State) (m : Manager) (phase : Phase)
   pub met : Links
   pub first : Drives lab_names fewer before mid heeded counted met
   pub is_heeded : (fewer ≡ 0) ⊎ (is_unsettled heeded ≡ false)
-  pub last : Drives lab_names 1 first.after m phase met counts
+  pub last : Drives lab_names 1 first.after manager phase met counts
 
 -- The manager was driven for at most so many turns, and wasn't unsettled while some of them were left: it need not be called again.
 abbrev pub Stays : (turns : ℕ) → State → Manager → Phase → (counted counts : Links) → Type 0
-Stays turns before m phase counted counts =
-    (Drives lab_names turns before m phase counted counts × ((is_unsettled phase ≡ false) ⊎ (turns ≡ 0)))
-    ⊎ UpToLast turns before m phase counted counts
+Stays turns before manager phase counted counts =
+    (Drives lab_names turns before manager phase counted counts × ((is_unsettled phase ≡ false) ⊎ (turns ≡ 0)))
+    ⊎ UpToLast turns before manager phase counted counts
 
 -- A turn left the manager unsettled while others were left. It was called again, and that became of it in the turns that were left.
-pub record Retakes (Becomes : (left : ℕ) → State → Manager → Phase → Links → Links → Type 0) (turns : ℕ) (before : State) (m : Manager) (phase : Phase) (counted counts : Links) : Type 0 where
+pub record Retakes (Becomes : (left : ℕ) → State → Manager → Phase → Links → Links → Type 0) (turns : ℕ) (before : State) (manager : Manager) (phase : Phase) (counted counts : Links) : Type 0 where
   pub made : ℕ
   pub left : ℕ
   pub all : made + left ≡ turns
@@ -89,17 +89,17 @@ pub record Retakes (Becomes : (left : ℕ) → State → Manager → Phase → L
   pub met : Links
   pub drives : UpToLast made before mid stopped counted met
   pub unsettled : is_unsettled stopped ≡ true
-  pub again : From (Becomes left) (called (board_plans lab_names) Again drives.last.after) drives.last.after m phase met counts
+  pub again : From (Becomes left) (called (board_plans lab_names) Again drives.last.after) drives.last.after manager phase met counts
 
 -- the manager was driven for at most so many turns, and called again, where a turn left it unsettled, up to so many times
 abbrev pub DrivesAgain : (agains turns : ℕ) → State → Manager → Phase → (counted counts : Links) → Type 0
-DrivesAgain zero turns before m phase counted counts = Drives lab_names turns before m phase counted counts
-DrivesAgain (suc more) turns before m phase counted counts =
-    Stays turns before m phase counted counts ⊎ Retakes (DrivesAgain more) turns before m phase counted counts
+DrivesAgain zero turns before manager phase counted counts = Drives lab_names turns before manager phase counted counts
+DrivesAgain (suc more) turns before manager phase counted counts =
+    Stays turns before manager phase counted counts ⊎ Retakes (DrivesAgain more) turns before manager phase counted counts
 
 -- ---- a manager that is called, and driven from then on
 
--- it is this one, in this phase, after at most so many turns and as many calls to try again
+-- the manager, in this phase, after at most so many turns and as many calls to try again
 abbrev pub GoesAgain : (agains : ℕ) → Call → (turns : ℕ) → State → Manager → Phase → (counted counts : Links) → Type 0
 GoesAgain agains call turns before = From (DrivesAgain agains turns) (called (board_plans lab_names) call before) before
 
@@ -108,19 +108,19 @@ abbrev pub Goes : Call → (turns : ℕ) → State → Manager → Phase → (co
 Goes = GoesAgain 0
 
 -- a manager went on from the list over links of its own, for at most so many turns, and undid it as far as it came
-pub record Undoes (list : UndoList) (turns : ℕ) (m : Manager) (phase : Phase) : Type 0 where
+pub record Undoes (list : UndoList) (turns : ℕ) (manager : Manager) (phase : Phase) : Type 0 where
   pub counts : Links
-  pub goes : Goes Undo turns (resumed_from list) m phase fresh_links counts
+  pub goes : Goes Undo turns (resumed_from list) manager phase fresh_links counts
 
 -- the list is the manager's: what undoes the steps that were done, the numbers of its next requests, and its names
-pub record IsListOf (list : UndoList) (s : State) : Type 0 where
-  pub requests : backs list.requests.members ≡ s.machine.undo
-  pub sequence : list.next.ipmb ≡ number_of Ipmb s.machine.counts.ipmb
-  pub instance : list.next.smbus ≡ number_of Smbus s.machine.counts.smbus
-  pub names : list.names ≡ s.listed
+pub record IsListOf (list : UndoList) (state : State) : Type 0 where
+  pub requests : backs list.requests.members ≡ state.machine.undo
+  pub sequence : list.next.ipmb ≡ number_of Ipmb state.machine.counts.ipmb
+  pub instance : list.next.smbus ≡ number_of Smbus state.machine.counts.smbus
+  pub names : list.names ≡ state.listed
 
 -- the plan ended or halted, so its list undoes what was done
 abbrev pub is_over : Phase → Bool
 is_over Done = true
-is_over (Halted k why) = true
+is_over (Halted step why) = true
 is_over _ = false

@@ -22,7 +22,7 @@ abbrev pub SaysFile : (word : List ℕ) → Saying
 SaysFile word stream text status = (stream ≡ Error) × (text ≡ file_line word) × (status ≡ RefusedFile)
 
 -- standard output has one text, standard error the other, and the status is 3
-pub record TellsBoth {W E : Type 0} (out : W → Option (List ℕ)) (err : E → Option (List ℕ)) (line complaint : List ℕ) (old new : Console W E) (result : ℕ) : Type 0 where
+pub record TellsBoth {Stdout Stderr : Type 0} (out : Stdout → Option (List ℕ)) (err : Stderr → Option (List ℕ)) (line complaint : List ℕ) (old new : Console Stdout Stderr) (result : ℕ) : Type 0 where
   pub said : Appends (out old.out) (out new.out) line
   pub complained : Appends (err old.err) (err new.err) complaint
   pub status : result ≡ 3

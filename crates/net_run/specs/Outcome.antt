@@ -23,36 +23,36 @@ use Rattle.net_run.specs.Moments.{HasList, KeepsSoFar, PassesTo}
 module _ {Files : Type 0} (takes : Writings Files) (renames : Renamings Files) where
   -- A manager was told to start and ran its plan over links of its own, for at most so many turns, and was called again up to so many times.
   -- At each moment of its way the file `.part` got the list so far, where that had grown.
-  pub record RunsFrom (word : List ℕ) (before : State) (words : RunWords) (m : Manager) (phase : Phase) (old new : Files) : Type 0 where
+  pub record RunsFrom (word : List ℕ) (before : State) (words : RunWords) (manager : Manager) (phase : Phase) (old new : Files) : Type 0 where
     pub counts : Links
-    pub goes : GoesAgain words.again Start words.turns before m phase fresh_links counts
+    pub goes : GoesAgain words.again Start words.turns before manager phase fresh_links counts
     pub moments : List Manager
-    pub way : PassesTo moments before m fresh_links counts
+    pub way : PassesTo moments before manager fresh_links counts
     pub keeps : KeepsSoFar takes renames word 0 moments old new
 
   -- The text of the manager's list is put into `.part`, and then that is renamed to the file of this word, where the plan ended or halted, and
   -- these answer so. Else nothing is written.
   abbrev pub Keeps : (over : Bool) → (word : List ℕ) → Manager → Change Files
-  Keeps true word m old answer new = (list : UndoList) × HasList m list × Replaces takes renames word (text_of list) old answer new
-  Keeps false word m old answer new = (answer ≡ Ok tt) × (new ≡ old)
+  Keeps true word manager old answer new = (list : UndoList) × HasList manager list × Replaces takes renames word (text_of list) old answer new
+  Keeps false word manager old answer new = (answer ≡ Ok tt) × (new ≡ old)
 
   -- so comes to an end what was begun with `.part` made: the manager ran, and its list is kept or not; or no link could be had; or memory for
   -- the text of its last list was refused
   abbrev pub ComesFrom : (word : List ℕ) → State → RunWords → Result Outcome Untold → (old new : Files) → Type 0
   ComesFrom word before words (Ok (Ran phase answer)) old new =
-      (m : Manager) × (mid : Files) × RunsFrom word before words m phase old mid × Keeps (is_over phase) word m mid answer new
+      (manager : Manager) × (mid : Files) × RunsFrom word before words manager phase old mid × Keeps (is_over phase) word manager mid answer new
   ComesFrom word before words (Ok Unmade) old new = ⊥
   ComesFrom word before words (Err Stopped) old new = new ≡ old
   ComesFrom word before words (Err Memory) old new =
-      (m : Manager) × (phase : Phase) × (is_over phase ≡ true) × RunsFrom word before words m phase old new
+      (manager : Manager) × (phase : Phase) × (is_over phase ≡ true) × RunsFrom word before words manager phase old new
 
   -- the same, whatever the word that the words are beside, and whatever machine the manager showed before
-  abbrev pub RunsBeside : Beside → (manager : Manager) → RunWords → (m : Manager) → Phase → (old new : Files) → Type 0
-  RunsBeside beside manager words m phase old new =
-      (word : List ℕ) (before : State) → IsBeside word beside → Shows lab_names manager before → RunsFrom word before words m phase old new
+  abbrev pub RunsBeside : Beside → (manager : Manager) → RunWords → (reached : Manager) → Phase → (old new : Files) → Type 0
+  RunsBeside beside manager words reached phase old new =
+      (word : List ℕ) (before : State) → IsBeside word beside → Shows lab_names manager before → RunsFrom word before words reached phase old new
 
   abbrev pub KeepsBeside : Beside → (over : Bool) → Manager → Change Files
-  KeepsBeside beside over m old answer new = (word : List ℕ) → IsBeside word beside → Keeps over word m old answer new
+  KeepsBeside beside over manager old answer new = (word : List ℕ) → IsBeside word beside → Keeps over word manager old answer new
 
   abbrev pub ComesBeside : Beside → (manager : Manager) → RunWords → Result Outcome Untold → (old new : Files) → Type 0
   ComesBeside beside manager words outcome old new =

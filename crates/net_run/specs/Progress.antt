@@ -18,26 +18,26 @@ word_of None = []
 
 -- what plans call the kind of this step
 abbrev pub word_at : List Kind → ℕ → List ℕ
-word_at kinds k = word_of (slice_get kinds k)
+word_at kinds step = word_of (slice_get kinds step)
 
 -- which step it is, of how many; the first one is step 1
 abbrev pub step_of : (step steps : ℕ) → List ℕ
-step_of k steps = codes "step " ++ (decimal (suc k) ++ (codes " of " ++ decimal steps))
+step_of step steps = codes "step " ++ (decimal (suc step) ++ (codes " of " ++ decimal steps))
 
 -- a line tells of this phase
 abbrev pub has_line : Phase → Bool
-has_line (Getting k) = true
-has_line (Setting k) = true
-has_line (Undoing k) = true
-has_line (Unsettled k) = true
+has_line (Getting step) = true
+has_line (Setting step) = true
+has_line (Undoing step) = true
+has_line (Unsettled step) = true
 has_line _ = false
 
 -- what is asked in a phase
 abbrev pub what_of : List Kind → (steps : ℕ) → Phase → List ℕ
-what_of kinds steps (Getting k) = step_of k steps ++ (codes ": get " ++ word_at kinds k)
-what_of kinds steps (Setting k) = step_of k steps ++ (codes ": set " ++ word_at kinds k)
-what_of kinds steps (Undoing k) = codes "undoing " ++ step_of k steps
-what_of kinds steps (Unsettled k) = step_of k steps ++ codes ": no reply"
+what_of kinds steps (Getting step) = step_of step steps ++ (codes ": get " ++ word_at kinds step)
+what_of kinds steps (Setting step) = step_of step steps ++ (codes ": set " ++ word_at kinds step)
+what_of kinds steps (Undoing step) = codes "undoing " ++ step_of step steps
+what_of kinds steps (Unsettled step) = step_of step steps ++ codes ": no reply"
 what_of kinds steps _ = []
 
 -- which time it is asked again, if it is
@@ -51,20 +51,20 @@ line_of kinds steps now = codes "\r" ++ (what_of kinds steps now.phase ++ (retry
 
 -- ---- what is written
 
-module _ {P : Type 0} (out : P → Option (List ℕ)) where
+module _ {Writer : Type 0} (out : Writer → Option (List ℕ)) where
   -- the text is written, and the line says this; or a write failed, and nothing is written any more
-  abbrev pub Writes : (text : List ℕ) → Option Moment → (old new : Progress P) → Type 0
+  abbrev pub Writes : (text : List ℕ) → Option Moment → (old new : Progress Writer) → Type 0
   Writes text said old new =
       (new.said ≡ said) × ((new.on ≡ false) ⊎ ((new.on ≡ old.on) × Appends (out old.writer) (out new.writer) text))
 
   -- nothing is written; or the line of this moment is, where lines are written and the line says something else
-  abbrev pub MayTell : List Kind → (steps : ℕ) → Moment → (old new : Progress P) → Type 0
+  abbrev pub MayTell : List Kind → (steps : ℕ) → Moment → (old new : Progress Writer) → Type 0
   MayTell kinds steps now old new =
       (new ≡ old)
       ⊎ ((old.on ≡ true) × (has_line now.phase ≡ true) × (old.said ≢ Some now) × Writes (line_of kinds steps now) (Some now) old new)
 
   -- a line that was written is ended by a line feed; where none was, nothing is written
-  abbrev pub EndsLine : (old new : Progress P) → Type 0
+  abbrev pub EndsLine : (old new : Progress Writer) → Type 0
   EndsLine old new =
       ((new ≡ old) × ((old.on ≡ false) ⊎ (old.said ≡ None)))
       ⊎ ((old.on ≡ true) × IsSome old.said × Writes (codes "\n") None old new)

@@ -21,12 +21,12 @@ use Rattle.net_run.specs.Lines.{phase_line, plan_line}
 use Rattle.net_run.specs.Outcome.{Comes}
 
 -- standard output has the phase's line, standard error names the file, and the status is 3
-abbrev pub EndsUnkept : {W E : Type 0} → (out : W → Option (List ℕ)) → (err : E → Option (List ℕ)) → Phase → (word : List ℕ) → (old new : Console W E) → ℕ → Type 0
+abbrev pub EndsUnkept : {Stdout Stderr : Type 0} → (out : Stdout → Option (List ℕ)) → (err : Stderr → Option (List ℕ)) → Phase → (word : List ℕ) → (old new : Console Stdout Stderr) → ℕ → Type 0
 EndsUnkept out err phase word = TellsBoth out err (phase_line phase) (file_line word)
 
 -- So a run ends of which that came: it says the phase, and behind it the file that isn't kept; or the file that can't be made; or nothing,
 -- where a link can't be had.
-abbrev pub EndsBy : {W E : Type 0} → (out : W → Option (List ℕ)) → (err : E → Option (List ℕ)) → (word : List ℕ) → Result Outcome Untold → (old new : Console W E) → ℕ → Type 0
+abbrev pub EndsBy : {Stdout Stderr : Type 0} → (out : Stdout → Option (List ℕ)) → (err : Stderr → Option (List ℕ)) → (word : List ℕ) → Result Outcome Untold → (old new : Console Stdout Stderr) → ℕ → Type 0
 EndsBy out err word (Ok (Ran phase (Ok kept))) old new result = RunEnds out err (SaysPhase phase) old new result
 EndsBy out err word (Ok (Ran phase (Err why))) old new result =
     RunEnds out err Nothing old new result ⊎ EndsUnkept out err phase word old new result
@@ -34,8 +34,8 @@ EndsBy out err word (Ok Unmade) old new result = RunEnds out err (SaysFile word)
 EndsBy out err word (Err why) old new result = RunEnds out err (SaysReport (Err why)) old new result
 
 -- so a run of a plan ends
-abbrev pub RunEndsOver : {Files W E : Type 0} → (out : W → Option (List ℕ)) → (err : E → Option (List ℕ)) → Writings Files → Renamings Files → Plan → RunWords
-    → (before after : Files) → (old new : Console W E) → ℕ → Type 0
+abbrev pub RunEndsOver : {Files Stdout Stderr : Type 0} → (out : Stdout → Option (List ℕ)) → (err : Stderr → Option (List ℕ)) → Writings Files → Renamings Files → Plan → RunWords
+    → (before after : Files) → (old new : Console Stdout Stderr) → ℕ → Type 0
 RunEndsOver out err takes renames plan words before after old new result =
     (outcome : Result Outcome Untold) × Comes takes renames plan words outcome before after × EndsBy out err (string_bytes words.undo) outcome old new result
 
@@ -44,8 +44,8 @@ abbrev pub SaysFault : (text : List ℕ) → Saying
 SaysFault text stream said status = (why : PlanFault) × ReadsPlan text (Err why) × (stream ≡ Error) × (said ≡ plan_line why) × (status ≡ RefusedFile)
 
 -- so a run of a plan's text ends: as one of the plan; or it says why the text is none, and writes no file
-abbrev pub RunEndsOn : {Files W E : Type 0} → (out : W → Option (List ℕ)) → (err : E → Option (List ℕ)) → Writings Files → Renamings Files → (text : List ℕ) → RunWords
-    → (before after : Files) → (old new : Console W E) → ℕ → Type 0
+abbrev pub RunEndsOn : {Files Stdout Stderr : Type 0} → (out : Stdout → Option (List ℕ)) → (err : Stderr → Option (List ℕ)) → Writings Files → Renamings Files → (text : List ℕ) → RunWords
+    → (before after : Files) → (old new : Console Stdout Stderr) → ℕ → Type 0
 RunEndsOn out err takes renames text words before after old new result =
     ((plan : Plan) × ReadsPlan text (Ok plan) × RunEndsOver out err takes renames plan words before after old new result)
     ⊎ ((after ≡ before) × RunEnds out err (SaysFault text) old new result)
@@ -55,8 +55,8 @@ abbrev pub SaysUnread : Readings → (named : List ℕ) → Saying
 SaysUnread gives named stream said status = (why : Unreadable) × gives named (Err why) × Refuses why named stream said status
 
 -- so a run of a plan's file ends: as one of its text; or it says that the file isn't read, and writes none
-abbrev pub RunEndsOf : {Files W E : Type 0} → (out : W → Option (List ℕ)) → (err : E → Option (List ℕ)) → Readings → Writings Files → Renamings Files → (named : List ℕ) → RunWords
-    → (before after : Files) → (old new : Console W E) → ℕ → Type 0
+abbrev pub RunEndsOf : {Files Stdout Stderr : Type 0} → (out : Stdout → Option (List ℕ)) → (err : Stderr → Option (List ℕ)) → Readings → Writings Files → Renamings Files → (named : List ℕ) → RunWords
+    → (before after : Files) → (old new : Console Stdout Stderr) → ℕ → Type 0
 RunEndsOf out err gives takes renames named words before after old new result =
     ((text : List ℕ) × gives named (Ok text) × RunEndsOn out err takes renames text words before after old new result)
     ⊎ ((after ≡ before) × RunEnds out err (SaysUnread gives named) old new result)

@@ -7,6 +7,6 @@ use Rattle.net_run.specs.Driven.{State, Stays, UpToLast, is_unsettled}
 
 -- a turn left the manager unsettled, and so many are left; or, after at most so many turns, it need not be called again
 abbrev pub Stops : (turns : ℕ) → State → Manager → (left : Option ℕ) → (counted counts : Links) → Type 0
-Stops turns before m None counted counts = (phase : Phase) × Stays turns before m phase counted counts
-Stops turns before m (Some left) counted counts =
-    (made : ℕ) × (stopped : Phase) × (made + left ≡ turns) × (0 < left) × UpToLast made before m stopped counted counts × (is_unsettled stopped ≡ true)
+Stops turns before manager None counted counts = (phase : Phase) × Stays turns before manager phase counted counts
+Stops turns before manager (Some left) counted counts =
+    (made : ℕ) × (stopped : Phase) × (made + left ≡ turns) × (0 < left) × UpToLast made before manager stopped counted counts × (is_unsettled stopped ≡ true)

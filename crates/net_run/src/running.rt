@@ -293,7 +293,7 @@ fn tell_unkept<W: io::Write, E: io::Write>(
 }
 
 /// What is said of a run that left the manager in this phase.
-fn told(alloc: Global, phase: Phase) -> Result<Report, Untold>
+fn reached(alloc: Global, phase: Phase) -> Result<Report, Untold>
     ensures { Tells (SaysPhase phase) result }
 {
     Ok(phase_report(alloc, phase)?)
@@ -318,7 +318,7 @@ fn say_ran<W: io::Write, E: io::Write>(
         console.old console.new result }
 {
     match kept {
-        Ok(()) => end_run(&told(alloc, phase), console),
+        Ok(()) => end_run(&reached(alloc, phase), console),
         Err(Unwritten) => tell_unkept(alloc, phase, word, console),
     }
 }

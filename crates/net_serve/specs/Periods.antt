@@ -19,7 +19,7 @@ use Rattle.bmc_ports.specs.Timing.{Gains}
 use Rattle.net_serve.specs.declared.periods.Course.{Course}
 use Rattle.net_serve.specs.Served.{most_events}
 
--- A period has a history, which leads from the one state to the other. What the history has of each port's seat is what that port was told, what
+-- A period has a history, which leads from the one state to the other. What the history has of each port's seat is what that port got, what
 -- it has of the scanner's seat is the list from the one place to the other, and where one of them found no room the history is full.
 pub record IsPeriod {A B : Type 0} (first_counts : A → Counts) (second_counts : B → Counts) (setup : BoardFile) (opening ending : State)
     (before after : Lanes A B) (list : List Timed) (from to : ℕ) (history : List Event) : Type 0 where

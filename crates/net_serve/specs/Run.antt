@@ -62,7 +62,7 @@ abbrev pub ports_line : (ipmb smbus : ℕ) → List ℕ
 ports_line ipmb smbus = codes "bmcnet: ipmb on 127.0.0.1:" ++ decimal ipmb ++ codes ", smbus on 127.0.0.1:" ++ decimal smbus ++ 10 ∷ []
 
 -- standard error grows by the line of the ports that were taken for those of the words
-abbrev pub TellsPorts : {W E : Type 0} → (out : W → Option (List ℕ)) → (err : E → Option (List ℕ)) → ServeWords → (old new : Console W E) → Type 0
+abbrev pub TellsPorts : {Stdout Stderr : Type 0} → (out : Stdout → Option (List ℕ)) → (err : Stderr → Option (List ℕ)) → ServeWords → (old new : Console Stdout Stderr) → Type 0
 TellsPorts out err words old new =
     (ipmb : ℕ) × (smbus : ℕ) × IsTaken words.ipmb_port ipmb × IsTaken words.smbus_port smbus
     × Written Error (ports_line ipmb smbus) (out old.out) (out new.out) (err old.err) (err new.err)
@@ -86,22 +86,22 @@ SaysServed words board given Output text status =
 SaysServed words board given Error text status = IsBoard board × AreReadings given × (text ≡ []) × (status ≡ Stopped)
 
 -- So a run ends that serves the board of a text, with a text of readings, where there is one: it isn't served, or both ports are told of first.
-abbrev pub TextEnds : {W E : Type 0} → (out : W → Option (List ℕ)) → (err : E → Option (List ℕ)) → ServeWords → (board : List ℕ) → (given : Option (List ℕ))
-    → (old new : Console W E) → ℕ → Type 0
-TextEnds {W} {E} out err words board given old new result =
+abbrev pub TextEnds : {Stdout Stderr : Type 0} → (out : Stdout → Option (List ℕ)) → (err : Stderr → Option (List ℕ)) → ServeWords → (board : List ℕ) → (given : Option (List ℕ))
+    → (old new : Console Stdout Stderr) → ℕ → Type 0
+TextEnds {Stdout} {Stderr} out err words board given old new result =
     RunEnds out err (SaysUnserved board given) old new result
-    ⊎ ((told : Console W E) × TellsPorts out err words old told × RunEnds out err (SaysServed words board given) told new result)
+    ⊎ ((mid : Console Stdout Stderr) × TellsPorts out err words old mid × RunEnds out err (SaysServed words board given) mid new result)
 
 -- So it ends where the board file was read: as it does with its text and that of the readings, where a word names them, or that file isn't read.
-abbrev pub BesideEnds : {W E : Type 0} → (out : W → Option (List ℕ)) → (err : E → Option (List ℕ)) → Readings → ServeWords → (word : Option (List ℕ)) → (board : List ℕ)
-    → (old new : Console W E) → ℕ → Type 0
+abbrev pub BesideEnds : {Stdout Stderr : Type 0} → (out : Stdout → Option (List ℕ)) → (err : Stderr → Option (List ℕ)) → Readings → ServeWords → (word : Option (List ℕ)) → (board : List ℕ)
+    → (old new : Console Stdout Stderr) → ℕ → Type 0
 BesideEnds out err gives words None board old new result = TextEnds out err words board None old new result
 BesideEnds out err gives words (Some word) board old new result =
     ((text : List ℕ) × gives word (Ok text) × TextEnds out err words board (Some text) old new result)
     ⊎ ((why : Unreadable) × gives word (Err why) × RunEnds out err (Refuses why word) old new result)
 
 -- So a run of `serve` ends: as it does with the text of the board file, or that file isn't read.
-abbrev pub ServeEnds : {W E : Type 0} → (out : W → Option (List ℕ)) → (err : E → Option (List ℕ)) → Readings → ServeWords → (old new : Console W E) → ℕ → Type 0
+abbrev pub ServeEnds : {Stdout Stderr : Type 0} → (out : Stdout → Option (List ℕ)) → (err : Stderr → Option (List ℕ)) → Readings → ServeWords → (old new : Console Stdout Stderr) → ℕ → Type 0
 ServeEnds out err gives words old new result =
     ((board : List ℕ) × gives (string_bytes words.board) (Ok board) × BesideEnds out err gives words (option_map string_bytes words.readings) board old new result)
     ⊎ ((why : Unreadable) × gives (string_bytes words.board) (Err why) × RunEnds out err (Refuses why (string_bytes words.board)) old new result)

@@ -126,8 +126,9 @@ length_tested n is = both _ _ (le_true _ _ is.least) (le_true _ _ is.most)
 
 -- ---- a value's bytes read as the value
 
-told : (n : ℕ) → n % 256 + 256 * (n / 256) ≡ n
-told n = omega arith
+-- a number is read back from its two bytes
+pub number_back : (n : ℕ) → n % 256 + 256 * (n / 256) ≡ n
+number_back n = omega arith
 
 comes_where : {X : Type 0} (b : Bool) (x : X) → b ≡ true → (if b then Some x else None) ≡ Some x
 comes_where true x h = refl
@@ -135,5 +136,5 @@ comes_where false x h = absurd cc
 
 pub value_back : (v : AttributeValue) → HasEightBytes v → value_in (type_of_value v) (value_bytes v) ≡ Some v
 value_back (Indexes indexes) small = comes_where (length indexes == length indexes) (Indexes indexes) (same_tested _ _ refl)
-value_back (Text text) small = comes_where (number_of (length text % 256) (length text / 256) == length text) (Text text) (same_tested _ _ (told (length text)))
+value_back (Text text) small = comes_where (number_of (length text % 256) (length text / 256) == length text) (Text text) (same_tested _ _ (number_back (length text)))
 value_back (Number n) small = ap (λ (m : ℕ). Some (Number m)) (from_le_bytes-to_le_bytes_8 n small)

@@ -14,9 +14,9 @@ Decides (Ok new) Holds = Holds new
 Decides (Err code) Holds = (new : List ℕ) → ¬ Holds new
 
 -- the outcome of a call that writes the new value where it succeeds
-abbrev pub told : {A : Type 0} → Result A ℕ → List ℕ → Result (List ℕ) ℕ
-told (Ok _) new = Ok new
-told (Err code) new = Err code
+abbrev pub value_or_code : {A : Type 0} → Result A ℕ → List ℕ → Result (List ℕ) ℕ
+value_or_code (Ok _) new = Ok new
+value_or_code (Err code) new = Err code
 
 -- the code of a refusal: a byte that is neither success nor one of the two codes of a busy controller
 pub record IsRefusal (code : ℕ) : Type 0 where

@@ -48,7 +48,7 @@ fn tell(board: &mut Board<Records>, port: &mut Port, pending: Pending, out: &mut
     requires { bus_asked pending ≡ bus_of port.old }
 {
     let answered = board.answer(&pending.asked());
-    port.told(pending, &answered, out);
+    port.answer(pending, &answered, out);
 }
 
 /// The port hears the bytes, and is told the answer where they are a request that is to be carried out.

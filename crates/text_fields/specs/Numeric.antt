@@ -43,7 +43,7 @@ sized_bytes named tree = option_and_then (λ size. option_map (bytes_of size) (s
 
 -- what a step tells are the bytes of a request's value
 abbrev pub AreBytes : NumericBytes → Option (List ℕ) → Type 0
-AreBytes (bytes.One a) told = told ≡ Some (a ∷ [])
-AreBytes (bytes.Two a b) told = told ≡ Some (a ∷ b ∷ [])
-AreBytes (bytes.Four a b c d) told = told ≡ Some (a ∷ b ∷ c ∷ d ∷ [])
-AreBytes bytes.Other told = ⊥
+AreBytes (bytes.One a) found = found ≡ Some (a ∷ [])
+AreBytes (bytes.Two a b) found = found ≡ Some (a ∷ b ∷ [])
+AreBytes (bytes.Four a b c d) found = found ≡ Some (a ∷ b ∷ c ∷ d ∷ [])
+AreBytes bytes.Other found = ⊥

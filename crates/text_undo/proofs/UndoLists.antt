@@ -46,26 +46,26 @@ one_lines (x ∷ xs) (y ∷ ys) l m e =
 -- ---- good lines
 
 -- lines of requests are good behind the head
-requests_good : (version : Version) (n : ℕ) (lines : List (List ℕ)) (told : List Asked) → head_length version < n → n + length lines ≤ head_length version + 257 → AllZip IsRequestLine lines told → AllGood version n lines
-requests_good version n [] told low high z = tt
+requests_good : (version : Version) (n : ℕ) (lines : List (List ℕ)) (requests : List Asked) → head_length version < n → n + length lines ≤ head_length version + 257 → AllZip IsRequestLine lines requests → AllGood version n lines
+requests_good version n [] requests low high z = tt
 requests_good version n (line ∷ lines) [] low high z = absurd z
-requests_good version n (line ∷ lines) (asked ∷ told) low high z =
-    (inr (inr (low, omega (arith, high), (asked, z.0))), requests_good version (n + 1) lines told (omega (arith, low)) (omega (arith, high)) z.1)
+requests_good version n (line ∷ lines) (asked ∷ requests) low high z =
+    (inr (inr (low, omega (arith, high), (asked, z.0))), requests_good version (n + 1) lines requests (omega (arith, low)) (omega (arith, high)) z.1)
 
 -- and so are those of the names in front of them
-names_good : (names lines : List (List ℕ)) (o : Option Names) (told : List Asked) → AreNamesLines names o → AllZip IsRequestLine lines told → length lines ≤ 256 → AllGood (version_of o) 3 (names ++ lines)
-names_good [] lines None told are z few = requests_good One 3 lines told (omega arith) (omega (arith, few)) z
-names_good [] lines (Some names) told are z few = absurd are
-names_good (line ∷ []) lines None told are z few = absurd are
-names_good (line ∷ []) lines (Some names) told are z few = (inr (inl (refl, refl, (names, are))), requests_good Two 4 lines told (omega arith) (omega (arith, few)) z)
-names_good (line ∷ other ∷ more) lines o told are z few = absurd are
+names_good : (names lines : List (List ℕ)) (o : Option Names) (requests : List Asked) → AreNamesLines names o → AllZip IsRequestLine lines requests → length lines ≤ 256 → AllGood (version_of o) 3 (names ++ lines)
+names_good [] lines None requests are z few = requests_good One 3 lines requests (omega arith) (omega (arith, few)) z
+names_good [] lines (Some names) requests are z few = absurd are
+names_good (line ∷ []) lines None requests are z few = absurd are
+names_good (line ∷ []) lines (Some names) requests are z few = (inr (inl (refl, refl, (names, are))), requests_good Two 4 lines requests (omega arith) (omega (arith, few)) z)
+names_good (line ∷ other ∷ more) lines o requests are z few = absurd are
 
 -- the lines behind the version
 abbrev behind_version : (text : List ℕ) (list : UndoList) → Stands text list → List (List ℕ)
 behind_version text list s = numbers_line list.next ∷ (s.names ++ s.lines)
 
 stands_good : (text : List ℕ) (list : UndoList) (s : Stands text list) → AllGood (version_of list.names) 2 (behind_version text list s)
-stands_good text list s = (inl (refl, (list.next, s.next)), names_good s.names s.lines list.names (reverse list.requests.members) s.named s.told s.few)
+stands_good text list s = (inl (refl, (list.next, s.next)), names_good s.names s.lines list.names (reverse list.requests.members) s.named s.each s.few)
 
 stands_lack : (text : List ℕ) (list : UndoList) (s : Stands text list) → AllByRecursion (Lacks 10) (version_line (version_of list.names) ∷ behind_version text list s)
 stands_lack text list s = (version_lacks (version_of list.names), goods_lack (version_of list.names) 2 (behind_version text list s) (stands_good text list s))
@@ -118,8 +118,8 @@ one_list text a b p q =
     let rest : p.names ++ p.lines ≡ q.names ++ q.lines = cc lines in
     let behind = same_behind p.names q.names p.lines q.lines a.names b.names p.named q.named (one_version (version_of a.names) (version_of b.names) version) rest in
     let next = one_numbers (numbers_line a.next) a.next b.next p.next (subst (λ (l : List ℕ). IsNumbersLine l b.next) first q.next) in
-    let told = same_told p.lines (reverse a.requests.members) (reverse b.requests.members) p.told (subst (λ (ls : List (List ℕ)). AllZip IsRequestLine ls (reverse b.requests.members)) (sym behind.1) q.told) in
-    record { requests = sym (reverse-reverse a.requests.members) ∙ ap reverse told ∙ reverse-reverse b.requests.members; next = next; names = behind.0 }
+    let requests = same_told p.lines (reverse a.requests.members) (reverse b.requests.members) p.each (subst (λ (ls : List (List ℕ)). AllZip IsRequestLine ls (reverse b.requests.members)) (sym behind.1) q.each) in
+    record { requests = sym (reverse-reverse a.requests.members) ∙ ap reverse requests ∙ reverse-reverse b.requests.members; next = next; names = behind.0 }
 
 -- lines that are all good, and enough, have no first bad one
 none_bad : (version : Version) (k : ℕ) (lines before : List (List ℕ)) (rest : List ℕ) (n : ℕ) → AllGood version k lines → AllGood version k before → flat_map ended lines ≡ flat_map ended before ++ rest
@@ -179,23 +179,23 @@ one_first_bad text m n (inr (version, rest, e, from)) (inr (other, more, f, to))
 -- ---- reading on
 
 -- the text begins with the lines of these requests, and the rest stands behind them
-pub record Begun (text : List ℕ) (told : List Asked) (rest : List ℕ) : Type 0 where
+pub record Begun (text : List ℕ) (requests : List Asked) (rest : List ℕ) : Type 0 where
   pub lines : List (List ℕ)
   pub spelt : text ≡ flat_map ended lines ++ rest
-  pub each : AllZip IsRequestLine lines told
+  pub each : AllZip IsRequestLine lines requests
 
-zip_push : (lines : List (List ℕ)) (told : List Asked) (line : List ℕ) (asked : Asked) → AllZip IsRequestLine lines told → IsRequestLine line asked → AllZip IsRequestLine (lines ++ line ∷ []) (told ++ asked ∷ [])
+zip_push : (lines : List (List ℕ)) (requests : List Asked) (line : List ℕ) (asked : Asked) → AllZip IsRequestLine lines requests → IsRequestLine line asked → AllZip IsRequestLine (lines ++ line ∷ []) (requests ++ asked ∷ [])
 zip_push [] [] line asked z r = (r, tt)
-zip_push [] (t ∷ told) line asked z r = absurd z
+zip_push [] (t ∷ requests) line asked z r = absurd z
 zip_push (l ∷ lines) [] line asked z r = absurd z
-zip_push (l ∷ lines) (t ∷ told) line asked z r = (z.0, zip_push lines told line asked z.1 r)
+zip_push (l ∷ lines) (t ∷ requests) line asked z r = (z.0, zip_push lines requests line asked z.1 r)
 
 nil_behind : (xs : List ℕ) → xs ++ [] ≡ xs
 nil_behind [] = refl
 nil_behind (x ∷ xs) = ap (λ (l : List ℕ). x ∷ l) (nil_behind xs)
 
-pub begun_more : (text : List ℕ) (told : List Asked) (rest more : List ℕ) (asked : Asked) → Begun text told rest → BeginsWith (λ line. IsRequestLine line asked) rest more → Begun text (told ++ asked ∷ []) more
-begun_more text told rest more asked b next =
+pub begun_more : (text : List ℕ) (requests : List Asked) (rest more : List ℕ) (asked : Asked) → Begun text requests rest → BeginsWith (λ line. IsRequestLine line asked) rest more → Begun text (requests ++ asked ∷ []) more
+begun_more text requests rest more asked b next =
     let split = flat_map-append ended b.lines (next.0 ∷ []) in
     let last : flat_map ended (next.0 ∷ []) ≡ ended next.0 = nil_behind (ended next.0) in
     let front : flat_map ended (b.lines ++ next.0 ∷ []) ++ more ≡ flat_map ended b.lines ++ (next.0 ++ 10 ∷ more) =
@@ -203,7 +203,7 @@ begun_more text told rest more asked b next =
     record {
       lines = b.lines ++ next.0 ∷ [];
       spelt = b.spelt ∙ ap (λ (l : List ℕ). flat_map ended b.lines ++ l) next.1 ∙ sym front;
-      each = zip_push b.lines told next.0 asked b.each next.2;
+      each = zip_push b.lines requests next.0 asked b.each next.2;
     }
 
 -- a rest that begins with no request is no good line behind the head
@@ -220,16 +220,16 @@ past version n rest low more (line, e, inl g) = omega (arith, g.0, low)
 past version n rest low more (line, e, inr (inl g)) = omega (arith, g.1, low)
 past version n rest low more (line, e, inr (inr g)) = omega (arith, g.1, low)
 
-pub begun_bad : (version : Version) (text : List ℕ) (told : List Asked) (rest : List ℕ) (n : ℕ) → Begun text told rest → n ≡ head_length version + 1 + length told → length told ≤ 256 → rest ≢ []
+pub begun_bad : (version : Version) (text : List ℕ) (requests : List Asked) (rest : List ℕ) (n : ℕ) → Begun text requests rest → n ≡ head_length version + 1 + length requests → length requests ≤ 256 → rest ≢ []
     → ((more : List ℕ) → ¬ BeginsWith (IsGood version n) rest more) → IsFirstBadFrom version (head_length version + 1) text n
-begun_bad version text told rest n b at few some bad =
-    let long : length told ≡ length b.lines = AllZip-long IsRequestLine b.lines told b.each in
+begun_bad version text requests rest n b at few some bad =
+    let long : length requests ≡ length b.lines = AllZip-long IsRequestLine b.lines requests b.each in
     record {
       before = b.lines;
       rest = rest;
       spelt = b.spelt;
       place = omega (arith, at, long);
-      good = requests_good version (head_length version + 1) b.lines told (omega arith) (omega (arith, long, few)) b.each;
+      good = requests_good version (head_length version + 1) b.lines requests (omega arith) (omega (arith, long, few)) b.each;
       bad = bad;
       wanted = inl some;
     }
@@ -318,12 +318,12 @@ headed version text rest more back next o same e second named = record {
 }
 
 -- the list that was read
-pub read_is : (text back : List ℕ) (next : NextNumbers) (o : Option Names) (told : List Asked) (list : UndoList) → Headed text back next o → AreLinesOf back told → length told ≤ 256
-    → list.next ≡ next → list.names ≡ o → list.requests.members ≡ reverse told → Stands text list
-read_is text back next o told list h are few same named turned =
+pub read_is : (text back : List ℕ) (next : NextNumbers) (o : Option Names) (requests : List Asked) (list : UndoList) → Headed text back next o → AreLinesOf back requests → length requests ≤ 256
+    → list.next ≡ next → list.names ≡ o → list.requests.members ≡ reverse requests → Stands text list
+read_is text back next o requests list h are few same named turned =
     let numbers : IsNumbersLine h.second.0 list.next = subst (λ (x : NextNumbers). IsNumbersLine h.second.0 x) (sym same) h.second.2 in
-    let turned_back : reverse list.requests.members ≡ told = ap reverse turned ∙ reverse-reverse told in
-    let long : length told ≡ length are.lines = AllZip-long IsRequestLine are.lines told are.each in
+    let turned_back : reverse list.requests.members ≡ requests = ap reverse turned ∙ reverse-reverse requests in
+    let long : length requests ≡ length are.lines = AllZip-long IsRequestLine are.lines requests are.each in
     let second_line : h.rest ≡ ended (numbers_line list.next) ++ h.more = h.second.1 ∙ ap (λ (l : List ℕ). l ++ 10 ∷ h.more) numbers.spelt ∙ sym (regroup (numbers_line list.next) h.more) in
     let others : h.more ≡ flat_map ended (h.names ++ are.lines) = h.behind ∙ ap (λ (l : List ℕ). flat_map ended h.names ++ l) are.spelt ∙ sym (flat_map-append ended h.names are.lines) in
     let whole : text ≡ flat_map ended (version_line (version_of o) ∷ numbers_line list.next ∷ (h.names ++ are.lines)) =
@@ -334,7 +334,7 @@ read_is text back next o told list h are few same named turned =
       spelt = subst (λ (p : Option Names). text ≡ flat_map ended (version_line (version_of p) ∷ numbers_line list.next ∷ (h.names ++ are.lines))) (sym named) whole;
       next = record { spelt = refl; ipmb = numbers.ipmb; smbus = numbers.smbus };
       named = subst (λ (p : Option Names). AreNamesLines h.names p) (sym named) h.are;
-      told = subst (λ (xs : List Asked). AllZip IsRequestLine are.lines xs) (sym turned_back) are.each;
+      each = subst (λ (xs : List Asked). AllZip IsRequestLine are.lines xs) (sym turned_back) are.each;
       few = omega (arith, few, long);
     }
 
@@ -355,7 +355,7 @@ drop_get xs p x e =
 -- the lines of the requests from a place on, that of the last first
 pub record Pushed (requests : List Asked) (place : ℕ) (old new : List ℕ) : Type 0 where
   pub text : new ≡ old ++ flat_map ended (map line_of (reverse (drop place requests)))
-  pub told : All IsPlain requests → AllZip IsRequestLine (map line_of (reverse (drop place requests))) (reverse (drop place requests))
+  pub each : All IsPlain requests → AllZip IsRequestLine (map line_of (reverse (drop place requests))) (reverse (drop place requests))
 
 pub pushed_more : (requests : List Asked) (p place : ℕ) (asked : Asked) (old now new : List ℕ) → place ≡ p + 1 → slice_get requests p ≡ Some asked → Pushed requests place old now
     → new ≡ now ++ ended (line_of asked) → (IsPlain asked → IsRequestLine (line_of asked) asked) → Pushed requests p old new
@@ -368,9 +368,9 @@ pushed_more requests p place asked old now new at got b text line =
     ap (flat_map ended) lines ∙ flat_map-append ended (map line_of rest) (line_of asked ∷ []) ∙ ap (λ (l : List ℕ). flat_map ended (map line_of rest) ++ l) (nil_behind (ended (line_of asked))) in
     record {
       text = text ∙ ap (λ (l : List ℕ). l ++ ended (line_of asked)) b.text ∙ append_assoc old (flat_map ended (map line_of rest)) (ended (line_of asked)) ∙ ap (λ (l : List ℕ). old ++ l) (sym flat);
-      told = λ all.
+      each = λ all.
           let plain : IsPlain asked = subst IsPlain (get_is requests p asked got) (all p asked (slice_get_within requests p asked got)) in
-          let both = zip_push (map line_of rest) rest (line_of asked) asked (b.told all) (line plain) in
+          let both = zip_push (map line_of rest) rest (line_of asked) asked (b.each all) (line plain) in
           subst (λ (l : List (List ℕ)). AllZip IsRequestLine l (reverse (drop p requests))) (sym lines)
           (subst (λ (l : List Asked). AllZip IsRequestLine (map line_of rest ++ line_of asked ∷ []) l) (sym turned) both);
     }

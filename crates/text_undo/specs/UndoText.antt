@@ -128,14 +128,14 @@ pub record Stands (text : List ℕ) (list : UndoList) : Type 0 where
   pub spelt : text ≡ flat_map ended (version_line (version_of list.names) ∷ numbers_line list.next ∷ (names ++ lines))
   pub next : IsNumbersLine (numbers_line list.next) list.next
   pub named : AreNamesLines names list.names
-  pub told : AllZip IsRequestLine lines (reverse list.requests.members)
+  pub each : AllZip IsRequestLine lines (reverse list.requests.members)
   pub few : length lines ≤ most_steps
 
 -- two lists say the same
-pub record AreAlike (a b : UndoList) : Type 0 where
-  pub requests : a.requests.members ≡ b.requests.members
-  pub next : a.next ≡ b.next
-  pub names : a.names ≡ b.names
+pub record AreAlike (one other : UndoList) : Type 0 where
+  pub requests : one.requests.members ≡ other.requests.members
+  pub next : one.next ≡ other.next
+  pub names : one.names ≡ other.names
 
 -- a pair as it is written, in upper case
 abbrev pub pair_of : (own peer : ℕ) → List ℕ
@@ -199,7 +199,7 @@ IsFirstBad text number =
     ⊎ ((version : Version) × (rest : List ℕ) × (text ≡ ended (version_line version) ++ rest) × IsFirstBadFrom version 2 rest number)
 
 -- the text is the lines of these requests, in their order
-pub record AreLinesOf (text : List ℕ) (told : List Asked) : Type 0 where
+pub record AreLinesOf (text : List ℕ) (requests : List Asked) : Type 0 where
   pub lines : List (List ℕ)
   pub spelt : text ≡ flat_map ended lines
-  pub each : AllZip IsRequestLine lines told
+  pub each : AllZip IsRequestLine lines requests

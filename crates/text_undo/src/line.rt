@@ -137,13 +137,13 @@ fn digits(line: &str) -> Option<(Bus, &str)>
 }
 
 /// Adds the request that the line is of, and tells whether it is of one.
-fn add_line(alloc: Global, line: &str, told: &mut Requests) -> Result<bool, AllocError>
-    requires few { length told.old.members < most_steps }
-    requires none { told.old.waiting ≡ None }
+fn add_line(alloc: Global, line: &str, requests: &mut Requests) -> Result<bool, AllocError>
+    requires few { length requests.old.members < most_steps }
+    requires none { requests.old.waiting ≡ None }
     ensures added { result ≡ Ok true → (asked : AnyAsked) × IsRequestLine line.now asked
-        × (told.new.members ≡ told.old.members ++ asked ∷ []) }
+        × (requests.new.members ≡ requests.old.members ++ asked ∷ []) }
     ensures refused { result ≡ Ok false → (asked : AnyAsked) → ¬ IsRequestLine line.now asked }
-    ensures none { told.new.waiting ≡ None }
+    ensures none { requests.new.waiting ≡ None }
 {
     let Some((bus, digits)) = digits(line) else {
         return Ok(false);
@@ -154,7 +154,7 @@ fn add_line(alloc: Global, line: &str, told: &mut Requests) -> Result<bool, Allo
     let Some(request) = request(bus, bytes.as_slice()) else {
         return Ok(false);
     };
-    told.add(&request)?;
+    requests.add(&request)?;
     Ok(true)
 }
 
@@ -162,20 +162,20 @@ fn add_line(alloc: Global, line: &str, told: &mut Requests) -> Result<bool, Allo
 pub fn add_first<'a>(
     alloc: Global,
     text: &'a str,
-    told: &mut Requests,
+    requests: &mut Requests,
 ) -> Result<Option<&'a str>, AllocError>
-    requires few { length told.old.members < most_steps }
-    requires none { told.old.waiting ≡ None }
-    ensures told { IfOk result (λ found. MatchOption found ((more : List ℕ) (asked : AnyAsked)
+    requires few { length requests.old.members < most_steps }
+    requires none { requests.old.waiting ≡ None }
+    ensures lines { IfOk result (λ found. MatchOption found ((more : List ℕ) (asked : AnyAsked)
         → ¬ BeginsWith (λ line. IsRequestLine line asked) text.now more)
-        (λ rest. (asked : AnyAsked) × (told.new.members ≡ told.old.members ++ asked ∷ [])
+        (λ rest. (asked : AnyAsked) × (requests.new.members ≡ requests.old.members ++ asked ∷ [])
         × BeginsWith (λ line. IsRequestLine line asked) text.now rest.now)) }
-    ensures none { told.new.waiting ≡ None }
+    ensures none { requests.new.waiting ≡ None }
 {
     let Some(cut) = first_line(text) else {
         return Ok(None);
     };
-    if add_line(alloc, cut.0, told)? {
+    if add_line(alloc, cut.0, requests)? {
         Ok(Some(cut.1))
     } else {
         Ok(None)
@@ -208,7 +208,7 @@ pub fn push_request(
 ) -> Result<(), AllocError>
     ensures text { OnOk result (string_bytes text.new
         ≡ string_bytes text.old ++ ended (line_of (meant request.now))) }
-    ensures told { IsPlain (meant request.now)
+    ensures lines { IsPlain (meant request.now)
         → IsRequestLine (line_of (meant request.now)) (meant request.now) }
 {
     match request {

@@ -158,7 +158,7 @@ fn push_pair(
 ) -> Result<(), AllocError>
     ensures text { OnOk result (string_bytes text.new
         ≡ string_bytes text.old ++ (words.now ++ pair_of own peer)) }
-    ensures told { OnOk result (IsPair (pair_of own peer) own peer) }
+    ensures lines { OnOk result (IsPair (pair_of own peer) own peer) }
 {
     let own_digits = hex::encode_upper(alloc, [own])?;
     let peer_digits = hex::encode_upper(alloc, [peer])?;
@@ -169,7 +169,7 @@ fn push_pair(
 fn push_names(alloc: Global, text: &mut String, names: &Names) -> Result<(), AllocError>
     ensures text { OnOk result (string_bytes text.new
         ≡ string_bytes text.old ++ ended (names_line names.now)) }
-    ensures told { OnOk result (IsNamesLine (names_line names.now) names.now) }
+    ensures lines { OnOk result (IsNamesLine (names_line names.now) names.now) }
 {
     let own = names.own_address.byte();
     push_pair(alloc, text, "names ipmb ", own, names.peer_address.byte())?;
@@ -187,7 +187,7 @@ pub fn push_names_line(
 ) -> Result<(), AllocError>
     ensures text { OnOk result (string_bytes text.new
         ≡ string_bytes text.old ++ flat_map ended (names_lines names.now)) }
-    ensures told { OnOk result (AreNamesLines (names_lines names.now) names.now) }
+    ensures lines { OnOk result (AreNamesLines (names_lines names.now) names.now) }
 {
     match names {
         None => Ok(()),

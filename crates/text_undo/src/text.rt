@@ -48,7 +48,7 @@ pub fn push_requests(
 ) -> Result<(), AllocError>
     ensures text { OnOk result (string_bytes text.new
         ≡ string_bytes text.old ++ flat_map ended (map line_of (reverse requests.now.members))) }
-    ensures told { OnOk result (All IsPlain requests.now.members
+    ensures lines { OnOk result (All IsPlain requests.now.members
         → AllZip IsRequestLine
         (map line_of (reverse requests.now.members)) (reverse requests.now.members)) }
     ensures few { length requests.now.members ≤ most_steps }
@@ -64,24 +64,24 @@ pub fn push_requests(
 
 /// The requests of these lines, in their order, or the number of the first bad line, in a text of this version.
 fn read_requests(alloc: Global, version: Version, text: &str) -> Result<Requests, UndoFault>
-    ensures told { IfOk result (λ told. AreLinesOf text.now told.members) }
-    ensures few { IfOk result (λ told. length told.members ≤ most_steps) }
-    ensures waiting { IfOk result (λ told. told.waiting ≡ None) }
+    ensures lines { IfOk result (λ requests. AreLinesOf text.now requests.members) }
+    ensures few { IfOk result (λ requests. length requests.members ≤ most_steps) }
+    ensures waiting { IfOk result (λ requests. requests.waiting ≡ None) }
     ensures fault { IfErr result
         (λ why. (why ≡ UndoFault.Memory) ⊎ ((n : ℕ) × (why ≡ UndoFault.Line n)
         × IsFirstBadFrom version (head_length version + 1) text.now n)) }
 {
     let first = head_lines(version) + 1;
-    let Ok(mut told) = Requests::open(alloc, 0, 0) else {
+    let Ok(mut requests) = Requests::open(alloc, 0, 0) else {
         return Err(UndoFault::Memory);
     };
     let mut rest = text;
     while !rest.is_empty() {
-        let line = UndoFault::Line(first + told.len());
-        if told.len() == MOST_REQUESTS {
+        let line = UndoFault::Line(first + requests.len());
+        if requests.len() == MOST_REQUESTS {
             return Err(line);
         }
-        let Ok(found) = add_first(alloc, rest, &mut told) else {
+        let Ok(found) = add_first(alloc, rest, &mut requests) else {
             return Err(UndoFault::Memory);
         };
         let Some(behind) = found else {
@@ -89,7 +89,7 @@ fn read_requests(alloc: Global, version: Version, text: &str) -> Result<Requests
         };
         rest = behind;
     }
-    Ok(told)
+    Ok(requests)
 }
 
 /// The list that the text stands for, or its first bad line. A last line without a line feed is bad, and so is a line in front of the

@@ -45,20 +45,20 @@ size_self : (a : Password) → same_size a a ≡ true
 size_self (Sixteen a) = refl
 size_self (Twenty a) = refl
 
-told : (kept given : Password) (b c : Bool) → same_password kept given ≡ b → same_size kept given ≡ c → (let r : Result (Unit {0}) ℕ = if b then Ok tt else Err (if c then wrong_text else wrong_size) in r) ≡ test_answer kept given → TestsTell kept given
-told kept given true c is size answers = record {
+tells_where : (kept given : Password) (b c : Bool) → same_password kept given ≡ b → same_size kept given ≡ c → (let r : Result (Unit {0}) ℕ = if b then Ok tt else Err (if c then wrong_text else wrong_size) in r) ≡ test_answer kept given → TestsTell kept given
+tells_where kept given true c is size answers = record {
   passed = λ _. sym (password_true kept given is);
   itself = λ _. sym answers;
   size = λ other. absurd (true_not_false _ (subst (λ (p : Password). same_size kept p ≡ true) (password_true kept given is) (size_self kept)) other);
   text = λ _ other. absurd (other (sym (password_true kept given is)));
 }
-told kept given false true is size answers = record {
+tells_where kept given false true is size answers = record {
   passed = λ ok. let bad : Err wrong_text ≡ (let r : Result (Unit {0}) ℕ = Ok tt in r) = answers ∙ ok in cc;
   itself = λ same. absurd (true_not_false _ (true_password kept given (sym same)) is);
   size = λ other. absurd (true_not_false _ size other);
   text = λ _ _. sym answers;
 }
-told kept given false false is size answers = record {
+tells_where kept given false false is size answers = record {
   passed = λ ok. let bad : Err wrong_size ≡ (let r : Result (Unit {0}) ℕ = Ok tt in r) = answers ∙ ok in cc;
   itself = λ same. absurd (true_not_false _ (true_password kept given (sym same)) is);
   size = λ _. sym answers;
@@ -67,7 +67,7 @@ told kept given false false is size answers = record {
 
 pub all_tests_tell : AllTestsTell
 all_tests_tell kept given =
-    told kept given (same_password kept given) (same_size kept given) refl refl refl
+    tells_where kept given (same_password kept given) (same_size kept given) refl refl refl
 
 -- ---- what is kept
 

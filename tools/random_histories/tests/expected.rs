@@ -165,7 +165,7 @@ fn next_reply(history: &History, from: &mut usize, seat: u8, wanted: &Asked) -> 
     }
 }
 
-/// Whether a port that hears what this link heard, and is told what the history has of this seat, sends what this link sent.
+/// Whether a port that hears what this link heard, and gets the answers that the history has of this seat, sends what this link sent.
 fn is_sent(
     alloc: Global,
     port: &mut Port,
@@ -186,7 +186,7 @@ fn is_sent(
             let Some(answered) = next_reply(history, &mut from, seat, &pending.asked()) else {
                 break;
             };
-            port.told(pending, &answered, &mut out);
+            port.answer(pending, &answered, &mut out);
         }
         for frame in out.frames.as_slice() {
             sent.push(frame.copy())?;
@@ -197,7 +197,7 @@ fn is_sent(
     Ok(is_all && &sent.as_slice()[..most] == link.sent())
 }
 
-/// Each worker sent what one of these ports sends that is told what the history has of its seat.
+/// Each worker sent what one of these ports sends that gets the answers which the history has of its seat.
 pub(super) fn expect_sent(
     rt: &impl Abort,
     alloc: Global,

@@ -131,7 +131,7 @@ impl<S: Store> Board<S> {
     ghost use Rattle.bmc_board.specs.ChannelCommands.{channel_asked};
     ghost use Rattle.bmc_board.specs.Answer.{outcome_at};
     ghost use Rattle.std.specs.Prelude.{Some, Ok};
-    ghost use Rattle.record_base.specs.Meaning.{told};
+    ghost use Rattle.record_base.specs.Meaning.{value_or_code};
     ghost use Rattle.record_kinds.specs.Limits.{key_of, reader_of};
     ghost use Rattle.watch_boot.specs.BootRequests.{boot_request_in, boot_shown_in};
     ghost use Rattle.user_chan.specs.ChannelRequests.{channel_request_in};
@@ -436,7 +436,7 @@ impl<S: Store> Board<S> {
 
     /// Makes the value that the operation makes of its record, and gives the record's place: nothing is written.
     fn try_set(&mut self, op: &Op<'_>) -> Result<S::Place, Code>
-        ensures made { told result self.new.made_over_ipmi
+        ensures made { value_or_code result self.new.made_over_ipmi
             ≡ outcome_at self.old.setup (state_of S.records self.old) op.now }
         ensures place { IfOk result (λ at. S.places self.old.store (key_of op.now) ≡ Some at) }
         ensures store { self.new.store ≡ self.old.store }

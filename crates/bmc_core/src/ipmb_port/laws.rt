@@ -6,7 +6,7 @@ ghost use Rattle.bmc_board.specs.State.{State};
 ghost use Rattle.model_ports.specs.PortSteps.{PortState};
 ghost use Rattle.bmc_core.specs.declared.out.Reason.{Reason};
 ghost use Rattle.bmc_core.specs.IpmbHeard.{IsHeard};
-ghost use Rattle.bmc_core.specs.IpmbRuns.{IsHeardThenTold, Coming, KeepsTheRule, Ends, Happening, CarriesTheRule};
+ghost use Rattle.bmc_core.specs.IpmbRuns.{IsHeardThenAnswered, Coming, KeepsTheRule, Ends, Happening, CarriesTheRule};
 
 /// A port at an address hears at most one thing in the same bytes.
 pub fn one_thing_is_heard()
@@ -14,15 +14,15 @@ pub fn one_thing_is_heard()
         → IsHeard wire bytes a → IsHeard wire bytes b → a ≡ b }
 {}
 
-/// A port of a board hears a request, and then is told the board's answer to it.
-pub fn a_request_is_heard_and_then_told()
+/// A port of a board hears a request, and then gets the board's answer to it.
+pub fn a_request_is_heard_and_then_answered()
     ensures { (setup : BoardFile) (port : PortState) (before : State) (r : Request)
-        → IsHeardThenTold setup port before r }
+        → IsHeardThenAnswered setup port before r }
 {}
 
-/// Over any list of frames, idle requesters and requests that are told any answer or dropped, the requests that a port carries out are
-/// those of the rule for repeated requests, over what is told.
-pub fn what_is_told_is_kept_by_the_rule()
+/// Over any list of frames, idle requesters and requests that get any answer or are dropped, the requests that a port carries out are
+/// those of the rule for repeated requests, over the requests that get answers.
+pub fn what_is_answered_is_kept_by_the_rule()
     ensures { (port : PortState) (cs : List Coming) → KeepsTheRule port cs }
 {}
 

@@ -3,10 +3,10 @@ ghost use Rattle.std.specs.Prelude.{ℕ, List};
 ghost use Rattle.cfg_records.specs.declared.board_file.BoardFile.{BoardFile};
 ghost use Rattle.bmc_board.specs.State.{State};
 ghost use Rattle.bmc_core.specs.declared.port.Port.{Port};
-ghost use Rattle.bmc_core.specs.Port.{IsHeardThenTold};
+ghost use Rattle.bmc_core.specs.Port.{IsHeardThenAnswered};
 
-/// `on_frame` hears the bytes, has the board answer what is asked, and is told that answer.
-pub fn bytes_are_heard_and_then_told()
+/// `on_frame` hears the bytes, has the board answer what is asked, and gets that answer.
+pub fn bytes_are_heard_and_then_answered()
     ensures { (setup : BoardFile) (port : Port) (before : State) (bytes : List ℕ)
-        → IsHeardThenTold setup port before bytes }
+        → IsHeardThenAnswered setup port before bytes }
 {}

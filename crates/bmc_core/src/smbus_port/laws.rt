@@ -4,17 +4,17 @@ ghost use Rattle.mctp_net.specs.declared.packet.Packet.{Packet};
 ghost use Rattle.cfg_records.specs.declared.board_file.BoardFile.{BoardFile};
 ghost use Rattle.bmc_board.specs.State.{State};
 ghost use Rattle.model_ports.specs.PortSteps.{PortState};
-ghost use Rattle.bmc_core.specs.SmbusRuns.{IsHeardThenTold, Coming, KeepsTheRule, Ends, Happening, CarriesTheRule};
+ghost use Rattle.bmc_core.specs.SmbusRuns.{IsHeardThenAnswered, Coming, KeepsTheRule, Ends, Happening, CarriesTheRule};
 
-/// A port of a board hears a packet, and then is told the board's answer to what the packet asks.
-pub fn a_packet_is_heard_and_then_told()
+/// A port of a board hears a packet, and then gets the board's answer to what the packet asks.
+pub fn a_packet_is_heard_and_then_answered()
     ensures { (setup : BoardFile) (port : PortState) (before : State) (p : Packet)
-        → IsHeardThenTold setup port before p }
+        → IsHeardThenAnswered setup port before p }
 {}
 
-/// Over any list of packets, idle requesters and requests that are told any answer or dropped, the requests that a port carries out are
-/// those of the rule for repeated requests, over what is told.
-pub fn what_is_told_is_kept_by_the_rule()
+/// Over any list of packets, idle requesters and requests that get any answer or are dropped, the requests that a port carries out are
+/// those of the rule for repeated requests, over the requests that get answers.
+pub fn what_is_answered_is_kept_by_the_rule()
     ensures { (port : PortState) (cs : List Coming) → KeepsTheRule port cs }
 {}
 

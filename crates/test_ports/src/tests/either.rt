@@ -30,7 +30,7 @@ fn exchange(rt: &impl Abort, port: &mut Port, board: &mut Board<Records>, out: &
     match port.hear(GET, out) {
         Step::Ask(pending) => {
             let answered = board.answer(&pending.asked());
-            port.told(pending, &answered, out);
+            port.answer(pending, &answered, out);
         }
         Step::Done => panic!(rt; "nothing is asked"),
     }

@@ -340,7 +340,7 @@ fn thresholds() -> Answered
     }
 }
 
-/// Another port than the one that heard the request is told: the port at 22h keeps a frame that goes from 20h, and doesn't send that
+/// Another port than the one that heard the request answers it: the port at 22h keeps a frame that goes from 20h, and doesn't send that
 /// one again.
 #[test]
 fn a_reply_that_is_kept_goes_from_the_address_that_is_asked(rt: HostRuntime) {
@@ -348,7 +348,7 @@ fn a_reply_that_is_kept_goes_from_the_address_that_is_asked(rt: HostRuntime) {
     let mut other = port_at(&rt, rt.alloc(), 0x22);
     let mut out = Out::new();
     let pending = asked(&rt, &mut port, &mut out);
-    other.told(pending, &thresholds(), &mut out);
+    other.answer(pending, &thresholds(), &mut out);
     expect_out(&rt, &out, Done::Answered, GOT);
     assert!(rt; matches!(other.hear(GET_AT_22, &mut out), Step::Done));
     expect_out(&rt, &out, Done::Repeated, GOT_AT_22);

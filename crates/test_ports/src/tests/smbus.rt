@@ -144,7 +144,7 @@ fn tid(number: u8) -> Answered {
     }
 }
 
-/// The port is told this terminus identifier. It does this, and sends this.
+/// The port gets this terminus identifier as the answer. It does this, and sends this.
 fn expect_told_tid(
     rt: &impl Abort,
     port: &mut SmbusPort,
@@ -154,7 +154,7 @@ fn expect_told_tid(
     frame: &[u8],
 ) {
     let mut out = Out::new();
-    port.told(pending, &tid(number), &mut out);
+    port.answer(pending, &tid(number), &mut out);
     expect_out(rt, &out, done, frame);
 }
 

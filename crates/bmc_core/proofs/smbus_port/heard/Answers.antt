@@ -2,7 +2,7 @@ use Rattle.std.proofs.Common.{rules, ◌≡◌, ℕ, true, false, Some, None, sy
 use Rattle.model_bus.specs.Carried.{IsNew}
 use Rattle.bmc_core.specs.SmbusHeard.{InMessage, Heard, message_heard, found, asks_of}
 use Rattle.bmc_core.specs.SmbusShown.{Shows, IsGiven}
-use Rattle.bmc_core.proofs.SmbusPorts.{with_eid, ended, asked, heard_at, settled_as, settled, new}
+use Rattle.bmc_core.proofs.SmbusPorts.{with_eid, ended, given_is_heard, heard_at, settled_as, settled, new}
 use Rattle.bmc_core.proofs.smbus_port.heard.Goals as goal
 
 pub returns-in_default : goal.returns-in_default
@@ -17,7 +17,7 @@ returns-then-settle c p next at_wire at_eid of shows =
     let m : InMessage = c.in-Some.request in
     let some : c.hear.result ≡ Some m = search rules in
     let h : Heard = message_heard (record { envelope = c.args.envelope; body = c.args.body.now }) in
-    let so = asked p.wire p.eid h c.hear.new.endpoint c.hear.new.out m
+    let so = given_is_heard p.wire p.eid h c.hear.new.endpoint c.hear.new.out m
     (heard_at p h c.args.wire c.args.endpoint.now c.hear.new.endpoint c.hear.new.out c.hear.result (Some m) at_wire at_eid some c.hear.ensures) in
     let shown : Shows next p = subst (λ (n : ℕ). Shows next (with_eid p n)) so.0 shows in
     let done = settled next c.settle.new.out c.hear.new.out p m shown
@@ -29,7 +29,7 @@ returns c p next at_wire at_eid of shows =
     let m : InMessage = c.in-Some.request in
     let some : c.hear.result ≡ Some m = search rules in
     let h : Heard = message_heard (record { envelope = c.args.envelope; body = c.args.body.now }) in
-    let so = asked p.wire p.eid h c.hear.new.endpoint c.hear.new.out m
+    let so = given_is_heard p.wire p.eid h c.hear.new.endpoint c.hear.new.out m
     (heard_at p h c.args.wire c.args.endpoint.now c.hear.new.endpoint c.hear.new.out c.hear.result (Some m) at_wire at_eid some c.hear.ensures) in
     let shown : Shows next p = subst (λ (n : ℕ). Shows next (with_eid p n)) so.0 shows in
     let is : found p m ≡ IsNew =

@@ -11,8 +11,8 @@ pub returns-in-Ok : goal.returns-in-Ok
 returns-in-Ok g c =
     subst (λ (kept : Result (Unit {0}) Unwritten). EndsBy g.W.Write.contents g.E.Write.contents c.args.word.now (Ok (Ran c.args.phase kept)) c.args.console.now c.end_run.new.console c.end_run.result)
     (sym c.in-Ok.is)
-    (run_reports g.W.Write.contents g.E.Write.contents (SaysPhase c.args.phase) c.told.result c.args.console.now c.end_run.new.console c.end_run.result
-    c.told.ensures c.end_run.ensures)
+    (run_reports g.W.Write.contents g.E.Write.contents (SaysPhase c.args.phase) c.reached.result c.args.console.now c.end_run.new.console c.end_run.result
+    c.reached.ensures c.end_run.ensures)
 
 pub returns-in-Err : goal.returns-in-Err
 returns-in-Err g c =

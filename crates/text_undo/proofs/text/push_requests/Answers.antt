@@ -9,5 +9,5 @@ loop-place-preserved c =
     record {
       low = omega (arith, c.loop-place.invariant.low);
       pushed = pushed_more c.args.requests.now.members (c.loop-place.place - 1) c.loop-place.place (meant c.unwrap-request.result) (string_bytes c.args.text.now) (string_bytes c.loop-place.text) (string_bytes c.push_request.new.text)
-          (omega (arith, c.loop-place-test.true)) got c.loop-place.invariant.pushed c.in_ok-push_request.ensures.text c.in_ok-push_request.ensures.told;
+          (omega (arith, c.loop-place-test.true)) got c.loop-place.invariant.pushed c.in_ok-push_request.ensures.text c.in_ok-push_request.ensures.lines;
     }

@@ -13,7 +13,7 @@ returns-then-len-eq-MOST_REQUESTS-clause-fault c =
     inr (
       n,
       refl,
-      begun_bad c.args.version c.args.text.now c.loop-rest.told.members c.loop-rest.rest.now n c.loop-rest.invariant.1 (omega (arith, first, c.len.ensures.value)) (omega (arith, c.loop-rest.invariant.2)) some
+      begun_bad c.args.version c.args.text.now c.loop-rest.requests.members c.loop-rest.rest.now n c.loop-rest.invariant.1 (omega (arith, first, c.len.ensures.value)) (omega (arith, c.loop-rest.invariant.2)) some
           (past c.args.version n c.loop-rest.rest.now (omega (arith, first, c.len.ensures.value, c.len-in-loop-rest.ensures.value, c.if-len-eq-MOST_REQUESTS.true))),
     )
 
@@ -22,20 +22,20 @@ returns-in_default-found-clause-fault c =
     let first : c.head_lines-first.result + 1 ≡ head_length c.args.version + 1 = ap (λ k. k + 1) c.head_lines-first.ensures in
     let n = c.head_lines-first.result + 1 + c.len.result in
     let some = not_empty c.loop-rest.rest.now c.is_empty.result c.loop-rest-test.true c.is_empty.ensures in
-    let none = rw c.in_default-found.is at c.in-Ok-add_first.ensures.told in
+    let none = rw c.in_default-found.is at c.in-Ok-add_first.ensures.lines in
     inr (
       n,
       refl,
-      begun_bad c.args.version c.args.text.now c.loop-rest.told.members c.loop-rest.rest.now n c.loop-rest.invariant.1 (omega (arith, first, c.len.ensures.value)) (omega (arith, c.loop-rest.invariant.2)) some
+      begun_bad c.args.version c.args.text.now c.loop-rest.requests.members c.loop-rest.rest.now n c.loop-rest.invariant.1 (omega (arith, first, c.len.ensures.value)) (omega (arith, c.loop-rest.invariant.2)) some
           (no_request c.args.version n c.loop-rest.rest.now (omega (arith, first)) none),
     )
 
 pub loop-rest-preserved : goal.loop-rest-preserved
 loop-rest-preserved c =
-    let found = rw c.in-Some.is at c.in-Ok-add_first.ensures.told in
-    let longer : length c.add_first.new.told.members ≡ length c.loop-rest.told.members + 1 = ap (λ (l : List Asked). length l) found.1 ∙ length-append c.loop-rest.told.members (found.0 ∷ []) in (
+    let found = rw c.in-Some.is at c.in-Ok-add_first.ensures.lines in
+    let longer : length c.add_first.new.requests.members ≡ length c.loop-rest.requests.members + 1 = ap (λ (l : List Asked). length l) found.1 ∙ length-append c.loop-rest.requests.members (found.0 ∷ []) in (
       search rules,
-      subst (λ (l : List Asked). Begun c.args.text.now l c.in-Some.behind.now) (sym found.1) (begun_more c.args.text.now c.loop-rest.told.members c.loop-rest.rest.now _ found.0 c.loop-rest.invariant.1 found.2),
+      subst (λ (l : List Asked). Begun c.args.text.now l c.in-Some.behind.now) (sym found.1) (begun_more c.args.text.now c.loop-rest.requests.members c.loop-rest.rest.now _ found.0 c.loop-rest.invariant.1 found.2),
       omega (arith, longer, c.loop-rest.invariant.2, c.if-len-eq-MOST_REQUESTS.false, c.len-in-loop-rest.ensures.value),
       c.add_first.ensures.none,
     )

@@ -5,7 +5,7 @@ use Rattle.text_undo.proofs.UndoLists.{Begun}
 use Rattle.text_undo.proofs.text.read_requests.Given as goal
 
 abbrev pub invariant-loop-rest : goal.invariant-loop-rest
-invariant-loop-rest l = shadow (Utf8 l.rest) × Begun l.text l.told.members l.rest × (length l.told.members ≤ 256) × (l.told.waiting ≡ None)
+invariant-loop-rest l = shadow (Utf8 l.rest) × Begun l.text l.requests.members l.rest × (length l.requests.members ≤ 256) × (l.requests.waiting ≡ None)
 
 abbrev pub decreases-loop-rest : goal.decreases-loop-rest
 decreases-loop-rest l = length l.rest

@@ -27,4 +27,4 @@ returns-in-Ok-clause-list c =
     let named = c.in-Some-version_names.ensures in
     read_is c.args.text.now c.in-Some-version_names.named.1.now _ c.in-Some-version_names.named.0 c.in-Ok.requests.members _
     (headed c.in-Some.begun.0 c.args.text.now c.in-Some.begun.1.now c.in-Some-first_numbers.numbered.1.now _ _ _ named.version c.in-Some.ensures.some c.in-Some-first_numbers.ensures.some named.some)
-    c.in-Ok.ensures.told (omega (arith, c.in-Ok.ensures.few)) refl refl c.reverse.ensures.members
+    c.in-Ok.ensures.lines (omega (arith, c.in-Ok.ensures.few)) refl refl c.reverse.ensures.members

@@ -6,7 +6,7 @@ use Rattle.bmc_core.specs.Outs.{sends}
 use Rattle.bmc_core.specs.SmbusHeard.{InMessage, Asks, found, kept_with}
 use Rattle.bmc_core.specs.SmbusShown.{Ends, frames_from}
 use Rattle.bmc_core.proofs.SmbusPorts.{settled_as, settled, parts_at, new, answered}
-use Rattle.bmc_core.proofs.smbus_port.SmbusPort.told.Goals as goal
+use Rattle.bmc_core.proofs.smbus_port.SmbusPort.answer.Goals as goal
 
 pub returns-then-settle : goal.returns-then-settle
 returns-then-settle c p shows =

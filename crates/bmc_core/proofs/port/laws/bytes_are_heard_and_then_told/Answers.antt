@@ -1,5 +1,0 @@
-use Rattle.bmc_core.proofs.PortSteps.{heard_then_told}
-use Rattle.bmc_core.proofs.port.laws.bytes_are_heard_and_then_told.Goals as goal
-
-pub returns : goal.returns
-returns c = heard_then_told

@@ -1,5 +1,0 @@
-use Rattle.bmc_core.proofs.SmbusLists.{heard_then_told}
-use Rattle.bmc_core.proofs.smbus_port.laws.a_packet_is_heard_and_then_told.Goals as goal
-
-pub returns : goal.returns
-returns c = heard_then_told
