@@ -32,7 +32,7 @@ pub record IsEnvelope (envelope : Envelope) : Type 0 where
   pub source : (envelope.source < 256) × (envelope.source % 2 ≡ 0)
   pub destination_eid : envelope.destination_eid < 256
   pub source_eid : envelope.source_eid < 256
-  pub tag : envelope.tag < 8
+  pub tag : envelope.tag < tags
 
 -- the bytes are the packet, with these ignored bits
 pub record IsSpelled (packet : Packet) (ignored : ℕ) (bytes : List ℕ) : Type 0 where

@@ -117,8 +117,7 @@ hears_control port before asking (Some effect) =
 
 -- a PLDM request from an endpoint
 abbrev pub pldm_heard : ℕ → PldmRequest → Heard
-pldm_heard from request =
-    record { requester = from; number = request.header.instance; bytes = 1 ∷ pldm_bytes request; asked = Pldm from request.header.pldm_type request.header.command request.body }
+pldm_heard from request = record { requester = from; number = request.header.instance; bytes = 1 ∷ pldm_bytes request; asked = Pldm from request.header.pldm_type request.header.command request.body }
 
 abbrev pub hears_pldm : Controller → Port → State → Envelope → Option PldmRequest → Deed
 hears_pldm controller port before asking None = stays port before
@@ -226,8 +225,7 @@ module _ (names : Names) where
 
   -- the manager went on
   abbrev pub goes_on : Turn → Lab → Lab
-  goes_on turn lab =
-      let next : Lab = record lab { manager = turn.manager } in if turn.sends then sends (open_in names turn.manager.phase) next else next
+  goes_on turn lab = let next : Lab = record lab { manager = turn.manager } in if turn.sends then sends (open_in names turn.manager.phase) next else next
 
   -- what a port did, and the frames that it sent
   abbrev pub port_does : Bus → Way → ℕ → Deed → Lab → Lab

@@ -89,7 +89,7 @@ abbrev pub frames_of : Names → ℕ → Asked → List Value
 frames_of names number (Ipmi from net_fn lun command body) =
     Asks (record { header = record { responder = record { address = names.peer_address; lun = lun }; requester = record { address = names.own_address; lun = 0 }; net_fn = net_fn; sequence = number % circle Ipmb; command = command }; body = body }) ∷ []
 frames_of names number (Pldm from kind command body) =
-    map Part (packets_of (envelope names.peer_wire names.own_wire names.peer_eid names.own_eid true (number % 8))
+    map Part (packets_of (envelope names.peer_wire names.own_wire names.peer_eid names.own_eid true (number % tags))
     (1 ∷ request_bytes (record { header = record { instance = number % circle Smbus; pldm_type = kind; command = command }; body = body })))
 
 -- ---- what becomes of the manager, and whether it sends the frames of its open request then
@@ -180,12 +180,12 @@ abbrev pub is_part : Names → ℕ → Asked → Packet → Bool
 is_part names number (Ipmi from net_fn lun command body) packet = false
 is_part names number (Pldm from kind command body) packet =
     (packet.envelope.destination == names.own_wire && packet.envelope.source == names.peer_wire)
-    && (packet.envelope.source_eid == names.peer_eid && (not packet.envelope.tag_owner && packet.envelope.tag == number % 8))
+    && (packet.envelope.source_eid == names.peer_eid && (not packet.envelope.tag_owner && packet.envelope.tag == number % tags))
 
 -- the answer that a message gives: type 01h, request and datagram bit clear, and the same number, PLDM type and command
 abbrev pub read_in : ℕ → Asked → List ℕ → Option Answered
 read_in number (Pldm from kind command sent) (one ∷ flags ∷ of_kind ∷ of_command ∷ code ∷ body) =
-    if one == 1 && flags / 64 == 0 && flags % 32 == number % circle Smbus && of_kind == kind && of_command == command then Some (record { code = code; body = body }) else None
+    if one == 1 && flags / 64 == 0 && flags % circle Smbus == number % circle Smbus && of_kind == kind && of_command == command then Some (record { code = code; body = body }) else None
 read_in number asked bytes = None
 
 -- a frame comes, which is nothing to a manager that heeds no request

@@ -45,8 +45,7 @@ module _ (file : BoardFile) (plan : List Op) (start : Records) where
 
   -- why a plan halted after so many steps: the schedule has a call of `stop`, or the board refused a request of the step's Get or Set, or answered
   -- those of its Get with data from which the step can't be undone. A watchdog's step can't while its timer runs, and a part of a Set is refused
-  -- where those before it aren't staged. Neither is configuration: so of such steps this says little, and the second tier says which answer it
-  -- was.
+  -- where those before it aren't staged. Neither is configuration: so of such steps this says little, and the second tier names that answer.
   abbrev pub IsWhy : List Event → ℕ → Why → Type 0
   IsWhy events steps Stop = (before : List Event) × (later : List Event) × (events ≡ before ++ Calls call.Stop ∷ later)
   IsWhy events steps (GetRefused code) = (op : Op) × (bodies : List (List ℕ)) × (body : List ℕ) × (slice_get plan steps ≡ Some op)

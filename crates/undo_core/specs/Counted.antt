@@ -7,7 +7,7 @@ use Rattle.model_undo.specs.Machine.{Counts as MachineCounts, count_of}
 use Rattle.model_ports.specs.Wires.{bus_of}
 use Rattle.model_ports.specs.Values.{Value, written, IsFrameOn}
 use Rattle.mctp_net.specs.declared.packet.Envelope.{Envelope}
-use Rattle.model_bus.specs.Circle.{tags}
+use Rattle.two_wire.specs.Circles.{tags}
 use Rattle.model_lab.specs.ManagerSteps.{values_of}
 use Rattle.undo_core.specs.declared.sending.Counts.{Counts}
 
