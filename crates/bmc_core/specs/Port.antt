@@ -35,7 +35,7 @@ Shows (Smbus port) at = smbus.Shows port at
 -- and board become, and the port sends what the lab's port sends.
 abbrev pub Hears : BoardFile → Port → State → List ℕ → Out → Port → State → Type 0
 Hears setup (Ipmb port) before bytes out (Ipmb next) after = ipmb.Hears setup port before bytes out next after
-Hears setup (Smbus port) before bytes out (Smbus next) after = (at : PortState) → smbus.Shows port at → smbus.HearsBytes setup at before bytes next out after
+Hears setup (Smbus port) before bytes out (Smbus next) after = smbus.Hears setup port before bytes out next after
 Hears setup _ before bytes out _ after = ⊥
 
 -- ---- in two steps, with the board between

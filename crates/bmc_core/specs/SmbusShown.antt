@@ -1,6 +1,7 @@
 -- The port of a lab that a port on the System Management Bus shows.
 use Rattle.std.specs.Prelude.{◌≡◌, ℕ, ◌<◌, Bool, true, false, List, [], ◌∷◌, length, map, find, Option, Some, None, refl}
 use Rattle.mctp_net.specs.declared.fault.PacketFault.{PacketFault}
+use Rattle.mctp_net.specs.declared.message.Message.{Message}
 use Rattle.mctp_net.specs.declared.packet.Envelope.{Envelope}
 use Rattle.mctp_net.specs.declared.packet.Packet.{Packet}
 use Rattle.mctp_net.specs.Assembly.{Assemblies, message_of}
@@ -90,6 +91,12 @@ abbrev pub IsGiven : SmbusPort → Out → Option InMessage → PortState → He
 IsGiven next out (Some asking) port heard = (asks port heard ≡ Some asking) × Shows next port
 IsGiven next out None port heard = (asks port heard ≡ None) × ((answered : Answered) → Ends next out port heard answered)
 
+-- The message is heard at each port of a lab at this address, with this endpoint before and that endpoint after, and with these windows: a new request
+-- is given.
+abbrev pub GivesHeard : (wire : ℕ) → Held → (before after : ℕ) → Message → Out → Option InMessage → Type 0
+GivesHeard wire windows before after message out given = (at : PortState) (next : SmbusPort) → at.wire ≡ wire → at.eid ≡ before → AreOf windows at.log
+    → Shows next (record at { eid = after }) → IsGiven next out given at (message_heard message)
+
 -- the caller's next step: it asks the board a new request
 abbrev pub IsStep : SmbusPort → Out → Step SmbusPending → PortState → Heard → Type 0
 IsStep next out (step.Ask pending) port heard = IsGiven next out (Some (request_in pending)) port heard
@@ -108,6 +115,10 @@ pub record Does (next : SmbusPort) (out : Out) (after : State) (deed : Deed) (wh
 pub record HearsBytes (setup : BoardFile) (port : PortState) (before : State) (bytes : List ℕ) (next : SmbusPort) (out : Out) (after : State) : Type 0 where
   pub faulty : (fault : PacketFault) → find (has_fault bytes) faults ≡ Some fault → Does next out after (stays port before) (done.Ignored (reason.Packet fault))
   pub packet : (packet : Packet) → IsPacket packet bytes → Does next out after (hears setup port before (Part packet)) (done_of (taken port packet) (heard_in port packet))
+
+-- so it is for each port of a lab that the port shows
+abbrev pub Hears : BoardFile → SmbusPort → State → List ℕ → Out → SmbusPort → State → Type 0
+Hears setup port before bytes out next after = (at : PortState) → Shows port at → HearsBytes setup at before bytes next out after
 
 -- ---- on the way there, with the endpoint apart from the windows
 

@@ -4,10 +4,8 @@ ghost use Rattle.two_wire.specs.Sizes.{most_message_bytes};
 ghost use Rattle.mctp_net.specs.Places.{seen};
 ghost use Rattle.bmc_board.specs.State.{state_of};
 ghost use Rattle.model_ports.specs.PortSteps.{PortState, quiet_port, idles};
-ghost use Rattle.bmc_core.specs.declared.smbus_port.SmbusPort.{SmbusPort as AnyPort};
 ghost use Rattle.bmc_core.specs.Rule.{has_window};
-ghost use Rattle.bmc_core.specs.SmbusHeard.{message_heard};
-ghost use Rattle.bmc_core.specs.SmbusShown.{AreOf, Shows, ForPortsAt, Hearing, IsGiven, IsStep, Answers, IsRead, HearsBytes};
+ghost use Rattle.bmc_core.specs.SmbusShown.{Shows, ForPortsAt, Hearing, GivesHeard, IsStep, Answers, IsRead, Hears};
 ghost use Rattle.bmc_core.specs.SmbusServed.{Serves};
 
 mod hearing;
@@ -78,10 +76,8 @@ fn heard<'a>(
     out: &mut Out,
 ) -> Option<RequestInMessage<'a>>
     requires { length body.now ≤ most_message_bytes }
-    ensures { (p : PortState) (next : AnyPort) → p.wire ≡ wire → p.eid ≡ endpoint.old
-        → AreOf windows.now p.log → Shows next (record p { eid = endpoint.new })
-        → IsGiven next out.new result p
-        (message_heard (record { envelope = envelope; body = body.now })) }
+    ensures { GivesHeard wire windows.now endpoint.old endpoint.new
+        (record { envelope = envelope; body = body.now }) out.new result }
 {
     let Some(request) = hear(wire, endpoint, envelope, body, out) else {
         return None;
@@ -209,9 +205,8 @@ impl SmbusPort {
 
     /// Takes what is heard on the bus, has the board carry a new request out, and fills in what is to be sent. It takes no memory.
     pub fn on_frame<S: Store>(&mut self, board: &mut Board<S>, bytes: &[u8], out: &mut Out)
-        ensures heard { (p : PortState) → Shows self.old p
-            → HearsBytes board.old.setup p (state_of S.records board.old) bytes.now
-            self.new out.new (state_of S.records board.new) }
+        ensures heard { Hears board.old.setup self.old (state_of S.records board.old) bytes.now
+            out.new self.new (state_of S.records board.new) }
         ensures setup { board.new.setup ≡ board.old.setup }
     {
         let _ = self.serve(&Alone::new(), board, bytes, out);
