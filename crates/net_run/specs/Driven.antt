@@ -1,20 +1,16 @@
 -- A manager that is called, and then driven over two links.
 use Rattle.std.specs.Prelude.{◌≡◌, ◌⊎◌, ◌+◌, ◌<◌, ℕ, zero, suc, Bool, true, false, Option, Some, None}
-use Rattle.two_wire.specs.declared.Bus.TheVariants.{Ipmb, Smbus}
 use Rattle.undo_plans.specs.declared.plan.Plan.{Plan}
 use Rattle.undo_plans.specs.declared.undo_list.UndoList.{UndoList}
-use Rattle.mctp_net.specs.Assembly.{nothing}
 use Rattle.model_undo.specs.declared.phase.Phase.{Phase}
 use Rattle.model_undo.specs.declared.phase.Phase.TheVariants.{Done, Halted, Unsettled}
-use Rattle.model_undo.specs.Machine.{opened, phase_of}
-use Rattle.model_undo.specs.Resume.{resumed}
-use Rattle.model_undo.specs.Wires.{number_of}
+use Rattle.model_undo.specs.Machine.{phase_of}
 use Rattle.model_lab.specs.Meaning.{lab_names}
 use Rattle.model_lab.specs.ManagerSteps.{ManagerState, ManagerDeed, board_plans, called}
 use Rattle.model_undo.specs.declared.call.Call.{Call}
 use Rattle.model_undo.specs.declared.call.Call.TheVariants.{Undo, Again}
 use Rattle.undo_core.specs.declared.manager.Manager.{Manager}
-use Rattle.undo_core.specs.Shown.{words_of, backs, Shows}
+use Rattle.undo_core.specs.Shown.{words_of, Shows, opened_with as opened_of, resumed_from as resumed_of, IsListOf as IsOwnList}
 use Rattle.bmc_links.specs.Counted.{none_counted}
 use Rattle.bmc_drive.specs.Driving.{Links, both, Drives}
 
@@ -28,7 +24,7 @@ fresh_links = both none_counted none_counted
 
 -- the manager of a plan that it hasn't begun
 abbrev pub opened_with : Plan → State
-opened_with plan = record { machine = opened (words_of lab_names) plan.steps plan.retries; names = lab_names; listed = Some lab_names; joined = nothing }
+opened_with plan = opened_of lab_names plan.steps plan.retries
 
 -- how often a manager sends a request again that goes on from a list
 abbrev pub undo_retries : ℕ
@@ -36,12 +32,7 @@ undo_retries = 3
 
 -- the manager that goes on from a list of requests that undo
 abbrev pub resumed_from : UndoList → State
-resumed_from list = record {
-  machine = resumed (words_of lab_names) undo_retries (record { series = backs list.requests.members; next = record { ipmb = list.next.ipmb; smbus = list.next.smbus } });
-  names = lab_names;
-  listed = list.names;
-  joined = nothing;
-}
+resumed_from list = resumed_of lab_names list undo_retries
 
 -- nothing became of the manager and of its links
 pub record Rests (before : State) (manager : Manager) (phase : Phase) (counted counts : Links) : Type 0 where
@@ -113,11 +104,8 @@ pub record Undoes (list : UndoList) (turns : ℕ) (manager : Manager) (phase : P
   pub goes : Goes Undo turns (resumed_from list) manager phase fresh_links counts
 
 -- the list is the manager's: what undoes the steps that were done, the numbers of its next requests, and its names
-pub record IsListOf (list : UndoList) (state : State) : Type 0 where
-  pub requests : backs list.requests.members ≡ state.machine.undo
-  pub sequence : list.next.ipmb ≡ number_of Ipmb state.machine.counts.ipmb
-  pub instance : list.next.smbus ≡ number_of Smbus state.machine.counts.smbus
-  pub names : list.names ≡ state.listed
+abbrev pub IsListOf : UndoList → State → Type 0
+IsListOf list state = IsOwnList lab_names list state
 
 -- the plan ended or halted, so its list undoes what was done
 abbrev pub is_over : Phase → Bool

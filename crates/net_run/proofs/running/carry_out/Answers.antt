@@ -19,12 +19,7 @@ returns-in-Ok-Ok-clause-comes g c =
       c.put_list.new.files,
       (
         c.undo_list.result.now,
-        record {
-          requests = c.undo_list.ensures.requests lab_names opened shown;
-          sequence = c.undo_list.ensures.sequence lab_names opened shown;
-          instance = c.undo_list.ensures.instance lab_names opened shown;
-          names = c.undo_list.ensures.names lab_names opened shown;
-        },
+        c.undo_list.ensures lab_names opened shown,
         subst (λ (a : Result (Unit {0}) Unwritten). Puts g.F.WritesFiles.takes g.F.WritesFiles.renames word (text_of c.undo_list.result.now) c.args.files.now a c.put_list.new.files)
             c.in-Ok-Ok.field-0-is (c.in-Ok-Ok.ensures.put word is),
       ),
@@ -42,12 +37,7 @@ returns-in-Ok-Err-clause-comes g c =
       refl,
       (
         c.undo_list.result.now,
-        record {
-          requests = c.undo_list.ensures.requests lab_names opened shown;
-          sequence = c.undo_list.ensures.sequence lab_names opened shown;
-          instance = c.undo_list.ensures.instance lab_names opened shown;
-          names = c.undo_list.ensures.names lab_names opened shown;
-        },
+        c.undo_list.ensures lab_names opened shown,
         subst (λ (a : Result (Unit {0}) Unwritten). Puts g.F.WritesFiles.takes g.F.WritesFiles.renames word (text_of c.undo_list.result.now) c.args.files.now a c.put_list.new.files)
             c.in-Ok-Err.field-0-is (c.in-Ok-Err.ensures.put word is),
       ),

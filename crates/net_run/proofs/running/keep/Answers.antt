@@ -8,10 +8,5 @@ pub returns-then-is_over-clause-kept : goal.returns-then-is_over-clause-kept
 returns-then-is_over-clause-kept g c =
     kept_last g.F.WritesFiles.takes g.F.WritesFiles.renames c.args.ran.now.manager (is_over c.args.ran.now.phase) c.args.beside.now c.undo_list.result.now c.args.files.now c.put_last.new.files
     c.put_last.result (sym c.is_over.ensures ∙ c.if-is_over.true)
-    (λ s shows. record {
-      requests = c.undo_list.ensures.requests lab_names s shows;
-      sequence = c.undo_list.ensures.sequence lab_names s shows;
-      instance = c.undo_list.ensures.instance lab_names s shows;
-      names = c.undo_list.ensures.names lab_names s shows;
-    })
+    (λ s shows. c.undo_list.ensures lab_names s shows)
     c.put_last.ensures.put

@@ -7,12 +7,7 @@ pub returns-then-self-known : goal.returns-then-self-known
 returns-then-self-known g c = (
   record {
     list = c.undo_list-list.result.now;
-    is_list = λ s shows. record {
-      requests = c.undo_list-list.ensures.requests lab_names s shows;
-      sequence = c.undo_list-list.ensures.sequence lab_names s shows;
-      instance = c.undo_list-list.ensures.instance lab_names s shows;
-      names = c.undo_list-list.ensures.names lab_names s shows;
-    };
+    is_list = λ s shows. c.undo_list-list.ensures lab_names s shows;
     puts = λ word is. inl refl;
     counted = c.len-self.ensures.value;
   },
@@ -24,12 +19,7 @@ pub returns : goal.returns
 returns g c = (
   record {
     list = c.undo_list-list.result.now;
-    is_list = λ s shows. record {
-      requests = c.undo_list-list.ensures.requests lab_names s shows;
-      sequence = c.undo_list-list.ensures.sequence lab_names s shows;
-      instance = c.undo_list-list.ensures.instance lab_names s shows;
-      names = c.undo_list-list.ensures.names lab_names s shows;
-    };
+    is_list = λ s shows. c.undo_list-list.ensures lab_names s shows;
     puts = λ word is.
         put_or_not g.F.WritesFiles.takes g.F.WritesFiles.renames word c.args.self.now.beside.now c.args.self.now.seen c.undo_list-list.result.now c.args.self.now.files.now c.put_list-kept.new.files
         c.put_list-kept.result (omega arith) c.put_list-kept.ensures.put c.put_list-kept.ensures.memory is;
