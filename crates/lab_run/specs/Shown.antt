@@ -58,6 +58,10 @@ pub record Shows (file : BoardFile) (lab : Lab) (lab_model : LabModel plans) : T
 abbrev pub ForShown : Lab → (BoardFile → LabModel plans → Type 0) → Type 0
 ForShown lab Holds = (file : BoardFile) (lab_model : LabModel plans) → Shows file lab lab_model → Holds file lab_model
 
+-- this holds of each lab of the model that the lab shows, and of each frame of the model that this frame is
+abbrev pub ForSent : Lab → SentFrame → (LabModel plans → LabFrame → Type 0) → Type 0
+ForSent lab sent Holds = (file : BoardFile) (lab_model : LabModel plans) (frame : LabFrame) → Shows file lab lab_model → IsSentFrame sent frame → Holds lab_model frame
+
 -- whatever lab of the model the lab showed, on a board of whatever file, it goes on to the lab that `makes` gives
 abbrev pub Becomes : Lab → Lab → (BoardFile → LabModel plans → LabModel plans) → Type 0
 Becomes old new makes = ForShown old (λ file x. Shows file new (makes file x))
