@@ -18,7 +18,8 @@ impl LogCapacity {
 
     /// Room for so many records, or nothing where a log can't have so few or so many.
     pub fn new(records: u16) -> Option<LogCapacity>
-        ensures made { IsSome result ↔ ((least_log_records ≤ records) × (records ≤ most_log_records)) }
+        ensures made { IsSome result
+            ↔ ((least_log_records ≤ records) × (records ≤ most_log_records)) }
         ensures records { IfSome result (λ made. made.records ≡ records) }
     {
         if records < LEAST_LOG_RECORDS || records > MOST_LOG_RECORDS {

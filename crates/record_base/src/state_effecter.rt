@@ -87,7 +87,8 @@ impl StateEffecter {
 
     /// This effecter, or nothing where it has no fields or too many.
     pub fn new(id: u16, enabled: bool, fields: Vec<StateField>) -> Option<StateEffecter>
-        ensures made { IsSome result ↔ ((1 ≤ length fields.items) × (length fields.items ≤ most_state_fields)) }
+        ensures made { IsSome result
+            ↔ ((1 ≤ length fields.items) × (length fields.items ≤ most_state_fields)) }
         ensures names { IfSome result (λ made. (made.id ≡ id) × (made.enabled ≡ enabled)) }
         ensures fields { IfSome result (λ made. made.fields ≡ fields.items) }
     {
