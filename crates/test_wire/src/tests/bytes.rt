@@ -1,8 +1,9 @@
 //! Bytes, their check bytes, addresses, and bounded numbers.
 ghost use Rattle.std.specs.Prelude.{◌+◌, ◌≤◌, length};
 
-use super::player::expect_told;
+use super::player::{expect_byte, expect_bytes, expect_told};
 use pldm_base::crc32;
+use std::process::Abort;
 use two_wire::{Address, Buffer, Bytes, Code, Data, Lun, NetFn, check_byte, code, pec};
 
 const CHECKS: &str = "
@@ -20,9 +21,16 @@ pec -> 00
 #[test]
 fn the_check_bytes_of_heads_bodies_and_packets(rt: HostRuntime) {
     expect_told(&rt, rt.alloc(), CHECKS);
-    assert_eq!(rt; check_byte(&[0x20, 0x18]), 0xC8);
-    assert_eq!(rt; pec(b"123456789"), 0xF4);
+    expect_byte(&rt, check_byte(&[0x20, 0x18]), 0xC8);
+    expect_byte(&rt, pec(b"123456789"), 0xF4);
     assert_eq!(rt; crc32(b"123456789"), 0xCBF4_3926);
+}
+
+/// The codes are these bytes.
+fn expect_codes(rt: &impl Abort, codes: &[Code], bytes: &[u8]) {
+    for (code, byte) in codes.iter().zip(bytes) {
+        expect_byte(rt, code.value(), *byte);
+    }
 }
 
 #[test]
@@ -30,15 +38,11 @@ fn codes_are_those_of_the_standards(rt: HostRuntime) {
     let ipmi = [
         0x80, 0xC0, 0xC1, 0xC2, 0xC4, 0xC5, 0xC7, 0xC9, 0xCA, 0xCB, 0xCC,
     ];
-    for (code, byte) in code::of_ipmi().iter().zip(ipmi.iter()) {
-        assert_eq!(rt; code.value(), *byte);
-    }
+    expect_codes(&rt, &code::of_ipmi(), &ipmi);
     let pldm = [
         0x01, 0x02, 0x03, 0x04, 0x05, 0x20, 0x80, 0x81, 0x83, 0x85, 0x88,
     ];
-    for (code, byte) in code::of_pldm().iter().zip(pldm.iter()) {
-        assert_eq!(rt; code.value(), *byte);
-    }
+    expect_codes(&rt, &code::of_pldm(), &pldm);
 }
 
 /// Through the trait alone.
@@ -50,16 +54,20 @@ fn add<B: Buffer>(to: &mut B)
 }
 
 #[test]
-fn bytes_grow_at_their_end_and_are_replaced(rt: HostRuntime) {
+fn bytes_grow_at_their_end(rt: HostRuntime) {
     let mut bytes = Bytes::<6>::new();
     assert!(rt; bytes.is_empty());
     bytes.push(1);
     bytes.extend_from_slice(&[2, 3]);
     assert_eq!(rt; bytes.len(), 3);
     add(&mut bytes);
-    assert_eq!(rt; bytes.as_slice(), [1, 2, 3, 4, 5, 6].as_slice());
+    expect_bytes(&rt, bytes.as_slice(), &[1, 2, 3, 4, 5, 6]);
     assert!(rt; bytes.copy().is(&[1, 2, 3, 4, 5, 6]) && !bytes.is(&[1, 2]));
-    bytes = Bytes::from_slice(&[1, 2]);
+}
+
+#[test]
+fn bytes_are_replaced(rt: HostRuntime) {
+    let mut bytes = Bytes::<6>::from_slice(&[1, 2]);
     bytes.replace(&[5, 6, 7, 8]);
     assert!(rt; bytes.is(&[5, 6, 7, 8]));
     bytes.replace(&[9]);
@@ -67,18 +75,18 @@ fn bytes_grow_at_their_end_and_are_replaced(rt: HostRuntime) {
 }
 
 #[test]
-fn addresses_numbers_codes_and_data_keep_their_value(rt: HostRuntime) {
-    assert_eq!(rt; Address::new(0x2C).unwrap().byte(), 0x2C);
+fn addresses_and_numbers_keep_their_value(rt: HostRuntime) {
+    expect_byte(&rt, Address::new(0x2C).unwrap().byte(), 0x2C);
     assert!(rt; Address::new(0x2D).is_none());
-    assert_eq!(rt;
-        (Lun::new(3).number(), NetFn::new(0x06).number()),
-        (3, 0x06)
-    );
-    assert_eq!(rt; Code::new(0x80).unwrap().value(), 0x80);
+    expect_byte(&rt, Lun::new(3).number(), 3);
+    expect_byte(&rt, NetFn::new(0x06).number(), 0x06);
+}
+
+#[test]
+fn codes_and_data_keep_their_value(rt: HostRuntime) {
+    expect_byte(&rt, Code::new(0x80).unwrap().value(), 0x80);
     assert!(rt; Code::new(0).is_none());
-    assert_eq!(rt; code::INVALID_LENGTH.value(), 0xC7);
-    assert_eq!(rt;
-        Data::<4>::new(&[1, 2, 3, 4][1..3]).as_slice(),
-        [2, 3].as_slice()
-    );
+    expect_byte(&rt, code::INVALID_LENGTH.value(), 0xC7);
+    let data = Data::<4>::new(&[1, 2, 3, 4][1..3]);
+    expect_bytes(&rt, data.as_slice(), &[2, 3]);
 }

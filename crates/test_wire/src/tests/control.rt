@@ -5,7 +5,7 @@ use mctp_net::{
     split,
 };
 use std::alloc::AllocError;
-use std::test::Fail;
+use std::process::Abort;
 
 /// What the endpoint replies.
 fn reply_to(endpoint: &mut Endpoint, bytes: &[u8]) -> Option<ControlReply> {
@@ -62,32 +62,41 @@ fn envelope_back(asked: Envelope, own: u8) -> Envelope {
     }
 }
 
-#[test]
-fn get_endpoint_id_is_answered_over_the_bus(rt: HostRuntime) -> Result<(), Fail> {
-    let mut endpoint = Endpoint::new(EndpointId::new(0x0A).unwrap());
-    let mut assembler = Assembler::new(rt.alloc())?;
-    let packet = read_packet(&[
-        0x20, 0x0F, 0x08, 0x31, 0x01, 0x00, 0x08, 0xC8, 0x00, 0x80, 0x02, 0x50,
-    ])?;
+/// The message is one frame of these bytes.
+fn expect_frame(rt: &impl Abort, message: &Message, bytes: &[u8]) {
+    let frames = split(message);
+    let [frame] = frames.as_slice() else {
+        panic!(rt; "other than one frame");
+    };
+    assert!(rt; frame.is(bytes));
+}
+
+/// The endpoint's reply to the request is one frame of these bytes.
+fn expect_reply(rt: &impl Abort, endpoint: &mut Endpoint, request: &Message, bytes: &[u8]) {
     let own = endpoint.eid().byte();
-    if assembler.take(own, &packet) != Taken::Whole {
-        return Err("no message".into());
-    }
-    let request = assembler.message(&packet);
-    let reply = reply_to(&mut endpoint, request.body.as_slice()).ok_or("no reply")?;
+    let reply = reply_to(endpoint, request.body.as_slice()).expect(rt, "a reply");
     assert!(rt; !reply.is_empty());
-    let frames = split(&Message {
+    let message = Message {
         envelope: envelope_back(request.envelope, own),
         body: SomeData::new(reply.as_slice()),
-    });
-    let [frame] = frames.as_slice() else {
-        return Err("other than one frame".into());
     };
-    assert!(rt;
-        frame.is(&[
-            0x30, 0x0F, 0x0C, 0x21, 0x01, 0x08, 0x0A, 0xC0, 0x00, 0x00, 0x02, 0x00, 0x0A, 0x00,
-            0x00, 0x40,
-        ])
-    );
-    Ok(())
+    expect_frame(rt, &message, bytes);
+}
+
+#[test]
+fn get_endpoint_id_is_answered_over_the_bus(rt: HostRuntime) {
+    let mut endpoint = Endpoint::new(EndpointId::new(0x0A).unwrap());
+    let mut assembler = Assembler::new(rt.alloc()).expect(&rt, "memory");
+    let request = [
+        0x20, 0x0F, 0x08, 0x31, 0x01, 0x00, 0x08, 0xC8, 0x00, 0x80, 0x02, 0x50,
+    ];
+    let packet = read_packet(&request).expect(&rt, "a packet");
+    if assembler.take(endpoint.eid().byte(), &packet) != Taken::Whole {
+        panic!(rt; "no message");
+    }
+    let reply = [
+        0x30, 0x0F, 0x0C, 0x21, 0x01, 0x08, 0x0A, 0xC0, 0x00, 0x00, 0x02, 0x00, 0x0A, 0x00, 0x00,
+        0x40,
+    ];
+    expect_reply(&rt, &mut endpoint, &assembler.message(&packet), &reply);
 }

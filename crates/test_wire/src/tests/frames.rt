@@ -1,36 +1,32 @@
 //! Frames byte by byte, and what is wrong with those that differ.
-use super::player::{expect_told, push_bytes, push_other};
+use super::player::{expect_byte, expect_told, push_named, push_other};
 use ipmb_frame::{
     Header, Msg, Party, Request, Response, Sequence, begin_response, end_response, read_frame,
     same_request, write_request, write_response, write_response_into,
 };
 use std::alloc::AllocError;
+use std::process::Abort;
 use two_wire::{Address, Data, Frame, Lun, NetFn};
 
-/// Appends who asks whom for what.
-fn push_header(header: Header, text: &mut String) -> Result<(), AllocError> {
-    let Header {
-        responder,
-        requester,
-        net_fn,
-        sequence,
-        command,
-    } = header;
-    let (net_fn, sequence) = (net_fn.number(), sequence.number());
-    let (responder, unit) = (responder.address.byte(), responder.lun.number());
-    write!(
-        text,
-        " {net_fn:02X} {command:02X} to {responder:02X}.{unit}"
-    )?;
-    let (requester, unit) = (requester.address.byte(), requester.lun.number());
-    write!(text, " from {requester:02X}.{unit} sequence {sequence}")
+/// Appends the party behind the word for its side.
+fn push_party(side: &str, party: Party, text: &mut String) -> Result<(), AllocError> {
+    let (address, unit) = (party.address.byte(), party.lun.number());
+    write!(text, " {side} {address:02X}.{unit}")
+}
+
+/// Appends the kind of the message, and who asks whom for what.
+fn push_header(kind: &str, header: Header, text: &mut String) -> Result<(), AllocError> {
+    let (net_fn, command) = (header.net_fn.number(), header.command);
+    write!(text, " {kind} {net_fn:02X} {command:02X}")?;
+    push_party("to", header.responder, text)?;
+    push_party("from", header.requester, text)?;
+    let sequence = header.sequence.number();
+    write!(text, " sequence {sequence}")
 }
 
 fn push_request(request: &Request, bytes: &[u8], text: &mut String) -> Result<(), AllocError> {
-    text.push_str(" request")?;
-    push_header(request.header, text)?;
-    text.push_str(" data")?;
-    push_bytes(text, request.body.as_slice())?;
+    push_header("request", request.header, text)?;
+    push_named(text, " data", request.body.as_slice())?;
     push_other(write_request(request).as_slice(), bytes, text)
 }
 
@@ -44,11 +40,10 @@ fn begun(response: &Response) -> Frame {
 }
 
 fn push_response(response: &Response, bytes: &[u8], text: &mut String) -> Result<(), AllocError> {
-    text.push_str(" response")?;
-    push_header(response.header, text)?;
+    push_header("response", response.header, text)?;
     let code = response.code;
-    write!(text, " code {code:02X} data")?;
-    push_bytes(text, response.body.as_slice())?;
+    write!(text, " code {code:02X}")?;
+    push_named(text, " data", response.body.as_slice())?;
     push_other(write_response(response).as_slice(), bytes, text)?;
     push_other(begun(response).as_slice(), bytes, text)
 }
@@ -140,6 +135,15 @@ fn device_id() -> Header {
     }
 }
 
+/// The bytes are read as the request, whose command is 01h.
+fn expect_request(rt: &impl Abort, bytes: &[u8], request: &Request) {
+    let Ok(Msg::Request(read)) = read_frame(bytes) else {
+        panic!(rt; "no request");
+    };
+    assert!(rt; same_request(&read, request));
+    expect_byte(rt, read.header.command, 0x01);
+}
+
 #[test]
 fn a_request_is_written_and_read(rt: HostRuntime) {
     let bytes = [0x20, 0x18, 0xC8, 0x2C, 0x00, 0x01, 0xD3];
@@ -148,11 +152,15 @@ fn a_request_is_written_and_read(rt: HostRuntime) {
         body: Data::new(&[]),
     };
     assert!(rt; write_request(&request).is(&bytes));
-    let Ok(Msg::Request(read)) = read_frame(&bytes) else {
-        panic!(rt; "no request");
+    expect_request(&rt, &bytes, &request);
+}
+
+/// The bytes are read as a response with the code.
+fn expect_response(rt: &impl Abort, bytes: &[u8], code: u8) {
+    let Ok(Msg::Response(read)) = read_frame(bytes) else {
+        panic!(rt; "no response");
     };
-    assert!(rt; same_request(&read, &request));
-    assert_eq!(rt; read.header.command, 0x01);
+    expect_byte(rt, read.code, code);
 }
 
 #[test]
@@ -169,8 +177,5 @@ fn a_response_is_written_and_read(rt: HostRuntime) {
     let mut frame = Frame::from_slice(&[0xFF; 40]);
     write_response_into(&mut frame, &header, 0xC0, &[]);
     assert!(rt; frame.is(&bytes));
-    let Ok(Msg::Response(read)) = read_frame(&bytes) else {
-        panic!(rt; "no response");
-    };
-    assert_eq!(rt; read.code, 0xC0);
+    expect_response(&rt, &bytes, 0xC0);
 }

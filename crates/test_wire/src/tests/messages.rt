@@ -1,11 +1,11 @@
 //! Messages through packets and back, and packets that are dropped.
-use super::player::{expect_told, push_bytes};
+use super::player::{expect_told, push_bytes, push_named};
 use arrayvec::ArrayVec;
 use mctp_net::{
     Assembler, DropCause, Envelope, Message, Packet, SomeData, Tag, Taken, read_packet, split,
 };
 use std::alloc::AllocError;
-use std::test::Fail;
+use std::process::Abort;
 use story_lines::NoOutcome;
 use two_wire::{Address, Frame, pec};
 
@@ -30,6 +30,13 @@ fn content() -> [u8; 256] {
     bytes
 }
 
+/// The first bytes of the content, as many as the word says.
+fn body_of<'a>(content: &'a [u8], count: &str) -> Result<&'a [u8], NoOutcome> {
+    content
+        .get(..count.parse::<usize>()?)
+        .ok_or(NoOutcome::Unread)
+}
+
 /// The frames of the message of these bytes.
 fn frames_of(body: &[u8]) -> Result<ArrayVec<Frame, 4>, NoOutcome> {
     if body.is_empty() || body.len() > 256 {
@@ -41,17 +48,22 @@ fn frames_of(body: &[u8]) -> Result<ArrayVec<Frame, 4>, NoOutcome> {
     }))
 }
 
-/// The frames of a message of so many bytes.
-pub fn split_into_frames(length: usize, text: &mut String) -> Result<(), NoOutcome> {
-    let bytes = content();
-    let body = bytes.get(..length).ok_or(NoOutcome::Unread)?;
-    for (place, frame) in frames_of(body)?.as_slice().iter().enumerate() {
+/// Appends the bytes of each frame.
+fn push_frames(frames: &[Frame], text: &mut String) -> Result<(), NoOutcome> {
+    for (place, frame) in frames.iter().enumerate() {
         if place > 0 {
             text.push_str(" /")?;
         }
         push_bytes(text, frame.as_slice())?;
     }
     Ok(())
+}
+
+/// The frames of a message of so many bytes.
+pub fn split_into_frames(count: &str, text: &mut String) -> Result<(), NoOutcome> {
+    let content = content();
+    let frames = frames_of(body_of(&content, count)?)?;
+    push_frames(frames.as_slice(), text)
 }
 
 /// What the assembler of endpoint 0Ah does with the packet, and whether it shows the message of these bytes, once there is one.
@@ -72,21 +84,32 @@ fn push_back(
     }
 }
 
-/// What the assembler does with each frame of a message of so many bytes.
-pub fn come_back(
+/// What the assembler does with each frame of the message of these bytes.
+fn push_all_back(
     assembler: &mut Assembler,
-    length: usize,
+    frames: &[Frame],
+    body: &[u8],
     text: &mut String,
 ) -> Result<(), NoOutcome> {
-    let bytes = content();
-    let body = bytes.get(..length).ok_or(NoOutcome::Unread)?;
-    for frame in frames_of(body)?.as_slice() {
+    for frame in frames {
         match read_packet(frame.as_slice()) {
             Ok(packet) => push_back(assembler, &packet, body, text)?,
             Err(fault) => write!(text, " {fault}")?,
         }
     }
     Ok(())
+}
+
+/// What the assembler does with each frame of a message of so many bytes.
+pub fn come_back(
+    assembler: &mut Assembler,
+    count: &str,
+    text: &mut String,
+) -> Result<(), NoOutcome> {
+    let content = content();
+    let body = body_of(&content, count)?;
+    let frames = frames_of(body)?;
+    push_all_back(assembler, frames.as_slice(), body, text)
 }
 
 /// The frame from 30h to 20h of a packet with these endpoints and flags and this payload.
@@ -115,10 +138,7 @@ fn push_taken(
     match assembler.take(own, packet) {
         Taken::Waiting => text.push_str(" Waiting"),
         Taken::Dropped(cause) => write!(text, " {cause}"),
-        Taken::Whole => {
-            text.push_str(" Whole")?;
-            push_bytes(text, assembler.message(packet).body.as_slice())
-        }
+        Taken::Whole => { push_named(text, " Whole", assembler.message(packet).body.as_slice()) }
     }
 }
 
@@ -231,21 +251,23 @@ fn messages_go_through_packets_and_back(rt: HostRuntime) {
     expect_told(&rt, rt.alloc(), MESSAGES);
 }
 
-#[test]
-fn nothing_is_open_after_clear(rt: HostRuntime) -> Result<(), Fail> {
-    let mut assembler = Assembler::new(rt.alloc())?;
-    // From endpoint 08h to endpoint 0Ah, under tag 3 of the source's own: a start, and then the packet behind it.
+/// The assembler of endpoint 0Ah does this with a packet from endpoint 08h of 64 bytes with these flags.
+fn expect_taken(rt: &impl Abort, assembler: &mut Assembler, flags: u8, wanted: Taken) {
     let mut bytes = [0; 67];
     bytes[0] = 0x0A;
     bytes[1] = 0x08;
-    bytes[2] = 0x8B;
-    let start = frame_of(&bytes).map_err(|_| "a frame")?;
-    let taken = assembler.take(0x0A, &read_packet(start.as_slice())?);
-    assert_eq!(rt; taken, Taken::Waiting);
+    bytes[2] = flags;
+    let frame = frame_of(&bytes).expect(rt, "a frame");
+    let packet = read_packet(frame.as_slice()).expect(rt, "a packet");
+    assert_eq!(rt; assembler.take(0x0A, &packet), wanted);
+}
+
+#[test]
+fn nothing_is_open_after_clear(rt: HostRuntime) {
+    let mut assembler = Assembler::new(rt.alloc()).expect(&rt, "memory");
+    // Under tag 3 of the source's own: a start, and then the packet behind it.
+    expect_taken(&rt, &mut assembler, 0x8B, Taken::Waiting);
     assembler.clear();
-    bytes[2] = 0x1B;
-    let next = frame_of(&bytes).map_err(|_| "a frame")?;
-    let taken = assembler.take(0x0A, &read_packet(next.as_slice())?);
-    assert_eq!(rt; taken, Taken::Dropped(DropCause::NoStart));
-    Ok(())
+    let no_start = Taken::Dropped(DropCause::NoStart);
+    expect_taken(&rt, &mut assembler, 0x1B, no_start);
 }

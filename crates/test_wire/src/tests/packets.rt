@@ -1,36 +1,48 @@
 //! Packets byte by byte, and what is wrong with those that differ.
-use super::player::{expect_told, push_bytes, push_other};
+use super::player::{expect_told, push_named, push_other};
 use mctp_net::{Envelope, Packet, read_packet, write_packet};
 use std::alloc::AllocError;
+use two_wire::Address;
+
+/// Appends the endpoint behind the word for its side.
+fn push_endpoint(
+    side: &str,
+    address: Address,
+    eid: u8,
+    text: &mut String,
+) -> Result<(), AllocError> {
+    let address = address.byte();
+    write!(text, " {side} {address:02X}.{eid:02X}")
+}
 
 /// Appends between whom the message goes.
 fn push_envelope(envelope: Envelope, text: &mut String) -> Result<(), AllocError> {
-    let Envelope {
-        destination,
-        source,
-        destination_eid,
-        source_eid,
-        tag_owner,
-        tag,
-    } = envelope;
-    let (destination, source, tag) = (destination.byte(), source.byte(), tag.number());
-    write!(text, " to {destination:02X}.{destination_eid:02X}")?;
-    write!(text, " from {source:02X}.{source_eid:02X}")?;
-    let owner = if tag_owner { "source's" } else { "other's" };
+    push_endpoint("to", envelope.destination, envelope.destination_eid, text)?;
+    push_endpoint("from", envelope.source, envelope.source_eid, text)?;
+    let owner = if envelope.tag_owner {
+        "source's"
+    } else {
+        "other's"
+    };
+    let tag = envelope.tag.number();
     write!(text, " tag {tag} the {owner}")
 }
 
-fn push_packet(packet: &Packet, bytes: &[u8], text: &mut String) -> Result<(), AllocError> {
-    push_envelope(packet.envelope, text)?;
-    let place = match (packet.start, packet.end) {
+/// Where in its message the packet stands.
+fn place_of(packet: &Packet) -> &'static str {
+    match (packet.start, packet.end) {
         (true, true) => "only",
         (true, false) => "first",
         (false, true) => "last",
         (false, false) => "middle",
-    };
-    let sequence = packet.sequence.number();
-    write!(text, " {place} sequence {sequence} payload")?;
-    push_bytes(text, packet.payload.as_slice())?;
+    }
+}
+
+fn push_packet(packet: &Packet, bytes: &[u8], text: &mut String) -> Result<(), AllocError> {
+    push_envelope(packet.envelope, text)?;
+    let (place, sequence) = (place_of(packet), packet.sequence.number());
+    write!(text, " {place} sequence {sequence}")?;
+    push_named(text, " payload", packet.payload.as_slice())?;
     push_other(write_packet(packet).as_slice(), bytes, text)
 }
 

@@ -1,39 +1,73 @@
-//! What stories have in common: bytes as words, and that all comes as told.
+//! What stories and tests have in common: a line's first word, bytes as words, and that all comes as told.
 use super::scene::Wire;
 use std::alloc::{AllocError, Global};
 use std::process::Abort;
 use story_lines::{NoOutcome, report_of};
 
-/// The bytes of words of two hexadecimal digits.
+/// The first word, and the words behind it.
+pub fn parted(words: &str) -> (&str, &str) {
+    words.split_once(' ').unwrap_or((words, ""))
+}
+
+/// Appends the bytes of words of two hexadecimal digits.
+pub fn push_words(bytes: &mut Vec<u8>, words: &str) -> Result<(), NoOutcome> {
+    for word in words.split_whitespace() {
+        bytes.extend_from_slice(&[u8::from_str_radix(word, 16)?])?;
+    }
+    Ok(())
+}
+
+/// The bytes of such words.
 pub fn bytes_of(alloc: Global, words: &str) -> Result<Vec<u8>, NoOutcome> {
     let mut bytes = Vec::new(alloc);
-    for word in words.split_whitespace() {
-        bytes
-            .push(u8::from_str_radix(word, 16)?)
-            .map_err(AllocError::from)?;
-    }
+    push_words(&mut bytes, words)?;
     Ok(bytes)
+}
+
+/// Appends the byte as such a word.
+pub fn push_byte(text: &mut String, byte: u8) -> Result<(), AllocError> {
+    write!(text, " {byte:02X}")
 }
 
 /// Appends the bytes as such words.
 pub fn push_bytes(text: &mut String, bytes: &[u8]) -> Result<(), AllocError> {
     for byte in bytes {
-        write!(text, " {byte:02X}")?;
+        push_byte(text, *byte)?;
     }
     Ok(())
+}
+
+/// Appends what the bytes are, and the bytes.
+pub fn push_named(text: &mut String, name: &str, bytes: &[u8]) -> Result<(), AllocError> {
+    text.push_str(name)?;
+    push_bytes(text, bytes)
 }
 
 /// Appends how a message is written, where that isn't these bytes.
 pub fn push_other(written: &[u8], bytes: &[u8], text: &mut String) -> Result<(), AllocError> {
-    if written != bytes {
-        text.push_str(" written")?;
-        push_bytes(text, written)?;
+    if written == bytes {
+        return Ok(());
     }
-    Ok(())
+    push_named(text, " written", written)
+}
+
+/// This is said of the stories of the text.
+pub fn expect_report(rt: &impl Abort, alloc: Global, text: &str, report: &str) {
+    let said = report_of::<Wire>(alloc, text).expect(rt, "memory");
+    assert_eq!(rt; said.as_str(), report);
 }
 
 /// All comes as the stories of the text tell.
 pub fn expect_told(rt: &impl Abort, alloc: Global, text: &str) {
-    let report = report_of::<Wire>(alloc, text).expect(rt, "memory");
-    assert_eq!(rt; report.as_str(), "");
+    expect_report(rt, alloc, text, "");
+}
+
+/// The byte is the one that is wanted.
+pub fn expect_byte(rt: &impl Abort, byte: u8, wanted: u8) {
+    assert_eq!(rt; byte, wanted);
+}
+
+/// The bytes are those that are wanted.
+pub fn expect_bytes(rt: &impl Abort, bytes: &[u8], wanted: &[u8]) {
+    assert_eq!(rt; bytes, wanted);
 }

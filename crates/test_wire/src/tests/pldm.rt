@@ -1,5 +1,7 @@
 //! Messages of PLDM byte by byte, and parts of tables.
-use super::player::{expect_told, push_bytes, push_other};
+use super::player::{
+    expect_byte, expect_bytes, expect_told, parted, push_byte, push_named, push_other,
+};
 use pldm_base::{
     GET_FIRST_PART, Header, Instance, Part, PldmBytes, PldmReply, PldmRequest, PldmType,
     TransferFlag, entry_part, part, read_pldm, read_pldm_reply, same_request, write_pldm,
@@ -17,17 +19,16 @@ fn message_of(bytes: &[u8]) -> Result<PldmBytes<'_>, NoOutcome> {
     Ok(PldmBytes::new(bytes))
 }
 
-fn push_header(header: Header, text: &mut String) -> Result<(), AllocError> {
-    let (instance, kind) = (header.instance.number(), header.pldm_type.number());
-    let command = header.command;
-    write!(text, " {instance} type {kind} command {command:02X}")
+/// Appends the kind of the message, and what it is about.
+fn push_header(kind: &str, header: Header, text: &mut String) -> Result<(), AllocError> {
+    let (instance, pldm_type) = (header.instance.number(), header.pldm_type.number());
+    write!(text, " {kind} {instance} type {pldm_type} command")?;
+    push_byte(text, header.command)
 }
 
 fn push_request(request: &PldmRequest, bytes: &[u8], text: &mut String) -> Result<(), AllocError> {
-    text.push_str(" request")?;
-    push_header(request.header, text)?;
-    text.push_str(" data")?;
-    push_bytes(text, request.body.as_slice())?;
+    push_header("request", request.header, text)?;
+    push_named(text, " data", request.body.as_slice())?;
     let mut written = Bytes::<255>::new();
     write_pldm(request, &mut written);
     push_other(written.as_slice(), bytes, text)
@@ -43,11 +44,9 @@ pub fn read_request(bytes: &[u8], text: &mut String) -> Result<(), NoOutcome> {
 }
 
 fn push_reply(reply: &PldmReply, bytes: &[u8], text: &mut String) -> Result<(), AllocError> {
-    text.push_str(" reply")?;
-    push_header(reply.header, text)?;
-    let code = reply.code;
-    write!(text, " code {code:02X} data")?;
-    push_bytes(text, reply.body.as_slice())?;
+    push_header("reply", reply.header, text)?;
+    push_named(text, " code", &[reply.code])?;
+    push_named(text, " data", reply.body.as_slice())?;
     let mut written = Bytes::<255>::new();
     write_pldm_reply(reply, &mut written);
     push_other(written.as_slice(), bytes, text)
@@ -84,6 +83,19 @@ fn asked_part(parts: Parts, bytes: &[u8], operation: u8, handle: u32) -> Result<
     }
 }
 
+/// The operation and the handle of the words.
+fn asked(words: &str) -> Result<(u8, u32), NoOutcome> {
+    let (operation, handle) = parted(words);
+    let operation = u8::from_str_radix(operation, 16)?;
+    Ok((operation, handle.parse::<u32>()?))
+}
+
+fn push_part(part: &Part, text: &mut String) -> Result<(), AllocError> {
+    let (flag, next) = (part.flag.byte(), part.next);
+    write!(text, " flag {flag:02X} next {next}")?;
+    push_named(text, " bytes", part.bytes)
+}
+
 /// The part of the bytes that the operation and the handle ask for.
 pub fn part_of(
     parts: Parts,
@@ -91,15 +103,10 @@ pub fn part_of(
     words: &str,
     text: &mut String,
 ) -> Result<(), NoOutcome> {
-    let (operation, handle) = words.split_once(' ').ok_or(NoOutcome::Unread)?;
-    let operation = u8::from_str_radix(operation, 16)?;
-    match asked_part(parts, bytes, operation, handle.parse::<u32>()?) {
-        Ok(part) => {
-            let (flag, next) = (part.flag.byte(), part.next);
-            write!(text, " flag {flag:02X} next {next} bytes")?;
-            push_bytes(text, part.bytes)?;
-        }
-        Err(code) => write!(text, " {:02X}", code.value())?,
+    let (operation, handle) = asked(words)?;
+    match asked_part(parts, bytes, operation, handle) {
+        Ok(part) => push_part(&part, text)?,
+        Err(code) => push_byte(text, code.value())?,
     }
     Ok(())
 }
@@ -228,19 +235,16 @@ fn a_reply_is_written_and_read(rt: HostRuntime) {
     };
     let mut written = Bytes::<255>::new();
     write_pldm_reply(&reply, &mut written);
-    assert!(rt; written.is(&[0x00, 0x00, 0x02, 0x00, 0x05]));
-    let Ok(read) = read_pldm_reply(&PldmBytes::new(&[0x00, 0x00, 0x02, 0x00, 0x05])) else {
-        panic!(rt; "no reply");
-    };
-    assert_eq!(rt; read.code, 0x00);
-    assert_eq!(rt; read.body.as_slice(), [0x05].as_slice());
+    let bytes = [0x00, 0x00, 0x02, 0x00, 0x05];
+    assert!(rt; written.is(&bytes));
+    let read = read_pldm_reply(&PldmBytes::new(&bytes)).expect(&rt, "a reply");
+    expect_byte(&rt, read.code, 0x00);
+    expect_bytes(&rt, read.body.as_slice(), &[0x05]);
 }
 
 #[test]
 fn a_table_has_a_part(rt: HostRuntime) {
-    let Ok(part) = asked_part(Parts::OfTable, &[7, 8, 9], GET_FIRST_PART, 0) else {
-        panic!(rt; "no part");
-    };
+    let part = asked_part(Parts::OfTable, &[7, 8, 9], GET_FIRST_PART, 0).expect(&rt, "a part");
     assert!(rt; part.bytes == [7, 8, 9].as_slice() && part.next == 0);
     assert_eq!(rt; part.flag, TransferFlag::StartAndEnd);
 }

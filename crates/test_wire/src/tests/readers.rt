@@ -1,7 +1,7 @@
 //! Lines about bytes that are read or checked, whatever came before.
 use super::frames::{are_same_frames, read_ipmb};
 use super::packets::read_mctp;
-use super::player::bytes_of;
+use super::player::{bytes_of, parted, push_byte};
 use super::pldm::{are_same_messages, read_reply, read_request};
 use pldm_base::crc32;
 use std::alloc::Global;
@@ -9,35 +9,41 @@ use story_lines::NoOutcome;
 use two_wire::{check_byte, pec};
 
 /// The check byte, the packet error code or the CRC-32 of the bytes.
-pub fn check(kind: &str, bytes: &[u8], text: &mut String) -> Result<(), NoOutcome> {
+fn check(kind: &str, bytes: &[u8], text: &mut String) -> Result<(), NoOutcome> {
     match kind {
-        "sum" => write!(text, " {:02X}", check_byte(bytes))?,
-        "pec" => write!(text, " {:02X}", pec(bytes))?,
-        _ => write!(text, " {:08X}", crc32(bytes))?,
+        "sum" => push_byte(text, check_byte(bytes))?,
+        "pec" => push_byte(text, pec(bytes))?,
+        "crc32" => write!(text, " {:08X}", crc32(bytes))?,
+        _ => return Err(NoOutcome::Unread),
     }
     Ok(())
 }
 
-/// What the bytes are read as.
+/// What the bytes are read as, or what checks them.
 pub fn read(kind: &str, bytes: &[u8], text: &mut String) -> Result<(), NoOutcome> {
     match kind {
         "ipmb" => read_ipmb(bytes, text)?,
         "packet" => read_mctp(bytes, text)?,
         "pldm" => read_request(bytes, text)?,
         "reply" => read_reply(bytes, text)?,
-        _ => return Err(NoOutcome::Unread),
+        _ => check(kind, bytes, text)?,
     }
     Ok(())
 }
 
 /// What the first 0, 1, .. of the bytes are read as.
-pub fn cuts(alloc: Global, words: &str, text: &mut String) -> Result<(), NoOutcome> {
-    let (kind, words) = words.split_once(' ').unwrap_or((words, ""));
-    let bytes = bytes_of(alloc, words)?;
+fn push_cuts(kind: &str, bytes: &[u8], text: &mut String) -> Result<(), NoOutcome> {
     for end in 0..bytes.len() {
-        read(kind, bytes.as_slice().split_at(end).0, text)?;
+        read(kind, bytes.split_at(end).0, text)?;
     }
     Ok(())
+}
+
+/// What the first 0, 1, .. of the bytes of these words are read as.
+pub fn cuts(alloc: Global, words: &str, text: &mut String) -> Result<(), NoOutcome> {
+    let (kind, words) = parted(words);
+    let bytes = bytes_of(alloc, words)?;
+    push_cuts(kind, bytes.as_slice(), text)
 }
 
 /// Whether the bytes are read without a fault, which is one word.
@@ -62,25 +68,36 @@ fn read_at(alloc: Global, kind: &str, bytes: &mut [u8], place: usize) -> Result<
 }
 
 /// With how many other bytes at one place the bytes are read.
-pub fn changed(alloc: Global, words: &str, text: &mut String) -> Result<(), NoOutcome> {
-    let (kind, words) = words.split_once(' ').unwrap_or((words, ""));
-    let mut bytes = bytes_of(alloc, words)?;
+fn count_read(alloc: Global, kind: &str, bytes: &mut [u8]) -> Result<u32, NoOutcome> {
     let mut count = 0u32;
     for place in 0..bytes.len() {
-        count = count.wrapping_add(read_at(alloc, kind, bytes.as_mut_slice(), place)?);
+        count = count.wrapping_add(read_at(alloc, kind, bytes, place)?);
     }
+    Ok(count)
+}
+
+/// With how many other bytes at one place the bytes of these words are read.
+pub fn changed(alloc: Global, words: &str, text: &mut String) -> Result<(), NoOutcome> {
+    let (kind, words) = parted(words);
+    let mut bytes = bytes_of(alloc, words)?;
+    let count = count_read(alloc, kind, bytes.as_mut_slice())?;
     write!(text, " {count} read")?;
     Ok(())
 }
 
 /// Whether both are requests and the same one.
 pub fn are_same(alloc: Global, words: &str, text: &mut String) -> Result<(), NoOutcome> {
-    let (kind, words) = words.split_once(' ').unwrap_or((words, ""));
+    let (kind, words) = parted(words);
     let (one, other) = words.split_once(" /").unwrap_or((words, ""));
-    let (one, other) = (bytes_of(alloc, one)?, bytes_of(alloc, other)?);
+    let one = bytes_of(alloc, one)?;
+    let other = bytes_of(alloc, other)?;
+    push_same(kind, one.as_slice(), other.as_slice(), text)
+}
+
+fn push_same(kind: &str, one: &[u8], other: &[u8], text: &mut String) -> Result<(), NoOutcome> {
     let same = match kind {
-        "ipmb" => are_same_frames(one.as_slice(), other.as_slice()),
-        "pldm" => are_same_messages(one.as_slice(), other.as_slice()),
+        "ipmb" => are_same_frames(one, other),
+        "pldm" => are_same_messages(one, other),
         _ => return Err(NoOutcome::Unread),
     };
     text.push_str(match same {

@@ -1,9 +1,9 @@
 //! What lines come to, and the kinds of lines.
 use super::control::control;
 use super::messages::{clear, come_back, split_into_frames, take};
-use super::player::bytes_of;
+use super::player::{bytes_of, parted, push_words};
 use super::pldm::{Parts, part_of};
-use super::readers::{are_same, changed, check, cuts, read};
+use super::readers::{are_same, changed, cuts, read};
 use mctp_net::{Assembler, Endpoint, EndpointId};
 use std::alloc::Global;
 use story_lines::{NoOutcome, NoScene, Scene};
@@ -47,16 +47,14 @@ impl Scene for Wire {
     /// - `table 00 01`: the table; `part 01 0 -> flag 05 next 0 bytes 00 01`: the part that an operation and a handle ask for, or the code;
     ///   `entry 01 0`: the same where these bytes are an entry.
     fn come(&mut self, alloc: Global, words: &str, text: &mut String) -> Result<(), NoOutcome> {
-        let (kind, words) = words.split_once(' ').unwrap_or((words, ""));
+        let (kind, words) = parted(words);
         match kind {
-            "sum" | "pec" | "crc32" => check(kind, bytes_of(alloc, words)?.as_slice(), text),
-            "ipmb" | "packet" | "pldm" | "reply" => {
-                read(kind, bytes_of(alloc, words)?.as_slice(), text)
-            }
             "cuts" => cuts(alloc, words, text),
             "changed" => changed(alloc, words, text),
             "same" => are_same(alloc, words, text),
-            _ => self.come_to_all(alloc, (kind, words), text),
+            "table" | "part" | "entry" => self.come_to_table(kind, words, text),
+            "own" | "clear" | "split" | "back" => self.come_to_assembler(kind, words, text),
+            _ => self.come_as_bytes(kind, bytes_of(alloc, words)?.as_slice(), text),
         }
     }
 
@@ -66,30 +64,50 @@ impl Scene for Wire {
 }
 
 impl Wire {
-    /// Those that change something.
-    fn come_to_all(
+    /// Those about the table.
+    fn come_to_table(
         &mut self,
-        alloc: Global,
-        (kind, words): (&str, &str),
+        kind: &str,
+        words: &str,
         text: &mut String,
     ) -> Result<(), NoOutcome> {
         match kind {
-            "control" => {
-                let bytes = bytes_of(alloc, words)?;
-                control(&mut self.endpoint, bytes.as_slice(), text)?;
+            "part" => part_of(Parts::OfTable, self.table.as_slice(), words, text),
+            "entry" => part_of(Parts::OfEntry, self.table.as_slice(), words, text),
+            _ => {
+                self.table.clear();
+                push_words(&mut self.table, words)
             }
-            "split" => split_into_frames(words.parse::<usize>()?, text)?,
-            "back" => come_back(&mut self.assembler, words.parse::<usize>()?, text)?,
-            "take" => {
-                let bytes = bytes_of(alloc, words)?;
-                take(&mut self.assembler, self.own, bytes.as_slice(), text)?;
-            }
+        }
+    }
+
+    /// Those about the assembler's endpoint, and about messages of so many bytes.
+    fn come_to_assembler(
+        &mut self,
+        kind: &str,
+        words: &str,
+        text: &mut String,
+    ) -> Result<(), NoOutcome> {
+        match kind {
+            "split" => return split_into_frames(words, text),
+            "back" => return come_back(&mut self.assembler, words, text),
             "own" => self.own = u8::from_str_radix(words, 16)?,
-            "clear" => clear(&mut self.assembler),
-            "table" => self.table = bytes_of(alloc, words)?,
-            "part" => part_of(Parts::OfTable, self.table.as_slice(), words, text)?,
-            "entry" => part_of(Parts::OfEntry, self.table.as_slice(), words, text)?,
-            _ => return Err(NoOutcome::Unread),
+            _ => clear(&mut self.assembler),
+        }
+        Ok(())
+    }
+
+    /// Those whose words are bytes.
+    fn come_as_bytes(
+        &mut self,
+        kind: &str,
+        bytes: &[u8],
+        text: &mut String,
+    ) -> Result<(), NoOutcome> {
+        match kind {
+            "control" => control(&mut self.endpoint, bytes, text)?,
+            "take" => take(&mut self.assembler, self.own, bytes, text)?,
+            _ => read(kind, bytes, text)?,
         }
         Ok(())
     }

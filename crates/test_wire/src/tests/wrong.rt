@@ -1,7 +1,5 @@
 //! Lines that tell something else than what comes.
-use super::scene::Wire;
-use std::alloc::AllocError;
-use story_lines::report_of;
+use super::player::expect_report;
 
 /// Each kind of line, and each is wrong.
 const WRONG: &str = "
@@ -68,11 +66,7 @@ wrong: cuts frame 20 -> Short | unread
 ";
 
 #[test]
-fn wrong_lines_are_noticed(rt: HostRuntime) -> Result<(), AllocError> {
-    assert_eq!(rt; report_of::<Wire>(rt.alloc(), WRONG)?.as_str(), REPORT);
-    assert_eq!(rt;
-        report_of::<Wire>(rt.alloc(), "# A remark.")?.as_str(),
-        "no story\n"
-    );
-    Ok(())
+fn wrong_lines_are_noticed(rt: HostRuntime) {
+    expect_report(&rt, rt.alloc(), WRONG, REPORT);
+    expect_report(&rt, rt.alloc(), "# A remark.", "no story\n");
 }
