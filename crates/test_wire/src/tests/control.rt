@@ -1,11 +1,11 @@
 //! Control requests and their replies.
-use super::player::{expect_told, push_bytes};
+use super::player::{expect_told, push_bytes, push_named, push_word};
 use mctp_net::{
     Assembler, ControlReply, Endpoint, EndpointId, Envelope, Message, SomeData, Taken, read_packet,
     split,
 };
-use std::alloc::AllocError;
 use std::process::Abort;
+use story_lines::NoOutcome;
 
 /// What the endpoint replies.
 fn reply_to(endpoint: &mut Endpoint, bytes: &[u8]) -> Option<ControlReply> {
@@ -13,13 +13,12 @@ fn reply_to(endpoint: &mut Endpoint, bytes: &[u8]) -> Option<ControlReply> {
 }
 
 /// What the endpoint replies, and its identifier then.
-pub fn control(endpoint: &mut Endpoint, bytes: &[u8], text: &mut String) -> Result<(), AllocError> {
+pub fn control(endpoint: &mut Endpoint, bytes: &[u8], text: &mut String) -> Result<(), NoOutcome> {
     match reply_to(endpoint, bytes) {
         Some(reply) => push_bytes(text, reply.as_slice())?,
-        None => text.push_str(" nothing")?,
+        None => push_word(text, &"nothing")?,
     }
-    let eid = endpoint.eid().byte();
-    write!(text, " at {eid:02X}")
+    push_named(text, " at", &[endpoint.eid().byte()])
 }
 
 const CONTROL: &str = "

@@ -1,30 +1,34 @@
 //! Frames byte by byte, and what is wrong with those that differ.
-use super::player::{expect_byte, expect_told, push_named, push_other};
+use super::player::{expect_byte, expect_told, push_named, push_other, push_word};
 use ipmb_frame::{
     Header, Msg, Party, Request, Response, Sequence, begin_response, end_response, read_frame,
     same_request, write_request, write_response, write_response_into,
 };
 use std::alloc::AllocError;
 use std::process::Abort;
+use story_lines::NoOutcome;
 use two_wire::{Address, Data, Frame, Lun, NetFn};
-
-/// Appends the party behind the word for its side.
-fn push_party(side: &str, party: Party, text: &mut String) -> Result<(), AllocError> {
-    let (address, unit) = (party.address.byte(), party.lun.number());
-    write!(text, " {side} {address:02X}.{unit}")
-}
 
 /// Appends the kind of the message, and who asks whom for what.
 fn push_header(kind: &str, header: Header, text: &mut String) -> Result<(), AllocError> {
-    let (net_fn, command) = (header.net_fn.number(), header.command);
-    write!(text, " {kind} {net_fn:02X} {command:02X}")?;
-    push_party("to", header.responder, text)?;
-    push_party("from", header.requester, text)?;
-    let sequence = header.sequence.number();
-    write!(text, " sequence {sequence}")
+    let Header {
+        responder: to,
+        requester: from,
+        net_fn,
+        sequence,
+        command,
+    } = header;
+    let (net_fn, sequence) = (net_fn.number(), sequence.number());
+    let (to, to_unit) = (to.address.byte(), to.lun.number());
+    let (from, from_unit) = (from.address.byte(), from.lun.number());
+    write!(
+        text,
+        " {kind} {net_fn:02X} {command:02X} to {to:02X}.{to_unit} \
+         from {from:02X}.{from_unit} sequence {sequence}"
+    )
 }
 
-fn push_request(request: &Request, bytes: &[u8], text: &mut String) -> Result<(), AllocError> {
+fn push_request(request: &Request, bytes: &[u8], text: &mut String) -> Result<(), NoOutcome> {
     push_header("request", request.header, text)?;
     push_named(text, " data", request.body.as_slice())?;
     push_other(write_request(request).as_slice(), bytes, text)
@@ -39,21 +43,20 @@ fn begun(response: &Response) -> Frame {
     frame
 }
 
-fn push_response(response: &Response, bytes: &[u8], text: &mut String) -> Result<(), AllocError> {
+fn push_response(response: &Response, bytes: &[u8], text: &mut String) -> Result<(), NoOutcome> {
     push_header("response", response.header, text)?;
-    let code = response.code;
-    write!(text, " code {code:02X}")?;
+    push_named(text, " code", &[response.code])?;
     push_named(text, " data", response.body.as_slice())?;
     push_other(write_response(response).as_slice(), bytes, text)?;
     push_other(begun(response).as_slice(), bytes, text)
 }
 
 /// What the bytes are read as.
-pub fn read_ipmb(bytes: &[u8], text: &mut String) -> Result<(), AllocError> {
+pub fn read_ipmb(bytes: &[u8], text: &mut String) -> Result<(), NoOutcome> {
     match read_frame(bytes) {
         Ok(Msg::Request(request)) => push_request(&request, bytes, text),
         Ok(Msg::Response(response)) => push_response(&response, bytes, text),
-        Err(fault) => write!(text, " {fault}"),
+        Err(fault) => push_word(text, &fault),
     }
 }
 

@@ -1,10 +1,9 @@
 //! Messages through packets and back, and packets that are dropped.
-use super::player::{expect_told, push_bytes, push_named};
+use super::player::{expect_told, push_bytes, push_named, push_word};
 use arrayvec::ArrayVec;
 use mctp_net::{
     Assembler, DropCause, Envelope, Message, Packet, SomeData, Tag, Taken, read_packet, split,
 };
-use std::alloc::AllocError;
 use std::process::Abort;
 use story_lines::NoOutcome;
 use two_wire::{Address, Frame, pec};
@@ -72,14 +71,14 @@ fn push_back(
     packet: &Packet,
     body: &[u8],
     text: &mut String,
-) -> Result<(), AllocError> {
+) -> Result<(), NoOutcome> {
     match assembler.take(0x0A, packet) {
-        Taken::Waiting => text.push_str(" Waiting"),
-        Taken::Dropped(cause) => write!(text, " {cause}"),
+        Taken::Waiting => push_word(text, &"Waiting"),
+        Taken::Dropped(cause) => push_word(text, &cause),
         Taken::Whole => {
             let message = assembler.message(packet);
             let is_same = message.envelope == envelope() && message.body.as_slice() == body;
-            text.push_str(if is_same { " same" } else { " other" })
+            push_word(text, &if is_same { "same" } else { "other" })
         }
     }
 }
@@ -94,7 +93,7 @@ fn push_all_back(
     for frame in frames {
         match read_packet(frame.as_slice()) {
             Ok(packet) => push_back(assembler, &packet, body, text)?,
-            Err(fault) => write!(text, " {fault}")?,
+            Err(fault) => push_word(text, &fault)?,
         }
     }
     Ok(())
@@ -134,10 +133,10 @@ fn push_taken(
     own: u8,
     packet: &Packet,
     text: &mut String,
-) -> Result<(), AllocError> {
+) -> Result<(), NoOutcome> {
     match assembler.take(own, packet) {
-        Taken::Waiting => text.push_str(" Waiting"),
-        Taken::Dropped(cause) => write!(text, " {cause}"),
+        Taken::Waiting => push_word(text, &"Waiting"),
+        Taken::Dropped(cause) => push_word(text, &cause),
         Taken::Whole => { push_named(text, " Whole", assembler.message(packet).body.as_slice()) }
     }
 }
@@ -151,10 +150,9 @@ pub fn take(
 ) -> Result<(), NoOutcome> {
     let frame = frame_of(bytes)?;
     match read_packet(frame.as_slice()) {
-        Ok(packet) => push_taken(assembler, own, &packet, text)?,
-        Err(fault) => write!(text, " {fault}")?,
+        Ok(packet) => push_taken(assembler, own, &packet, text),
+        Err(fault) => push_word(text, &fault),
     }
-    Ok(())
 }
 
 /// Nothing is open any more.

@@ -1,31 +1,26 @@
 //! Packets byte by byte, and what is wrong with those that differ.
-use super::player::{expect_told, push_named, push_other};
+use super::player::{expect_told, push_named, push_other, push_word};
 use mctp_net::{Envelope, Packet, read_packet, write_packet};
 use std::alloc::AllocError;
-use two_wire::Address;
-
-/// Appends the endpoint behind the word for its side.
-fn push_endpoint(
-    side: &str,
-    address: Address,
-    eid: u8,
-    text: &mut String,
-) -> Result<(), AllocError> {
-    let address = address.byte();
-    write!(text, " {side} {address:02X}.{eid:02X}")
-}
+use story_lines::NoOutcome;
 
 /// Appends between whom the message goes.
 fn push_envelope(envelope: Envelope, text: &mut String) -> Result<(), AllocError> {
-    push_endpoint("to", envelope.destination, envelope.destination_eid, text)?;
-    push_endpoint("from", envelope.source, envelope.source_eid, text)?;
-    let owner = if envelope.tag_owner {
-        "source's"
-    } else {
-        "other's"
-    };
-    let tag = envelope.tag.number();
-    write!(text, " tag {tag} the {owner}")
+    let Envelope {
+        destination,
+        source,
+        destination_eid,
+        source_eid,
+        tag_owner,
+        tag,
+    } = envelope;
+    let (destination, source, tag) = (destination.byte(), source.byte(), tag.number());
+    let owner = if tag_owner { "source's" } else { "other's" };
+    write!(
+        text,
+        " to {destination:02X}.{destination_eid:02X} from {source:02X}.{source_eid:02X} \
+         tag {tag} the {owner}"
+    )
 }
 
 /// Where in its message the packet stands.
@@ -38,7 +33,7 @@ fn place_of(packet: &Packet) -> &'static str {
     }
 }
 
-fn push_packet(packet: &Packet, bytes: &[u8], text: &mut String) -> Result<(), AllocError> {
+fn push_packet(packet: &Packet, bytes: &[u8], text: &mut String) -> Result<(), NoOutcome> {
     push_envelope(packet.envelope, text)?;
     let (place, sequence) = (place_of(packet), packet.sequence.number());
     write!(text, " {place} sequence {sequence}")?;
@@ -47,10 +42,10 @@ fn push_packet(packet: &Packet, bytes: &[u8], text: &mut String) -> Result<(), A
 }
 
 /// What the bytes are read as.
-pub fn read_mctp(bytes: &[u8], text: &mut String) -> Result<(), AllocError> {
+pub fn read_mctp(bytes: &[u8], text: &mut String) -> Result<(), NoOutcome> {
     match read_packet(bytes) {
         Ok(packet) => push_packet(&packet, bytes, text),
-        Err(fault) => write!(text, " {fault}"),
+        Err(fault) => push_word(text, &fault),
     }
 }
 

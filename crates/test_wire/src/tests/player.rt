@@ -1,6 +1,7 @@
 //! What stories and tests have in common: a line's first word, bytes as words, and that all comes as told.
 use super::scene::Wire;
-use std::alloc::{AllocError, Global};
+use std::alloc::Global;
+use std::fmt::Display;
 use std::process::Abort;
 use story_lines::{NoOutcome, report_of};
 
@@ -24,13 +25,20 @@ pub fn bytes_of(alloc: Global, words: &str) -> Result<Vec<u8>, NoOutcome> {
     Ok(bytes)
 }
 
-/// Appends the byte as such a word.
-pub fn push_byte(text: &mut String, byte: u8) -> Result<(), AllocError> {
-    write!(text, " {byte:02X}")
+/// Appends the word.
+pub fn push_word(text: &mut String, word: &impl Display) -> Result<(), NoOutcome> {
+    write!(text, " {word}")?;
+    Ok(())
+}
+
+/// Appends the byte as a word of two hexadecimal digits.
+pub fn push_byte(text: &mut String, byte: u8) -> Result<(), NoOutcome> {
+    write!(text, " {byte:02X}")?;
+    Ok(())
 }
 
 /// Appends the bytes as such words.
-pub fn push_bytes(text: &mut String, bytes: &[u8]) -> Result<(), AllocError> {
+pub fn push_bytes(text: &mut String, bytes: &[u8]) -> Result<(), NoOutcome> {
     for byte in bytes {
         push_byte(text, *byte)?;
     }
@@ -38,13 +46,13 @@ pub fn push_bytes(text: &mut String, bytes: &[u8]) -> Result<(), AllocError> {
 }
 
 /// Appends what the bytes are, and the bytes.
-pub fn push_named(text: &mut String, name: &str, bytes: &[u8]) -> Result<(), AllocError> {
+pub fn push_named(text: &mut String, name: &str, bytes: &[u8]) -> Result<(), NoOutcome> {
     text.push_str(name)?;
     push_bytes(text, bytes)
 }
 
 /// Appends how a message is written, where that isn't these bytes.
-pub fn push_other(written: &[u8], bytes: &[u8], text: &mut String) -> Result<(), AllocError> {
+pub fn push_other(written: &[u8], bytes: &[u8], text: &mut String) -> Result<(), NoOutcome> {
     if written == bytes {
         return Ok(());
     }

@@ -1,10 +1,10 @@
 //! Messages of PLDM byte by byte, and parts of tables.
 use super::player::{
-    expect_byte, expect_bytes, expect_told, parted, push_byte, push_named, push_other,
+    expect_byte, expect_bytes, expect_told, parted, push_byte, push_named, push_other, push_word,
 };
 use pldm_base::{
-    GET_FIRST_PART, Header, Instance, Part, PldmBytes, PldmReply, PldmRequest, PldmType,
-    TransferFlag, entry_part, part, read_pldm, read_pldm_reply, same_request, write_pldm,
+    GET_FIRST_PART, Header, Instance, Part, PldmBytes, PldmReply, PldmReplyFault, PldmRequest,
+    PldmType, TransferFlag, entry_part, part, read_pldm, read_pldm_reply, same_request, write_pldm,
     write_pldm_reply,
 };
 use std::alloc::AllocError;
@@ -22,11 +22,14 @@ fn message_of(bytes: &[u8]) -> Result<PldmBytes<'_>, NoOutcome> {
 /// Appends the kind of the message, and what it is about.
 fn push_header(kind: &str, header: Header, text: &mut String) -> Result<(), AllocError> {
     let (instance, pldm_type) = (header.instance.number(), header.pldm_type.number());
-    write!(text, " {kind} {instance} type {pldm_type} command")?;
-    push_byte(text, header.command)
+    let command = header.command;
+    write!(
+        text,
+        " {kind} {instance} type {pldm_type} command {command:02X}"
+    )
 }
 
-fn push_request(request: &PldmRequest, bytes: &[u8], text: &mut String) -> Result<(), AllocError> {
+fn push_request(request: &PldmRequest, bytes: &[u8], text: &mut String) -> Result<(), NoOutcome> {
     push_header("request", request.header, text)?;
     push_named(text, " data", request.body.as_slice())?;
     let mut written = Bytes::<255>::new();
@@ -37,13 +40,12 @@ fn push_request(request: &PldmRequest, bytes: &[u8], text: &mut String) -> Resul
 /// What the bytes are read as, as a request.
 pub fn read_request(bytes: &[u8], text: &mut String) -> Result<(), NoOutcome> {
     match read_pldm(&message_of(bytes)?) {
-        Ok(request) => push_request(&request, bytes, text)?,
-        Err(fault) => write!(text, " {fault}")?,
+        Ok(request) => push_request(&request, bytes, text),
+        Err(fault) => push_word(text, &fault),
     }
-    Ok(())
 }
 
-fn push_reply(reply: &PldmReply, bytes: &[u8], text: &mut String) -> Result<(), AllocError> {
+fn push_reply(reply: &PldmReply, bytes: &[u8], text: &mut String) -> Result<(), NoOutcome> {
     push_header("reply", reply.header, text)?;
     push_named(text, " code", &[reply.code])?;
     push_named(text, " data", reply.body.as_slice())?;
@@ -52,20 +54,27 @@ fn push_reply(reply: &PldmReply, bytes: &[u8], text: &mut String) -> Result<(), 
     push_other(written.as_slice(), bytes, text)
 }
 
+fn push_reply_fault(fault: PldmReplyFault, text: &mut String) -> Result<(), NoOutcome> {
+    write!(text, " {fault:?}")?;
+    Ok(())
+}
+
 /// What the bytes are read as, as a reply.
 pub fn read_reply(bytes: &[u8], text: &mut String) -> Result<(), NoOutcome> {
     match read_pldm_reply(&message_of(bytes)?) {
-        Ok(reply) => push_reply(&reply, bytes, text)?,
-        Err(fault) => write!(text, " {fault:?}")?,
+        Ok(reply) => push_reply(&reply, bytes, text),
+        Err(fault) => push_reply_fault(fault, text),
     }
-    Ok(())
+}
+
+/// The request of these bytes, if they are one.
+fn request_of(bytes: &[u8]) -> Option<PldmRequest<'_>> {
+    read_pldm(&message_of(bytes).ok()?).ok()
 }
 
 /// Whether both are the same request.
 pub fn are_same_messages(one: &[u8], other: &[u8]) -> Option<bool> {
-    let one = read_pldm(&message_of(one).ok()?).ok()?;
-    let other = read_pldm(&message_of(other).ok()?).ok()?;
-    Some(same_request(&one, &other))
+    Some(same_request(&request_of(one)?, &request_of(other)?))
 }
 
 /// What the bytes are whose parts are asked for.
@@ -83,14 +92,7 @@ fn asked_part(parts: Parts, bytes: &[u8], operation: u8, handle: u32) -> Result<
     }
 }
 
-/// The operation and the handle of the words.
-fn asked(words: &str) -> Result<(u8, u32), NoOutcome> {
-    let (operation, handle) = parted(words);
-    let operation = u8::from_str_radix(operation, 16)?;
-    Ok((operation, handle.parse::<u32>()?))
-}
-
-fn push_part(part: &Part, text: &mut String) -> Result<(), AllocError> {
+fn push_part(part: &Part, text: &mut String) -> Result<(), NoOutcome> {
     let (flag, next) = (part.flag.byte(), part.next);
     write!(text, " flag {flag:02X} next {next}")?;
     push_named(text, " bytes", part.bytes)
@@ -103,12 +105,12 @@ pub fn part_of(
     words: &str,
     text: &mut String,
 ) -> Result<(), NoOutcome> {
-    let (operation, handle) = asked(words)?;
-    match asked_part(parts, bytes, operation, handle) {
-        Ok(part) => push_part(&part, text)?,
-        Err(code) => push_byte(text, code.value())?,
+    let (operation, handle) = parted(words);
+    let operation = u8::from_str_radix(operation, 16)?;
+    match asked_part(parts, bytes, operation, handle.parse::<u32>()?) {
+        Ok(part) => push_part(&part, text),
+        Err(code) => push_byte(text, code.value()),
     }
-    Ok(())
 }
 
 const PLDM: &str = "

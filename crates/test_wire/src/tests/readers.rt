@@ -1,34 +1,37 @@
 //! Lines about bytes that are read or checked, whatever came before.
 use super::frames::{are_same_frames, read_ipmb};
 use super::packets::read_mctp;
-use super::player::{bytes_of, parted, push_byte};
+use super::player::{bytes_of, parted, push_byte, push_word};
 use super::pldm::{are_same_messages, read_reply, read_request};
 use pldm_base::crc32;
 use std::alloc::Global;
 use story_lines::NoOutcome;
 use two_wire::{check_byte, pec};
 
+fn push_crc32(bytes: &[u8], text: &mut String) -> Result<(), NoOutcome> {
+    write!(text, " {:08X}", crc32(bytes))?;
+    Ok(())
+}
+
 /// The check byte, the packet error code or the CRC-32 of the bytes.
 fn check(kind: &str, bytes: &[u8], text: &mut String) -> Result<(), NoOutcome> {
     match kind {
-        "sum" => push_byte(text, check_byte(bytes))?,
-        "pec" => push_byte(text, pec(bytes))?,
-        "crc32" => write!(text, " {:08X}", crc32(bytes))?,
-        _ => return Err(NoOutcome::Unread),
+        "sum" => push_byte(text, check_byte(bytes)),
+        "pec" => push_byte(text, pec(bytes)),
+        "crc32" => push_crc32(bytes, text),
+        _ => Err(NoOutcome::Unread),
     }
-    Ok(())
 }
 
 /// What the bytes are read as, or what checks them.
 pub fn read(kind: &str, bytes: &[u8], text: &mut String) -> Result<(), NoOutcome> {
     match kind {
-        "ipmb" => read_ipmb(bytes, text)?,
-        "packet" => read_mctp(bytes, text)?,
-        "pldm" => read_request(bytes, text)?,
-        "reply" => read_reply(bytes, text)?,
-        _ => check(kind, bytes, text)?,
+        "ipmb" => read_ipmb(bytes, text),
+        "packet" => read_mctp(bytes, text),
+        "pldm" => read_request(bytes, text),
+        "reply" => read_reply(bytes, text),
+        _ => check(kind, bytes, text),
     }
-    Ok(())
 }
 
 /// What the first 0, 1, .. of the bytes are read as.
@@ -68,21 +71,25 @@ fn read_at(alloc: Global, kind: &str, bytes: &mut [u8], place: usize) -> Result<
 }
 
 /// With how many other bytes at one place the bytes are read.
-fn count_read(alloc: Global, kind: &str, bytes: &mut [u8]) -> Result<u32, NoOutcome> {
+fn push_changed(
+    alloc: Global,
+    kind: &str,
+    bytes: &mut [u8],
+    text: &mut String,
+) -> Result<(), NoOutcome> {
     let mut count = 0u32;
     for place in 0..bytes.len() {
         count = count.wrapping_add(read_at(alloc, kind, bytes, place)?);
     }
-    Ok(count)
+    write!(text, " {count} read")?;
+    Ok(())
 }
 
 /// With how many other bytes at one place the bytes of these words are read.
 pub fn changed(alloc: Global, words: &str, text: &mut String) -> Result<(), NoOutcome> {
     let (kind, words) = parted(words);
     let mut bytes = bytes_of(alloc, words)?;
-    let count = count_read(alloc, kind, bytes.as_mut_slice())?;
-    write!(text, " {count} read")?;
-    Ok(())
+    push_changed(alloc, kind, bytes.as_mut_slice(), text)
 }
 
 /// Whether both are requests and the same one.
@@ -100,10 +107,10 @@ fn push_same(kind: &str, one: &[u8], other: &[u8], text: &mut String) -> Result<
         "pldm" => are_same_messages(one, other),
         _ => return Err(NoOutcome::Unread),
     };
-    text.push_str(match same {
-        Some(true) => " yes",
-        Some(false) => " no",
-        None => " no requests",
-    })?;
-    Ok(())
+    let word = match same {
+        Some(true) => "yes",
+        Some(false) => "no",
+        None => "no requests",
+    };
+    push_word(text, &word)
 }

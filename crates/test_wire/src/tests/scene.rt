@@ -52,9 +52,7 @@ impl Scene for Wire {
             "cuts" => cuts(alloc, words, text),
             "changed" => changed(alloc, words, text),
             "same" => are_same(alloc, words, text),
-            "table" | "part" | "entry" => self.come_to_table(kind, words, text),
-            "own" | "clear" | "split" | "back" => self.come_to_assembler(kind, words, text),
-            _ => self.come_as_bytes(kind, bytes_of(alloc, words)?.as_slice(), text),
+            _ => self.come_to_table(alloc, (kind, words), text),
         }
     }
 
@@ -64,51 +62,53 @@ impl Scene for Wire {
 }
 
 impl Wire {
-    /// Those about the table.
+    /// Lines about the table; all others go on.
     fn come_to_table(
         &mut self,
-        kind: &str,
-        words: &str,
+        alloc: Global,
+        (kind, words): (&str, &str),
         text: &mut String,
     ) -> Result<(), NoOutcome> {
         match kind {
-            "part" => part_of(Parts::OfTable, self.table.as_slice(), words, text),
-            "entry" => part_of(Parts::OfEntry, self.table.as_slice(), words, text),
-            _ => {
+            "table" => {
                 self.table.clear();
                 push_words(&mut self.table, words)
             }
+            "part" => part_of(Parts::OfTable, self.table.as_slice(), words, text),
+            "entry" => part_of(Parts::OfEntry, self.table.as_slice(), words, text),
+            _ => self.come_to_assembler(alloc, (kind, words), text),
         }
     }
 
-    /// Those about the assembler's endpoint, and about messages of so many bytes.
+    /// Lines about the assembler without bytes; all others go on.
     fn come_to_assembler(
         &mut self,
-        kind: &str,
-        words: &str,
+        alloc: Global,
+        (kind, words): (&str, &str),
         text: &mut String,
     ) -> Result<(), NoOutcome> {
         match kind {
             "split" => return split_into_frames(words, text),
             "back" => return come_back(&mut self.assembler, words, text),
             "own" => self.own = u8::from_str_radix(words, 16)?,
-            _ => clear(&mut self.assembler),
+            "clear" => clear(&mut self.assembler),
+            _ => return self.come_with_bytes(alloc, (kind, words), text),
         }
         Ok(())
     }
 
-    /// Those whose words are bytes.
-    fn come_as_bytes(
+    /// Lines of bytes.
+    fn come_with_bytes(
         &mut self,
-        kind: &str,
-        bytes: &[u8],
+        alloc: Global,
+        (kind, words): (&str, &str),
         text: &mut String,
     ) -> Result<(), NoOutcome> {
+        let bytes = bytes_of(alloc, words)?;
         match kind {
-            "control" => control(&mut self.endpoint, bytes, text)?,
-            "take" => take(&mut self.assembler, self.own, bytes, text)?,
-            _ => read(kind, bytes, text)?,
+            "control" => control(&mut self.endpoint, bytes.as_slice(), text),
+            "take" => take(&mut self.assembler, self.own, bytes.as_slice(), text),
+            _ => read(kind, bytes.as_slice(), text),
         }
-        Ok(())
     }
 }
