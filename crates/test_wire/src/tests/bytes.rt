@@ -1,7 +1,7 @@
 //! Bytes, their check bytes, addresses, and bounded numbers.
 ghost use Rattle.std.specs.Prelude.{◌+◌, ◌≤◌, length};
 
-use super::player::{expect_byte, expect_bytes, expect_told};
+use super::player::{expect_equal, expect_told};
 use pldm_base::crc32;
 use std::process::Abort;
 use two_wire::{Address, Buffer, Bytes, Code, Data, Lun, NetFn, check_byte, code, pec};
@@ -21,15 +21,15 @@ pec -> 00
 #[test]
 fn the_check_bytes_of_heads_bodies_and_packets(rt: HostRuntime) {
     expect_told(&rt, rt.alloc(), CHECKS);
-    expect_byte(&rt, check_byte(&[0x20, 0x18]), 0xC8);
-    expect_byte(&rt, pec(b"123456789"), 0xF4);
-    assert_eq!(rt; crc32(b"123456789"), 0xCBF4_3926);
+    expect_equal(&rt, check_byte(&[0x20, 0x18]), 0xC8);
+    expect_equal(&rt, pec(b"123456789"), 0xF4);
+    expect_equal(&rt, crc32(b"123456789"), 0xCBF4_3926);
 }
 
 /// The codes are these bytes.
 fn expect_codes(rt: &impl Abort, codes: &[Code], bytes: &[u8]) {
     for (code, byte) in codes.iter().zip(bytes) {
-        expect_byte(rt, code.value(), *byte);
+        expect_equal(rt, code.value(), *byte);
     }
 }
 
@@ -59,9 +59,9 @@ fn bytes_grow_at_their_end(rt: HostRuntime) {
     assert!(rt; bytes.is_empty());
     bytes.push(1);
     bytes.extend_from_slice(&[2, 3]);
-    assert_eq!(rt; bytes.len(), 3);
+    expect_equal(&rt, bytes.len(), 3);
     add(&mut bytes);
-    expect_bytes(&rt, bytes.as_slice(), &[1, 2, 3, 4, 5, 6]);
+    expect_equal(&rt, bytes.as_slice(), [1, 2, 3, 4, 5, 6].as_slice());
     assert!(rt; bytes.copy().is(&[1, 2, 3, 4, 5, 6]) && !bytes.is(&[1, 2]));
 }
 
@@ -76,17 +76,17 @@ fn bytes_are_replaced(rt: HostRuntime) {
 
 #[test]
 fn addresses_and_numbers_keep_their_value(rt: HostRuntime) {
-    expect_byte(&rt, Address::new(0x2C).unwrap().byte(), 0x2C);
+    expect_equal(&rt, Address::new(0x2C).unwrap().byte(), 0x2C);
     assert!(rt; Address::new(0x2D).is_none());
-    expect_byte(&rt, Lun::new(3).number(), 3);
-    expect_byte(&rt, NetFn::new(0x06).number(), 0x06);
+    expect_equal(&rt, Lun::new(3).number(), 3);
+    expect_equal(&rt, NetFn::new(0x06).number(), 0x06);
 }
 
 #[test]
 fn codes_and_data_keep_their_value(rt: HostRuntime) {
-    expect_byte(&rt, Code::new(0x80).unwrap().value(), 0x80);
+    expect_equal(&rt, Code::new(0x80).unwrap().value(), 0x80);
     assert!(rt; Code::new(0).is_none());
-    expect_byte(&rt, code::INVALID_LENGTH.value(), 0xC7);
+    expect_equal(&rt, code::INVALID_LENGTH.value(), 0xC7);
     let data = Data::<4>::new(&[1, 2, 3, 4][1..3]);
-    expect_bytes(&rt, data.as_slice(), &[2, 3]);
+    expect_equal(&rt, data.as_slice(), [2, 3].as_slice());
 }

@@ -1,5 +1,5 @@
 //! Frames byte by byte, and what is wrong with those that differ.
-use super::player::{expect_byte, expect_told, push_named, push_other, push_word};
+use super::player::{expect_equal, expect_told, push_named, push_other, push_word};
 use ipmb_frame::{
     Header, Msg, Party, Request, Response, Sequence, begin_response, end_response, read_frame,
     same_request, write_request, write_response, write_response_into,
@@ -31,7 +31,7 @@ fn push_header(kind: &str, header: Header, text: &mut String) -> Result<(), Allo
 fn push_request(request: &Request, bytes: &[u8], text: &mut String) -> Result<(), NoOutcome> {
     push_header("request", request.header, text)?;
     push_named(text, " data", request.body.as_slice())?;
-    push_other(write_request(request).as_slice(), bytes, text)
+    push_other(write_request(request), bytes, text)
 }
 
 /// The frame of the response, written in two steps into one that was used for a longer one.
@@ -47,8 +47,8 @@ fn push_response(response: &Response, bytes: &[u8], text: &mut String) -> Result
     push_header("response", response.header, text)?;
     push_named(text, " code", &[response.code])?;
     push_named(text, " data", response.body.as_slice())?;
-    push_other(write_response(response).as_slice(), bytes, text)?;
-    push_other(begun(response).as_slice(), bytes, text)
+    push_other(write_response(response), bytes, text)?;
+    push_other(begun(response), bytes, text)
 }
 
 /// What the bytes are read as.
@@ -144,7 +144,7 @@ fn expect_request(rt: &impl Abort, bytes: &[u8], request: &Request) {
         panic!(rt; "no request");
     };
     assert!(rt; same_request(&read, request));
-    expect_byte(rt, read.header.command, 0x01);
+    expect_equal(rt, read.header.command, 0x01);
 }
 
 #[test]
@@ -163,7 +163,7 @@ fn expect_response(rt: &impl Abort, bytes: &[u8], code: u8) {
     let Ok(Msg::Response(read)) = read_frame(bytes) else {
         panic!(rt; "no response");
     };
-    expect_byte(rt, read.code, code);
+    expect_equal(rt, read.code, code);
 }
 
 #[test]

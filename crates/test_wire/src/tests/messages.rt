@@ -1,5 +1,5 @@
 //! Messages through packets and back, and packets that are dropped.
-use super::player::{expect_told, push_bytes, push_named, push_word};
+use super::player::{expect_equal, expect_told, push_bytes, push_named, push_word};
 use arrayvec::ArrayVec;
 use mctp_net::{
     Assembler, DropCause, Envelope, Message, Packet, SomeData, Tag, Taken, read_packet, split,
@@ -257,7 +257,7 @@ fn expect_taken(rt: &impl Abort, assembler: &mut Assembler, flags: u8, wanted: T
     bytes[2] = flags;
     let frame = frame_of(&bytes).expect(rt, "a frame");
     let packet = read_packet(frame.as_slice()).expect(rt, "a packet");
-    assert_eq!(rt; assembler.take(0x0A, &packet), wanted);
+    expect_equal(rt, assembler.take(0x0A, &packet), wanted);
 }
 
 #[test]

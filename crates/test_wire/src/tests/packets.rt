@@ -38,7 +38,7 @@ fn push_packet(packet: &Packet, bytes: &[u8], text: &mut String) -> Result<(), N
     let (place, sequence) = (place_of(packet), packet.sequence.number());
     write!(text, " {place} sequence {sequence}")?;
     push_named(text, " payload", packet.payload.as_slice())?;
-    push_other(write_packet(packet).as_slice(), bytes, text)
+    push_other(write_packet(packet), bytes, text)
 }
 
 /// What the bytes are read as.

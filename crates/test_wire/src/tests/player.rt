@@ -1,9 +1,10 @@
 //! What stories and tests have in common: a line's first word, bytes as words, and that all comes as told.
 use super::scene::Wire;
 use std::alloc::Global;
-use std::fmt::Display;
+use std::fmt::{Debug, Display};
 use std::process::Abort;
 use story_lines::{NoOutcome, report_of};
+use two_wire::Bytes;
 
 /// The first word, and the words behind it.
 pub fn parted(words: &str) -> (&str, &str) {
@@ -52,17 +53,21 @@ pub fn push_named(text: &mut String, name: &str, bytes: &[u8]) -> Result<(), NoO
 }
 
 /// Appends how a message is written, where that isn't these bytes.
-pub fn push_other(written: &[u8], bytes: &[u8], text: &mut String) -> Result<(), NoOutcome> {
-    if written == bytes {
+pub fn push_other<const CAP: usize>(
+    written: Bytes<CAP>,
+    bytes: &[u8],
+    text: &mut String,
+) -> Result<(), NoOutcome> {
+    if written.is(bytes) {
         return Ok(());
     }
-    push_named(text, " written", written)
+    push_named(text, " written", written.as_slice())
 }
 
 /// This is said of the stories of the text.
 pub fn expect_report(rt: &impl Abort, alloc: Global, text: &str, report: &str) {
     let said = report_of::<Wire>(alloc, text).expect(rt, "memory");
-    assert_eq!(rt; said.as_str(), report);
+    expect_equal(rt, said.as_str(), report);
 }
 
 /// All comes as the stories of the text tell.
@@ -70,12 +75,7 @@ pub fn expect_told(rt: &impl Abort, alloc: Global, text: &str) {
     expect_report(rt, alloc, text, "");
 }
 
-/// The byte is the one that is wanted.
-pub fn expect_byte(rt: &impl Abort, byte: u8, wanted: u8) {
-    assert_eq!(rt; byte, wanted);
-}
-
-/// The bytes are those that are wanted.
-pub fn expect_bytes(rt: &impl Abort, bytes: &[u8], wanted: &[u8]) {
-    assert_eq!(rt; bytes, wanted);
+/// The value is the one that is wanted.
+pub fn expect_equal<T: Copy + Debug + PartialEq>(rt: &impl Abort, value: T, wanted: T) {
+    assert_eq!(rt; value, wanted);
 }

@@ -1,6 +1,6 @@
 //! Messages of PLDM byte by byte, and parts of tables.
 use super::player::{
-    expect_byte, expect_bytes, expect_told, parted, push_byte, push_named, push_other, push_word,
+    expect_equal, expect_told, parted, push_byte, push_named, push_other, push_word,
 };
 use pldm_base::{
     GET_FIRST_PART, Header, Instance, Part, PldmBytes, PldmReply, PldmReplyFault, PldmRequest,
@@ -34,7 +34,7 @@ fn push_request(request: &PldmRequest, bytes: &[u8], text: &mut String) -> Resul
     push_named(text, " data", request.body.as_slice())?;
     let mut written = Bytes::<255>::new();
     write_pldm(request, &mut written);
-    push_other(written.as_slice(), bytes, text)
+    push_other(written, bytes, text)
 }
 
 /// What the bytes are read as, as a request.
@@ -51,7 +51,7 @@ fn push_reply(reply: &PldmReply, bytes: &[u8], text: &mut String) -> Result<(), 
     push_named(text, " data", reply.body.as_slice())?;
     let mut written = Bytes::<255>::new();
     write_pldm_reply(reply, &mut written);
-    push_other(written.as_slice(), bytes, text)
+    push_other(written, bytes, text)
 }
 
 fn push_reply_fault(fault: PldmReplyFault, text: &mut String) -> Result<(), NoOutcome> {
@@ -223,8 +223,8 @@ fn a_request_is_written_and_read(rt: HostRuntime) {
     let mut written = Bytes::<255>::new();
     write_pldm(&request, &mut written);
     assert!(rt; written.is(&[0x80, 0x00, 0x02]));
-    let read = read_pldm(&PldmBytes::new(&[0x80, 0x00, 0x02]));
-    assert!(rt; read.is_ok_and(|read| same_request(&read, &request)));
+    let read = read_pldm(&PldmBytes::new(&[0x80, 0x00, 0x02])).expect(&rt, "a request");
+    assert!(rt; same_request(&read, &request));
 }
 
 #[test]
@@ -240,13 +240,13 @@ fn a_reply_is_written_and_read(rt: HostRuntime) {
     let bytes = [0x00, 0x00, 0x02, 0x00, 0x05];
     assert!(rt; written.is(&bytes));
     let read = read_pldm_reply(&PldmBytes::new(&bytes)).expect(&rt, "a reply");
-    expect_byte(&rt, read.code, 0x00);
-    expect_bytes(&rt, read.body.as_slice(), &[0x05]);
+    expect_equal(&rt, read.code, 0x00);
+    expect_equal(&rt, read.body.as_slice(), [0x05].as_slice());
 }
 
 #[test]
 fn a_table_has_a_part(rt: HostRuntime) {
     let part = asked_part(Parts::OfTable, &[7, 8, 9], GET_FIRST_PART, 0).expect(&rt, "a part");
     assert!(rt; part.bytes == [7, 8, 9].as_slice() && part.next == 0);
-    assert_eq!(rt; part.flag, TransferFlag::StartAndEnd);
+    expect_equal(&rt, part.flag, TransferFlag::StartAndEnd);
 }

@@ -81,8 +81,8 @@ fn push_changed(
     for place in 0..bytes.len() {
         count = count.wrapping_add(read_at(alloc, kind, bytes, place)?);
     }
-    write!(text, " {count} read")?;
-    Ok(())
+    push_word(text, &count)?;
+    push_word(text, &"read")
 }
 
 /// With how many other bytes at one place the bytes of these words are read.
