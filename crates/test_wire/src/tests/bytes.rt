@@ -69,9 +69,9 @@ fn bytes_grow_at_their_end(rt: HostRuntime) {
 fn bytes_are_replaced(rt: HostRuntime) {
     let mut bytes = Bytes::<6>::from_slice(&[1, 2]);
     bytes.replace(&[5, 6, 7, 8]);
-    assert!(rt; bytes.is(&[5, 6, 7, 8]));
+    expect_equal(&rt, bytes.as_slice(), [5, 6, 7, 8].as_slice());
     bytes.replace(&[9]);
-    assert!(rt; bytes.is(&[9]));
+    expect_equal(&rt, bytes.as_slice(), [9].as_slice());
 }
 
 #[test]

@@ -1,5 +1,5 @@
 //! Control requests and their replies.
-use super::player::{expect_told, push_bytes, push_named, push_word};
+use super::player::{expect_equal, expect_told, push_bytes, push_named, push_word};
 use mctp_net::{
     Assembler, ControlReply, Endpoint, EndpointId, Envelope, Message, SomeData, Taken, read_packet,
     split,
@@ -67,7 +67,7 @@ fn expect_frame(rt: &impl Abort, message: &Message, bytes: &[u8]) {
     let [frame] = frames.as_slice() else {
         panic!(rt; "other than one frame");
     };
-    assert!(rt; frame.is(bytes));
+    expect_equal(rt, frame.as_slice(), bytes);
 }
 
 /// The endpoint's reply to the request is one frame of these bytes.
@@ -86,16 +86,16 @@ fn expect_reply(rt: &impl Abort, endpoint: &mut Endpoint, request: &Message, byt
 fn get_endpoint_id_is_answered_over_the_bus(rt: HostRuntime) {
     let mut endpoint = Endpoint::new(EndpointId::new(0x0A).unwrap());
     let mut assembler = Assembler::new(rt.alloc()).expect(&rt, "memory");
-    let request = [
+    let request = &[
         0x20, 0x0F, 0x08, 0x31, 0x01, 0x00, 0x08, 0xC8, 0x00, 0x80, 0x02, 0x50,
     ];
-    let packet = read_packet(&request).expect(&rt, "a packet");
+    let packet = read_packet(request).expect(&rt, "a packet");
     if assembler.take(endpoint.eid().byte(), &packet) != Taken::Whole {
         panic!(rt; "no message");
     }
-    let reply = [
+    let reply = &[
         0x30, 0x0F, 0x0C, 0x21, 0x01, 0x08, 0x0A, 0xC0, 0x00, 0x00, 0x02, 0x00, 0x0A, 0x00, 0x00,
         0x40,
     ];
-    expect_reply(&rt, &mut endpoint, &assembler.message(&packet), &reply);
+    expect_reply(&rt, &mut endpoint, &assembler.message(&packet), reply);
 }

@@ -149,13 +149,13 @@ fn expect_request(rt: &impl Abort, bytes: &[u8], request: &Request) {
 
 #[test]
 fn a_request_is_written_and_read(rt: HostRuntime) {
-    let bytes = [0x20, 0x18, 0xC8, 0x2C, 0x00, 0x01, 0xD3];
+    let bytes: &[u8] = &[0x20, 0x18, 0xC8, 0x2C, 0x00, 0x01, 0xD3];
     let request = Request {
         header: device_id(),
         body: Data::new(&[]),
     };
-    assert!(rt; write_request(&request).is(&bytes));
-    expect_request(&rt, &bytes, &request);
+    expect_equal(&rt, write_request(&request).as_slice(), bytes);
+    expect_request(&rt, bytes, &request);
 }
 
 /// The bytes are read as a response with the code.
@@ -169,16 +169,16 @@ fn expect_response(rt: &impl Abort, bytes: &[u8], code: u8) {
 #[test]
 fn a_response_is_written_and_read(rt: HostRuntime) {
     // The controller is busy.
-    let bytes = [0x2C, 0x1C, 0xB8, 0x20, 0x00, 0x01, 0xC0, 0x1F];
+    let bytes: &[u8] = &[0x2C, 0x1C, 0xB8, 0x20, 0x00, 0x01, 0xC0, 0x1F];
     let header = device_id();
     let response = Response {
         header,
         code: 0xC0,
         body: Data::new(&[]),
     };
-    assert!(rt; write_response(&response).is(&bytes));
+    expect_equal(&rt, write_response(&response).as_slice(), bytes);
     let mut frame = Frame::from_slice(&[0xFF; 40]);
     write_response_into(&mut frame, &header, 0xC0, &[]);
-    assert!(rt; frame.is(&bytes));
-    expect_response(&rt, &bytes, 0xC0);
+    expect_equal(&rt, frame.as_slice(), bytes);
+    expect_response(&rt, bytes, 0xC0);
 }

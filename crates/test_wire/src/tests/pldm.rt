@@ -222,8 +222,9 @@ fn a_request_is_written_and_read(rt: HostRuntime) {
     };
     let mut written = Bytes::<255>::new();
     write_pldm(&request, &mut written);
-    assert!(rt; written.is(&[0x80, 0x00, 0x02]));
-    let read = read_pldm(&PldmBytes::new(&[0x80, 0x00, 0x02])).expect(&rt, "a request");
+    let bytes: &[u8] = &[0x80, 0x00, 0x02];
+    expect_equal(&rt, written.as_slice(), bytes);
+    let read = read_pldm(&PldmBytes::new(bytes)).expect(&rt, "a request");
     assert!(rt; same_request(&read, &request));
 }
 
@@ -237,9 +238,9 @@ fn a_reply_is_written_and_read(rt: HostRuntime) {
     };
     let mut written = Bytes::<255>::new();
     write_pldm_reply(&reply, &mut written);
-    let bytes = [0x00, 0x00, 0x02, 0x00, 0x05];
-    assert!(rt; written.is(&bytes));
-    let read = read_pldm_reply(&PldmBytes::new(&bytes)).expect(&rt, "a reply");
+    let bytes: &[u8] = &[0x00, 0x00, 0x02, 0x00, 0x05];
+    expect_equal(&rt, written.as_slice(), bytes);
+    let read = read_pldm_reply(&PldmBytes::new(bytes)).expect(&rt, "a reply");
     expect_equal(&rt, read.code, 0x00);
     expect_equal(&rt, read.body.as_slice(), [0x05].as_slice());
 }
