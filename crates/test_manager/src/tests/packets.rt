@@ -92,7 +92,7 @@ fn replies_are_joined_from_packets(rt: HostRuntime) {
     expect_told(&rt, rt.alloc(), PACKETS);
 }
 
-/// What is made of the list of two requests, which has these names.
+/// A manager that goes on from the list of two requests with these names, or why there is none.
 fn resumed(
     rt: &impl Abort,
     alloc: Global,
@@ -115,7 +115,7 @@ fn expect_list(rt: &impl Abort, manager: &Manager, names: Option<Names>) {
     expect_equal(rt, manager.undo_list().names, names);
 }
 
-/// The call of the manager gives this.
+/// The manager is told to undo, and sends this.
 fn undone(rt: &impl Abort, manager: &mut Manager) -> Sent {
     let sent = manager.undo().expect(rt, "the phase of an undo");
     sent.expect(rt, "a request")

@@ -81,7 +81,7 @@ fn content() -> [u8; 70] {
     bytes
 }
 
-/// A list of two requests over SMBus, of which the last, and so the next, is request 31. It has these names.
+/// A list of two requests over SMBus, of which the last, and so the next, is request 31. It has these names, or none.
 pub fn list(alloc: Global, names: Option<Names>) -> Result<UndoList, NoOutcome> {
     let mut requests = Requests::open(alloc, 0, 0)?;
     let state = Asked::pldm(Below::new(2), 0x39, &[5, 0, 1, 1, 2]);
@@ -99,14 +99,14 @@ pub fn list(alloc: Global, names: Option<Names>) -> Result<UndoList, NoOutcome> 
     })
 }
 
-/// The head of an undo text, and the begin of its one request: the next request over SMBus is request 3.
+/// An undo text up to the digits of its one request. The next request over SMBus is request 3.
 const UNDO_HEAD: &str = "\
 undo 2
 next ipmb 0 smbus 3
 names ipmb 2C 20 smbus 2C 20 eid 0B 0A
 smbus ";
 
-/// Appends the undo text whose one request has these digits.
+/// Appends that text with these digits.
 fn push_undo_text(digits: &str, text: &mut String) -> Result<(), AllocError> {
     text.push_str(UNDO_HEAD)?;
     for word in digits.split(' ') {
