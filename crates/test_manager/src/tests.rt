@@ -2,6 +2,7 @@
 mod calls;
 mod packets;
 mod parts;
+mod player;
 mod replies;
 mod scene;
 mod wrong;

@@ -1,4 +1,5 @@
 //! What ports do with requests that come again, with damage and with floods, on the sample board.
+mod board;
 mod damage;
 mod either;
 mod floods;
@@ -9,13 +10,14 @@ mod window;
 
 use bmc_core::{Done, Out};
 use std::alloc::Global;
+use std::fmt::Debug;
 use std::process::Abort;
 use stories::play;
 
 /// This is said of the stories: of each line that comes otherwise than it is told, what came.
 pub(crate) fn expect_report(rt: &impl Abort, alloc: Global, stories: &str, told: &str) {
     let report = play(alloc, stories).expect(rt, "memory");
-    assert_eq!(rt; report.as_str(), told);
+    expect_equal(rt, report.as_str(), told);
 }
 
 /// Each line of the stories comes as it is told.
@@ -33,6 +35,11 @@ fn sent(out: &Out) -> &[u8] {
 
 /// The port did this, and sent this frame and no other.
 pub(crate) fn expect_out(rt: &impl Abort, out: &Out, done: Done, frame: &[u8]) {
-    assert_eq!(rt; out.done, done);
-    assert_eq!(rt; sent(out), frame);
+    expect_equal(rt, out.done, done);
+    expect_equal(rt, sent(out), frame);
+}
+
+/// The value is the one that is wanted.
+pub(crate) fn expect_equal<T: Copy + Debug + PartialEq>(rt: &impl Abort, value: T, wanted: T) {
+    assert_eq!(rt; value, wanted);
 }

@@ -1,5 +1,6 @@
 //! Each call in each phase, and what phases are called.
-use super::scene::{expect_told, names, plan};
+use super::player::{expect_equal, expect_told};
+use super::scene::{names, plan};
 use std::alloc::Global;
 use std::process::Abort;
 use two_wire::{Bus, Code};
@@ -159,9 +160,11 @@ fn manager(rt: &impl Abort, alloc: Global) -> Manager {
 }
 
 /// What is sent is the request of this number, on IPMB, and the manager began so many there.
-fn expect_request(rt: &impl Abort, manager: &Manager, sent: &Sent, request: u16) {
-    assert_eq!(rt; (sent.bus, sent.request), (Bus::Ipmb, request));
-    assert_eq!(rt; manager.begun(Bus::Ipmb), usize::from(request) + 1);
+fn expect_request(rt: &impl Abort, manager: &Manager, sent: Option<Sent>, request: u16) {
+    let sent = sent.expect(rt, "a request");
+    expect_equal(rt, sent.bus, Bus::Ipmb);
+    expect_equal(rt, sent.request, request);
+    expect_equal(rt, manager.begun(Bus::Ipmb), usize::from(request) + 1);
 }
 
 /// The reply to the Get of sensor 5's thresholds.
@@ -172,50 +175,46 @@ const SHOWN: [u8; 15] = [
 #[test]
 fn a_manager_has_its_names_and_counts_its_requests(rt: HostRuntime) {
     let mut manager = manager(&rt, rt.alloc());
-    assert_eq!(rt; manager.undo_list().names, Some(names()));
-    let first = manager.start().expect(&rt, "the phase of a start");
-    expect_request(&rt, &manager, &first.expect(&rt, "a Get"), 0);
+    expect_equal(&rt, manager.undo_list().names, Some(names()));
+    let get = manager.start().expect(&rt, "the phase of a start");
+    expect_request(&rt, &manager, get, 0);
     let set = manager.on_frame(Bus::Ipmb, &SHOWN);
-    expect_request(&rt, &manager, &set.expect(&rt, "a Set"), 1);
+    expect_request(&rt, &manager, set, 1);
 }
 
-/// The call gave something.
-fn expect_sent(rt: &impl Abort, given: Result<Option<Sent>, WrongPhase>) {
-    assert!(rt; given.expect(rt, "the phase of the call").is_some());
-}
-
-/// The call gave nothing.
-fn expect_none(rt: &impl Abort, given: Result<Option<Sent>, WrongPhase>) {
-    assert!(rt; given.expect(rt, "the phase of the call").is_none());
+/// The call gave something, or nothing.
+fn expect_sent(rt: &impl Abort, given: Result<Option<Sent>, WrongPhase>, is_sent: bool) {
+    let sent = given.expect(rt, "the phase of the call");
+    expect_equal(rt, sent.is_some(), is_sent);
 }
 
 #[test]
 fn a_manager_is_opened_and_called(rt: HostRuntime) {
     let mut manager = manager(&rt, rt.alloc());
-    assert_eq!(rt; manager.phase(), Phase::Fresh);
+    expect_equal(&rt, manager.phase(), Phase::Fresh);
     assert!(rt; manager.undo().is_err());
-    expect_sent(&rt, manager.start());
-    assert_eq!(rt; manager.phase(), Phase::Getting(0));
-    expect_none(&rt, manager.stop());
-    assert_eq!(rt; manager.open_bus(), Some(Bus::Ipmb));
-    expect_sent(&rt, manager.quiet());
-    expect_none(&rt, manager.quiet());
-    expect_sent(&rt, manager.again());
+    expect_sent(&rt, manager.start(), true);
+    expect_equal(&rt, manager.phase(), Phase::Getting(0));
+    expect_sent(&rt, manager.stop(), false);
+    expect_equal(&rt, manager.open_bus(), Some(Bus::Ipmb));
+    expect_sent(&rt, manager.quiet(), true);
+    expect_sent(&rt, manager.quiet(), false);
+    expect_sent(&rt, manager.again(), true);
 }
 
 #[test]
 fn a_manager_counts_how_often_it_sent_a_request_again(rt: HostRuntime) {
     let mut manager = manager(&rt, rt.alloc());
-    expect_sent(&rt, manager.start());
-    assert_eq!(rt; manager.resent(), 0);
-    expect_sent(&rt, manager.quiet());
-    assert_eq!(rt; manager.resent(), 1);
+    expect_sent(&rt, manager.start(), true);
+    expect_equal(&rt, manager.resent(), 0);
+    expect_sent(&rt, manager.quiet(), true);
+    expect_equal(&rt, manager.resent(), 1);
 }
 
 /// The phase is called so.
 fn expect_name(rt: &impl Abort, alloc: Global, phase: Phase, name: &str) {
     let text = format!(in alloc; "{phase}").expect(rt, "memory");
-    assert_eq!(rt; text.as_str(), name);
+    expect_equal(rt, text.as_str(), name);
 }
 
 #[test]

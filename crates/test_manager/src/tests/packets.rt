@@ -1,8 +1,11 @@
 //! A manager whose requests go over SMBus. It goes on from a list of such requests.
-use super::scene::{expect_told, list, names, other_names};
-use std::test::Fail;
+use super::player::{expect_equal, expect_told};
+use super::scene::{list, names, other_names};
+use std::alloc::Global;
+use std::process::Abort;
 use two_wire::Bus;
-use undo_core::{Manager, Phase, ResumeFault, Why};
+use undo_core::{Manager, Phase, ResumeFault, Sent, Why};
+use undo_plans::Names;
 
 const PACKETS: &str = "
 story a reply is joined from its packets
@@ -89,31 +92,56 @@ fn replies_are_joined_from_packets(rt: HostRuntime) {
     expect_told(&rt, rt.alloc(), PACKETS);
 }
 
-#[test]
-fn a_manager_goes_on_from_a_list(rt: HostRuntime) -> Result<(), Fail> {
-    let mut manager = Manager::resume(rt.alloc(), list(rt.alloc())?, names(), 1)?;
-    assert_eq!(rt; manager.phase(), Phase::Halted(2, Why::Stop));
-    assert_eq!(rt; manager.undo_list().requests.len(), 2);
-    assert_eq!(rt; manager.undo_list().names, None);
-    let sent = manager.undo()?.ok_or("a request")?;
-    assert_eq!(rt; (sent.bus, sent.request), (Bus::Smbus, 31));
-    assert_eq!(rt; sent.frames.len(), 2);
-    assert_eq!(rt; manager.phase(), Phase::Undoing(1));
-    assert_eq!(rt; manager.undo_list().names, None);
-    Ok(())
+/// A manager that goes on from the list of two requests with these names, or why there is none.
+fn resumed(
+    rt: &impl Abort,
+    alloc: Global,
+    names_of: Option<Names>,
+) -> Result<Manager, ResumeFault> {
+    let list = list(alloc, names_of).expect(rt, "memory");
+    Manager::resume(alloc, list, names(), 1)
+}
+
+/// The request goes over SMBus. It has this number and so many frames.
+fn expect_sent(rt: &impl Abort, sent: &Sent, request: u16, frames: usize) {
+    expect_equal(rt, sent.bus, Bus::Smbus);
+    expect_equal(rt, sent.request, request);
+    expect_equal(rt, sent.frames.len(), frames);
+}
+
+/// The manager's undo list has two requests and these names.
+fn expect_list(rt: &impl Abort, manager: &Manager, names: Option<Names>) {
+    expect_equal(rt, manager.undo_list().requests.len(), 2);
+    expect_equal(rt, manager.undo_list().names, names);
+}
+
+/// The manager is told to undo, and sends this.
+fn undone(rt: &impl Abort, manager: &mut Manager) -> Sent {
+    let sent = manager.undo().expect(rt, "the phase of an undo");
+    sent.expect(rt, "a request")
 }
 
 #[test]
-fn a_manager_goes_on_from_a_list_with_its_names_alone(rt: HostRuntime) -> Result<(), Fail> {
-    let mut named = list(rt.alloc())?;
-    named.names = Some(names());
-    let mut manager = Manager::resume(rt.alloc(), named, names(), 1)?;
-    assert_eq!(rt; manager.undo_list().names, Some(names()));
-    assert!(rt; manager.undo()?.is_some());
-    assert_eq!(rt; manager.undo_list().names, Some(names()));
-    let mut others = list(rt.alloc())?;
-    others.names = Some(other_names());
-    let refused = Manager::resume(rt.alloc(), others, names(), 1);
-    assert_eq!(rt; refused.err(), Some(ResumeFault::OtherNames));
-    Ok(())
+fn a_manager_goes_on_from_a_list(rt: HostRuntime) {
+    let mut manager = resumed(&rt, rt.alloc(), None).expect(&rt, "a manager");
+    expect_equal(&rt, manager.phase(), Phase::Halted(2, Why::Stop));
+    expect_list(&rt, &manager, None);
+    expect_sent(&rt, &undone(&rt, &mut manager), 31, 2);
+    expect_equal(&rt, manager.phase(), Phase::Undoing(1));
+    expect_list(&rt, &manager, None);
+}
+
+#[test]
+fn a_manager_goes_on_from_a_list_with_its_names(rt: HostRuntime) {
+    let named = resumed(&rt, rt.alloc(), Some(names()));
+    let mut manager = named.expect(&rt, "a manager");
+    expect_list(&rt, &manager, Some(names()));
+    expect_sent(&rt, &undone(&rt, &mut manager), 31, 2);
+    expect_list(&rt, &manager, Some(names()));
+}
+
+#[test]
+fn a_manager_goes_on_from_no_list_with_other_names(rt: HostRuntime) {
+    let refused = resumed(&rt, rt.alloc(), Some(other_names()));
+    expect_equal(&rt, refused.err(), Some(ResumeFault::OtherNames));
 }

@@ -1,5 +1,5 @@
 //! A manager whose Gets and Sets go in parts.
-use super::scene::expect_told;
+use super::player::expect_told;
 
 /// Frames of whole requests and replies, as Python made them: an entry of 405 bytes has parts of 192, 192 and 21.
 const PARTS: &str = "

@@ -1,5 +1,5 @@
 //! What a manager does with each reply, and which frames it ignores.
-use super::scene::expect_told;
+use super::player::expect_told;
 
 const REPLIES: &str = "
 story a plan goes there and back

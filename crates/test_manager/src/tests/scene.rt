@@ -1,12 +1,11 @@
 //! A manager, and the lines of what comes to it.
+use super::player::{parted, push_fault, push_phase};
 use record_base::{Asked, Op, SetBiosAttribute, SetThresholds};
 use std::alloc::{AllocError, Global};
-use std::fmt::Debug;
-use std::process::Abort;
-use story_lines::{NoOutcome, NoScene, Scene, report_of};
+use story_lines::{NoOutcome, NoScene, Scene};
 use text_undo::read_undo;
 use two_wire::{Address, Below, Bus, Retries};
-use undo_core::{Manager, OpenFault, ResumeFault, Sent, WrongPhase};
+use undo_core::{Manager, Sent, WrongPhase};
 use undo_plans::{Names, NextNumbers, Plan, Requests, Steps, UndoList, UndoRequest};
 
 pub fn names() -> Names {
@@ -36,51 +35,41 @@ fn step(mask: u8, values: [u8; 6]) -> Op<'static> {
     })
 }
 
-/// A plan of two steps, each of which sets thresholds of sensor 5.
-pub fn plan(alloc: Global) -> Result<Plan, AllocError> {
-    let first = step(0x18, [0, 0, 0, 0x4B, 0x5A, 0]);
-    let second = step(0x30, [0, 0, 0, 0, 0x5C, 0x64]);
+/// A step that sets attribute 1, a string.
+fn text_step(value: &[u8]) -> Op<'_> {
+    Op::BiosAttribute(SetBiosAttribute::of(1, 1, value))
+}
+
+/// A plan of the two steps, or of the first alone.
+fn plan_of(alloc: Global, first: &Op<'_>, second: Option<&Op<'_>>) -> Result<Plan, AllocError> {
     let mut steps = Steps::none(alloc);
-    steps.push(&first)?;
-    steps.push(&second)?;
+    steps.push(first)?;
+    if let Some(second) = second {
+        steps.push(second)?;
+    }
     Ok(Plan {
         steps,
         retries: Retries::new(3),
     })
 }
 
+/// A plan of two steps, each of which sets thresholds of sensor 5.
+pub fn plan(alloc: Global) -> Result<Plan, AllocError> {
+    let first = step(0x18, [0, 0, 0, 0x4B, 0x5A, 0]);
+    let second = step(0x30, [0, 0, 0, 0, 0x5C, 0x64]);
+    plan_of(alloc, &first, Some(&second))
+}
+
 /// A plan of one step, which sets attribute 1, a string, to `b`.
 fn short_text(alloc: Global) -> Result<Plan, AllocError> {
-    let mut steps = Steps::none(alloc);
-    let step = SetBiosAttribute::of(1, 1, &[1, 0, 0x62]);
-    steps.push(&Op::BiosAttribute(step))?;
-    Ok(Plan {
-        steps,
-        retries: Retries::new(3),
-    })
+    plan_of(alloc, &text_step(&[1, 0, 0x62]), None)
 }
 
 /// A plan of two steps: the first sets that attribute to 400 bytes `a`, and the second to `b`.
 fn long_text(alloc: Global) -> Result<Plan, AllocError> {
     let mut value = [0x61; 402];
     value[..2].copy_from_slice(&[0x90, 0x01]);
-    let mut steps = Steps::none(alloc);
-    steps.push(&Op::BiosAttribute(SetBiosAttribute::of(1, 1, &value)))?;
-    let step = SetBiosAttribute::of(1, 1, &[1, 0, 0x62]);
-    steps.push(&Op::BiosAttribute(step))?;
-    Ok(Plan {
-        steps,
-        retries: Retries::new(3),
-    })
-}
-
-/// The plan that is called so.
-fn plan_called(alloc: Global, kind: &str) -> Result<Plan, AllocError> {
-    match kind {
-        "long" => short_text(alloc),
-        "longer" => long_text(alloc),
-        _ => plan(alloc),
-    }
+    plan_of(alloc, &text_step(&value), Some(&text_step(&[1, 0, 0x62])))
 }
 
 /// The data of request 31: the bytes from 10h to 55h.
@@ -92,8 +81,8 @@ fn content() -> [u8; 70] {
     bytes
 }
 
-/// A list of two requests over SMBus, of which the last, and so the next, is request 31.
-pub fn list(alloc: Global) -> Result<UndoList, AllocError> {
+/// A list of two requests over SMBus, of which the last, and so the next, is request 31. It has these names, or none.
+pub fn list(alloc: Global, names: Option<Names>) -> Result<UndoList, NoOutcome> {
     let mut requests = Requests::open(alloc, 0, 0)?;
     let state = Asked::pldm(Below::new(2), 0x39, &[5, 0, 1, 1, 2]);
     requests.add(&UndoRequest::of(&state))?;
@@ -106,44 +95,61 @@ pub fn list(alloc: Global) -> Result<UndoList, AllocError> {
     Ok(UndoList {
         requests,
         next,
-        names: None,
+        names,
     })
 }
 
-/// That list without names, with the manager's, or with those of a manager with another identifier, by what it is called.
-fn told_list(alloc: Global, kind: &str) -> Result<UndoList, AllocError> {
-    let mut told = list(alloc)?;
-    told.names = match kind {
-        "named" => Some(names()),
-        "others" => Some(other_names()),
-        _ => None,
-    };
-    Ok(told)
-}
+/// An undo text up to the digits of its one request. The next request over SMBus is request 3.
+const UNDO_HEAD: &str = "\
+undo 2
+next ipmb 0 smbus 3
+names ipmb 2C 20 smbus 2C 20 eid 0B 0A
+smbus ";
 
-/// The list of an undo text: the next request over SMBus is request 3, and one over SMBus, of these digits, is to be sent.
-fn text_list(alloc: Global, digits: &str) -> Result<UndoList, NoOutcome> {
-    let mut text = String::from_str(alloc, "undo 2\nnext ipmb 0 smbus 3\n")?;
-    text.push_str("names ipmb 2C 20 smbus 2C 20 eid 0B 0A\nsmbus ")?;
+/// Appends that text with these digits.
+fn push_undo_text(digits: &str, text: &mut String) -> Result<(), AllocError> {
+    text.push_str(UNDO_HEAD)?;
     for word in digits.split(' ') {
         text.push_str(word)?;
     }
-    text.push_str("\n")?;
+    text.push_str("\n")
+}
+
+/// The list of that text.
+fn text_list(alloc: Global, digits: &str) -> Result<UndoList, NoOutcome> {
+    let mut text = String::new(alloc);
+    push_undo_text(digits, &mut text)?;
     match read_undo(alloc, text.as_str()) {
         Ok(list) => Ok(list),
         Err(_) => Err(NoOutcome::Unread),
     }
 }
 
-/// Appends what the manager sends: its frames, each a word of hexadecimal digits.
-fn push_sent(alloc: Global, sent: Option<Sent>, text: &mut String) -> Result<(), AllocError> {
-    if let Some(sent) = sent {
-        for frame in sent.frames.as_slice() {
-            let digits = hex::encode_upper(alloc, frame.as_slice())?;
-            write!(text, " {}", digits.as_str())?;
-        }
+/// Appends the frame, a word of hexadecimal digits.
+fn push_frame(alloc: Global, frame: &[u8], text: &mut String) -> Result<(), AllocError> {
+    let digits = hex::encode_upper(alloc, frame)?;
+    write!(text, " {}", digits.as_str())
+}
+
+/// Appends each frame.
+fn push_sent(alloc: Global, sent: &Sent, text: &mut String) -> Result<(), AllocError> {
+    for frame in sent.frames.as_slice() {
+        push_frame(alloc, frame.as_slice(), text)?;
     }
     Ok(())
+}
+
+/// Appends what the manager sends, and its phase then.
+fn push_turn(
+    alloc: Global,
+    manager: &Manager,
+    sent: Option<Sent>,
+    text: &mut String,
+) -> Result<(), NoOutcome> {
+    if let Some(sent) = sent {
+        push_sent(alloc, &sent, text)?;
+    }
+    push_phase(manager.phase(), text)
 }
 
 /// The manager is called so.
@@ -158,113 +164,145 @@ fn call(manager: &mut Manager, name: &str) -> Option<Result<Option<Sent>, WrongP
     }
 }
 
-/// The manager hears the frame of these digits on the bus, and sends this.
+/// Appends what comes of the call.
+fn push_called(
+    alloc: Global,
+    manager: &mut Manager,
+    name: &str,
+    text: &mut String,
+) -> Result<(), NoOutcome> {
+    match call(manager, name) {
+        Some(Ok(sent)) => push_turn(alloc, manager, sent, text),
+        Some(Err(WrongPhase)) => {
+            text.push_str(" refused")?;
+            push_phase(manager.phase(), text)
+        }
+        None => Err(NoOutcome::Unread),
+    }
+}
+
+/// The manager hears the frame of these digits on the bus. Appends what comes of it.
 fn hear(
     alloc: Global,
     manager: &mut Manager,
-    bus: Bus,
-    digits: &str,
-) -> Result<Option<Sent>, NoOutcome> {
+    (bus, digits): (Bus, &str),
+    text: &mut String,
+) -> Result<(), NoOutcome> {
     match hex::decode(alloc, digits) {
-        Ok(bytes) => Ok(manager.on_frame(bus, bytes.as_slice())),
+        Ok(bytes) => {
+            let sent = manager.on_frame(bus, bytes.as_slice());
+            push_turn(alloc, manager, sent, text)
+        }
         Err(_) => Err(NoOutcome::Unread),
     }
 }
 
-/// Appends what the manager sends and its phase then, once it was called so or heard the frame of these digits.
-fn turn(
-    alloc: Global,
-    manager: &mut Manager,
-    (kind, digits): (&str, &str),
-    text: &mut String,
-) -> Result<(), NoOutcome> {
-    match kind {
-        "ipmb" => push_sent(alloc, hear(alloc, manager, Bus::Ipmb, digits)?, text)?,
-        "smbus" => push_sent(alloc, hear(alloc, manager, Bus::Smbus, digits)?, text)?,
-        _ => match call(manager, kind).ok_or(NoOutcome::Unread)? {
-            Ok(sent) => push_sent(alloc, sent, text)?,
-            Err(WrongPhase) => text.push_str(" refused")?,
-        },
+/// Appends the bus on which a request is open.
+fn push_open(bus: Option<Bus>, text: &mut String) -> Result<(), AllocError> {
+    match bus {
+        Some(bus) => write!(text, " open {bus:?}"),
+        None => text.push_str(" open none"),
     }
-    let phase = manager.phase();
-    write!(text, " {phase}")?;
-    Ok(())
 }
 
-/// Appends the bus on which a request is open, the length of the undo list, and its numbers of the next requests on IPMB and SMBus.
-fn show(manager: &Manager, text: &mut String) -> Result<(), AllocError> {
-    match manager.open_bus() {
-        Some(bus) => write!(text, " open {bus:?}")?,
-        None => text.push_str(" open none")?,
-    }
+/// Appends that bus, the length of the undo list, and its numbers of the next requests on IPMB and SMBus.
+fn show(manager: &Manager, text: &mut String) -> Result<(), NoOutcome> {
+    push_open(manager.open_bus(), text)?;
     let undo = manager.undo_list();
     let length = undo.requests.len();
     let (ipmb, smbus) = (undo.next.ipmb.number(), undo.next.smbus.number());
-    write!(text, " undo {length} next {ipmb} {smbus}")
+    write!(text, " undo {length} next {ipmb} {smbus}")?;
+    Ok(())
 }
 
-/// The manager that was made is there now, and its phase is appended, or the fault.
-fn begin<F: Debug + Drop>(
-    manager: &mut Option<Manager>,
-    made: Result<Manager, F>,
-    text: &mut String,
-) -> Result<(), AllocError> {
-    match made {
-        Ok(made) => {
-            let phase = made.phase();
-            *manager = Some(made);
-            write!(text, " {phase}")
-        }
-        Err(fault) => write!(text, " {fault:?}"),
-    }
-}
-
-/// A manager of the plan that is called so, with so many retries, or why there is none.
-fn open(alloc: Global, kind: &str, word: &str) -> Result<Result<Manager, OpenFault>, NoOutcome> {
-    let retries = word.parse::<u8>()?;
-    let plan = plan_called(alloc, kind)?;
-    Ok(Manager::open(alloc, plan, names(), retries))
-}
-
-/// A manager that goes on from the list that is called so, with so many retries, or why there is none.
-fn resume(
-    alloc: Global,
-    kind: &str,
-    word: &str,
-) -> Result<Result<Manager, ResumeFault>, NoOutcome> {
-    let retries = word.parse::<u8>()?;
-    let list = told_list(alloc, kind)?;
-    Ok(Manager::resume(alloc, list, names(), retries))
-}
-
-/// The same of the list of an undo text that has one request: the words are the retries and its digits.
-fn resume_text(alloc: Global, words: &str) -> Result<Result<Manager, ResumeFault>, NoOutcome> {
-    let (retries, digits) = words.split_once(' ').ok_or(NoOutcome::Unread)?;
-    let retries = retries.parse::<u8>()?;
-    let list = text_list(alloc, digits)?;
-    Ok(Manager::resume(alloc, list, names(), retries))
-}
-
-/// What the manager that is there does, or shows.
+/// Appends what the manager that is there does, or shows.
 fn go_on(
     alloc: Global,
-    manager: Option<&mut Manager>,
-    kind: &str,
-    word: &str,
+    manager: &mut Manager,
+    (kind, word): (&str, &str),
     text: &mut String,
 ) -> Result<(), NoOutcome> {
-    match (kind, manager) {
-        ("shows", Some(manager)) => show(manager, text)?,
-        (_, Some(manager)) => turn(alloc, manager, (kind, word), text)?,
-        (_, None) => return Err(NoOutcome::Unread),
+    match kind {
+        "shows" => show(manager, text),
+        "ipmb" => hear(alloc, manager, (Bus::Ipmb, word), text),
+        "smbus" => hear(alloc, manager, (Bus::Smbus, word), text),
+        _ => push_called(alloc, manager, kind, text),
     }
-    Ok(())
 }
 
 /// A manager, once a line opened one.
 #[derive(Drop)]
 pub struct Managed {
     manager: Option<Manager>,
+}
+
+impl Managed {
+    /// The manager is there now, and its phase is appended.
+    fn put(&mut self, manager: Manager, text: &mut String) -> Result<(), NoOutcome> {
+        let phase = manager.phase();
+        self.manager = Some(manager);
+        push_phase(phase, text)
+    }
+
+    /// Opens a manager of the plan, with as many retries as the word says, or appends why there is none.
+    fn begin(
+        &mut self,
+        alloc: Global,
+        plan: Result<Plan, AllocError>,
+        retries: &str,
+        text: &mut String,
+    ) -> Result<(), NoOutcome> {
+        let retries = retries.parse::<u8>()?;
+        match Manager::open(alloc, plan?, names(), retries) {
+            Ok(manager) => self.put(manager, text),
+            Err(fault) => push_fault(fault, text),
+        }
+    }
+
+    /// The same of a manager that goes on from the list.
+    fn resume(
+        &mut self,
+        alloc: Global,
+        list: Result<UndoList, NoOutcome>,
+        retries: &str,
+        text: &mut String,
+    ) -> Result<(), NoOutcome> {
+        let retries = retries.parse::<u8>()?;
+        match Manager::resume(alloc, list?, names(), retries) {
+            Ok(manager) => self.put(manager, text),
+            Err(fault) => push_fault(fault, text),
+        }
+    }
+
+    /// The same of the list of an undo text that has one request: the words are the retries and its digits.
+    fn resume_text(
+        &mut self,
+        alloc: Global,
+        words: &str,
+        text: &mut String,
+    ) -> Result<(), NoOutcome> {
+        let (retries, digits) = parted(words);
+        self.resume(alloc, text_list(alloc, digits), retries, text)
+    }
+
+    /// A manager goes on from a list, or the one that is there goes on.
+    fn come_on(
+        &mut self,
+        alloc: Global,
+        (kind, words): (&str, &str),
+        text: &mut String,
+    ) -> Result<(), NoOutcome> {
+        match kind {
+            "list" => self.resume(alloc, list(alloc, None), words, text),
+            "named" => self.resume(alloc, list(alloc, Some(names())), words, text),
+            "others" => self.resume(alloc, list(alloc, Some(other_names())), words, text),
+            "text" => self.resume_text(alloc, words, text),
+            _ => match self.manager.as_mut() {
+                Some(manager) => go_on(alloc, manager, (kind, words), text),
+                None => Err(NoOutcome::Unread),
+            },
+        }
+    }
 }
 
 impl Scene for Managed {
@@ -285,27 +323,16 @@ impl Scene for Managed {
     /// - `shows -> open Ipmb undo 0 next 1 0`: the bus on which a request is open, the length of the undo list and the numbers of the next
     ///   requests on IPMB and SMBus.
     fn come(&mut self, alloc: Global, words: &str, text: &mut String) -> Result<(), NoOutcome> {
-        let (kind, word) = words.split_once(' ').unwrap_or((words, ""));
+        let (kind, words) = parted(words);
         match kind {
-            "plan" | "long" | "longer" => {
-                begin(&mut self.manager, open(alloc, kind, word)?, text)?
-            }
-            "list" | "named" | "others" => {
-                begin(&mut self.manager, resume(alloc, kind, word)?, text)?
-            }
-            "text" => begin(&mut self.manager, resume_text(alloc, word)?, text)?,
-            _ => go_on(alloc, self.manager.as_mut(), kind, word, text)?,
+            "plan" => self.begin(alloc, plan(alloc), words, text),
+            "long" => self.begin(alloc, short_text(alloc), words, text),
+            "longer" => self.begin(alloc, long_text(alloc), words, text),
+            _ => self.come_on(alloc, (kind, words), text),
         }
-        Ok(())
     }
 
     fn is_told(_alloc: Global, came: &str, told: &str) -> Result<bool, NoOutcome> {
         Ok(came == told)
     }
-}
-
-/// All comes as the stories of the text tell.
-pub fn expect_told(rt: &impl Abort, alloc: Global, text: &str) {
-    let report = report_of::<Managed>(alloc, text).expect(rt, "memory");
-    assert_eq!(rt; report.as_str(), "");
 }

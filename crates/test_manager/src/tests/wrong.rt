@@ -1,8 +1,5 @@
 //! Lines that tell something else than what comes.
-use super::scene::Managed;
-use std::alloc::Global;
-use std::process::Abort;
-use story_lines::report_of;
+use super::player::expect_report;
 
 /// Each kind of line, and each is wrong.
 const WRONG: &str = "
@@ -50,12 +47,6 @@ wrong: text 3 00 -> Halted 1 Stop | unread
 wrong: list 1 -> Halted 1 Stop | came Halted 2 Stop
 wrong: again -> Undoing 0 | came refused Halted 2 Stop
 ";
-
-/// This is said of the text.
-fn expect_report(rt: &impl Abort, alloc: Global, text: &str, told: &str) {
-    let report = report_of::<Managed>(alloc, text).expect(rt, "memory");
-    assert_eq!(rt; report.as_str(), told);
-}
 
 #[test]
 fn wrong_lines_are_noticed(rt: HostRuntime) {

@@ -5,7 +5,6 @@ use bmc_core::{At, Done, Out, Port, Step};
 use mctp_net::EndpointId;
 use std::alloc::Global;
 use std::process::Abort;
-use stories::open_sample;
 use two_wire::{Address, Bus};
 
 /// Get Sensor Thresholds of sensor 5, from 40h with sequence number 3.
@@ -36,14 +35,13 @@ fn exchange(rt: &impl Abort, port: &mut Port, board: &mut Board<Records>, out: &
     }
 }
 
-#[test]
-fn a_port_of_a_bus_is_asked(rt: HostRuntime) {
-    let mut board = open_sample(rt.alloc()).expect(&rt, "memory");
-    let mut port = open_port(&rt, rt.alloc());
+/// A port answers that Get for the sample board, and repeats the response.
+pub fn expect_answers(rt: &impl Abort, alloc: Global, board: &mut Board<Records>) {
+    let mut port = open_port(rt, alloc);
     let mut out = Out::new();
-    exchange(&rt, &mut port, &mut board, &mut out);
-    expect_out(&rt, &out, Done::Answered, GOT);
-    port.on_frame(&mut board, GET, &mut out);
-    expect_out(&rt, &out, Done::Repeated, GOT);
+    exchange(rt, &mut port, board, &mut out);
+    expect_out(rt, &out, Done::Answered, GOT);
+    port.on_frame(board, GET, &mut out);
+    expect_out(rt, &out, Done::Repeated, GOT);
     assert!(rt; port.idle(0x40));
 }

@@ -3,11 +3,11 @@ ghost use Rattle.std.specs.Prelude.{◌≤◌, length};
 ghost use Rattle.two_wire.specs.Sizes.{most_ipmi_reply_data};
 
 use super::{expect_out, expect_told};
+use bmc_board::{Board, Records};
 use bmc_core::{Done, IpmbPending, IpmbPort, Out, Step};
 use record_base::{Answered, Asked};
 use std::alloc::Global;
 use std::process::Abort;
-use stories::open_sample;
 use two_wire::{Address, Bytes, Lun, NetFn};
 
 const IPMB: &str = "\
@@ -355,11 +355,10 @@ fn a_reply_that_is_kept_goes_from_the_address_that_is_asked(rt: HostRuntime) {
     assert!(rt; other.idle(0x40) && !port.idle(0x40));
 }
 
-#[test]
-fn a_frame_is_answered(rt: HostRuntime) {
-    let mut board = open_sample(rt.alloc()).expect(&rt, "memory");
-    let mut port = port_at(&rt, rt.alloc(), 0x20);
+/// A port answers that Get for the sample board.
+pub fn expect_answer(rt: &impl Abort, alloc: Global, board: &mut Board<Records>) {
+    let mut port = port_at(rt, alloc, 0x20);
     let mut out = Out::new();
-    port.on_frame(&mut board, GET, &mut out);
-    expect_out(&rt, &out, Done::Answered, GOT);
+    port.on_frame(board, GET, &mut out);
+    expect_out(rt, &out, Done::Answered, GOT);
 }

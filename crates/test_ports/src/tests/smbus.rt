@@ -1,11 +1,11 @@
 //! Requests to a port on the System Management Bus, and what it keeps of them.
 use super::{expect_out, expect_told};
+use bmc_board::{Board, Records};
 use bmc_core::{At, Done, Out, SmbusPending, SmbusPort, Step};
 use mctp_net::EndpointId;
 use record_base::{Answered, Asked};
 use std::alloc::Global;
 use std::process::Abort;
-use stories::open_sample;
 use two_wire::{Address, Below, Bytes};
 
 const SMBUS: &str = "\
@@ -241,11 +241,10 @@ fn an_answer_that_is_forgotten_makes_room_for_the_second(rt: HostRuntime) {
     expect_repeated(&rt, &mut port, GOT_OTHER_TID);
 }
 
-#[test]
-fn a_packet_is_answered(rt: HostRuntime) {
-    let mut board = open_sample(rt.alloc()).expect(&rt, "memory");
-    let mut port = open_port(&rt, rt.alloc());
+/// A port answers GetTID for the sample board.
+pub fn expect_answer(rt: &impl Abort, alloc: Global, board: &mut Board<Records>) {
+    let mut port = open_port(rt, alloc);
     let mut out = Out::new();
-    port.on_frame(&mut board, GET_TID, &mut out);
-    expect_out(&rt, &out, Done::Answered, GOT_TID);
+    port.on_frame(board, GET_TID, &mut out);
+    expect_out(rt, &out, Done::Answered, GOT_TID);
 }

@@ -1,7 +1,7 @@
 //! Calls of each reader and writer of texts, one by one.
 use super::came::{Came, Form, came_of, shown};
 use super::files::SAMPLE;
-use super::story::expect_text;
+use super::story::expect_equal;
 use bmc_play::{Account, Stopped};
 use cfg_records::{BoardFile, sample_board};
 use lab_run::Fault;
@@ -23,7 +23,7 @@ fn sample(rt: &impl Abort, alloc: Global) -> Came {
 fn the_sample_file_holds_the_sample_board(rt: HostRuntime) {
     let read = came_of(rt.alloc(), Form::Board, SAMPLE).expect(&rt, "memory");
     let known = sample(&rt, rt.alloc());
-    expect_text(&rt, read.text.as_str(), known.text.as_str());
+    expect_equal(&rt, read.text.as_str(), known.text.as_str());
 }
 
 /// A plan of one step.
@@ -42,7 +42,8 @@ fn a_plan_is_read(rt: HostRuntime) {
 #[test]
 fn a_schedule_is_read(rt: HostRuntime) {
     let schedule = read_schedule(rt.alloc(), "start\n\nto-bmc 7\n");
-    assert_eq!(rt; schedule.expect(&rt, "a schedule").as_slice().len(), 2);
+    let schedule = schedule.expect(&rt, "a schedule");
+    expect_equal(&rt, schedule.as_slice().len(), 2);
 }
 
 /// The undo text of a plan that sets upper thresholds of sensor 5 twice.
@@ -63,9 +64,9 @@ ipmb 10260518000000505F00
 /// The undo text of two requests is read and written.
 fn expect_written(rt: &impl Abort, alloc: Global, text: &str) {
     let list = read_undo(alloc, text).expect(rt, "an undo list");
-    assert_eq!(rt; list.requests.len(), 2);
+    expect_equal(rt, list.requests.len(), 2);
     let written = write_undo(alloc, &list).expect(rt, "memory");
-    expect_text(rt, written.as_str(), text);
+    expect_equal(rt, written.as_str(), text);
 }
 
 #[test]
@@ -100,5 +101,5 @@ fn an_account_is_written(rt: HostRuntime) {
         }),
     };
     let text = account.text(rt.alloc(), true, true).expect(&rt, "memory");
-    expect_text(&rt, text.as_str(), TOLD);
+    expect_equal(&rt, text.as_str(), TOLD);
 }

@@ -11,7 +11,7 @@ use text_lines::{behind, byte, bytes, first_line, first_word, number, plain_numb
 use text_readings::read_readings;
 use text_schedule::read_schedule;
 use text_undo::{push_requests, read_undo, write_undo};
-use undo_plans::{Plan, Requests, UndoRequest};
+use undo_plans::{Plan, Requests, UndoList, UndoRequest};
 
 /// What a text is of.
 #[derive(Clone, Copy)]
@@ -25,6 +25,14 @@ pub enum Form {
     Readings,
     /// A board file, a plan and a schedule, with a line `---` before the second and the third.
     Play,
+    /// A file of the name `file`, of which is told what there is to tell.
+    Check,
+    Part(PartForm),
+}
+
+/// What a part of a text is.
+#[derive(Clone, Copy)]
+pub enum PartForm {
     /// A text whose first line is cut off.
     FirstLine,
     /// A line whose first word is cut off.
@@ -37,8 +45,6 @@ pub enum Form {
     Number,
     Byte,
     Bytes,
-    /// A file of the name `file`, of which is told what there is to tell.
-    Check,
 }
 
 /// What comes of a text.
@@ -50,28 +56,45 @@ pub struct Came {
     pub text: String,
 }
 
+impl PartForm {
+    /// The form that stories call so.
+    fn of(word: &str) -> Option<PartForm> {
+        match word {
+            "first line" => Some(PartForm::FirstLine),
+            "first word" => Some(PartForm::FirstWord),
+            "behind" => Some(PartForm::Behind),
+            "plain number" => Some(PartForm::PlainNumber),
+            "number" => Some(PartForm::Number),
+            "byte" => Some(PartForm::Byte),
+            "bytes" => Some(PartForm::Bytes),
+            _ => None,
+        }
+    }
+}
+
 impl Form {
     /// The form that stories call so.
     pub fn of(word: &str) -> Option<Form> {
-        Some(match word {
-            "board" => Form::Board,
-            "plan" => Form::Plan,
-            "undo" => Form::Undo,
-            "list" => Form::List,
-            "schedule" => Form::Schedule,
-            "readings" => Form::Readings,
-            "play" => Form::Play,
-            "first line" => Form::FirstLine,
-            "first word" => Form::FirstWord,
-            "behind" => Form::Behind,
-            "plain number" => Form::PlainNumber,
-            "number" => Form::Number,
-            "byte" => Form::Byte,
-            "bytes" => Form::Bytes,
-            "check" => Form::Check,
-            _ => return None,
-        })
+        match word {
+            "board" => Some(Form::Board),
+            "plan" => Some(Form::Plan),
+            "undo" => Some(Form::Undo),
+            "list" => Some(Form::List),
+            "schedule" => Some(Form::Schedule),
+            "readings" => Some(Form::Readings),
+            "play" => Some(Form::Play),
+            "check" => Some(Form::Check),
+            _ => Some(Form::Part(PartForm::of(word)?)),
+        }
     }
+}
+
+/// This is read.
+fn read_as(text: Result<String, AllocError>) -> Result<Came, AllocError> {
+    Ok(Came {
+        is_read: true,
+        text: text?,
+    })
 }
 
 /// A fault, by its name.
@@ -88,10 +111,7 @@ pub fn shown<T: Debug + Drop, E: Display + Drop>(
     read: Result<T, E>,
 ) -> Result<Came, AllocError> {
     match read {
-        Ok(read) => Ok(Came {
-            is_read: true,
-            text: format!(in alloc; "{read:?}")?,
-        }),
+        Ok(read) => read_as(format!(in alloc; "{read:?}")),
         Err(fault) => refused(alloc, &fault),
     }
 }
@@ -99,10 +119,7 @@ pub fn shown<T: Debug + Drop, E: Display + Drop>(
 /// What is cut in two shows both parts, with a bar between them.
 fn cut(alloc: Global, parts: Option<(&str, &str)>) -> Result<Came, AllocError> {
     match parts {
-        Some((first, rest)) => Ok(Came {
-            is_read: true,
-            text: format!(in alloc; "{first}|{rest}")?,
-        }),
+        Some((first, rest)) => read_as(format!(in alloc; "{first}|{rest}")),
         None => refused(alloc, &"none"),
     }
 }
@@ -114,24 +131,28 @@ fn push_step(alloc: Global, text: &mut String, step: &Op<'_>) -> Result<(), Allo
     push_requests(alloc, text, &requests)
 }
 
-/// How often the plan's frames are sent again, and the requests of its steps, a line each.
-fn sent(alloc: Global, plan: &Plan) -> Result<String, AllocError> {
-    let mut text = format!(in alloc; "{}: ", plan.retries.number())?;
+/// Adds how often the plan's frames are sent again, and the requests of its steps, a line each.
+fn push_plan(alloc: Global, text: &mut String, plan: &Plan) -> Result<(), AllocError> {
+    write!(text, "{}: ", plan.retries.number())?;
     for place in 0..plan.steps.len() {
         if let Some(step) = plan.steps.get(place) {
-            push_step(alloc, &mut text, &step)?;
+            push_step(alloc, text, &step)?;
         }
     }
+    Ok(())
+}
+
+/// What is added of the plan.
+fn sent(alloc: Global, plan: &Plan) -> Result<String, AllocError> {
+    let mut text = String::new(alloc);
+    push_plan(alloc, &mut text, plan)?;
     String::from_str(alloc, text.as_str().trim_end())
 }
 
 /// A plan shows what is sent.
 fn came_of_plan(alloc: Global, text: &str) -> Result<Came, AllocError> {
     match read_plan(alloc, text) {
-        Ok(plan) => Ok(Came {
-            is_read: true,
-            text: sent(alloc, &plan)?,
-        }),
+        Ok(plan) => read_as(sent(alloc, &plan)),
         Err(fault) => refused(alloc, &fault),
     }
 }
@@ -139,38 +160,46 @@ fn came_of_plan(alloc: Global, text: &str) -> Result<Came, AllocError> {
 /// An undo text shows what is written of its list.
 fn came_of_undo(alloc: Global, text: &str) -> Result<Came, AllocError> {
     match read_undo(alloc, text) {
-        Ok(list) => Ok(Came {
-            is_read: true,
-            text: write_undo(alloc, &list)?,
-        }),
+        Ok(list) => read_as(write_undo(alloc, &list)),
         Err(fault) => refused(alloc, &fault),
     }
 }
 
-/// An undo text shows its list: each request in the order of the steps, the numbers and the names.
+/// Adds each request of the list, in the order of the steps, the numbers and the names.
+fn push_list(text: &mut String, list: &UndoList) -> Result<(), AllocError> {
+    for place in 0..list.requests.len() {
+        if let Some(request) = list.requests.get(place) {
+            write!(text, "{request:?}, ")?;
+        }
+    }
+    let (next, names) = (list.next, list.names);
+    write!(text, "{next:?}, {names:?}")
+}
+
+/// What is added of the list.
+fn listed(alloc: Global, list: &UndoList) -> Result<String, AllocError> {
+    let mut text = String::new(alloc);
+    push_list(&mut text, list)?;
+    Ok(text)
+}
+
+/// An undo text shows its list.
 fn came_of_list(alloc: Global, text: &str) -> Result<Came, AllocError> {
     match read_undo(alloc, text) {
-        Ok(list) => {
-            let mut told = String::new(alloc);
-            for place in 0..list.requests.len() {
-                let request = list.requests.get(place).ok_or(AllocError)?;
-                write!(told, "{request:?}, ")?;
-            }
-            let (next, names) = (list.next, list.names);
-            write!(told, "{next:?}, {names:?}")?;
-            Ok(Came {
-                is_read: true,
-                text: told,
-            })
-        }
+        Ok(list) => read_as(listed(alloc, &list)),
         Err(fault) => refused(alloc, &fault),
     }
+}
+
+/// What stands in front of a line `---`, and behind it.
+fn parted(texts: &str) -> (&str, &str) {
+    texts.split_once("---\n").unwrap_or((texts, ""))
 }
 
 /// The texts of a play, with `---` between them, show what Rust writes of them.
 fn came_of_play(alloc: Global, text: &str) -> Result<Came, AllocError> {
-    let (board, others) = text.split_once("---\n").unwrap_or((text, ""));
-    let (plan, schedule) = others.split_once("---\n").unwrap_or((others, ""));
+    let (board, others) = parted(text);
+    let (plan, schedule) = parted(others);
     shown(alloc, read_inputs(alloc, board, plan, schedule))
 }
 
@@ -185,6 +214,19 @@ fn came_of_check(alloc: Global, file: &str) -> Result<Came, AllocError> {
     })
 }
 
+/// What comes of a part of a text.
+fn came_of_part(alloc: Global, form: PartForm, text: &str) -> Result<Came, AllocError> {
+    match form {
+        PartForm::FirstLine => cut(alloc, first_line(text)),
+        PartForm::FirstWord => cut(alloc, first_word(text)),
+        PartForm::Behind => shown(alloc, behind("ipmb ", text).ok_or("none")),
+        PartForm::PlainNumber => shown(alloc, plain_number(text).ok_or("none")),
+        PartForm::Number => shown(alloc, number(text, 9).ok_or("none")),
+        PartForm::Byte => shown(alloc, byte(text).ok_or("none")),
+        PartForm::Bytes => shown(alloc, bytes(alloc, text)?.ok_or("none")),
+    }
+}
+
 /// What comes of a text of this form.
 pub fn came_of(alloc: Global, form: Form, text: &str) -> Result<Came, AllocError> {
     match form {
@@ -195,14 +237,8 @@ pub fn came_of(alloc: Global, form: Form, text: &str) -> Result<Came, AllocError
         Form::Schedule => shown(alloc, read_schedule(alloc, text)),
         Form::Readings => shown(alloc, read_readings(alloc, text)),
         Form::Play => came_of_play(alloc, text),
-        Form::FirstLine => cut(alloc, first_line(text)),
-        Form::FirstWord => cut(alloc, first_word(text)),
-        Form::Behind => shown(alloc, behind("ipmb ", text).ok_or("none")),
-        Form::PlainNumber => shown(alloc, plain_number(text).ok_or("none")),
-        Form::Number => shown(alloc, number(text, 9).ok_or("none")),
-        Form::Byte => shown(alloc, byte(text).ok_or("none")),
-        Form::Bytes => shown(alloc, bytes(alloc, text)?.ok_or("none")),
         Form::Check => came_of_check(alloc, text),
+        Form::Part(part) => came_of_part(alloc, part, text),
     }
 }
 

@@ -2,6 +2,7 @@
 use super::came::{Form, came_of};
 use super::files::{BARE, SAMPLE};
 use std::alloc::{AllocError, Global};
+use std::fmt::Debug;
 use std::process::Abort;
 
 /// Where the other lines of a story stand.
@@ -20,6 +21,18 @@ fn repetition(piece: &str) -> Option<(usize, &str, &str)> {
     Some((times.parse().ok()?, part, rest))
 }
 
+/// Adds the part, with the number at each `#`.
+fn push_part(
+    alloc: Global,
+    text: &mut String,
+    part: &str,
+    number: usize,
+) -> Result<(), AllocError> {
+    let digits = format!(in alloc; "{number}")?;
+    let part = part.replace(alloc, "#", digits.as_str())?;
+    text.push_str(part.as_str())
+}
+
 /// Adds what stands behind a `<`.
 fn push_piece(alloc: Global, text: &mut String, piece: &str) -> Result<(), AllocError> {
     let Some((times, part, rest)) = repetition(piece) else {
@@ -27,22 +40,32 @@ fn push_piece(alloc: Global, text: &mut String, piece: &str) -> Result<(), Alloc
         return text.push_str(piece);
     };
     for number in 0..times {
-        let digits = format!(in alloc; "{number}")?;
-        let part = part.replace(alloc, "#", digits.as_str())?;
-        text.push_str(part.as_str())?;
+        push_part(alloc, text, part, number)?;
     }
     text.push_str(rest)
 }
 
+/// Adds what the lines say, with their repetitions.
+fn push_pieces(alloc: Global, text: &mut String, lines: &str) -> Result<(), AllocError> {
+    let mut pieces = lines.split('<');
+    text.push_str(pieces.next().unwrap_or(""))?;
+    for piece in pieces {
+        push_piece(alloc, text, piece)?;
+    }
+    Ok(())
+}
+
+/// The words with line feeds and carriage returns.
+fn unescaped(alloc: Global, words: &str) -> Result<String, AllocError> {
+    let lines = words.replace(alloc, "\\r", "\r")?;
+    lines.as_str().replace(alloc, "\\n", "\n")
+}
+
 /// The text that a story writes so.
 fn written(alloc: Global, words: &str) -> Result<String, AllocError> {
-    let lines = words.replace(alloc, "\\r", "\r")?;
-    let lines = lines.as_str().replace(alloc, "\\n", "\n")?;
-    let mut pieces = lines.as_str().split('<');
-    let mut text = String::from_str(alloc, pieces.next().unwrap_or(""))?;
-    for piece in pieces {
-        push_piece(alloc, &mut text, piece)?;
-    }
+    let lines = unescaped(alloc, words)?;
+    let mut text = String::new(alloc);
+    push_pieces(alloc, &mut text, lines.as_str())?;
     Ok(text)
 }
 
@@ -56,15 +79,26 @@ fn has_line(file: &str, line: &str) -> bool {
     false
 }
 
+/// Adds the file with a text in the place of each line that is this.
+fn push_edited(text: &mut String, file: &str, old: &str, new: &str) -> Result<(), AllocError> {
+    for line in file.lines() {
+        text.push_str(if line == old { new } else { line })?;
+        text.push_str("\n")?;
+    }
+    Ok(())
+}
+
 /// The file with other lines in the place of each line that is this.
 fn edited(alloc: Global, file: &str, old: &str, new: &str) -> Result<String, AllocError> {
     let new = written(alloc, new)?;
     let mut text = String::new(alloc);
-    for line in file.lines() {
-        text.push_str(if line == old { new.as_str() } else { line })?;
-        text.push_str("\n")?;
-    }
+    push_edited(&mut text, file, old, new.as_str())?;
     Ok(text)
+}
+
+/// Whether this comes of the text.
+fn is_told(alloc: Global, form: Form, text: &str, told: &str) -> Result<bool, AllocError> {
+    Ok(came_of(alloc, form, text)?.is(told))
 }
 
 /// How long the prefixes of the text are of which this comes, from the shortest on, with a space behind each.
@@ -72,7 +106,7 @@ fn ends_of(alloc: Global, form: Form, text: &str, told: &str) -> Result<String, 
     let mut ends = String::new(alloc);
     for end in 0..=text.len() {
         if let Some(prefix) = text.get(..end) {
-            if came_of(alloc, form, prefix)?.is(told) {
+            if is_told(alloc, form, prefix, told)? {
                 write!(ends, "{end} ")?;
             }
         }
@@ -80,11 +114,20 @@ fn ends_of(alloc: Global, form: Form, text: &str, told: &str) -> Result<String, 
     Ok(ends)
 }
 
+/// The file with these lines behind it.
+fn extended(alloc: Global, file: &str, head: &str, lines: &str) -> Result<String, AllocError> {
+    let lines = [head, lines].concat(alloc)?;
+    let lines = written(alloc, lines.as_str())?;
+    [file, lines.as_str()].concat(alloc)
+}
+
 /// A story that is played.
 #[derive(Drop)]
 struct Player<'s> {
     /// The file as it stands.
     file: String,
+    /// Its form, once a file of a form began.
+    form: Option<Form>,
     place: Place<'s>,
     /// Whether nothing was told of the file yet.
     is_silent: bool,
@@ -98,11 +141,7 @@ impl<'s> Player<'s> {
         let file = self.file.as_str();
         match self.place {
             Place::At(old) => edited(alloc, file, old, lines),
-            Place::Behind(head) => {
-                let lines = [head, lines].concat(alloc)?;
-                let lines = written(alloc, lines.as_str())?;
-                [file, lines.as_str()].concat(alloc)
-            }
+            Place::Behind(head) => extended(alloc, file, head, lines),
         }
     }
 
@@ -122,6 +161,17 @@ impl<'s> Player<'s> {
         Ok(())
     }
 
+    /// With these lines there comes what is told.
+    fn hear_whole(
+        &mut self,
+        alloc: Global,
+        form: Form,
+        (lines, told): (&str, &str),
+    ) -> Result<(), AllocError> {
+        let text = self.whole(alloc, lines)?;
+        self.hear(alloc, form, (lines, told), text.as_str())
+    }
+
     /// With each of the lines there comes what is told.
     fn hear_each(
         &mut self,
@@ -131,8 +181,7 @@ impl<'s> Player<'s> {
     ) -> Result<(), AllocError> {
         let told = written(alloc, told)?;
         for lines in each.split(" | ") {
-            let text = self.whole(alloc, lines)?;
-            self.hear(alloc, form, (lines, told.as_str()), text.as_str())?;
+            self.hear_whole(alloc, form, (lines, told.as_str()))?;
         }
         Ok(())
     }
@@ -140,6 +189,24 @@ impl<'s> Player<'s> {
     /// The line can't be read.
     fn refuse(&mut self, line: &str) -> Result<(), AllocError> {
         writeln!(self.otherwise, "{line} is no line of a story")
+    }
+
+    /// The file with other lines in the place of this one.
+    fn mended(&self, alloc: Global, old: &str, new: &str) -> Result<String, AllocError> {
+        let old = written(alloc, old)?;
+        edited(alloc, self.file.as_str(), old.as_str(), new)
+    }
+
+    /// Of the file as it was comes what is told.
+    fn hear_file(
+        &mut self,
+        alloc: Global,
+        form: Form,
+        (edit, told): (&str, &str),
+        file: &str,
+    ) -> Result<(), AllocError> {
+        let told = written(alloc, told)?;
+        self.hear(alloc, form, (edit, told.as_str()), file)
     }
 
     /// Of the file comes what is told, until other lines stand in a line's place.
@@ -152,14 +219,20 @@ impl<'s> Player<'s> {
         let Some((old, new)) = edit.split_once(" -> ") else {
             return self.refuse(edit);
         };
-        let old = written(alloc, old)?;
-        let mended = edited(alloc, self.file.as_str(), old.as_str(), new)?;
+        let mended = self.mended(alloc, old, new)?;
         if mended.as_str() == self.file.as_str() {
             self.refuse(edit)?;
         }
-        let told = written(alloc, told)?;
         let file = std::mem::replace(&mut self.file, mended);
-        self.hear(alloc, form, (edit, told.as_str()), file.as_str())
+        self.hear_file(alloc, form, (edit, told), file.as_str())
+    }
+
+    /// The prefixes of which this comes are of the told lengths.
+    fn compare(&mut self, what: &str, ends: &str, told: &str) -> Result<(), AllocError> {
+        if ends == told {
+            return Ok(());
+        }
+        writeln!(self.otherwise, "ends {what} => {ends}")
     }
 
     /// Of the file's prefixes of the told lengths comes this, and of no others.
@@ -171,11 +244,7 @@ impl<'s> Player<'s> {
     ) -> Result<(), AllocError> {
         self.is_silent = false;
         let ends = ends_of(alloc, form, self.file.as_str(), what)?;
-        let ends = ends.as_str().trim_end();
-        if ends != told {
-            writeln!(self.otherwise, "ends {what} => {ends}")?;
-        }
-        Ok(())
+        self.compare(what, ends.as_str().trim_end(), told)
     }
 
     /// The lines below stand in the place of this one.
@@ -196,13 +265,25 @@ impl<'s> Player<'s> {
         }
     }
 
-    /// A file begins. Of the one before something was told.
-    fn begin(&mut self, alloc: Global) -> Result<(), AllocError> {
+    /// The file gives way to one with no line. Something was told of it.
+    fn clear(&mut self, alloc: Global) -> Result<(), AllocError> {
         self.end()?;
         self.file = String::new(alloc);
         self.place = Place::Behind("");
         self.is_silent = true;
         Ok(())
+    }
+
+    /// A file of the form that is called so begins. Of the one before something was told.
+    fn begin(&mut self, alloc: Global, name: &str, line: &str) -> Result<(), AllocError> {
+        if self.form.is_some() {
+            self.clear(alloc)?;
+        }
+        self.form = Form::of(name);
+        match self.form {
+            Some(_) => Ok(()),
+            None => self.refuse(line),
+        }
     }
 
     /// Something was told of the file.
@@ -213,14 +294,13 @@ impl<'s> Player<'s> {
         Ok(())
     }
 
-    /// Plays a line that tells what comes.
-    fn tell(&mut self, alloc: Global, form: Form, line: &str) -> Result<(), AllocError> {
-        if let Some(told) = line.strip_prefix("=> ") {
-            return self.hear_each(alloc, form, ("", told));
-        }
-        let Some((lines, told)) = line.split_once(" => ") else {
-            return self.refuse(line);
-        };
+    /// Plays a line that tells what comes of these lines.
+    fn tell_of(
+        &mut self,
+        alloc: Global,
+        form: Form,
+        (lines, told): (&str, &str),
+    ) -> Result<(), AllocError> {
         if let Some(edit) = lines.strip_prefix("until ") {
             return self.mend(alloc, form, (edit, told));
         }
@@ -230,8 +310,19 @@ impl<'s> Player<'s> {
         }
     }
 
+    /// Plays a line that tells what comes.
+    fn tell(&mut self, alloc: Global, form: Form, line: &str) -> Result<(), AllocError> {
+        if let Some(told) = line.strip_prefix("=> ") {
+            return self.hear_each(alloc, form, ("", told));
+        }
+        match line.split_once(" => ") {
+            Some(parts) => self.tell_of(alloc, form, parts),
+            None => self.refuse(line),
+        }
+    }
+
     /// Plays a line of a file of this form.
-    fn play(&mut self, alloc: Global, form: Form, line: &'s str) -> Result<(), AllocError> {
+    fn play_in(&mut self, alloc: Global, form: Form, line: &'s str) -> Result<(), AllocError> {
         let (word, rest) = line.split_once(' ').unwrap_or((line, ""));
         match word {
             "+" => writeln!(self.file, "{rest}"),
@@ -244,38 +335,31 @@ impl<'s> Player<'s> {
             _ => self.tell(alloc, form, line),
         }
     }
-}
 
-/// Plays a line, and gives the form of the file behind it.
-fn play<'s>(
-    alloc: Global,
-    player: &mut Player<'s>,
-    form: Option<Form>,
-    line: &'s str,
-) -> Result<Option<Form>, AllocError> {
-    if line.is_empty() || line.starts_with('#') {
-        return Ok(form);
-    }
-    if let Some(name) = line.strip_prefix("file ") {
-        if form.is_some() {
-            player.begin(alloc)?;
+    /// Plays a line.
+    fn play(&mut self, alloc: Global, line: &'s str) -> Result<(), AllocError> {
+        if line.is_empty() || line.starts_with('#') {
+            return Ok(());
         }
-        let begun = Form::of(name);
-        if begun.is_none() {
-            player.refuse(line)?;
+        match (line.strip_prefix("file "), self.form) {
+            (Some(name), _) => self.begin(alloc, name, line),
+            (None, Some(form)) => self.play_in(alloc, form, line),
+            (None, None) => self.refuse(line),
         }
-        return Ok(begun);
     }
-    match form {
-        Some(form) => player.play(alloc, form, line)?,
-        None => player.refuse(line)?,
+
+    /// Plays the lines of the story.
+    fn play_all(&mut self, alloc: Global, story: &'s str) -> Result<(), AllocError> {
+        for line in story.lines() {
+            self.play(alloc, line)?;
+        }
+        self.end()
     }
-    Ok(form)
 }
 
 /// What comes otherwise than the story tells it: a line each, and nothing where all comes so. A line of a story is one of these:
 ///
-/// - `file FORM`: a file of this form begins, with no line. `Form::of` has the forms;
+/// - `file FORM`: a file of this form begins, with no line. `Form::of` and `PartForm::of` have the forms;
 /// - `+ LINE`: the file gets this line; `with bare`, `with sample`: it gets the lines of this board;
 /// - `at LINE`: the lines below stand in the place of each line of the file that is this;
 /// - `behind LINES`: they stand behind the file and these lines; `behind` alone, and no such line: behind the file;
@@ -292,28 +376,25 @@ fn play<'s>(
 fn otherwise(alloc: Global, story: &str) -> Result<String, AllocError> {
     let mut player = Player {
         file: String::new(alloc),
+        form: None,
         place: Place::Behind(""),
         is_silent: true,
         otherwise: String::new(alloc),
     };
-    let mut form = None;
-    for line in story.lines() {
-        form = play(alloc, &mut player, form, line)?;
-    }
-    player.end()?;
+    player.play_all(alloc, story)?;
     let Player { otherwise, .. } = player;
     Ok(otherwise)
 }
 
-/// The texts are the same.
-pub fn expect_text(rt: &impl Abort, came: &str, told: &str) {
-    assert_eq!(rt; came, told);
+/// The value is the one that is wanted.
+pub fn expect_equal<T: Copy + Debug + PartialEq>(rt: &impl Abort, value: T, wanted: T) {
+    assert_eq!(rt; value, wanted);
 }
 
 /// This comes otherwise than the story tells it.
 pub fn expect_otherwise(rt: &impl Abort, alloc: Global, story: &str, said: &str) {
     let report = otherwise(alloc, story).expect(rt, "memory");
-    expect_text(rt, report.as_str(), said);
+    expect_equal(rt, report.as_str(), said);
 }
 
 /// All comes as the story tells it.
