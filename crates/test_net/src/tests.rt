@@ -3,5 +3,6 @@ mod driven;
 mod forgotten;
 mod lent;
 mod served;
+mod shared;
 mod udp;
 mod wired;

@@ -1,6 +1,7 @@
 //! A port that forgets a requester from which nothing comes for some turns.
-use super::lent::{Left, SET_REPLY, expect_left, lane, serve_opened};
+use super::lent::{Left, SET_REPLY, expect_at, expect_left, lane, serve_opened};
 use super::served::SET;
+use super::shared::expect_equal;
 use super::wired::open_sample;
 use bmc_board::{Board, Records};
 use bmc_links::MemLink;
@@ -40,15 +41,25 @@ fn new_lanes(rt: &impl Abort, alloc: Global, forget: Option<u32>) -> Lanes<MemLi
     }
 }
 
+/// Serves the sample board, where the port forgets those that are silent for so many turns.
+fn serve_sample<R: Threads + Wait + Clock + Abort + Sync>(
+    rt: &R,
+    alloc: Global,
+    forget: Option<u32>,
+) -> Left {
+    let lanes = new_lanes(rt, alloc, forget);
+    serve_eight(rt, alloc, open_sample(rt, alloc), lanes)
+}
+
 /// Each request got its reply, whether it was carried out or not.
 fn expect_replies(rt: &impl Abort, sent: &[Frame]) {
-    assert_eq!(rt; sent.len(), 6);
-    for set in [0, 3, 4] {
-        assert!(rt; sent[set].is(&SET_REPLY));
-    }
-    for get in [2, 5] {
-        assert!(rt; sent[get].is(sent[1].as_slice()));
-    }
+    expect_equal(rt, sent.len(), 6);
+    expect_at(rt, sent, 0, &SET_REPLY);
+    expect_at(rt, sent, 3, &SET_REPLY);
+    expect_at(rt, sent, 4, &SET_REPLY);
+    let got = sent.get(1).expect(rt, "a frame").as_slice();
+    expect_at(rt, sent, 2, got);
+    expect_at(rt, sent, 5, got);
 }
 
 /// So many requests are carried out where the port forgets those that are silent for so many turns.
@@ -58,8 +69,7 @@ fn expect_events<R: Threads + Wait + Clock + Abort + Sync>(
     forget: Option<u32>,
     events: usize,
 ) {
-    let lanes = new_lanes(rt, alloc, forget);
-    let left = serve_eight(rt, alloc, open_sample(rt, alloc), lanes);
+    let left = serve_sample(rt, alloc, forget);
     expect_left(rt, &left, events, End::Turns, 0);
     expect_replies(rt, left.lanes.first.link.sent());
 }

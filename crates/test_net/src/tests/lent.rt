@@ -4,11 +4,12 @@ ghost use Rattle.bmc_board.specs.State.{state_of};
 ghost use Rattle.bmc_board.specs.OwnStore.{own_records};
 
 use super::served::{GET, Open, SET};
+use super::shared::{close, expect_equal, open_shared};
 use super::wired::{open_sample, port_on};
 use bmc_board::{Board, Records};
 use bmc_links::MemLink;
-use bmc_ports::{End, Lane, Lanes, Opening, Shared, Sliced, Timetable, run_slices};
-use net_serve::serve_periods;
+use bmc_ports::{End, Lane, Lanes, Opening, Seats, Shared, Sliced, Timetable, run_slices};
+use net_serve::{Course, serve_periods};
 use std::alloc::Global;
 use std::marker::Brand;
 use std::process::Abort;
@@ -45,6 +46,26 @@ pub(super) struct Left {
     end: End,
 }
 
+/// Serves a board that is shared: the seats, what is left of the lanes, and why the worker on IPMB ended.
+fn serve_shared<J: Opening + Send + Sync, R: Threads + Wait + Clock + Abort + Sync>(
+    rt: &R,
+    shared: &Shared<J, Records>,
+    seats: Seats<J>,
+    lanes: Lanes<MemLink, MemLink>,
+) -> (Seats<J>, Lanes<MemLink, MemLink>, End) {
+    let table = Timetable::new(&[], None);
+    let sliced = run_slices(rt, shared, seats, lanes, table, &Open, None);
+    let Sliced {
+        seats,
+        lanes,
+        next: _,
+        first_end: end,
+        second_end: _,
+        scanner_end: _,
+    } = sliced.ok().expect(rt, "two threads");
+    (seats, lanes, end)
+}
+
 /// Serves a board with one history.
 pub(super) fn serve_opened<J: Opening + Send + Sync, R: Threads + Wait + Clock + Abort + Sync>(
     rt: &R,
@@ -61,24 +82,13 @@ pub(super) fn serve_opened<J: Opening + Send + Sync, R: Threads + Wait + Clock +
     requires opening { state_of own_records board ≡ J.opening }
     requires room { room ≡ J.room }
 {
-    let opened = Shared::<J, Records>::open(alloc, blank, board, room);
-    let (shared, seats) = opened.ok().expect(rt, "a board that is shared");
-    let table = Timetable::new(&[], None);
-    let sliced = run_slices(rt, &shared, seats, lanes, table, &Open, None);
-    let Sliced {
-        seats,
-        lanes,
-        next: _,
-        first_end: end,
-        second_end: _,
-        scanner_end: _,
-    } = sliced.ok().expect(rt, "two threads");
-    let closed = shared.close(seats).ok();
-    let (board, history) = closed.expect(rt, "a board that is closed");
+    let (shared, seats) = open_shared::<J, R>(rt, alloc, blank, board, room);
+    let (seats, lanes, end) = serve_shared(rt, &shared, seats, lanes);
+    let (board, events) = close(rt, shared, seats);
     Left {
         board,
         lanes,
-        events: history.len(),
+        events,
         end,
     }
 }
@@ -118,41 +128,79 @@ fn new_lanes(rt: &impl Abort, alloc: Global) -> Lanes<MemLink, MemLink> {
 
 /// So many events are in the history, the worker on IPMB ended so and has so many turns left, and that on SMBus has none.
 pub(super) fn expect_left(rt: &impl Abort, left: &Left, events: usize, end: End, turns: u32) {
-    assert_eq!(rt; left.events, events);
-    assert!(rt; left.end == end);
-    assert_eq!(rt; left.lanes.first.turns, turns);
-    assert_eq!(rt; left.lanes.second.turns, 0);
+    expect_equal(rt, left.events, events);
+    expect_equal(rt, left.end, end);
+    expect_equal(rt, left.lanes.first.turns, turns);
+    expect_equal(rt, left.lanes.second.turns, 0);
+}
+
+/// The frame at this place is of these bytes.
+pub(super) fn expect_at(rt: &impl Abort, sent: &[Frame], place: usize, bytes: &[u8]) {
+    let frame = sent.get(place).expect(rt, "a frame");
+    assert!(rt; frame.is(bytes));
 }
 
 /// These frames were sent, and no others.
 fn expect_sent(rt: &impl Abort, sent: &[Frame]) {
-    assert_eq!(rt; sent.len(), 4);
-    assert!(rt; sent[0].is(&SET_REPLY));
-    assert!(rt; sent[1].is(&GET_REPLY));
-    assert!(rt; sent[2].is(&SET_REPLY));
-    assert!(rt; sent[3].is(&LATER_REPLY));
+    expect_equal(rt, sent.len(), 4);
+    expect_at(rt, sent, 0, &SET_REPLY);
+    expect_at(rt, sent, 1, &GET_REPLY);
+    expect_at(rt, sent, 2, &SET_REPLY);
+    expect_at(rt, sent, 3, &LATER_REPLY);
+}
+
+/// The sample board is served with a history that has no room for the second Get. What it left.
+fn serve_until_full<R: Threads + Wait + Clock + Abort + Sync>(rt: &R, alloc: Global) -> Left {
+    serve_two(rt, alloc, open_sample(rt, alloc), new_lanes(rt, alloc))
+}
+
+/// What that history left is served with another one, until all turns are made.
+fn expect_rest<R: Threads + Wait + Clock + Abort + Sync>(
+    rt: &R,
+    alloc: Global,
+    board: Board<Records>,
+    lanes: Lanes<MemLink, MemLink>,
+) {
+    let left = serve_two(rt, alloc, board, lanes);
+    // The Set's repeat is no event, and the Get that found no room is one.
+    expect_left(rt, &left, 1, End::Turns, 0);
+    expect_sent(rt, left.lanes.first.link.sent());
 }
 
 #[test]
 fn a_request_answered_before_a_change_gets_its_kept_reply_after_it(rt: HostRuntime) {
     let alloc = rt.alloc();
-    let first = serve_two(&rt, alloc, open_sample(&rt, alloc), new_lanes(&rt, alloc));
-    expect_left(&rt, &first, 2, End::Full, 3);
-    let second = serve_two(&rt, alloc, first.board, first.lanes);
-    // The Set's repeat is no event, and the Get that found no room is one.
-    expect_left(&rt, &second, 1, End::Turns, 0);
-    expect_sent(&rt, second.lanes.first.link.sent());
+    let left = serve_until_full(&rt, alloc);
+    expect_left(&rt, &left, 2, End::Full, 3);
+    expect_rest(&rt, alloc, left.board, left.lanes);
+}
+
+/// The sample board, served in periods until all turns are made.
+fn serve_all<R: Threads + Wait + Clock + Abort + Sync>(
+    rt: &R,
+    alloc: Global,
+) -> Course<'static, MemLink, MemLink> {
+    let (board, lanes) = (open_sample(rt, alloc), new_lanes(rt, alloc));
+    let table = Timetable::new(&[], None);
+    let served = serve_periods(rt, alloc, board, lanes, table, None);
+    served.ok().expect(rt, "two threads")
+}
+
+/// So many events happened, the worker on IPMB has no turns left, and it sent so many frames.
+fn expect_course(
+    rt: &impl Abort,
+    course: &Course<'_, MemLink, MemLink>,
+    events: usize,
+    sent: usize,
+) {
+    expect_equal(rt, course.events, events);
+    expect_equal(rt, course.lanes.first.turns, 0);
+    expect_equal(rt, course.lanes.first.link.sent().len(), sent);
 }
 
 #[test]
 fn a_board_is_served_in_periods_until_all_turns_are_made(rt: HostRuntime) {
-    let alloc = rt.alloc();
-    let lanes = new_lanes(&rt, alloc);
-    let table = Timetable::new(&[], None);
-    let served = serve_periods(&rt, alloc, open_sample(&rt, alloc), lanes, table, None);
-    let course = served.ok().expect(&rt, "two threads");
+    let course = serve_all(&rt, rt.alloc());
     // Both repeats are no events.
-    assert_eq!(rt; course.events, 3);
-    assert_eq!(rt; course.lanes.first.turns, 0);
-    assert_eq!(rt; course.lanes.first.link.sent().len(), 5);
+    expect_course(&rt, &course, 3, 5);
 }

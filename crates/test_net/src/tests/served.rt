@@ -3,10 +3,11 @@ ghost use Rattle.std.specs.Prelude.{◌≡◌};
 ghost use Rattle.bmc_board.specs.State.{state_of};
 ghost use Rattle.bmc_board.specs.OwnStore.{own_records};
 
+use super::shared::{close, expect_equal, open_shared};
 use super::wired::{Failing, open_sample, port_on};
 use bmc_board::{Board, Records};
 use bmc_links::{Counts, Heard, Link, LinkFault, MemLink};
-use bmc_ports::{End, Gate, Opening, Shared, serve_port};
+use bmc_ports::{End, Gate, Opening, Seat, Shared, serve_port};
 use std::alloc::Global;
 use std::marker::Brand;
 use std::process::Abort;
@@ -80,6 +81,20 @@ impl Gate for Open {
     fn pass(&self, _port: u8, _n: u64) {}
 }
 
+/// Has a worker serve a port of a board that is shared: why it ended.
+fn serve_seat<J: Opening, R: Wait + Abort>(
+    rt: &R,
+    alloc: Global,
+    shared: &Shared<J, Records>,
+    seat: &mut Seat<J>,
+    link: &mut Faulty,
+) -> End
+    ensures { seat.new.number ≡ seat.old.number }
+{
+    let mut port = port_on(rt, alloc, Bus::Ipmb);
+    serve_port(rt, shared, seat, &mut port, link, &Open, TURNS)
+}
+
 /// Has a worker serve port 0 of a board: why it ended, and how long the history is.
 fn serve_first<J: Opening, R: Wait + Abort>(
     rt: &R,
@@ -96,13 +111,10 @@ fn serve_first<J: Opening, R: Wait + Abort>(
     requires opening { state_of own_records board ≡ J.opening }
     requires room { room ≡ J.room }
 {
-    let opened = Shared::<J, Records>::open(alloc, blank, board, room);
-    let (shared, mut seats) = opened.ok().expect(rt, "a board that is shared");
-    let mut port = port_on(rt, alloc, Bus::Ipmb);
-    let end = serve_port(rt, &shared, &mut seats.first, &mut port, link, &Open, TURNS);
-    let closed = shared.close(seats).ok();
-    let (_, history) = closed.expect(rt, "a board that is closed");
-    (end, history.len())
+    let (shared, mut seats) = open_shared::<J, R>(rt, alloc, blank, board, room);
+    let end = serve_seat(rt, alloc, &shared, &mut seats.first, link);
+    let (_, events) = close(rt, shared, seats);
+    (end, events)
 }
 
 /// The same of the sample board, with a ledger of its own and room for eight events.
@@ -146,5 +158,5 @@ fn whichever_call_of_its_link_fails_a_worker_goes_on(rt: HostRuntime) {
         met = call;
     }
     // Five calls of `next`, and one reply to each of two frames.
-    assert_eq!(rt; met, 7);
+    expect_equal(&rt, met, 7);
 }

@@ -1,6 +1,7 @@
 //! Links over UDP, on the loopback address.
 ghost use Rattle.std.specs.Prelude.{◌≤◌, length};
 
+use super::shared::expect_equal;
 use bmc_links::{Counts, Heard, Link, LinkFault, UdpLink};
 use std::net::{Net, UdpSocket};
 use std::process::Abort;
@@ -50,7 +51,7 @@ fn expect_counts(rt: &impl Abort, link: &UdpLink, failures: u64, calls: u64, hea
         calls,
         heard,
     };
-    assert_eq!(rt; link.counts(), counts);
+    expect_equal(rt, link.counts(), counts);
 }
 
 #[test]

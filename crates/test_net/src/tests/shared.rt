@@ -1,0 +1,48 @@
+//! A board that threads share, and values that are checked.
+ghost use Rattle.std.specs.Prelude.{◌≡◌};
+ghost use Rattle.bmc_board.specs.State.{state_of};
+ghost use Rattle.bmc_board.specs.OwnStore.{own_records};
+
+use bmc_board::{Board, Records};
+use bmc_ports::{Opening, Seats, Shared};
+use std::alloc::Global;
+use std::fmt::Debug;
+use std::process::Abort;
+use std::sync::ledger::Blank;
+
+/// The value is the one that is wanted.
+pub(crate) fn expect_equal<T: Copy + Debug + PartialEq>(rt: &impl Abort, value: T, wanted: T) {
+    assert_eq!(rt; value, wanted);
+}
+
+/// The board, which threads share from here on, and their seats.
+pub(crate) fn open_shared<J: Opening, R: Abort>(
+    rt: &R,
+    alloc: Global,
+    blank: Blank,
+    board: Board<Records>,
+    room: usize,
+) -> (Shared<J, Records>, Seats<J>)
+    requires name { blank.name ≡ J.name }
+    requires parts { blank.parts ≡ J.parts }
+    requires three { blank.parts ≡ 3 }
+    requires setup { board.setup ≡ J.setup }
+    requires opening { state_of own_records board ≡ J.opening }
+    requires room { room ≡ J.room }
+{
+    let opened = Shared::<J, Records>::open(alloc, blank, board, room);
+    opened.ok().expect(rt, "a board that is shared")
+}
+
+/// The board, once nobody shares it any more, and how many events its history has.
+pub(crate) fn close<J: Opening>(
+    rt: &impl Abort,
+    shared: Shared<J, Records>,
+    seats: Seats<J>,
+) -> (Board<Records>, usize)
+    requires three { J.parts ≡ 3 }
+{
+    let closed = shared.close(seats).ok();
+    let (board, history) = closed.expect(rt, "a board that is closed");
+    (board, history.len())
+}
