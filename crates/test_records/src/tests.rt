@@ -22,6 +22,7 @@ mod values;
 mod watchdog;
 
 use std::alloc::Global;
+use std::fmt::Debug;
 use std::process::Abort;
 use stories::play;
 
@@ -29,6 +30,7 @@ use stories::play;
 pub(crate) fn expect_report(rt: &impl Abort, alloc: Global, stories: &str, told: &str) {
     let report = play(alloc, stories).expect(rt, "memory");
     expect_text(rt, report.as_str(), told);
+    drop(report);
 }
 
 /// Each line of the stories comes as it is told.
@@ -38,12 +40,17 @@ pub(crate) fn expect_told(rt: &impl Abort, alloc: Global, stories: &str) {
 
 /// The bytes are these.
 pub(crate) fn expect_bytes(rt: &impl Abort, came: &[u8], told: &[u8]) {
-    assert_eq!(rt; came, told);
+    expect_equal(rt, came, told);
 }
 
 /// The text is this.
 pub(crate) fn expect_text(rt: &impl Abort, came: &str, told: &str) {
-    assert_eq!(rt; came, told);
+    expect_equal(rt, came, told);
+}
+
+/// The value is the one that is wanted.
+pub(crate) fn expect_equal<T: Copy + Debug + PartialEq>(rt: &impl Abort, value: T, wanted: T) {
+    assert_eq!(rt; value, wanted);
 }
 
 /// So it is. What that says comes where it isn't so.

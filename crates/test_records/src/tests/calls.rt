@@ -46,6 +46,7 @@ fn a_board_answers_a_set_and_a_get_and_keeps_the_record(rt: HostRuntime) {
         .get(&Key::Thresholds(5))
         .expect(&rt, "a record");
     expect_bytes(&rt, kept, &shown[1..]);
+    drop(board);
 }
 
 #[test]
@@ -57,6 +58,7 @@ fn what_happens_at_the_bench_reaches_a_board(rt: HostRuntime) {
     };
     expect(&rt, board.bench(reading) == Err(NoSensor), "no such sensor");
     expect(&rt, board.bench(Bench::Tick) == Ok(()), "a tick");
+    drop(board);
 }
 
 /// The data of the request that makes upper critical of sensor 5 this.
@@ -114,6 +116,7 @@ fn allowed(alloc: Global, lengths: Lengths) -> Result<String, AllocError> {
 fn expect_allowed(rt: &impl Abort, alloc: Global, lengths: Lengths, want: &str) {
     let allowed = allowed(alloc, lengths).expect(rt, "memory");
     expect_text(rt, allowed.as_str(), want);
+    drop(allowed);
 }
 
 #[test]
@@ -158,6 +161,7 @@ fn expect_data(rt: &impl Abort, alloc: Global, op: Op<'_>, want: &str) {
     let data = Limits::set_data(&op);
     let digits = hex::encode_upper(alloc, data.as_slice()).expect(rt, "memory");
     expect_text(rt, digits.as_str(), want);
+    drop(digits);
 }
 
 #[test]

@@ -3,6 +3,7 @@ use super::{expect, expect_told};
 use cfg_records::{Asked, Key, Op};
 use record_base::SetBiosAttribute;
 use record_kinds::Limits;
+use std::process::Abort;
 use two_wire::Below;
 
 /// An entry of over 205 bytes is shown in parts of 192 bytes, and one of over 247 can be set in parts alone.
@@ -196,6 +197,12 @@ fn long_strings_are_set_and_shown_in_parts(rt: HostRuntime) {
     expect_told(&rt, rt.alloc(), LONG);
 }
 
+/// The change has this request as the part of this number.
+fn expect_part(rt: &impl Abort, set: &Op<'_>, part: u8, wanted: &Asked) {
+    let came = Limits::set_next(set, part).expect(rt, "a part");
+    expect(rt, came.is(wanted), "the part");
+}
+
 #[test]
 fn a_set_in_parts_has_so_many_requests(rt: HostRuntime) {
     let mut value = [0x61; 402];
@@ -207,10 +214,8 @@ fn a_set_in_parts_has_so_many_requests(rt: HostRuntime) {
     let mut last = [0x61; 26];
     last[..5].copy_from_slice(&[0x80, 0x01, 0, 0, 0x04]);
     let last = Asked::pldm(Below::new(3), 0x07, &last);
-    let came = Limits::set_next(&set, 0).expect(&rt, "the first part");
-    expect(&rt, came.is(&first), "the first part");
-    let came = Limits::set_next(&set, 2).expect(&rt, "the last part");
-    expect(&rt, came.is(&last), "the last part");
+    expect_part(&rt, &set, 0, &first);
+    expect_part(&rt, &set, 2, &last);
     expect(&rt, Limits::set_next(&set, 3).is_none(), "past the last");
 }
 

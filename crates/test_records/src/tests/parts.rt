@@ -29,6 +29,7 @@ fn users_have_access_to_channels(rt: HostRuntime) {
     let (key, value) = access.pair();
     expect(&rt, key == Key::UserAccess(on), "the key");
     expect_bytes(&rt, value.as_slice(), &[0x71]);
+    drop(value);
     expect(&rt, UserAccess::new(on, 0x76).is_none(), "no limit");
 }
 
@@ -40,6 +41,7 @@ fn a_numeric_effecter_has_a_number(rt: HostRuntime) {
     let (key, value) = effecter.pair();
     expect(&rt, key == Key::NumericEffecter(5), "the key");
     expect_bytes(&rt, value.as_slice(), &[0xFF]);
+    drop(value);
 }
 
 /// An effecter of one field, of two states.
@@ -52,9 +54,12 @@ fn state_effecter(rt: &impl Abort, alloc: Global) -> StateEffecter {
 
 #[test]
 fn a_state_effecter_has_states(rt: HostRuntime) {
-    let (key, value) = state_effecter(&rt, rt.alloc()).pair();
+    let effecter = state_effecter(&rt, rt.alloc());
+    let (key, value) = effecter.pair();
     expect(&rt, key == Key::StateEffecter(9), "the key");
     expect_bytes(&rt, value.as_slice(), &[2]);
+    drop(value);
+    drop(effecter);
 }
 
 /// An attribute that is off or on.
@@ -67,9 +72,11 @@ fn quiet(rt: &impl Abort, alloc: Global) -> EnumerationAttribute {
 
 #[test]
 fn an_enumeration_has_the_range_of_its_values(rt: HostRuntime) {
-    let range = AttributeKind::Enumeration(quiet(&rt, rt.alloc())).range();
+    let kind = AttributeKind::Enumeration(quiet(&rt, rt.alloc()));
     let two = PossibleValues::new(2).expect(&rt, "values");
-    expect(&rt, range == AttributeRange::Enumeration(two), "two values");
+    let wanted = AttributeRange::Enumeration(two);
+    expect(&rt, kind.range() == wanted, "two values");
+    drop(kind);
 }
 
 /// A text of at most 200 bytes.
@@ -87,10 +94,13 @@ fn asset(rt: &impl Abort, alloc: Global) -> Attribute {
 
 #[test]
 fn an_attribute_has_its_record(rt: HostRuntime) {
-    let record = asset(&rt, rt.alloc()).pair(rt.alloc());
+    let asset = asset(&rt, rt.alloc());
+    let record = asset.pair(rt.alloc());
+    drop(asset);
     let (key, value) = record.expect(&rt, "memory");
     expect(&rt, key == Key::BiosAttribute(1), "the key");
     expect_bytes(&rt, value.as_slice(), &[2, 0, 0x61, 0x62]);
+    drop(value);
 }
 
 #[test]

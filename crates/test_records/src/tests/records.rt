@@ -2,7 +2,7 @@
 ghost use Rattle.std.specs.Prelude.{◌<◌, IsTrue, length};
 ghost use Rattle.record_base.specs.Keys.{is_length};
 
-use super::{expect, expect_bytes, expect_text};
+use super::{expect, expect_bytes, expect_equal, expect_text};
 use cfg_records::{
     Answered, Asked, Key, Live, NoKey, PlainStore, Sensor, Sensors, StartValue, Store, StoreFault,
     sample_board,
@@ -66,19 +66,24 @@ fn spelt(alloc: Global, pairs: &[(Key, StartValue)]) -> Result<String, AllocErro
 fn spelt_sample(rt: &impl Abort, alloc: Global) -> String {
     let file = sample_board(alloc).expect(rt, "memory");
     let pairs = file.records(alloc).expect(rt, "memory");
-    spelt(alloc, pairs.as_slice()).expect(rt, "memory")
+    drop(file);
+    let text = spelt(alloc, pairs.as_slice()).expect(rt, "memory");
+    drop(pairs);
+    text
 }
 
 #[test]
 fn the_sample_board_begins_with_its_records(rt: HostRuntime) {
     let spelt = spelt_sample(&rt, rt.alloc());
     expect_text(&rt, spelt.as_str(), RECORDS);
+    drop(spelt);
 }
 
 #[test]
 fn the_sample_board_has_a_terminus(rt: HostRuntime) {
     let file = sample_board(rt.alloc()).expect(&rt, "memory");
     expect(&rt, file.tid == 5, "the terminus");
+    drop(file);
 }
 
 /// The store has this record.
@@ -91,7 +96,7 @@ fn expect_record<S: Store>(rt: &impl Abort, store: &S, key: &Key, value: &[u8]) 
 fn expect_put<S: Store>(rt: &impl Abort, store: &mut S, key: &Key, new: &[u8])
     requires { IsTrue (is_length key.now (length new.now)) }
 {
-    assert_eq!(rt; store.put(key, new), Ok(()));
+    expect_equal(rt, store.put(key, new), Ok(()));
     expect_record(rt, store, key, new);
 }
 
@@ -108,7 +113,9 @@ fn expect_written<S: Store>(rt: &impl Abort, store: &mut S, key: &Key, old: &[u8
 /// A store of the sample board's records.
 fn sample_store(rt: &impl Abort, alloc: Global) -> PlainStore {
     let file = sample_board(alloc).expect(rt, "memory");
-    PlainStore::of_file(alloc, &file).expect(rt, "memory")
+    let store = PlainStore::of_file(alloc, &file).expect(rt, "memory");
+    drop(file);
+    store
 }
 
 #[test]
@@ -123,6 +130,7 @@ fn a_store_has_what_was_put(rt: HostRuntime) {
         store.find(&key) == place,
         "the record stays in its place",
     );
+    drop(store);
 }
 
 #[test]
@@ -131,6 +139,7 @@ fn nothing_is_put_where_there_is_no_record(rt: HostRuntime) {
     let missing = Key::Hysteresis(9);
     expect(&rt, store.put(&missing, &[3, 1]) == Err(NoKey), "no record");
     expect(&rt, store.get(&missing).is_none(), "none is made");
+    drop(store);
 }
 
 /// Why neither store is made of the pairs.
@@ -145,6 +154,7 @@ fn a_store_refuses_a_key_twice_before_a_bad_value(rt: HostRuntime) {
     let pair = || (Key::Hysteresis(5), StartValue::few(&[1]));
     let bad = vec![in rt.alloc(); pair()].expect(&rt, "memory");
     let faults = faults_of(rt.alloc(), bad.as_slice());
+    drop(bad);
     expect(
         &rt,
         faults == Some((StoreFault::BadValue, StoreFault::BadValue)),
@@ -152,6 +162,7 @@ fn a_store_refuses_a_key_twice_before_a_bad_value(rt: HostRuntime) {
     );
     let twice = vec![in rt.alloc(); pair(), pair()].expect(&rt, "memory");
     let faults = faults_of(rt.alloc(), twice.as_slice());
+    drop(twice);
     let same = StoreFault::TwiceTheSameKey;
     expect(&rt, faults == Some((same, same)), "a key twice");
 }
@@ -162,6 +173,7 @@ fn packed(rt: &impl Abort, alloc: Global) -> PackedStore {
     let policy = (Key::PowerPolicy, StartValue::few(&[2]));
     let pairs = vec![in alloc; (Key::BiosAttribute(2), delay), policy].expect(rt, "memory");
     let store = PackedStore::new(alloc, pairs.as_slice());
+    drop(pairs);
     store.ok().expect(rt, "two keys, with a value each")
 }
 
@@ -177,6 +189,7 @@ fn a_packed_store_has_its_pairs(rt: HostRuntime) {
         store.put(&Key::Watchdog, &[0; 5]) == Err(NoKey),
         "no such key",
     );
+    drop(store);
 }
 
 /// No event.

@@ -64,6 +64,7 @@ fn an_event_is_added_and_shown(rt: HostRuntime) {
     let mut log = log(&rt, rt.alloc());
     add_event(&rt, &mut log);
     expect_event(&rt, &log);
+    drop(log);
 }
 
 #[test]
@@ -79,6 +80,7 @@ fn a_log_is_cleared_with_its_reservation(rt: HostRuntime) {
     expect(&rt, log.reserve() == 1, "the first reservation");
     expect(&rt, log.clear(1).is_ok(), "it clears");
     expect(&rt, log.info().count == 0, "nothing is left");
+    drop(log);
 }
 
 #[test]
@@ -94,6 +96,7 @@ fn reservations_pass_over_0000h(rt: HostRuntime) {
         log.is_reserved(1) && !log.is_reserved(0xFFFF),
         "one at a time",
     );
+    drop(log);
 }
 
 #[test]

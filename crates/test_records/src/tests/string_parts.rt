@@ -224,6 +224,7 @@ fn a_middle_part_that_ends_the_entry_is_refused(rt: HostRuntime) {
     let mut place = Entry::new();
     let ended = stagings.ended(0x0B, 192, &[9; 13], &mut place);
     expect(&rt, ended.is_ok(), "what is staged stays");
+    drop(stagings);
 }
 
 #[test]
@@ -233,9 +234,10 @@ fn a_requester_has_what_it_staged_until_it_ends(rt: HostRuntime) {
     let ended = stagings.ended(0x0B, 192, &[9; 13], &mut place).ok();
     let op = ended.expect(&rt, "an operation");
     expect(&rt, op.attribute == 1 && op.attribute_type == 1, "a string");
-    assert_eq!(rt; op.value.as_slice().len(), 202);
+    assert!(rt; op.value.as_slice().len() == 202);
     expect_bytes(&rt, &op.value.as_slice()[189..], &[9; 13]);
     stagings.end(0x0B);
     let ended = stagings.ended(0x0B, 192, &[9; 13], &mut place);
     expect(&rt, ended.is_err(), "nothing is staged any more");
+    drop(stagings);
 }

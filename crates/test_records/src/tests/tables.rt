@@ -147,6 +147,7 @@ fn otherwise(alloc: Global, lines: &str) -> Result<String, AllocError> {
 fn expect_otherwise(rt: &impl Abort, alloc: Global, lines: &str, said: &str) {
     let report = otherwise(alloc, lines).expect(rt, "memory");
     expect_text(rt, report.as_str(), said);
+    drop(report);
 }
 
 #[test]
@@ -175,6 +176,7 @@ fn the_length_field_alone_bounds_a_value(rt: HostRuntime) {
     let (_, shorter) = bytes.as_slice().split_last().expect(&rt, "a byte");
     let part = first_length(BiosTable::Values, shorter);
     expect(&rt, part.is_none(), "a byte is missing");
+    drop(bytes);
 }
 
 /// The strings of an attribute and its possible values.
@@ -248,6 +250,7 @@ fn sample_values() -> Three {
 fn sample_tables(rt: &impl Abort, alloc: Global) -> Tables {
     let file = sample_board(alloc).expect(rt, "memory");
     let mut tables = Tables::open(alloc, &file.attributes).expect(rt, "memory");
+    drop(file);
     tables.show(&sample_values());
     tables
 }
@@ -275,4 +278,5 @@ fn the_tables_of_the_sample_board_are_whole(rt: HostRuntime) {
     expect_whole(&rt, &tables, BiosTable::Strings, 44, 5);
     expect_whole(&rt, &tables, BiosTable::Attributes, 64, 3);
     expect_whole(&rt, &tables, BiosTable::Values, 32, 3);
+    drop(tables);
 }
