@@ -165,7 +165,9 @@ fn time_sharing<J: Opening + Send + Sync, R: Threads + Wait + Clock + Sync>(
     seats: Seats<J>,
     sides: Sides,
     way: Way,
-) -> Option<Run> {
+) -> Option<Run>
+    requires three { J.parts ≡ 3 }
+{
     match time_work(rt, &shared, seats, sides, way) {
         Some((seats, took)) => run_of(shared, seats, took),
         None => None,

@@ -397,7 +397,8 @@ fn expect_passed<R: Wait + Abort>(
     let gate = Counted::new();
     let told = serve_sample(rt, alloc, 8, alone, &gate);
     expect_ended(rt, &told, End::Turns, sent, exchanges);
-    expect_equal(rt, gate.passed(), Some(2 * exchanges as u64));
+    let passed = (exchanges as u64).saturating_mul(2);
+    expect_equal(rt, gate.passed(), Some(passed));
 }
 
 /// A Get of boot parameter 5 whose last check byte is wrong.
