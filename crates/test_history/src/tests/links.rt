@@ -1,4 +1,5 @@
 //! A link in memory.
+use super::expect_equal;
 use bmc_ports::{Counts, Heard, Link, MOST_KEPT, MemFault, MemLink};
 use std::alloc::Global;
 use std::process::Abort;
@@ -25,7 +26,7 @@ fn expect_counts(rt: &impl Abort, link: &MemLink, calls: u64, heard: u64) {
         calls,
         heard,
     };
-    assert_eq!(rt; link.counts(), wanted);
+    expect_equal(rt, link.counts(), wanted);
 }
 
 #[test]
@@ -45,18 +46,23 @@ fn send_all(rt: &impl Abort, link: &mut MemLink) {
     }
 }
 
+/// One more frame is sent, and not kept.
+fn expect_one_not_kept(rt: &impl Abort, link: &mut MemLink) {
+    assert!(rt; link.send(&Frame::from_slice(&[1, 2])).is_ok());
+    assert_eq!(rt; link.sent().len(), MOST_KEPT);
+    assert!(rt; link.sent()[255].is(&[255]));
+}
+
 #[test]
 fn the_first_frames_that_a_link_sends_are_kept(rt: HostRuntime) {
     let mut link = link_of(&rt, rt.alloc(), &[]);
     send_all(&rt, &mut link);
-    assert!(rt; link.send(&Frame::from_slice(&[1, 2])).is_ok());
-    assert_eq!(rt; link.sent().len(), MOST_KEPT);
-    assert!(rt; link.sent()[255].is(&[255]));
+    expect_one_not_kept(&rt, &mut link);
     expect_counts(&rt, &link, 0, 0);
 }
 
 #[test]
 fn a_frame_of_81_bytes_is_too_long(rt: HostRuntime) {
     let link = MemLink::new(rt.alloc(), &[&[0x20], &[7u8; 81]]);
-    assert_eq!(rt; link.err(), Some(MemFault::TooLong));
+    expect_equal(&rt, link.err(), Some(MemFault::TooLong));
 }

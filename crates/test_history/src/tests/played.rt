@@ -4,13 +4,13 @@ ghost use Rattle.bmc_board.specs.State.{state_of};
 ghost use Rattle.bmc_board.specs.OwnStore.{own_records};
 
 use super::gates::Open;
-use super::times::{LATER_TICK, READING, Slept, TICK, WARMS_UP, are_all};
-use super::{close, open_sample};
+use super::times::{LATER_TICK, READING, Slept, TICK, WARMS_UP, expect_happened};
+use super::{close, expect_equal, open_sample, open_shared};
 use bmc_board::{Bench, Board, Records};
 use bmc_core::{At, Port};
 use bmc_ports::{
-    Counts, Heard, History, Lane, Lanes, Link, LinkFault, Opening, Shared, Sliced, Timed, TimedEnd,
-    Timetable, run_slices,
+    Counts, Heard, History, Lane, Lanes, Link, LinkFault, Opening, Seats, Shared, Sliced, Timed,
+    TimedEnd, Timetable, run_slices,
 };
 use mctp_net::EndpointId;
 use std::alloc::Global;
@@ -128,6 +128,27 @@ struct Left {
     end: TimedEnd,
 }
 
+/// Serves a board that is shared, while a timetable goes on: the seats, the place of the list that is next then, and
+/// why the scanner ended.
+fn serve_shared<J: Opening + Send + Sync, R: Threads + Wait + Abort + Sync>(
+    rt: &Slept<'_, R>,
+    shared: &Shared<J, Records>,
+    seats: Seats<J>,
+    lanes: Lanes<Patient<'_>, Patient<'_>>,
+    table: Timetable<'_>,
+) -> (Seats<J>, usize, TimedEnd) {
+    let sliced = run_slices(rt, shared, seats, lanes, table, &Open, None);
+    let Sliced {
+        seats,
+        lanes: _,
+        next,
+        first_end: _,
+        second_end: _,
+        scanner_end: end,
+    } = sliced.ok().expect(rt.rt, "three threads");
+    (seats, next, end)
+}
+
 /// Serves a board with one history, while a timetable goes on.
 fn serve_opened<J: Opening + Send + Sync, R: Threads + Wait + Abort + Sync>(
     rt: &Slept<'_, R>,
@@ -145,17 +166,8 @@ fn serve_opened<J: Opening + Send + Sync, R: Threads + Wait + Abort + Sync>(
     requires opening { state_of own_records board ≡ J.opening }
     requires room { room ≡ J.room }
 {
-    let opened = Shared::<J, Records>::open(alloc, blank, board, room);
-    let (shared, seats) = opened.ok().expect(rt.rt, "a board that is shared");
-    let sliced = run_slices(rt, &shared, seats, lanes, table, &Open, None);
-    let Sliced {
-        seats,
-        lanes: _,
-        next,
-        first_end: _,
-        second_end: _,
-        scanner_end: end,
-    } = sliced.ok().expect(rt.rt, "three threads");
+    let (shared, seats) = open_shared::<J, R>(rt.rt, alloc, blank, board, room);
+    let (seats, next, end) = serve_shared(rt, &shared, seats, lanes, table);
     let (board, history) = close(rt.rt, shared, seats);
     Left {
         board,
@@ -182,10 +194,13 @@ fn serve<R: Threads + Wait + Abort + Sync>(
     serve_opened::<Brand, R>(rt, alloc, Blank::new(3), board, room, lanes, table)
 }
 
-/// The place of the list at which a history begins, what happens in it, the place that is next then, and why the
-/// scanner ended.
+/// A history: the events for which it has room, each worker's turns, each of which waits until so much was slept, the
+/// place of the list at which it begins, what happens in it, the place that is next then, and why the scanner ended.
 #[derive(Drop)]
 struct Period<'a> {
+    room: usize,
+    turns: u32,
+    until: u64,
     from: usize,
     list: &'a [Timed],
     next: usize,
@@ -197,71 +212,87 @@ fn expect_served<R: Threads + Wait + Abort + Sync>(
     rt: &Slept<'_, R>,
     alloc: Global,
     board: Board<Records>,
-    room: usize,
-    lanes: Lanes<Patient<'_>, Patient<'_>>,
     period: &Period<'_>,
 ) -> Board<Records> {
-    let Left {
-        board,
-        history,
-        next,
-        end,
-    } = serve(rt, alloc, board, room, lanes, period.from);
-    assert!(rt.rt; are_all(&history, period.list), "up to {next}");
-    assert_eq!(rt.rt; (next, end), (period.next, period.end));
-    board
+    let lanes = lanes(rt, alloc, period.turns, period.until);
+    let left = serve(rt, alloc, board, period.room, lanes, period.from);
+    let ended = (left.next, left.end);
+    let wanted = (period.next, period.end);
+    expect_happened(rt.rt, &left.history, period.list, ended, wanted);
+    left.board
+}
+
+/// The same of the sample board.
+fn expect_sample_served<R: Threads + Wait + Abort + Sync>(
+    rt: &Slept<'_, R>,
+    alloc: Global,
+    period: &Period<'_>,
+) -> Board<Records> {
+    let board = open_sample(rt.rt, alloc);
+    expect_served(rt, alloc, board, period)
 }
 
 #[test]
 fn what_comes_while_workers_serve_happens(rt: HostRuntime) {
     let clock = Slept::new(&rt, u64::MAX);
-    let board = open_sample(&rt, rt.alloc());
-    let lanes = lanes(&clock, rt.alloc(), 1, LATER_MS);
     let all = Period {
+        room: 8,
+        turns: 1,
+        until: LATER_MS,
         from: 0,
         list: &WARMS_UP,
         next: 3,
         end: TimedEnd::Stopped,
     };
-    let _ = expect_served(&clock, rt.alloc(), board, 8, lanes, &all);
+    let _ = expect_sample_served(&clock, rt.alloc(), &all);
+}
+
+/// A history of the sample board has room for all but the last tick. The board.
+fn expect_all_but_one<R: Threads + Wait + Abort + Sync>(
+    rt: &Slept<'_, R>,
+    alloc: Global,
+) -> Board<Records> {
+    let found_room = Period {
+        room: 2,
+        // Only the bell ends these workers.
+        turns: u32::MAX,
+        until: 0,
+        from: 0,
+        list: &[READING, TICK],
+        next: 2,
+        end: TimedEnd::Full,
+    };
+    expect_sample_served(rt, alloc, &found_room)
 }
 
 #[test]
 fn what_finds_no_room_happens_in_the_next_history(rt: HostRuntime) {
     let clock = Slept::new(&rt, u64::MAX);
-    let board = open_sample(&rt, rt.alloc());
-    let warms_up = &WARMS_UP[..];
-    let found_room = Period {
-        from: 0,
-        list: &warms_up[..2],
-        next: 2,
-        end: TimedEnd::Full,
-    };
-    // Only the bell ends these workers.
-    let many = lanes(&clock, rt.alloc(), u32::MAX, 0);
-    let board = expect_served(&clock, rt.alloc(), board, 2, many, &found_room);
+    let board = expect_all_but_one(&clock, rt.alloc());
     let found_none = Period {
+        room: 2,
+        turns: 1,
+        until: clock.slept().saturating_add(LATER_MS),
         from: 2,
-        list: &warms_up[2..],
+        list: &[LATER_TICK],
         next: 3,
         end: TimedEnd::Stopped,
     };
-    let later = clock.slept().saturating_add(LATER_MS);
-    let one = lanes(&clock, rt.alloc(), 1, later);
-    let _ = expect_served(&clock, rt.alloc(), board, 2, one, &found_none);
+    let _ = expect_served(&clock, rt.alloc(), board, &found_none);
 }
 
 #[test]
 fn nothing_happens_where_nothing_is_left(rt: HostRuntime) {
     let clock = Slept::new(&rt, u64::MAX);
-    let board = open_sample(&rt, rt.alloc());
-    let lanes = lanes(&clock, rt.alloc(), 1, 0);
     let none = Period {
+        room: 8,
+        turns: 1,
+        until: 0,
         from: 4,
         list: &[],
         next: 4,
         end: TimedEnd::Over,
     };
-    let _ = expect_served(&clock, rt.alloc(), board, 8, lanes, &none);
-    assert_eq!(rt; clock.slept(), 0);
+    let _ = expect_sample_served(&clock, rt.alloc(), &none);
+    expect_equal(&rt, clock.slept(), 0);
 }

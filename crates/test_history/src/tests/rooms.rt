@@ -2,7 +2,7 @@
 ghost use Rattle.std.specs.Prelude.{◌≡◌};
 ghost use Rattle.bmc_board.specs.State.{state_of};
 
-use super::open_sample;
+use super::{expect_equal, open_sample};
 use bmc_board::{Bench, Board};
 use bmc_ports::{Held, OpenFault, Opening, PeriodFull, Shared};
 use cfg_records::Store;
@@ -48,6 +48,11 @@ fn share<J: Opening, S: Store + Drop>(
     (fault, board)
 }
 
+/// The fault is that of a room that is refused.
+fn expect_room_fault(rt: &impl Abort, fault: OpenFault, room: usize) {
+    assert_eq!(rt; fault, OpenFault::Room, "{room}");
+}
+
 /// The room is refused, both alone and for threads. The board.
 fn expect_refused<S: Store + Drop>(
     rt: &impl Abort,
@@ -56,9 +61,9 @@ fn expect_refused<S: Store + Drop>(
     room: usize,
 ) -> Board<S> {
     let (alone, board) = hold::<Brand, S>(rt, alloc, board, room);
-    assert_eq!(rt; alone, OpenFault::Room, "{room}");
+    expect_room_fault(rt, alone, room);
     let (shared, board) = share::<Brand, S>(rt, alloc, Blank::new(3), board, room);
-    assert_eq!(rt; shared, OpenFault::Room, "{room}");
+    expect_room_fault(rt, shared, room);
     board
 }
 
@@ -70,19 +75,29 @@ fn code_of(answered: &Result<Answered, PeriodFull>) -> Option<u8> {
     }
 }
 
+/// Has a board answer a request for its device's identifier from this port. The code, where the history has room.
+fn ask<J: Opening, S: Store>(held: &mut Held<J, S>, port: u8) -> Option<u8> {
+    let asked = Asked::ipmi(NetFn::new(net_fn::APPLICATION), 0x01, &[]);
+    code_of(&held.exchange(port, &asked))
+}
+
 /// Has a board answer, and happen, once each.
 fn call_twice<J: Opening, S: Store>(rt: &impl Abort, held: &mut Held<J, S>) {
-    let asked = Asked::ipmi(NetFn::new(net_fn::APPLICATION), 0x01, &[]);
-    assert_eq!(rt; code_of(&held.exchange(0, &asked)), Some(0x00));
-    assert_eq!(rt; held.bench(2, Bench::Tick), Ok(Ok(())));
+    expect_equal(rt, ask(held, 0), Some(0x00));
+    expect_equal(rt, held.bench(2, Bench::Tick), Ok(Ok(())));
 }
 
 /// A full history refuses a request, and what happens beside requests.
 fn refuse_both<J: Opening, S: Store>(rt: &impl Abort, held: &mut Held<J, S>) {
-    let asked = Asked::ipmi(NetFn::new(net_fn::APPLICATION), 0x01, &[]);
-    assert!(rt; held.exchange(1, &asked).is_err());
-    assert!(rt; held.bench(2, Bench::Tick).is_err());
-    assert!(rt; held.is_full());
+    expect_equal(rt, ask(held, 1), None);
+    expect_equal(rt, held.bench(2, Bench::Tick), Err(PeriodFull));
+    expect_equal(rt, held.is_full(), true);
+}
+
+/// The history of a board that is held has two events.
+fn expect_two_events<J: Opening, S: Store + Drop>(rt: &impl Abort, held: Held<J, S>) {
+    let (_, history) = held.into_parts();
+    expect_equal(rt, history.len(), 2);
 }
 
 /// Calls a board until its history, which has room for two events, is full.
@@ -95,8 +110,7 @@ fn fill<J: Opening, S: Store + Drop>(rt: &impl Abort, alloc: Global, board: Boar
     let mut held = opened.expect(rt, "a board that is held");
     call_twice(rt, &mut held);
     refuse_both(rt, &mut held);
-    let (_, history) = held.into_parts();
-    assert_eq!(rt; history.len(), 2);
+    expect_two_events(rt, held);
 }
 
 /// The same, with an opening of its own.

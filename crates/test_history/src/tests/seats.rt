@@ -3,25 +3,26 @@ ghost use Rattle.std.specs.Prelude.{◌≡◌};
 ghost use Rattle.bmc_board.specs.State.{state_of};
 ghost use Rattle.bmc_board.specs.OwnStore.{own_records};
 
-use super::{history_of, open_sample};
+use super::{expect_equal, history_of, open_sample, open_shared};
 use bmc_board::{Board, Records};
 use bmc_ports::{Call, History, Opening, Seat, Seats, Shared};
 use record_base::{Asked, net_fn};
 use std::alloc::Global;
 use std::marker::Brand;
 use std::process::Abort;
+use std::snapshot::Snapshot;
 use std::sync::Wait;
 use std::sync::ledger::Blank;
 use std::thread;
-use std::thread::{Promise, Threads};
+use std::thread::{Promise, PromisedHandle, Scope, Threads};
 use two_wire::NetFn;
 
-/// What a thread gives back: the seat of this number.
-#[derive(Clone, Copy)]
-struct SeatOf(u8);
+/// What a thread gives back: the seat that it was given.
+#[derive(Drop)]
+struct SeatOf<J: Opening>(Snapshot<Seat<J>>);
 
-impl<J: Opening> Promise<Seat<J>> for SeatOf {
-    ghost kept_by = { λ promise seat. seat.number ≡ promise.0 };
+impl<J: Opening> Promise<Seat<J>> for SeatOf<J> {
+    ghost kept_by = { λ promise seat. seat.number ≡ promise.0.value.number };
 }
 
 /// Has a seat ask the board.
@@ -44,6 +45,21 @@ fn ask_by<J: Opening, R: Wait>(
     seat
 }
 
+/// Has a seat ask the board, in a thread of its own that gives it back.
+fn spawn_ask<'s, E, J: Opening + Send + Sync + 's, R: Threads + Wait + Abort + Sync>(
+    scope: &Scope<'s, E>,
+    rt: &'s R,
+    shared: &'s Shared<J, Records>,
+    seat: Seat<J>,
+    asked: &'s Asked,
+) -> PromisedHandle<Seat<J>, SeatOf<J>>
+    ensures { result.promise.0.value.number ≡ seat.number }
+{
+    let promise = SeatOf(Snapshot::of(&seat));
+    let spawned = scope.spawn_with(promise, move || ask_by(rt, shared, seat, asked));
+    spawned.ok().expect(rt, "a thread")
+}
+
 /// Each seat asks the board once, in a thread of its own.
 fn ask_each<J: Opening + Send + Sync, R: Threads + Wait + Abort + Sync>(
     rt: &R,
@@ -62,36 +78,9 @@ fn ask_each<J: Opening + Send + Sync, R: Threads + Wait + Abort + Sync>(
         |scope| -> Seats<J>
             requires { (first.number ≡ 0) × (second.number ≡ 1) × (scanner.number ≡ 2) }
         {
-            let first = scope
-                .spawn_with(
-                    SeatOf(0),
-                    move || -> Seat<J>
-                        requires { first.number ≡ 0 }
-                        ensures { result.number ≡ 0 }
-                    { ask_by(rt, shared, first, asked) },
-                )
-                .ok()
-                .expect(rt, "a thread");
-            let second = scope
-                .spawn_with(
-                    SeatOf(1),
-                    move || -> Seat<J>
-                        requires { second.number ≡ 1 }
-                        ensures { result.number ≡ 1 }
-                    { ask_by(rt, shared, second, asked) },
-                )
-                .ok()
-                .expect(rt, "a thread");
-            let scanner = scope
-                .spawn_with(
-                    SeatOf(2),
-                    move || -> Seat<J>
-                        requires { scanner.number ≡ 2 }
-                        ensures { result.number ≡ 2 }
-                    { ask_by(rt, shared, scanner, asked) },
-                )
-                .ok()
-                .expect(rt, "a thread");
+            let first = spawn_ask(scope, rt, shared, first, asked);
+            let second = spawn_ask(scope, rt, shared, second, asked);
+            let scanner = spawn_ask(scope, rt, shared, scanner, asked);
             Seats {
                 first: first.join(rt),
                 second: second.join(rt),
@@ -116,8 +105,7 @@ fn share<J: Opening + Send + Sync, R: Threads + Wait + Abort + Sync>(
     requires opening { state_of own_records board ≡ J.opening }
     requires room { room ≡ J.room }
 {
-    let opened = Shared::<J, Records>::open(alloc, blank, board, room);
-    let (shared, seats) = opened.ok().expect(rt, "a board that is shared");
+    let (shared, seats) = open_shared::<J, R>(rt, alloc, blank, board, room);
     let asked = Asked::ipmi(NetFn::new(net_fn::APPLICATION), 0x01, &[]);
     let seats = ask_each(rt, &shared, seats, &asked);
     history_of(rt, shared, seats)
@@ -145,9 +133,9 @@ pub(super) fn code_at(history: &History, place: usize) -> Option<u8> {
 fn three_threads_ask_one_board(rt: HostRuntime) {
     let board = open_sample(&rt, rt.alloc());
     let history = share_at(&rt, rt.alloc(), board, 8);
-    assert_eq!(rt; history.len(), 3);
+    expect_equal(&rt, history.len(), 3);
     for place in 0..3 {
-        assert_eq!(rt; code_at(&history, place), Some(0x00));
+        expect_equal(&rt, code_at(&history, place), Some(0x00));
     }
 }
 
@@ -155,5 +143,5 @@ fn three_threads_ask_one_board(rt: HostRuntime) {
 fn a_full_history_refuses_two_of_three(rt: HostRuntime) {
     let board = open_sample(&rt, rt.alloc());
     let history = share_at(&rt, rt.alloc(), board, 1);
-    assert_eq!(rt; history.len(), 1);
+    expect_equal(&rt, history.len(), 1);
 }

@@ -3,11 +3,9 @@ ghost use Rattle.std.specs.Prelude.{◌≡◌};
 ghost use Rattle.bmc_board.specs.State.{state_of};
 ghost use Rattle.bmc_board.specs.OwnStore.{own_records};
 
-use super::{history_of, open_sample};
+use super::{expect_equal, history_of, open_sample, open_shared};
 use bmc_board::{Bench, Board, Records};
-use bmc_ports::{
-    Call, History, Opening, Shared, Stops, Timed, TimedEnd, Timetable, happen_in_time,
-};
+use bmc_ports::{Call, History, Opening, Stops, Timed, TimedEnd, Timetable, happen_in_time};
 use std::alloc::Global;
 use std::io;
 use std::marker::Brand;
@@ -131,8 +129,7 @@ fn scan<J: Opening, R: Wait + Abort>(
     requires opening { state_of own_records board ≡ J.opening }
     requires room { room ≡ J.room }
 {
-    let opened = Shared::<J, Records>::open(alloc, blank, board, room);
-    let (shared, mut seats) = opened.ok().expect(rt.rt, "a board that is shared");
+    let (shared, mut seats) = open_shared::<J, R>(rt.rt, alloc, blank, board, room);
     let mut table = table;
     let stops = Stops {
         bell: &rt.bell,
@@ -191,7 +188,7 @@ fn is_at(history: &History, place: usize, wanted: Bench) -> bool {
 }
 
 /// Whether these happened, in their order, and nothing else.
-pub(super) fn are_all(history: &History, list: &[Timed]) -> bool {
+fn are_all(history: &History, list: &[Timed]) -> bool {
     if history.len() != list.len() {
         return false;
     }
@@ -201,6 +198,19 @@ pub(super) fn are_all(history: &History, list: &[Timed]) -> bool {
         }
     }
     true
+}
+
+/// These happened and no others, this is next, and so the scanner ended.
+pub(super) fn expect_happened(
+    rt: &impl Abort,
+    history: &History,
+    list: &[Timed],
+    told: (usize, TimedEnd),
+    wanted: (usize, TimedEnd),
+) {
+    let next = wanted.0;
+    assert!(rt; are_all(history, list), "up to {next}");
+    expect_equal(rt, told, wanted);
 }
 
 /// The scanner goes through the list above from this place on: these happen, this is next, and so it ends.
@@ -214,9 +224,8 @@ fn expect_scanned<R: Wait + Abort>(
     end: TimedEnd,
 ) {
     let told = scan_sample(clock, alloc, room, from.0, from.1);
-    let rt = clock.rt;
-    assert!(rt; are_all(&told.history, list), "up to {next}");
-    assert_eq!(rt; (told.next, told.end), (next, end));
+    let ended = (told.next, told.end);
+    expect_happened(clock.rt, &told.history, list, ended, (next, end));
 }
 
 /// The same from now on.
@@ -237,8 +246,8 @@ fn expect_scanned_now<R: Wait + Abort>(
 fn each_happens_at_its_time_in_naps(rt: HostRuntime) {
     let clock = Slept::new(&rt, u64::MAX);
     expect_scanned_now(&clock, rt.alloc(), 8, 0, &WARMS_UP, 3, TimedEnd::Over);
-    assert_eq!(rt; clock.slept(), 145);
-    assert_eq!(rt; clock.longest_ms.load(Ordering::SeqCst), 20);
+    expect_equal(&rt, clock.slept(), 145);
+    expect_equal(&rt, clock.longest_ms.load(Ordering::SeqCst), 20);
 }
 
 #[test]
@@ -256,7 +265,7 @@ fn the_bell_ends_it(rt: HostRuntime) {
     let clock = Slept::new(&rt, 60);
     let list = &WARMS_UP[..1];
     expect_scanned_now(&clock, rt.alloc(), 8, 0, list, 1, TimedEnd::Stopped);
-    assert_eq!(rt; clock.slept(), 60);
+    expect_equal(&rt, clock.slept(), 60);
 }
 
 #[test]
@@ -264,14 +273,14 @@ fn nothing_happens_once_all_is_over(rt: HostRuntime) {
     let clock = Slept::new(&rt, u64::MAX);
     clock.over.store(true, Ordering::SeqCst);
     expect_scanned_now(&clock, rt.alloc(), 8, 0, &[], 0, TimedEnd::Stopped);
-    assert_eq!(rt; clock.slept(), 0);
+    expect_equal(&rt, clock.slept(), 0);
 }
 
 #[test]
 fn a_full_history_keeps_the_place(rt: HostRuntime) {
     let clock = Slept::new(&rt, u64::MAX);
     expect_scanned_now(&clock, rt.alloc(), 1, 0, &WARMS_UP[..1], 1, TimedEnd::Full);
-    assert_eq!(rt; clock.slept(), 100);
+    expect_equal(&rt, clock.slept(), 100);
 }
 
 #[test]
@@ -290,5 +299,5 @@ fn nothing_waits_for_a_clock_that_cannot_be_read(rt: HostRuntime) {
         TimedEnd::Over,
     );
     expect_scanned_now(&clock, rt.alloc(), 8, 0, &WARMS_UP, 3, TimedEnd::Over);
-    assert_eq!(rt; clock.slept(), 0);
+    expect_equal(&rt, clock.slept(), 0);
 }

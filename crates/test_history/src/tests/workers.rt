@@ -6,10 +6,12 @@ ghost use Rattle.bmc_board.specs.OwnStore.{own_records};
 use super::gates::{Counted, Crossed, Mixed, Open};
 use super::links::link_of;
 use super::seats::code_at;
-use super::{history_of, open_sample};
+use super::{expect_equal, history_of, open_sample, open_shared};
 use bmc_board::{Bench, Board, Records};
 use bmc_core::{At, Port};
-use bmc_ports::{Call, End, Gate, History, Link, MemLink, Opening, Shared, run_two, serve_port};
+use bmc_ports::{
+    Call, End, Gate, History, Link, MemLink, Opening, Seat, Shared, run_two, serve_port,
+};
 use mctp_net::EndpointId;
 use std::alloc::Global;
 use std::marker::Brand;
@@ -102,8 +104,7 @@ fn share<J: Opening + Send + Sync, G: Gate + Sync, R: Threads + Wait + Abort + S
     requires opening { state_of own_records board ≡ J.opening }
     requires room { room ≡ J.room }
 {
-    let opened = Shared::<J, Records>::open(alloc, blank, board, room);
-    let (shared, seats) = opened.ok().expect(rt, "a board that is shared");
+    let (shared, seats) = open_shared::<J, R>(rt, alloc, blank, board, room);
     let ports = [
         port_on(rt, alloc, Bus::Ipmb),
         port_on(rt, alloc, Bus::Smbus),
@@ -186,10 +187,10 @@ fn expect_second_first(rt: &impl Abort, history: &History) {
 /// Both workers and the scanner ended with their turns, and both sent what answers the first two scripts. So many
 /// events are in the history.
 fn expect_answered(rt: &impl Abort, told: &Told, events: usize) {
-    assert!(rt; told.ends == [End::Turns, End::Turns, End::Turns]);
+    expect_equal(rt, told.ends, [End::Turns, End::Turns, End::Turns]);
     assert!(rt; are_sent(told.first.sent(), &BOOTED), "port 0");
     assert!(rt; are_sent(told.second.sent(), &[TID]), "port 1");
-    assert_eq!(rt; told.history.len(), events);
+    expect_equal(rt, told.history.len(), events);
 }
 
 #[test]
@@ -233,6 +234,12 @@ fn replays(board: &mut Board<Records>, history: &History) -> bool {
     true
 }
 
+/// The sample board answers the history that workers of this seed left as it was answered then.
+fn expect_replays(rt: &impl Abort, alloc: Global, history: &History, seed: u64) {
+    let mut other = open_sample(rt, alloc);
+    assert!(rt; replays(&mut other, history), "seed {seed}");
+}
+
 /// Workers whom a gate of this seed holds leave a history of so many events, and a second board answers it so.
 fn expect_replayed<R: Threads + Wait + Abort + Sync>(
     rt: &R,
@@ -242,9 +249,20 @@ fn expect_replayed<R: Threads + Wait + Abort + Sync>(
     events: usize,
 ) {
     let told = share_sample(rt, alloc, script, &Mixed::new(seed));
-    assert_eq!(rt; told.history.len(), events);
-    let mut other = open_sample(rt, alloc);
-    assert!(rt; replays(&mut other, &told.history), "seed {seed}");
+    expect_equal(rt, told.history.len(), events);
+    expect_replays(rt, alloc, &told.history, seed);
+}
+
+/// The same with each of 300 seeds.
+fn expect_all_replayed<R: Threads + Wait + Abort + Sync>(
+    rt: &R,
+    alloc: Global,
+    script: &Script<'_>,
+    events: usize,
+) {
+    for seed in 0..300u64 {
+        expect_replayed(rt, alloc, script, seed, events);
+    }
 }
 
 #[test]
@@ -255,9 +273,7 @@ fn whoever_goes_first_a_second_board_answers_the_history_so(rt: HostRuntime) {
         bench: &[READING, Bench::Tick],
         turns: 4,
     };
-    for seed in 0..300u64 {
-        expect_replayed(&rt, rt.alloc(), &script, seed, 7);
-    }
+    expect_all_replayed(&rt, rt.alloc(), &script, 7);
 }
 
 /// What one worker alone is to do: its port's bus, its script, and how many turns it makes.
@@ -274,6 +290,23 @@ struct ToldAlone {
     link: MemLink,
     end: End,
     history: History,
+}
+
+/// Has one worker serve a port of a board that is shared: its link, and why it ended.
+fn serve_seat<J: Opening, G: Gate, R: Wait + Abort>(
+    rt: &R,
+    alloc: Global,
+    shared: &Shared<J, Records>,
+    seat: &mut Seat<J>,
+    alone: Alone<'_>,
+    gate: &G,
+) -> (MemLink, End)
+    ensures { seat.new.number ≡ seat.old.number }
+{
+    let mut port = port_on(rt, alloc, alone.bus);
+    let mut link = link_of(rt, alloc, alone.heard);
+    let end = serve_port(rt, shared, seat, &mut port, &mut link, gate, alone.turns);
+    (link, end)
 }
 
 /// Has one worker alone serve a port of a board.
@@ -293,12 +326,8 @@ fn serve_alone<J: Opening, G: Gate, R: Wait + Abort>(
     requires opening { state_of own_records board ≡ J.opening }
     requires room { room ≡ J.room }
 {
-    let opened = Shared::<J, Records>::open(alloc, blank, board, room);
-    let (shared, mut seats) = opened.ok().expect(rt, "a board that is shared");
-    let mut port = port_on(rt, alloc, alone.bus);
-    let mut link = link_of(rt, alloc, alone.heard);
-    let seat = &mut seats.first;
-    let end = serve_port(rt, &shared, seat, &mut port, &mut link, gate, alone.turns);
+    let (shared, mut seats) = open_shared::<J, R>(rt, alloc, blank, board, room);
+    let (link, end) = serve_seat(rt, alloc, &shared, &mut seats.first, alone, gate);
     ToldAlone {
         link,
         end,
@@ -330,6 +359,19 @@ fn serve_sample<G: Gate, R: Wait + Abort>(
     serve_alone_at::<G, R>(rt, alloc, board, room, alone, gate)
 }
 
+/// The worker ended so, and sent so many frames. So many events are in the history.
+fn expect_ended(rt: &impl Abort, told: &ToldAlone, end: End, sent: usize, events: usize) {
+    expect_equal(rt, told.end, end);
+    expect_equal(rt, told.link.sent().len(), sent);
+    expect_equal(rt, told.history.len(), events);
+}
+
+/// So many calls of the link were made, and so many frames were heard.
+fn expect_heard(rt: &impl Abort, link: &MemLink, calls: u64, heard: u64) {
+    let counts = link.counts();
+    expect_equal(rt, (counts.calls, counts.heard), (calls, heard));
+}
+
 #[test]
 fn a_worker_ends_at_the_request_that_finds_no_room(rt: HostRuntime) {
     let alone = Alone {
@@ -338,11 +380,10 @@ fn a_worker_ends_at_the_request_that_finds_no_room(rt: HostRuntime) {
         turns: 3,
     };
     let told = serve_sample(&rt, rt.alloc(), 1, alone, &Open);
-    assert!(rt; told.end == End::Full && told.history.len() == 1);
-    assert_eq!(rt; code_at(&told.history, 0), Some(0x00));
+    expect_ended(&rt, &told, End::Full, 1, 1);
+    expect_equal(&rt, code_at(&told.history, 0), Some(0x00));
     assert!(rt; are_sent(told.link.sent(), &BOOTED[..1]));
-    let counts = told.link.counts();
-    assert_eq!(rt; (counts.calls, counts.heard), (2, 2));
+    expect_heard(&rt, &told.link, 2, 2);
 }
 
 /// The worker makes all its turns, sends so many frames, and passes the gate twice for each of so many exchanges.
@@ -355,9 +396,9 @@ fn expect_passed<R: Wait + Abort>(
 ) {
     let gate = Counted::new();
     let told = serve_sample(rt, alloc, 8, alone, &gate);
-    assert!(rt; told.end == End::Turns && told.link.sent().len() == sent);
-    assert_eq!(rt; told.history.len(), exchanges);
-    assert_eq!(rt; gate.passed(), Some(2 * exchanges as u64));
+    expect_ended(rt, &told, End::Turns, sent, exchanges);
+    let passed = (exchanges as u64).saturating_mul(2);
+    expect_equal(rt, gate.passed(), Some(passed));
 }
 
 /// A Get of boot parameter 5 whose last check byte is wrong.
