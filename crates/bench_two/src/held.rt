@@ -93,6 +93,19 @@ fn time_ports<J: Opening, R: Clock>(
     start.and_then(|start| start.elapsed(rt).ok())
 }
 
+/// How long the frames of both ports take at a board that keeps its history.
+fn time_keeping<J: Opening, R: Clock>(
+    rt: &R,
+    alloc: Global,
+    mut held: Held<J, Records>,
+    asked: &Asked,
+) -> Option<Duration> {
+    match controller_ports(alloc) {
+        Ok(ports) => time_ports(rt, &mut held, ports, asked),
+        Err(_) => None,
+    }
+}
+
 /// How long they take on a board with room for so many events.
 fn time_opened<J: Opening, R: Clock>(
     rt: &R,
@@ -105,11 +118,8 @@ fn time_opened<J: Opening, R: Clock>(
     requires opening { state_of own_records board ≡ J.opening }
     requires room { room ≡ J.room }
 {
-    let Ok(mut held) = Held::<J, Records>::open(alloc, board, room) else {
-        return None;
-    };
-    match controller_ports(alloc) {
-        Ok(ports) => time_ports(rt, &mut held, ports, asked),
+    match Held::<J, Records>::open(alloc, board, room) {
+        Ok(held) => time_keeping(rt, alloc, held, asked),
         Err(_) => None,
     }
 }

@@ -48,17 +48,31 @@ struct Sides {
     turns: u32,
 }
 
+/// How often each worker listens.
+fn turns_of(asked: &Asked) -> Option<u32> {
+    let frames = u32::try_from(asked.ipmb.len().max(asked.smbus.len())).ok()?;
+    Some(frames.saturating_mul(asked.times))
+}
+
+/// Both links, which hear the frames that are asked for.
+fn links_of(alloc: Global, asked: &Asked) -> Option<(MemLink, MemLink)> {
+    let ipmb = link_of(alloc, asked.ipmb.as_slice(), asked.times)?;
+    match link_of(alloc, asked.smbus.as_slice(), asked.times) {
+        Some(smbus) => Some((ipmb, smbus)),
+        None => None,
+    }
+}
+
 /// Both ports, which hear the frames that are asked for.
 fn sides_of(alloc: Global, asked: &Asked) -> Option<Sides> {
-    let ipmb = link_of(alloc, asked.ipmb.as_slice(), asked.times)?;
-    let smbus = link_of(alloc, asked.smbus.as_slice(), asked.times)?;
-    let frames = u32::try_from(asked.ipmb.len().max(asked.smbus.len())).ok()?;
+    let turns = turns_of(asked)?;
+    let (ipmb, smbus) = links_of(alloc, asked)?;
     match controller_ports(alloc) {
         Ok(ports) => Some(Sides {
             ports,
             ipmb,
             smbus,
-            turns: frames.saturating_mul(asked.times),
+            turns,
         }),
         Err(_) => None,
     }
@@ -133,6 +147,35 @@ fn time_work<J: Opening + Send + Sync, R: Threads + Wait + Clock + Sync>(
     }
 }
 
+/// What the workers' run came to.
+fn run_of<J: Opening>(shared: Shared<J, Records>, seats: Seats<J>, took: Duration) -> Option<Run>
+    requires three { J.parts ≡ 3 }
+{
+    match close_board(shared, seats) {
+        Some(served) => Some(Run {
+            events: served.history.len(),
+            took,
+        }),
+        None => None,
+    }
+}
+
+/// Has the workers serve a board that they share.
+fn time_sharing<J: Opening + Send + Sync, R: Threads + Wait + Clock + Sync>(
+    rt: &R,
+    shared: Shared<J, Records>,
+    seats: Seats<J>,
+    sides: Sides,
+    way: Way,
+) -> Option<Run>
+    requires three { J.parts ≡ 3 }
+{
+    match time_work(rt, &shared, seats, sides, way) {
+        Some((seats, took)) => run_of(shared, seats, took),
+        None => None,
+    }
+}
+
 /// Has the workers serve a board, with room for so many events.
 fn time_opened<J: Opening + Send + Sync, R: Threads + Wait + Clock + Sync>(
     rt: &R,
@@ -150,18 +193,9 @@ fn time_opened<J: Opening + Send + Sync, R: Threads + Wait + Clock + Sync>(
     requires opening { state_of own_records board ≡ J.opening }
     requires room { room ≡ J.room }
 {
-    let Ok((shared, seats)) = Shared::<J, Records>::open(alloc, blank, board, room) else {
-        return None;
-    };
-    match time_work(rt, &shared, seats, sides, way) {
-        Some((seats, took)) => match close_board(shared, seats) {
-            Some(served) => Some(Run {
-                events: served.history.len(),
-                took,
-            }),
-            None => None,
-        },
-        None => None,
+    match Shared::<J, Records>::open(alloc, blank, board, room) {
+        Ok((shared, seats)) => time_sharing(rt, shared, seats, sides, way),
+        Err(_) => None,
     }
 }
 
