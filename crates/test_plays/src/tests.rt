@@ -26,12 +26,22 @@ mod two_steps;
 mod writers;
 
 use parts_text::SHARED;
-use player::otherwise;
+use player::expect_otherwise;
 use std::alloc::Global;
+use std::fmt::Debug;
 use std::process::Abort;
+
+/// The value is the one that is wanted.
+fn expect_equal<T: Copy + Debug + PartialEq>(rt: &impl Abort, value: T, wanted: T) {
+    assert_eq!(rt; value, wanted);
+}
+
+/// This came otherwise than the stories tell.
+fn expect_noticed(rt: &impl Abort, alloc: Global, stories: &str, noticed: &str) {
+    expect_otherwise(rt, alloc, SHARED, stories, noticed);
+}
 
 /// All of the stories comes as it is told.
 fn expect_told(rt: &impl Abort, alloc: Global, stories: &str) {
-    let told = otherwise(alloc, SHARED, stories).expect(rt, "memory");
-    assert_eq!(rt; told.as_str(), "");
+    expect_noticed(rt, alloc, stories, "");
 }

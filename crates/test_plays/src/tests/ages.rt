@@ -1,5 +1,6 @@
 //! How long frames are live, worked by hand from the rule.
 
+use super::expect_equal;
 use lab_run::{Known, Mark};
 use two_wire::Bus;
 
@@ -16,14 +17,14 @@ fn is_live(on: Bus, begun: usize) -> (bool, bool) {
 
 #[test]
 fn a_frame_is_live_for_eight_requests_on_smbus(rt: HostRuntime) {
-    assert_eq!(rt; is_live(Bus::Smbus, 11), (true, true));
-    assert_eq!(rt; is_live(Bus::Smbus, 12), (false, false));
+    expect_equal(&rt, is_live(Bus::Smbus, 11), (true, true));
+    expect_equal(&rt, is_live(Bus::Smbus, 12), (false, false));
 }
 
 #[test]
 fn a_frame_is_live_for_thirty_two_requests_on_ipmb(rt: HostRuntime) {
-    assert_eq!(rt; is_live(Bus::Ipmb, 35), (true, true));
-    assert_eq!(rt; is_live(Bus::Ipmb, 36), (false, false));
+    expect_equal(&rt, is_live(Bus::Ipmb, 35), (true, true));
+    expect_equal(&rt, is_live(Bus::Ipmb, 36), (false, false));
 }
 
 #[test]

@@ -1,4 +1,5 @@
 //! The calls, one by one.
+use super::expect_equal;
 use super::runs::{Paper, new_paper, words_of};
 use super::scene::Scene;
 use bmc_host::words::read;
@@ -16,52 +17,53 @@ const GET: [u8; 7] = [0x20, 0x18, 0xC8, 0x2C, 0x00, 0x01, 0xD3];
 const DEVICE: &[u8] = b"2C1CB820000100200101050207CDAB003412F1\n";
 
 /// The run ended well, and wrote this.
-fn expect_written(rt: &impl Abort, ended: u8, paper: &Paper, written: &[u8]) {
-    assert_eq!(rt; ended, 0);
-    assert_eq!(rt; paper.out.as_slice(), written);
-    assert!(rt; paper.err.is_empty());
+fn expect_written(rt: &impl Abort, ended: u8, paper: Paper, written: &[u8]) {
+    expect_equal(rt, ended, 0);
+    expect_equal(rt, paper.out.as_slice(), written);
+    expect_equal(rt, paper.err.as_slice(), b"");
+    drop(paper);
+}
+
+/// The run ended without a file, and said so.
+fn expect_refused(rt: &impl Abort, ended: u8, paper: Paper, said: &[u8]) {
+    expect_equal(rt, ended, 3);
+    expect_equal(rt, paper.out.as_slice(), b"");
+    expect_equal(rt, paper.err.as_slice(), said);
+    drop(paper);
 }
 
 #[test]
 fn a_frame_is_sent(rt: HostRuntime) {
     let mut paper = new_paper(rt.alloc());
     let ended = frame_run(rt.alloc(), Bus::Ipmb, None, GET.as_slice(), &mut paper);
-    expect_written(&rt, ended, &paper, DEVICE);
+    expect_written(&rt, ended, paper, DEVICE);
+}
+
+/// The frame is sent to the board of the file of this name.
+fn send_to(alloc: Global, files: &Scene, board: Option<&str>, paper: &mut Paper) -> u8 {
+    frame_of_file(alloc, files, Bus::Ipmb, board, GET.as_slice(), paper)
 }
 
 #[test]
 fn a_frame_is_sent_to_the_board_of_a_file(rt: HostRuntime) {
     let files = Scene::new(rt.alloc());
     let mut paper = new_paper(rt.alloc());
-    let ended = frame_of_file(
-        rt.alloc(),
-        &files,
-        Bus::Ipmb,
-        None,
-        GET.as_slice(),
-        &mut paper,
-    );
-    expect_written(&rt, ended, &paper, DEVICE);
-    let none = Some("none.toml");
-    let ended = frame_of_file(
-        rt.alloc(),
-        &files,
-        Bus::Ipmb,
-        none,
-        GET.as_slice(),
-        &mut paper,
-    );
-    assert_eq!(rt; ended, 3);
-    assert_eq!(rt; paper.err.as_slice(), b"file none.toml\n".as_slice());
+    let ended = send_to(rt.alloc(), &files, None, &mut paper);
+    expect_written(&rt, ended, paper, DEVICE);
+    let mut paper = new_paper(rt.alloc());
+    let ended = send_to(rt.alloc(), &files, Some("none.toml"), &mut paper);
+    expect_refused(&rt, ended, paper, b"file none.toml\n");
+    drop(files);
 }
 
 #[test]
 fn words_name_a_bus_and_bytes(rt: HostRuntime) {
     let frame = asked_frame(rt.alloc(), Some("smbus"), "C8aB").expect(&rt, "a frame");
-    assert_eq!(rt; frame.bus, Bus::Smbus);
-    assert_eq!(rt; frame.bytes.as_slice(), [0xC8, 0xAB].as_slice());
+    expect_equal(&rt, frame.bus, Bus::Smbus);
+    expect_equal(&rt, frame.bytes.as_slice(), &[0xC8, 0xAB]);
+    drop(frame);
     let refused = asked_frame(rt.alloc(), Some("can"), "2018").err();
-    assert_eq!(rt; refused, Some(Status::RefusedWords));
+    expect_equal(&rt, refused, Some(Status::RefusedWords));
 }
 
 /// A board without users and sensors.
@@ -96,7 +98,7 @@ const CHART: &[u8] = b"event mgr  |comes             sends            |bmc     p
 fn a_plan_is_played(rt: HostRuntime) {
     let mut paper = new_paper(rt.alloc());
     let ended = play_run(rt.alloc(), false, false, BOARD, "", "start\n", &mut paper);
-    expect_written(&rt, ended, &paper, LINES);
+    expect_written(&rt, ended, paper, LINES);
 }
 
 #[test]
@@ -107,14 +109,14 @@ fn a_plan_is_shown(rt: HostRuntime) {
         premises: false,
     };
     let ended = show(rt.alloc(), shown, BOARD, "", "start\n", &mut paper);
-    expect_written(&rt, ended, &paper, LINES);
+    expect_written(&rt, ended, paper, LINES);
 }
 
 #[test]
 fn a_plan_is_drawn(rt: HostRuntime) {
     let mut paper = new_paper(rt.alloc());
     let ended = chart_run(rt.alloc(), BOARD, "", "start\n", &mut paper);
-    expect_written(&rt, ended, &paper, CHART);
+    expect_written(&rt, ended, paper, CHART);
 }
 
 /// The board is a file of the scene.
@@ -135,7 +137,8 @@ fn the_plan_of_a_file_is_drawn(rt: HostRuntime) {
     };
     let mut paper = new_paper(rt.alloc());
     let ended = play_of_files(rt.alloc(), &files, Shown::Chart, words, &mut paper);
-    expect_written(&rt, ended, &paper, CHART);
+    drop(files);
+    expect_written(&rt, ended, paper, CHART);
 }
 
 /// The clean schedule of a plan that is undone.
@@ -148,7 +151,7 @@ const UNDONE: Wanted = Wanted {
 fn a_schedule_is_written(rt: HostRuntime) {
     let mut paper = new_paper(rt.alloc());
     let ended = schedule_run(rt.alloc(), UNDONE, BOARD, "", &mut paper);
-    expect_written(&rt, ended, &paper, b"start\nundo\n");
+    expect_written(&rt, ended, paper, b"start\nundo\n");
 }
 
 #[test]
@@ -161,7 +164,8 @@ fn the_schedule_of_a_file_is_written(rt: HostRuntime) {
     };
     let mut paper = new_paper(rt.alloc());
     let ended = schedule_of_files(rt.alloc(), &files, UNDONE, words, &mut paper);
-    expect_written(&rt, ended, &paper, b"start\nundo\n");
+    drop(files);
+    expect_written(&rt, ended, paper, b"start\nundo\n");
 }
 
 #[test]
@@ -170,36 +174,52 @@ fn a_line_is_run(rt: HostRuntime) {
     let files = Scene::new(rt.alloc());
     let mut paper = new_paper(rt.alloc());
     let ended = run_line(rt.alloc(), &files, words.as_slice(), &mut paper);
-    expect_written(&rt, ended, &paper, DEVICE);
+    drop(words);
+    drop(files);
+    expect_written(&rt, ended, paper, DEVICE);
+}
+
+/// What the line's words ask for.
+fn asked(rt: &impl Abort, alloc: Global, line: &str) -> Words {
+    let words = words_of(alloc, line).expect(rt, "memory");
+    let asked = read(alloc, words.as_slice());
+    drop(words);
+    asked.ok().expect(rt, "words that aren't refused")
+}
+
+/// The frame is one of these bytes on SMBus, to no board of a file.
+fn expect_frame(rt: &impl Abort, words: &FrameWords, bytes: &[u8]) {
+    assert!(rt; words.board.is_none());
+    expect_equal(rt, words.frame.bus, Bus::Smbus);
+    expect_equal(rt, words.frame.bytes.as_slice(), bytes);
 }
 
 #[test]
 fn words_ask_for_a_frame(rt: HostRuntime) {
-    let words = words_of(rt.alloc(), "bmclab frame --bus smbus 2018").expect(&rt, "memory");
-    let Ok(Words::Frame(FrameWords { board, frame })) = read(rt.alloc(), words.as_slice()) else {
-        panic!(rt; "refused");
-    };
-    assert!(rt; board.is_none());
-    assert_eq!(rt; frame.bus, Bus::Smbus);
-    assert_eq!(rt; frame.bytes.as_slice(), [0x20, 0x18].as_slice());
+    let asked = asked(&rt, rt.alloc(), "bmclab frame --bus smbus 2018");
+    match &asked {
+        Words::Frame(words) => expect_frame(&rt, words, &[0x20, 0x18]),
+        _ => panic!(rt; "no frame"),
+    }
+    drop(asked);
+}
+
+/// The play is shown so, and has these files.
+fn expect_play(rt: &impl Abort, words: &PlayWords, shown: Shown, files: [&str; 3]) {
+    expect_equal(rt, words.shown, shown);
+    let [board, plan, schedule] = files;
+    expect_equal(rt, words.board.as_str(), board);
+    expect_equal(rt, words.plan.as_str(), plan);
+    expect_equal(rt, words.schedule.as_str(), schedule);
 }
 
 #[test]
 fn words_ask_for_a_play(rt: HostRuntime) {
-    let words = words_of(rt.alloc(), "bmclab play --chart a.toml b.toml c.txt").expect(
-        &rt, "memory",
-    );
-    let Ok(Words::Play(play)) = read(rt.alloc(), words.as_slice()) else {
-        panic!(rt; "refused");
-    };
-    let PlayWords {
-        shown,
-        board,
-        plan,
-        schedule,
-    } = play;
-    assert_eq!(rt; shown, Shown::Chart);
-    assert_eq!(rt; board.as_str(), "a.toml");
-    assert_eq!(rt; plan.as_str(), "b.toml");
-    assert_eq!(rt; schedule.as_str(), "c.txt");
+    let files = ["a.toml", "b.toml", "c.txt"];
+    let asked = asked(&rt, rt.alloc(), "bmclab play --chart a.toml b.toml c.txt");
+    match &asked {
+        Words::Play(words) => expect_play(&rt, words, Shown::Chart, files),
+        _ => panic!(rt; "no play"),
+    }
+    drop(asked);
 }

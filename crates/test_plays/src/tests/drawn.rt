@@ -39,7 +39,9 @@ fn plan(rt: &impl Abort, alloc: Global, texts: Texts) -> Plan {
     };
     let mut text = String::new(alloc);
     push_lines(&mut text, lines).expect(rt, "the lines of a plan");
-    read_plan(alloc, text.as_str()).ok().expect(rt, "a plan")
+    let plan = read_plan(alloc, text.as_str());
+    drop(text);
+    plan.ok().expect(rt, "a plan")
 }
 
 /// An only attribute: a string, of 1,024 bytes at most, and now of none.
@@ -103,40 +105,55 @@ fn end_of(played: &Played) -> End {
     End::Other
 }
 
-/// How the play of the schedule ends.
-fn play_drawn(rt: &impl Abort, alloc: Global, texts: Texts, wanted: Wanted) -> End {
+/// The play of the schedule.
+fn played(rt: &impl Abort, alloc: Global, texts: Texts, wanted: Wanted) -> Played {
     let (file, steps) = (board(rt, alloc, texts), plan(rt, alloc, texts));
     let drawn = make_schedule(alloc, file, steps, wanted);
     let events = drawn.expect(rt, "memory");
     let (file, steps) = (board(rt, alloc, texts), plan(rt, alloc, texts));
     let played = play(alloc, file, steps, events.as_slice());
-    end_of(&played.ok().expect(rt, "a play without a fault"))
+    drop(events);
+    played.ok().expect(rt, "a play without a fault")
+}
+
+/// How the play of the schedule ends.
+fn play_drawn(rt: &impl Abort, alloc: Global, texts: Texts, wanted: Wanted) -> End {
+    let played = played(rt, alloc, texts, wanted);
+    let end = end_of(&played);
+    drop(played);
+    end
+}
+
+/// The play of the schedule that is drawn from the seed ends so.
+fn expect_end(
+    rt: &impl Abort,
+    alloc: Global,
+    texts: Texts,
+    seed: u64,
+    late_joins: bool,
+    wanted_end: End,
+) {
+    let end = play_drawn(rt, alloc, texts, wanted(seed, late_joins));
+    assert_eq!(rt; end, wanted_end, "seed {seed}");
 }
 
 #[test]
 fn a_plan_is_undone_where_packets_may_join_late_and_none_does(rt: HostRuntime) {
-    for seed in [4, 5] {
-        let end = play_drawn(&rt, rt.alloc(), Texts::Whole, wanted(seed, true));
-        assert_eq!(rt; end, End::Undone, "seed {seed}");
-    }
-    let end = play_drawn(&rt, rt.alloc(), Texts::InParts, wanted(4, true));
-    assert_eq!(rt; end, End::Undone, "in parts");
+    expect_end(&rt, rt.alloc(), Texts::Whole, 4, true, End::Undone);
+    expect_end(&rt, rt.alloc(), Texts::Whole, 5, true, End::Undone);
+    expect_end(&rt, rt.alloc(), Texts::InParts, 4, true, End::Undone);
 }
 
 /// In the schedule of this seed a packet joins late, where that may be.
 fn expect_joined(rt: &impl Abort, alloc: Global, texts: Texts, seed: u64) {
-    let end = play_drawn(rt, alloc, texts, wanted(seed, true));
-    assert_eq!(rt; end, End::Joined, "seed {seed}");
-    let kept = play_drawn(rt, alloc, texts, wanted(seed, false));
-    assert_eq!(rt; kept, End::Undone, "seed {seed}");
+    expect_end(rt, alloc, texts, seed, true, End::Joined);
+    expect_end(rt, alloc, texts, seed, false, End::Undone);
 }
 
 #[test]
 fn packets_join_late_only_where_they_may(rt: HostRuntime) {
-    for seed in [24, 30] {
-        expect_joined(&rt, rt.alloc(), Texts::Whole, seed);
-    }
-    for seed in [13, 16] {
-        expect_joined(&rt, rt.alloc(), Texts::InParts, seed);
-    }
+    expect_joined(&rt, rt.alloc(), Texts::Whole, 24);
+    expect_joined(&rt, rt.alloc(), Texts::Whole, 30);
+    expect_joined(&rt, rt.alloc(), Texts::InParts, 13);
+    expect_joined(&rt, rt.alloc(), Texts::InParts, 16);
 }

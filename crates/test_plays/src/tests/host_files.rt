@@ -1,4 +1,5 @@
 //! The files of the host.
+use super::expect_equal;
 use bmc_lab::{TextFiles, Unreadable};
 use host_base::HostFiles;
 use std::fs;
@@ -25,6 +26,7 @@ fn a_file_of_the_host_has_its_text(rt: HostRuntime) {
 #[test]
 fn a_file_of_the_host_without_a_text_is_not_read(rt: HostRuntime) {
     assert!(rt; fs::write(&rt, "no_text.toml", &[0xFF, 0x0A][..]).is_ok());
-    assert_eq!(rt; fault_of(&rt, "no_text.toml"), Some(Unreadable::NoText));
-    assert_eq!(rt; fault_of(&rt, "none.toml"), Some(Unreadable::NoText));
+    let no_text = Some(Unreadable::NoText);
+    expect_equal(&rt, fault_of(&rt, "no_text.toml"), no_text);
+    expect_equal(&rt, fault_of(&rt, "none.toml"), no_text);
 }

@@ -1,4 +1,5 @@
 //! Texts that have names, to be used again.
+use super::text::push_text;
 use super::trouble::Trouble;
 use std::alloc::{AllocError, Global};
 
@@ -54,9 +55,8 @@ impl Parts {
     /// Appends the text of this name.
     pub fn push(&self, text: &mut String, name: &str) -> Result<(), Trouble> {
         match self.find(name) {
-            Some(part) => text.push_str(part)?,
-            None => return Err(Trouble::Unread),
+            Some(part) => push_text(text, part),
+            None => Err(Trouble::Unread),
         }
-        Ok(())
     }
 }

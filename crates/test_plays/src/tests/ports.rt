@@ -1,4 +1,5 @@
 //! Worked frames to the two ports of a board, one after the other.
+use super::expect_equal;
 use std::alloc::Global;
 use std::process::Abort;
 use stories::play;
@@ -6,7 +7,8 @@ use stories::play;
 /// Each line of the stories comes as it is told.
 fn expect_played(rt: &impl Abort, alloc: Global, stories: &str) {
     let told = play(alloc, stories).expect(rt, "memory");
-    assert_eq!(rt; told.as_str(), "");
+    expect_equal(rt, told.as_str(), "");
+    drop(told);
 }
 
 /// Frames on IPMB.

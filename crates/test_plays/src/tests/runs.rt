@@ -53,18 +53,18 @@ fn send(
     }
 }
 
+/// Appends the letters, in which `~` stands for a space.
+fn push_letters(text: &mut String, letters: &str) -> Result<(), AllocError> {
+    for letter in letters.chars() {
+        text.push(if letter == '~' { ' ' } else { letter })?;
+    }
+    Ok(())
+}
+
 /// The word: `''` is an empty one, and `~` stands for a space.
 fn word_of(alloc: Global, word: &str) -> Result<String, AllocError> {
     let mut text = String::new(alloc);
-    if word == "''" {
-        return Ok(text);
-    }
-    for (number, piece) in word.split('~').enumerate() {
-        if number > 0 {
-            text.push_str(" ")?;
-        }
-        text.push_str(piece)?;
-    }
+    push_letters(&mut text, if word == "''" { "" } else { word })?;
     Ok(text)
 }
 
@@ -80,7 +80,9 @@ pub fn words_of(alloc: Global, line: &str) -> Result<Vec<String>, AllocError> {
 /// A run of a command line, with the story's files.
 fn run_words(alloc: Global, scene: &Scene, line: &str, paper: &mut Paper) -> Result<u8, Trouble> {
     let words = words_of(alloc, line)?;
-    Ok(run_line(alloc, scene, words.as_slice(), paper))
+    let ended = run_line(alloc, scene, words.as_slice(), paper);
+    drop(words);
+    Ok(ended)
 }
 
 /// The run that the line asks for, and its status.

@@ -1,4 +1,5 @@
 //! The texts of a story, as files in memory: `board.toml`, `plan.toml` and `schedule.txt`.
+use super::text::push_text;
 use super::trouble::Trouble;
 use bmc_host::{Cause, TellsCause};
 use bmc_lab::{TextFiles, Unreadable};
@@ -63,22 +64,18 @@ impl Scene {
 
     /// In the board `new` stands in the place of the first `old`.
     pub fn swap(&mut self, old: &str, new: &str) -> Result<(), Trouble> {
-        let (front, back) = match &self.board {
-            Ok(board) => board.split_once(old).ok_or(Trouble::Unread)?,
-            Err(_) => return Err(Trouble::Unread),
-        };
+        let board = text_of(&self.board).ok_or(Trouble::Unread)?;
+        let (front, back) = board.split_once(old).ok_or(Trouble::Unread)?;
         let board = format!(in self.alloc; "{front}{new}{back}")?;
-        self.board = Ok(board);
-        Ok(())
+        self.put("board", Ok(board))
     }
 
     /// The schedule goes on so.
     pub fn go_on(&mut self, text: &str) -> Result<(), Trouble> {
         match &mut self.schedule {
-            Ok(schedule) => schedule.push_str(text)?,
-            Err(_) => return Err(Trouble::Unread),
+            Ok(schedule) => push_text(schedule, text),
+            Err(_) => Err(Trouble::Unread),
         }
-        Ok(())
     }
 }
 

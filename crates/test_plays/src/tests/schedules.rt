@@ -188,5 +188,6 @@ fn drawn_schedules_are_taken_and_undone(rt: HostRuntime) {
     for seed in 0..SEEDS {
         let story = seed_story(rt.alloc(), seed).expect(&rt, "memory");
         expect_told(&rt, rt.alloc(), story.as_str());
+        drop(story);
     }
 }

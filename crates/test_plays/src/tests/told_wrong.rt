@@ -1,8 +1,5 @@
 //! Stories that are told wrong: the player notices each kind of line.
-use super::parts_text::SHARED;
-use super::player::otherwise;
-use std::alloc::Global;
-use std::process::Abort;
+use super::expect_noticed;
 
 /// Each kind of line, told wrong.
 const WRONG: &str = "story every run is told wrong
@@ -75,12 +72,6 @@ a story's texts are told wrong, line 34: can't be read
 a story's texts are told wrong, line 35: can't be read
 nothing is played of this one, line 39: nothing was played
 ";
-
-/// So it is noticed that the stories are told wrong.
-fn expect_noticed(rt: &impl Abort, alloc: Global, stories: &str, noticed: &str) {
-    let told = otherwise(alloc, SHARED, stories).expect(rt, "memory");
-    assert_eq!(rt; told.as_str(), noticed);
-}
 
 #[test]
 fn stories_that_are_told_wrong_are_noticed(rt: HostRuntime) {

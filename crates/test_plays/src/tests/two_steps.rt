@@ -1,4 +1,5 @@
 //! A plan of two steps on the sample board, over IPMB.
+use super::expect_equal;
 use bmc_board::Records;
 use bmc_core::{At, Board, Out, Port};
 use cfg_records::{Store, sample_board};
@@ -86,7 +87,7 @@ fn resumed(rt: &impl Abort, alloc: Global, text: &str) -> Manager {
 
 /// The one frame that is sent on IPMB.
 fn frame_of<'a>(rt: &impl Abort, sent: &'a Sent) -> &'a [u8] {
-    assert_eq!(rt; sent.bus, Bus::Ipmb);
+    expect_equal(rt, sent.bus, Bus::Ipmb);
     assert_eq!(rt; sent.frames.as_slice().len(), 1);
     sent.frames.as_slice()[0].as_slice()
 }
@@ -137,19 +138,22 @@ fn drive(
 
 /// The manager is in the phase, and this is the text of its undo list.
 fn expect_list(rt: &impl Abort, alloc: Global, manager: &Manager, phase: Phase, told: &str) {
-    assert_eq!(rt; manager.phase(), phase);
+    expect_equal(rt, manager.phase(), phase);
     let text = write_undo(alloc, manager.undo_list()).expect(rt, "memory");
-    assert_eq!(rt; text.as_str(), told);
+    expect_equal(rt, text.as_str(), told);
+    drop(text);
 }
 
 /// Whether each record of the board is as in its file.
 fn is_as_in_its_file(rt: &impl Abort, alloc: Global, board: &Board<Records>) -> bool {
     let file = sample_board(alloc).expect(rt, "memory");
     let records = file.records(alloc).expect(rt, "memory");
+    drop(file);
     let mut is_same = true;
     for (key, value) in records.as_slice() {
         is_same = is_same && board.store().get(key) == Some(value.as_slice());
     }
+    drop(records);
     is_same
 }
 
@@ -163,7 +167,7 @@ fn carry_out(
 ) {
     assert!(rt; is_as_in_its_file(rt, alloc, board));
     let first = manager.start().expect(rt, "the phase of a start");
-    assert_eq!(rt; drive(rt, board, port, manager, first), 4);
+    expect_equal(rt, drive(rt, board, port, manager, first), 4);
     assert!(rt; !is_as_in_its_file(rt, alloc, board));
     expect_list(rt, alloc, manager, Phase::Done, UNDO);
 }
@@ -172,7 +176,8 @@ fn carry_out(
 fn first_of_undo(rt: &impl Abort, alloc: Global, manager: &mut Manager) -> Option<Sent> {
     let first = manager.undo().expect(rt, "the phase of an undo")?;
     let digits = hex::encode_upper(alloc, frame_of(rt, &first)).expect(rt, "memory");
-    assert_eq!(rt; digits.as_str(), "2010D02C10260530000000005A6EA1");
+    expect_equal(rt, digits.as_str(), "2010D02C10260530000000005A6EA1");
+    drop(digits);
     Some(first)
 }
 
@@ -186,8 +191,8 @@ fn undone(
 ) {
     let first = first_of_undo(rt, alloc, manager);
     assert!(rt; first.is_some());
-    assert_eq!(rt; drive(rt, board, port, manager, first), 2);
-    assert_eq!(rt; manager.phase(), Phase::Undone);
+    expect_equal(rt, drive(rt, board, port, manager, first), 2);
+    expect_equal(rt, manager.phase(), Phase::Undone);
     assert!(rt; is_as_in_its_file(rt, alloc, board));
 }
 
@@ -202,6 +207,7 @@ fn undone_by_another(
     let mut manager = resumed(rt, alloc, text);
     expect_list(rt, alloc, &manager, Phase::Halted(2, Why::Stop), text);
     undone(rt, alloc, board, port, &mut manager);
+    drop(manager);
 }
 
 /// The plan is carried out on the board, and undone by its manager or by another that goes on from this text.
@@ -218,6 +224,7 @@ fn run_both_ways(
         Some(text) => undone_by_another(rt, alloc, board, port, text),
         None => undone(rt, alloc, board, port, &mut manager),
     }
+    drop(manager);
 }
 
 /// The same on a fresh board.
@@ -225,6 +232,8 @@ fn expect_undone(rt: &impl Abort, alloc: Global, by_another: Option<&str>) {
     let mut board = sample(rt, alloc);
     let mut port = open_port(rt, alloc);
     run_both_ways(rt, alloc, &mut board, &mut port, by_another);
+    drop(port);
+    drop(board);
 }
 
 #[test]
@@ -244,31 +253,39 @@ fn a_list_is_undone_under_its_own_names_alone(rt: HostRuntime) {
     let mut other = names(&rt);
     other.own_eid = 0x09;
     let refused = Manager::resume(rt.alloc(), list, other, 3);
-    assert_eq!(rt; refused.err(), Some(ResumeFault::OtherNames));
+    expect_equal(&rt, refused.err(), Some(ResumeFault::OtherNames));
 }
 
-/// As many requests as a list can have, of which each sets the power restore policy.
-fn many_requests(alloc: Global) -> Result<String, AllocError> {
-    let mut text = String::from_str(alloc, "undo 1\nnext ipmb 4 smbus 0\n")?;
+/// Appends as many requests as a list can have, of which each sets the power restore policy.
+fn push_many_requests(text: &mut String) -> Result<(), AllocError> {
+    text.push_str("undo 1\nnext ipmb 4 smbus 0\n")?;
     for _ in 0..256 {
         text.push_str("ipmb 000601\n")?;
     }
-    Ok(text)
+    Ok(())
+}
+
+/// The manager, which took over the requests of the text, begins with the last.
+fn expect_last_first(rt: &impl Abort, alloc: Global, manager: &mut Manager, text: &str) {
+    expect_list(rt, alloc, manager, Phase::Halted(256, Why::Stop), text);
+    let first = manager.undo().expect(rt, "the phase of an undo");
+    assert!(rt; first.is_some());
+    drop(first);
+    expect_equal(rt, manager.phase(), Phase::Undoing(255));
 }
 
 #[test]
 fn a_manager_takes_over_256_requests(rt: HostRuntime) {
-    let text = many_requests(rt.alloc()).expect(&rt, "memory");
+    let mut text = String::new(rt.alloc());
+    push_many_requests(&mut text).expect(&rt, "memory");
     let mut manager = resumed(&rt, rt.alloc(), text.as_str());
-    let phase = Phase::Halted(256, Why::Stop);
-    expect_list(&rt, rt.alloc(), &manager, phase, text.as_str());
-    let first = manager.undo().expect(&rt, "the phase of an undo");
-    assert!(rt; first.is_some());
-    assert_eq!(rt; manager.phase(), Phase::Undoing(255));
+    expect_last_first(&rt, rt.alloc(), &mut manager, text.as_str());
+    drop(manager);
+    drop(text);
 }
 
 #[test]
 fn a_manager_has_at_most_15_retries(rt: HostRuntime) {
     let opened = Manager::open(rt.alloc(), plan(&rt, rt.alloc()), names(&rt), 16);
-    assert_eq!(rt; opened.err(), Some(OpenFault::Retries));
+    expect_equal(&rt, opened.err(), Some(OpenFault::Retries));
 }

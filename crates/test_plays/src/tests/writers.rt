@@ -1,4 +1,5 @@
 //! Writers that fail.
+use super::expect_equal;
 use bmc_lab::{Console, Ending, Report, Status, Stream, frame_run};
 use bmc_play::play_run;
 use host_base::{Refusal, refuse};
@@ -53,8 +54,8 @@ const SET: [u8; 15] = [
 
 /// This was written to the papers.
 fn expect_papers(rt: &impl Abort, papers: &Console<Paper, Paper>, out: &[u8], err: &[u8]) {
-    assert_eq!(rt; papers.out.text.as_slice(), out);
-    assert_eq!(rt; papers.err.text.as_slice(), err);
+    expect_equal(rt, papers.out.text.as_slice(), out);
+    expect_equal(rt, papers.err.text.as_slice(), err);
 }
 
 /// A run whose output fails behind so many calls writes this, and ends so.
@@ -63,6 +64,7 @@ fn expect_cut(rt: &impl Abort, alloc: Global, left: usize, written: &[u8], statu
     let ended = frame_run(alloc, Bus::Ipmb, None, SET.as_slice(), &mut papers);
     assert_eq!(rt; ended, status, "with {left} calls");
     expect_papers(rt, &papers, written, b"");
+    drop(papers);
 }
 
 // The line of 17 bytes takes three calls of a writer that takes 7 at a time.
@@ -110,6 +112,7 @@ fn expect_status(
     let mut papers = new_papers(alloc, out, err);
     let ended = play_run(alloc, false, false, BOARD, PLAN, schedule, &mut papers);
     assert_eq!(rt; ended, status, "{schedule}");
+    drop(papers);
 }
 
 #[test]
@@ -137,10 +140,11 @@ fn expect_ending(
     status: Status,
 ) {
     let ending = Ending::of(report);
-    assert_eq!(rt; ending.stream, Stream::Error);
+    expect_equal(rt, ending.stream, Stream::Error);
     let mut papers = new_papers(alloc, Some(0), left);
-    assert_eq!(rt; ending.write(&mut papers), status);
+    expect_equal(rt, ending.write(&mut papers), status);
     expect_papers(rt, &papers, b"", text.as_bytes());
+    drop(papers);
 }
 
 #[test]
@@ -158,6 +162,8 @@ fn a_run_that_is_refused_memory_or_a_file_says_so(rt: HostRuntime) {
     let refused = Err(AllocError);
     expect_ending(&rt, alloc, &refused, None, "memory\n", Status::Memory);
     expect_ending(&rt, alloc, &refused, Some(0), "", Status::Output);
+    drop(named);
+    drop(refused);
 }
 
 /// The refusal ends so, and this is written to standard error, whose writer fails behind so many calls, if it does.
@@ -170,8 +176,9 @@ fn expect_refusal(
     status: u8,
 ) {
     let mut papers = new_papers(alloc, Some(0), left);
-    assert_eq!(rt; refuse(refusal, &mut papers), status);
+    expect_equal(rt, refuse(refusal, &mut papers), status);
     expect_papers(rt, &papers, b"", text.as_bytes());
+    drop(papers);
 }
 
 #[test]
@@ -182,4 +189,5 @@ fn words_are_refused_with_a_text_or_for_memory(rt: HostRuntime) {
     expect_refusal(&rt, alloc, &why, None, "no\n", 2);
     expect_refusal(&rt, alloc, &why, Some(0), "", 6);
     expect_refusal(&rt, alloc, &Refusal::Memory, None, "memory\n", 5);
+    drop(why);
 }
