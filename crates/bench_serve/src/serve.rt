@@ -33,8 +33,8 @@ fn bus_of(number: u8) -> Bus {
 
 /// Hands a frame to the port, which fills in what it sends.
 fn serve_one<S: Store>(port: &mut Port, board: &mut Board<S>, frame: &Slot, out: &mut Out)
-    ensures { Hears board.old.setup port.old (state_of S.records board.old) (frame_of frame.now)
-        out.new port.new (state_of S.records board.new) }
+    ensures { Hears board.old.setup port.old (state_of board.old) (frame_of frame.now)
+        out.new port.new (state_of board.new) }
 {
     port.on_frame(board, frame.as_slice(), out);
 }

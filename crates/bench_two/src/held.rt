@@ -1,7 +1,6 @@
 //! Frames that are served one after another, with a history and no lock.
 ghost use Rattle.std.specs.Prelude.{◌≡◌};
 ghost use Rattle.bmc_board.specs.State.{state_of};
-ghost use Rattle.bmc_board.specs.OwnStore.{own_records};
 
 use crate::alone::open_sample;
 use crate::asked::Asked;
@@ -115,7 +114,7 @@ fn time_opened<J: Opening, R: Clock>(
     asked: &Asked,
 ) -> Option<Duration>
     requires setup { board.setup ≡ J.setup }
-    requires opening { state_of own_records board ≡ J.opening }
+    requires opening { state_of board ≡ J.opening }
     requires room { room ≡ J.room }
 {
     match Held::<J, Records>::open(alloc, board, room) {

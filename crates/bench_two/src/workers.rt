@@ -1,7 +1,6 @@
 //! Two workers on one board under a lock, with its history: both at once, or one after the other in this thread.
 ghost use Rattle.std.specs.Prelude.{◌≡◌};
 ghost use Rattle.bmc_board.specs.State.{state_of};
-ghost use Rattle.bmc_board.specs.OwnStore.{own_records};
 
 use crate::alone::open_sample;
 use crate::asked::Asked;
@@ -190,7 +189,7 @@ fn time_opened<J: Opening + Send + Sync, R: Threads + Wait + Clock + Sync>(
     requires parts { blank.parts ≡ J.parts }
     requires three { blank.parts ≡ 3 }
     requires setup { board.setup ≡ J.setup }
-    requires opening { state_of own_records board ≡ J.opening }
+    requires opening { state_of board ≡ J.opening }
     requires room { room ≡ J.room }
 {
     match Shared::<J, Records>::open(alloc, blank, board, room) {

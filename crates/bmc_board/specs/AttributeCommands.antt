@@ -8,6 +8,7 @@ use Rattle.bios_attr.specs.BiosAttribute.{attribute_in, attribute_shown_in, star
 use Rattle.bios_attr.specs.declared.bios_attribute.AskedPart.{AskedPart}
 use Rattle.bios_attr.specs.declared.bios_attribute.AskedPart.TheVariants.{First, Later}
 use Rattle.attribute_parts.specs.declared.set_part.SetPart.{SetPart}
+use Rattle.attribute_parts.specs.declared.set_part.SetPart.TheVariants as part
 use Rattle.attribute_parts.specs.SetParts.{part_in}
 use Rattle.bmc_board.specs.Asks.{Request}
 use Rattle.bmc_board.specs.Asks.{Get, Set, PartOfSet, LaterPart}
@@ -19,14 +20,32 @@ abbrev pub whole_set : Result SetBiosAttribute ℕ → Result Request ℕ
 whole_set (Ok change) = Ok (Set (op.BiosAttribute change))
 whole_set (Err code) = Err code
 
+-- what whole data ask for
+abbrev pub whole_asked : List ℕ → Result Request ℕ
+whole_asked body = whole_set (attribute_in body)
+
 -- and else a part of a Set, which is its requester's
 abbrev pub part_set : (from : ℕ) → Result SetPart ℕ → Result Request ℕ
 part_set from (Ok part) = Ok (PartOfSet from part)
 part_set from (Err code) = Err code
 
+-- what the data of a part ask for
+abbrev pub part_asked : (from : ℕ) → List ℕ → Result Request ℕ
+part_asked from body = part_set from (part_in body)
+
+-- the parts of a Set: its first, one between, and its last
+abbrev pub first_part : (from : ℕ) → List ℕ → Result Request ℕ
+first_part from entry = Ok (PartOfSet from (part.Start entry))
+
+abbrev pub part_between : (from handle : ℕ) → List ℕ → Result Request ℕ
+part_between from handle bytes = Ok (PartOfSet from (part.Middle handle bytes))
+
+abbrev pub last_part : (from handle : ℕ) → List ℕ → Result Request ℕ
+last_part from handle bytes = Ok (PartOfSet from (part.End handle bytes))
+
 -- the flag says whether the data are whole
 abbrev pub attribute_set : (from : ℕ) → List ℕ → Result Request ℕ
-attribute_set from body = if byte_at body 4 == start_and_end then whole_set (attribute_in body) else part_set from (part_in body)
+attribute_set from body = if byte_at body 4 == start_and_end then whole_asked body else part_asked from body
 
 -- ---- to get
 

@@ -8,3 +8,7 @@ use Rattle.bmc_board.specs.Replies.{refused}
 abbrev pub Gives : {A : Type 0} → Result A ℕ → List ℕ → List ℕ → Answered → Type 0
 Gives (Ok _) old new answer = (answer.code ≡ success) × (new ≡ old ++ answer.body)
 Gives (Err code) old new answer = (answer ≡ refused code) × (new ≡ old)
+
+-- the answer: its data stand behind those of this buffer
+abbrev pub Appends : {A B : Type 0} → (B → List ℕ) → Result A ℕ → B → B → Answered → Type 0
+Appends bytes result before after answer = Gives result (bytes before) (bytes after) answer

@@ -12,6 +12,7 @@ use Rattle.sel_log.specs.Clock.{ticked}
 use Rattle.sel_log.specs.Log.{Log, after_add}
 use Rattle.sensor_recs.specs.declared.compared.Compared.{Compared}
 use Rattle.sensor_recs.specs.declared.compared.Taken.{Taken}
+use Rattle.sensor_recs.specs.declared.compared.Event.{Event}
 use Rattle.sensor_recs.specs.Readings.{events_of}
 use Rattle.sensor_recs.specs.Taken.{last_of, with_reading, last_beyond, taken_after, compared_of, reading_data, log_record}
 use Rattle.watch_boot.specs.Watchdog.{live_after_tick}
@@ -50,10 +51,14 @@ logs records = has (byte_at (value_at records key.GlobalEnables) 0) 3
 abbrev pub after_all : Log → List (List ℕ) → Log
 after_all log records = fold after_add log records
 
+-- the log, once each of these events that a reading of the sensor makes was added to it
+abbrev pub after_events : Sensor → Compared → ℕ → List Event → Log → Log
+after_events sensor s reading events log = after_all log (map (log_record sensor.sensor_type sensor.number s reading) events)
+
 -- the log after a reading of the sensor: each event that the reading makes is added in order, where events go into the log
 abbrev pub log_after : Records → Sensor → Compared → Option Taken → ℕ → Log → Log
 log_after records sensor s last reading log =
-    if logs records then after_all log (map (log_record sensor.sensor_type sensor.number s reading) (events_of s (last_beyond last) reading)) else log
+    if logs records then after_events sensor s reading (events_of s (last_beyond last) reading) log else log
 
 -- what a reading that is taken leaves
 abbrev pub after_taking : Records → Sensor → Compared → ℕ → Activity → Activity

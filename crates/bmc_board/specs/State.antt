@@ -24,9 +24,13 @@ state records activity = record { records = records; activity = activity }
 abbrev pub on_bench : State → Activity → State
 on_bench before activity = state before.records (record activity { stagings = before.activity.stagings })
 
--- a board's state, over a store that has these records
-abbrev pub state_of : {S : Type 0} {g h : _} → (S → Records) → Board S g h → State
-state_of records board = state (records board.store) board.activity
+-- a board's records, which its store has
+abbrev pub records_in : {S : Type 0} {g h : _} → Board S g h → Records
+records_in {S} {g} {h} board = h.records board.store
+
+-- a board's state
+abbrev pub state_of : {S : Type 0} {g h : _} → Board S g h → State
+state_of board = state (records_in board) board.activity
 
 -- what isn't configuration, as a board of this file begins: no reading was taken, the log has no record, its clock shows the file's
 -- time, no set of boot options is in progress, each user's password is sixteen bytes 00h, and nothing is staged

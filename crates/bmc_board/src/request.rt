@@ -1,6 +1,6 @@
 //! Requests, to the commands of the tables.
 ghost use Rattle.std.specs.Prelude.{◌≡◌, ℕ};
-ghost use Rattle.bmc_board.specs.Request.{asked_of, asked_by, asked_at, requester};
+ghost use Rattle.bmc_board.specs.Request.{asked_of, asked_by, asked_at, IsReadFrom, requester};
 
 use crate::command::{Command, Line, is_pldm_type, line_of, pldm_line_of};
 use cfg_records::Asked;
@@ -41,8 +41,7 @@ fn command_at(refusals: Refusals, line: Option<Line>, body: &[u8]) -> Result<Com
 /// The command of an IPMI request, or the first code that refuses it: the logical unit comes first, then the command, then the
 /// length of its data. Who asks makes no difference to it.
 pub fn read_ipmi(lun: Lun, net_fn: NetFn, number: u8, body: &[u8]) -> Result<Command, Code>
-    ensures { (from : ℕ) → asked_of from result body.now
-        ≡ asked_by (Asked.Ipmi from net_fn lun number body.now) }
+    ensures { IsReadFrom (λ from. Asked.Ipmi from net_fn lun number body.now) body.now result }
 {
     if lun.number() != 0 {
         return Err(code::INVALID_FOR_LUN);
@@ -53,8 +52,7 @@ pub fn read_ipmi(lun: Lun, net_fn: NetFn, number: u8, body: &[u8]) -> Result<Com
 /// The command of a PLDM request, or the first code that refuses it: the type comes first, then the command, then the length of
 /// its data. Who asks makes no difference to it.
 pub fn read_pldm(kind: Below<64>, number: u8, body: &[u8]) -> Result<Command, Code>
-    ensures { (from : ℕ) → asked_of from result body.now
-        ≡ asked_by (Asked.Pldm from kind number body.now) }
+    ensures { IsReadFrom (λ from. Asked.Pldm from kind number body.now) body.now result }
 {
     let kind = kind.number();
     if !is_pldm_type(kind) {

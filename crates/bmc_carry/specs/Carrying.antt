@@ -4,7 +4,6 @@ use Rattle.two_wire.specs.Codes.{success}
 use Rattle.record_base.specs.declared.message.Asked.{Asked}
 use Rattle.record_base.specs.declared.message.Answered.{Answered}
 use Rattle.record_base.specs.Meaning.{room_for}
-use Rattle.cfg_records.specs.Records.{Records}
 use Rattle.bmc_board.specs.declared.board.Board.{Board}
 use Rattle.bmc_board.specs.Gives.{Gives}
 use Rattle.bmc_board.specs.Row.{Is}
@@ -25,6 +24,6 @@ pub record IsCarried {K : Type 0} (carries : Asked → Answered → K → Type 0
   pub carried : carries asked answered after
 
 -- the board's one answer to the request is this, and it leaves the board so
-pub record IsAnswered {S : Type 0} {g h : _} (records : S → Records) (before : Board S g h) (asked : Asked) (answered : Answered) (after : Board S g h) : Type 0 where
-  pub answer : Is answered (state_of records after) (given_by records before asked)
+pub record IsAnswered {S : Type 0} {g h : _} (before : Board S g h) (asked : Asked) (answered : Answered) (after : Board S g h) : Type 0 where
+  pub answer : Is answered (state_of after) (given_by before asked)
   pub setup : after.setup ≡ before.setup

@@ -24,11 +24,11 @@ pub fn answer_here<S: Store, B: Reply>(
 ) -> Result<(), Code>
     requires room { length (B.bytes reply.old) + room_for (meant asked.now) ≤ B.capacity }
     ensures given { Gives result (B.bytes reply.old) (B.bytes reply.new)
-        (given_by S.records board.old (meant asked.now)).0 }
-    ensures left { state_of S.records board.new
-        ≡ (given_by S.records board.old (meant asked.now)).1 }
+        (given_by board.old (meant asked.now)).0 }
+    ensures left { state_of board.new
+        ≡ (given_by board.old (meant asked.now)).1 }
     ensures setup { board.new.setup ≡ board.old.setup }
-    ensures fits { length (given_by S.records board.old (meant asked.now)).0.body
+    ensures fits { length (given_by board.old (meant asked.now)).0.body
         ≤ room_for (meant asked.now) }
 {
     board.reply(asked.requester(), asked.command(), asked.body(), reply)
@@ -55,7 +55,7 @@ impl<S: Store> Carrier for Alone<S> {
     type Refusal = Infallible;
 
     ghost carries = { λ alone before asked answered after.
-        IsAnswered S.records before asked answered after };
+        IsAnswered before asked answered after };
 
     ghost refuses = { λ alone before why after. ⊥ };
 

@@ -3,7 +3,6 @@ use Rattle.std.proofs.Common.{◌≡◌, ℕ, false, List, Option, Some, Result,
 use Rattle.ipmb_frame.specs.declared.message.Request.{Request}
 use Rattle.record_base.specs.declared.message.Asked.{Asked}
 use Rattle.record_base.specs.declared.message.Answered.{Answered}
-use Rattle.cfg_records.specs.Records.{Records}
 use Rattle.model_bus.specs.Carried.{Outcome, IsNew}
 use Rattle.bmc_board.specs.declared.board.Board.{Board}
 use Rattle.bmc_board.specs.State.{State, state_of}
@@ -69,21 +68,21 @@ module _ (port : IpmbPort) (bytes : List ℕ) where
       }
 
 -- a port that has a board alone carry requests out hears as one of that board
-pub alone_hears : {S E : Type 0} {g h : _} (records : S → Records) (port next : IpmbPort) (bytes : List ℕ) (before after : Board S g h) (out : Out) (result : Result Served E)
-    → Serves (λ asked answered now. IsAnswered records before asked answered now) (λ (why : E) (now : Board S g h). ⊥) port bytes before result next out after
-    → Hears before.setup port (state_of records before) bytes out next (state_of records after) × (after.setup ≡ before.setup)
-alone_hears records port next bytes before after out (Ok CarriedOut) done =
-    let given : Given = given_by records before (asked_in done.pending) in
+pub alone_hears : {S E : Type 0} {g h : _} (port next : IpmbPort) (bytes : List ℕ) (before after : Board S g h) (out : Out) (result : Result Served E)
+    → Serves (λ asked answered now. IsAnswered before asked answered now) (λ (why : E) (now : Board S g h). ⊥) port bytes before result next out after
+    → Hears before.setup port (state_of before) bytes out next (state_of after) × (after.setup ≡ before.setup)
+alone_hears port next bytes before after out (Ok CarriedOut) done =
+    let given : Given = given_by before (asked_in done.pending) in
     let reply : done.answered ≡ given.0 = ap (λ (g : Given). g.0) done.carried.answer in
-    let left : state_of records after ≡ given.1 = ap (λ (g : Given). g.1) done.carried.answer in
+    let left : state_of after ≡ given.1 = ap (λ (g : Given). g.1) done.carried.answer in
     let answers : Answers done.between done.pending given.0 next out = subst (λ (a : Answered). Answers done.between done.pending a next out) reply done.replied in (
-      subst (λ (now : State). Hears before.setup port (state_of records before) bytes out next now) (sym left)
-          (ipmb_asked before.setup (state_of records before) port done.between next bytes done.heard out done.pending done.asks answers),
+      subst (λ (now : State). Hears before.setup port (state_of before) bytes out next now) (sym left)
+          (ipmb_asked before.setup (state_of before) port done.between next bytes done.heard out done.pending done.asks answers),
       done.carried.setup,
     )
-alone_hears {S} {E} {g} {h} records port next bytes before after out (Ok NothingAsked) done = (
-  subst (λ (now : Board S g h). Hears before.setup port (state_of records before) bytes out next (state_of records now)) (sym done.1)
-      (ipmb_settled before.setup (state_of records before) port next bytes out done.0),
+alone_hears {S} {E} {g} {h} port next bytes before after out (Ok NothingAsked) done = (
+  subst (λ (now : Board S g h). Hears before.setup port (state_of before) bytes out next (state_of now)) (sym done.1)
+      (ipmb_settled before.setup (state_of before) port next bytes out done.0),
   ap (λ (now : Board S g h). now.setup) done.1,
 )
-alone_hears records port next bytes before after out (Err why) done = absurd done.1
+alone_hears port next bytes before after out (Err why) done = absurd done.1

@@ -5,7 +5,6 @@ use Rattle.mctp_net.specs.Assembly.{message_of}
 use Rattle.mctp_net.specs.Places.{seen}
 use Rattle.record_base.specs.declared.message.Asked.{Asked}
 use Rattle.record_base.specs.declared.message.Answered.{Answered}
-use Rattle.cfg_records.specs.Records.{Records}
 use Rattle.model_bus.specs.Carried.{IsNew}
 use Rattle.bmc_board.specs.declared.board.Board.{Board}
 use Rattle.bmc_board.specs.State.{State, state_of}
@@ -118,21 +117,21 @@ module _ (port now : SmbusPort) (bytes : List ℕ) (packet : Packet) (body : Lis
       }
 
 -- a port that has a board alone carry requests out hears as one of that board
-pub alone_hears : {S E : Type 0} {g h : _} (records : S → Records) (port next : SmbusPort) (bytes : List ℕ) (before after : Board S g h) (out : Out) (result : Result Served E)
-    → Serves (λ asked answered now. IsAnswered records before asked answered now) (λ (why : E) (now : Board S g h). ⊥) port bytes before result next out after
-    → ((p : PortState) → Shows port p → HearsBytes before.setup p (state_of records before) bytes next out (state_of records after)) × (after.setup ≡ before.setup)
-alone_hears records port next bytes before after out (Ok CarriedOut) done =
-    let given : Given = given_by records before (asked_of (request_in done.pending)) in
+pub alone_hears : {S E : Type 0} {g h : _} (port next : SmbusPort) (bytes : List ℕ) (before after : Board S g h) (out : Out) (result : Result Served E)
+    → Serves (λ asked answered now. IsAnswered before asked answered now) (λ (why : E) (now : Board S g h). ⊥) port bytes before result next out after
+    → ((p : PortState) → Shows port p → HearsBytes before.setup p (state_of before) bytes next out (state_of after)) × (after.setup ≡ before.setup)
+alone_hears port next bytes before after out (Ok CarriedOut) done =
+    let given : Given = given_by before (asked_of (request_in done.pending)) in
     let reply : done.answered ≡ given.0 = ap (λ (g : Given). g.0) done.carried.answer in
-    let left : state_of records after ≡ given.1 = ap (λ (g : Given). g.1) done.carried.answer in
+    let left : state_of after ≡ given.1 = ap (λ (g : Given). g.1) done.carried.answer in
     let answers : Answers done.between done.pending given.0 next out = subst (λ (a : Answered). Answers done.between done.pending a next out) reply done.replied in (
-      λ p shows. subst (λ (now : State). HearsBytes before.setup p (state_of records before) bytes next out now) (sym left)
-          (smbus_asked before.setup (state_of records before) port done.between next bytes done.heard out done.pending done.asks answers p shows),
+      λ p shows. subst (λ (now : State). HearsBytes before.setup p (state_of before) bytes next out now) (sym left)
+          (smbus_asked before.setup (state_of before) port done.between next bytes done.heard out done.pending done.asks answers p shows),
       done.carried.setup,
     )
-alone_hears {S} {E} {g} {h} records port next bytes before after out (Ok NothingAsked) done = (
-  λ p shows. subst (λ (now : Board S g h). HearsBytes before.setup p (state_of records before) bytes next out (state_of records now)) (sym done.1)
-      (smbus_settled before.setup (state_of records before) port next bytes out done.0 p shows),
+alone_hears {S} {E} {g} {h} port next bytes before after out (Ok NothingAsked) done = (
+  λ p shows. subst (λ (now : Board S g h). HearsBytes before.setup p (state_of before) bytes next out (state_of now)) (sym done.1)
+      (smbus_settled before.setup (state_of before) port next bytes out done.0 p shows),
   ap (λ (now : Board S g h). now.setup) done.1,
 )
-alone_hears records port next bytes before after out (Err why) done = absurd done.1
+alone_hears port next bytes before after out (Err why) done = absurd done.1

@@ -119,8 +119,8 @@ impl IpmbPort {
 
     /// Takes what is heard on the bus, has the board carry a new request out, and fills in what is to be sent. It takes no memory.
     pub fn on_frame<S: Store>(&mut self, board: &mut Board<S>, bytes: &[u8], out: &mut Out)
-        ensures heard { Hears board.old.setup self.old (state_of S.records board.old) bytes.now
-            out.new self.new (state_of S.records board.new) }
+        ensures heard { Hears board.old.setup self.old (state_of board.old) bytes.now
+            out.new self.new (state_of board.new) }
         ensures setup { board.new.setup ≡ board.old.setup }
     {
         let _ = self.serve(&Alone::new(), board, bytes, out);

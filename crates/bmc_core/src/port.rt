@@ -86,8 +86,8 @@ impl Port {
 
     /// Takes what is heard on the bus, and fills in what is to be sent. It takes no memory.
     pub fn on_frame<S: Store>(&mut self, board: &mut Board<S>, bytes: &[u8], out: &mut Out)
-        ensures heard { Hears board.old.setup self.old (state_of S.records board.old) bytes.now
-            out.new self.new (state_of S.records board.new) }
+        ensures heard { Hears board.old.setup self.old (state_of board.old) bytes.now
+            out.new self.new (state_of board.new) }
         ensures setup { board.new.setup ≡ board.old.setup }
         ensures bus { bus_of self.new ≡ bus_of self.old }
     {

@@ -7,7 +7,6 @@ use Rattle.record_base.specs.declared.message.Asked.{Asked}
 use Rattle.record_base.specs.declared.message.Asked.TheVariants.{Ipmi, Pldm}
 use Rattle.record_base.specs.declared.message.Answered.{Answered}
 use Rattle.record_base.specs.Meaning.{room_for}
-use Rattle.cfg_records.specs.Records.{Records}
 use Rattle.cfg_records.specs.declared.board_file.BoardFile.{BoardFile}
 use Rattle.bmc_board.specs.declared.board.Board.{Board}
 use Rattle.bmc_board.specs.State.{state_of}
@@ -55,17 +54,17 @@ room_is (Ipmi from net_fn lun command body) = lit≤ tt
 room_is (Pldm from kind command body) = lit≤ tt
 
 -- the board's one answer stands in the command relation
-pub row_of : {S : Type 0} {g h : _} (setup : BoardFile) (records : S → Records) (before after : Board S g h) (asked : Asked) (a : Answered)
-    → IsReply setup records before after asked a → IsRow setup records before after asked a
-row_of setup records before after asked a is =
-    subst (λ (p : Given). Row setup (state_of records before) asked p.0 p.1) (sym is) (has_answer setup (state_of records before) asked)
+pub row_of : {S : Type 0} {g h : _} (setup : BoardFile) (before after : Board S g h) (asked : Asked) (a : Answered)
+    → IsReply setup before after asked a → IsRow setup before after asked a
+row_of setup before after asked a is =
+    subst (λ (p : Given). Row setup (state_of before) asked p.0 p.1) (sym is) (has_answer setup (state_of before) asked)
 
 -- an answer in a value of its own is the one that was given
-pub exchanged_as : {S : Type 0} {g h : _} (setup : BoardFile) (records : S → Records) (before after : Board S g h) (events later : List Event) (seat : ℕ) (asked question : Asked)
-    (given : Result (Unit {0}) ℕ) (old new : List ℕ) (a : Answered) → asked ≡ question → (done : ExchangesHere setup records before after events later seat asked given old new)
+pub exchanged_as : {S : Type 0} {g h : _} (setup : BoardFile) (before after : Board S g h) (events later : List Event) (seat : ℕ) (asked question : Asked)
+    (given : Result (Unit {0}) ℕ) (old new : List ℕ) (a : Answered) → asked ≡ question → (done : ExchangesHere setup before after events later seat asked given old new)
     → a ≡ done.answered
-    → IsRow setup records before after question a × IsReply setup records before after question a × (length a.body ≤ room_for question) × GainsEvent events later seat (Exchanged question a)
-exchanged_as setup records before after events later seat asked question given old new a same done said =
-    subst (λ (q : Asked). IsRow setup records before after q a × IsReply setup records before after q a × (length a.body ≤ room_for q) × GainsEvent events later seat (Exchanged q a)) same
-    (subst (λ (b : Answered). IsRow setup records before after asked b × IsReply setup records before after asked b × (length b.body ≤ room_for asked) × GainsEvent events later seat (Exchanged asked b))
+    → IsRow setup before after question a × IsReply setup before after question a × (length a.body ≤ room_for question) × GainsEvent events later seat (Exchanged question a)
+exchanged_as setup before after events later seat asked question given old new a same done said =
+    subst (λ (q : Asked). IsRow setup before after q a × IsReply setup before after q a × (length a.body ≤ room_for q) × GainsEvent events later seat (Exchanged q a)) same
+    (subst (λ (b : Answered). IsRow setup before after asked b × IsReply setup before after asked b × (length b.body ≤ room_for asked) × GainsEvent events later seat (Exchanged asked b))
     (sym said) (done.row, done.reply, done.fits, done.gained))

@@ -48,15 +48,15 @@ pub struct Held<J: Opening, S: Store> {
     ghost within: { length history.items ≤ room },
     ghost roomy: { history.room ≡ room },
     ghost replays: { Replays J.setup J.opening history.items
-        (state_of S.records board) } by { Replays-prop J.setup J.opening history.items
-            (state_of S.records board) },
+        (state_of board) } by { Replays-prop J.setup J.opening history.items
+            (state_of board) },
 }
 
 impl<J: Opening, S: Store> Held<J, S> {
     /// A board with no history yet. All memory is taken here.
     pub fn open(alloc: Global, board: Board<S>, room: usize) -> Result<Self, (OpenFault, Board<S>)>
         requires setup { board.setup ≡ J.setup }
-        requires opening { state_of S.records board ≡ J.opening }
+        requires opening { state_of board ≡ J.opening }
         requires room { room ≡ J.room }
         ensures board { IfOk result (λ held. held.board ≡ board) }
         ensures history { IfOk result (λ held. held.history.items ≡ []) }
@@ -113,7 +113,7 @@ impl<J: Opening, S: Store> Held<J, S> {
         ensures board { result.0 ≡ self.board }
         ensures history { result.1 ≡ self.history.items }
         ensures setup { result.0.setup ≡ J.setup }
-        ensures replays { Replays J.setup J.opening result.1 (state_of S.records result.0) }
+        ensures replays { Replays J.setup J.opening result.1 (state_of result.0) }
         ensures within { length result.1 ≤ J.room }
     {
         let Held {
@@ -135,7 +135,7 @@ impl<J: Opening, S: Store> Held<J, S> {
     ) -> Result<(), Code>
         requires room { length (B.bytes reply.old) + room_for (meant asked.now) ≤ B.capacity }
         requires place { length self.old.history.items < self.old.room }
-        ensures { ExchangesHere J.setup S.records self.old.board self.new.board
+        ensures { ExchangesHere J.setup self.old.board self.new.board
             self.old.history.items self.new.history.items port (meant asked.now)
             result (B.bytes reply.old) (B.bytes reply.new) }
     {
@@ -163,7 +163,7 @@ impl<J: Opening, S: Store> Held<J, S> {
     ) -> Result<Result<(), Code>, PeriodFull>
         requires room { length (B.bytes reply.old) + room_for (meant asked.now) ≤ B.capacity }
         ensures exchanged { IfOk result (λ given.
-            ExchangesHere J.setup S.records self.old.board self.new.board
+            ExchangesHere J.setup self.old.board self.new.board
             self.old.history.items self.new.history.items port (meant asked.now)
             given (B.bytes reply.old) (B.bytes reply.new)) }
         ensures full { IsErr result ↔ (length self.old.history.items ≡ J.room) }
@@ -181,9 +181,9 @@ impl<J: Opening, S: Store> Held<J, S> {
     #[inline(always)]
     pub fn exchange(&mut self, port: u8, asked: &Asked) -> Result<Answered, PeriodFull>
         ensures row { IfOk result
-            (IsRow J.setup S.records self.old.board self.new.board asked.now) }
+            (IsRow J.setup self.old.board self.new.board asked.now) }
         ensures answer { IfOk result
-            (IsReply J.setup S.records self.old.board self.new.board asked.now) }
+            (IsReply J.setup self.old.board self.new.board asked.now) }
         ensures fits { IfOk result (λ answered. length answered.body ≤ room_for asked.now) }
         ensures history { IfOk result (λ answered.
             GainsEvent self.old.history.items self.new.history.items
@@ -201,7 +201,7 @@ impl<J: Opening, S: Store> Held<J, S> {
     /// Has something happen on the board, and adds that to the history.
     fn happen(&mut self, port: u8, bench: &Bench) -> Result<(), NoSensor>
         requires { length self.old.history.items < self.old.room }
-        ensures answer { IsHappening J.setup S.records self.old.board self.new.board
+        ensures answer { IsHappening J.setup self.old.board self.new.board
             bench.now result }
         ensures history { GainsEvent self.old.history.items self.new.history.items
             port (Benched bench.now result) }
@@ -221,7 +221,7 @@ impl<J: Opening, S: Store> Held<J, S> {
     /// memory. Where the history has no room, nothing changes.
     pub fn bench(&mut self, port: u8, bench: Bench) -> Result<Result<(), NoSensor>, PeriodFull>
         ensures answer { IfOk result
-            (IsHappening J.setup S.records self.old.board self.new.board bench) }
+            (IsHappening J.setup self.old.board self.new.board bench) }
         ensures history { IfOk result (λ answered.
             GainsEvent self.old.history.items self.new.history.items
             port (Benched bench answered)) }

@@ -5,7 +5,6 @@ use Rattle.cfg_records.specs.declared.board_file.BoardFile.{BoardFile}
 use Rattle.cfg_records.specs.Records.{Pair}
 use Rattle.cfg_records.specs.Boards.{pairs_of}
 use Rattle.bmc_board.specs.State.{State, state_of, opened}
-use Rattle.bmc_board.specs.OwnStore.{own_records}
 use Rattle.changed_records.specs.Changed.{changed_in}
 use Rattle.net_serve.specs.declared.board.Served.{Served}
 use Rattle.net_serve.specs.Served.{IsServed, Tallies, most_events}
@@ -13,9 +12,9 @@ use Rattle.net_serve.specs.Served.{IsServed, Tallies, most_events}
 -- a board of the file that was served has one history, and these changes
 pub one_history : (file : BoardFile) (served : Served) (start : List Pair) (events changed : ℕ) → start ≡ pairs_of file
     → IsServed file (opened file) most_events served → events ≡ length served.history
-    → changed ≡ changed_in (state_of own_records served.board).records start → Tallies false None file events changed
+    → changed ≡ changed_in (state_of served.board).records start → Tallies false None file events changed
 one_history file served start events changed is_start is counted differ =
-    let after : State = state_of own_records served.board in
+    let after : State = state_of served.board in
     let one : length served.history ≡ sum_by length (served.history ∷ []) = omega arith in record {
       histories = served.history ∷ [];
       after = after;

@@ -1,7 +1,6 @@
 //! A controller and a manager side by side: the controller's workers are threads, and the manager is driven beside them.
 ghost use Rattle.std.specs.Prelude.{◌≡◌, IfOk, IfSome};
 ghost use Rattle.bmc_board.specs.State.{state_of};
-ghost use Rattle.bmc_board.specs.OwnStore.{own_records};
 ghost use Rattle.undo_plans.specs.declared.plan.Plan.{Plan};
 ghost use Rattle.net_serve.specs.Served.{IsServed, most_events};
 ghost use Rattle.bmc_net.specs.Paired.{IsReady, RunsAndUndoes};
@@ -135,7 +134,7 @@ where
     requires parts { blank.parts ≡ J.parts }
     requires three { blank.parts ≡ 3 }
     requires setup { board.setup ≡ J.setup }
-    requires opening { state_of own_records board ≡ J.opening }
+    requires opening { state_of board ≡ J.opening }
     requires room { room ≡ J.room }
     ensures phases { (plan : Plan) → IsReady plan driver
         → IfOk result (λ paired. RunsAndUndoes plan turns paired.phases.run paired.phases.undone) }
@@ -167,7 +166,7 @@ pub(crate) fn pair_over<R: Threads + Wait + Sync>(
     ensures phases { (plan : Plan) → IsReady plan driver
         → IfOk result (λ paired. RunsAndUndoes plan turns paired.phases.run paired.phases.undone) }
     ensures served { IfOk result (λ paired. IfSome paired.served
-        (IsServed board.setup (state_of own_records board) most_events)) }
+        (IsServed board.setup (state_of board) most_events)) }
 {
     pair_opened::<Brand, R>(
         rt,

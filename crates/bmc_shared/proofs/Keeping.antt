@@ -3,7 +3,6 @@ use Rattle.std.specs.Prelude.{Result, Ok, Err, IfOk, ◌∷◌, [], ◌++◌}
 use Rattle.std.proofs.Common.{◌≡◌, ℕ, List, length, drop, refl, sym, ◌∙◌, ap, subst}
 use Rattle.record_base.specs.declared.message.Asked.{Asked}
 use Rattle.record_base.specs.declared.message.Answered.{Answered}
-use Rattle.cfg_records.specs.Records.{Records}
 use Rattle.cfg_records.specs.declared.board_file.BoardFile.{BoardFile}
 use Rattle.bmc_board.specs.declared.board.Board.{Board}
 use Rattle.bmc_carry.specs.declared.asked.AskedHere.{AskedHere}
@@ -23,25 +22,25 @@ kept_as calls kept asked question given old new a same done said =
     subst (λ (q : Asked). GainsCall calls kept (Exchanged q a)) same (subst (λ (b : Answered). GainsCall calls kept (Exchanged asked b)) (sym said) done.gained)
 
 -- the list gained the call of the answer that the board gave
-kept_by : {S : Type 0} {E : Type 0} {g h : _} (setup : BoardFile) (records : S → Records) (before after : Board S g h) (events later : List Event) (seat : ℕ)
+kept_by : {S : Type 0} {E : Type 0} {g h : _} (setup : BoardFile) (before after : Board S g h) (events later : List Event) (seat : ℕ)
     (calls kept : List Call) (asked : AskedHere) (result : Result (Result (Unit {0}) ℕ) E) (old new shown : List ℕ)
-    → IfOk result (λ given. ExchangesHere setup records before after events later seat (meant asked) given old new)
+    → IfOk result (λ given. ExchangesHere setup before after events later seat (meant asked) given old new)
     → IfOk result (λ given. GainsCall calls kept (exchanged asked (code_given given) shown))
     → shown ≡ drop (length old) new → IfOk result (λ given. KeepsHere calls kept (meant asked) given old new)
-kept_by setup records before after events later seat calls kept asked (Ok given) old new shown done gained taken = record {
+kept_by setup before after events later seat calls kept asked (Ok given) old new shown done gained taken = record {
   answered = done.answered;
   gives = done.gives;
   fits = done.fits;
   gained = gained ∙ ap (λ (call : Call). calls ++ call ∷ []) (call_is asked given old new shown (code_given given) done.answered done.gives refl taken);
 }
-kept_by setup records before after events later seat calls kept asked (Err why) old new shown done gained taken = tt
+kept_by setup before after events later seat calls kept asked (Err why) old new shown done gained taken = tt
 
 -- the seat's list keeps the answer that the board gave
-pub keeps_here : {S : Type 0} {E : Type 0} {g h : _} (setup : BoardFile) (records : S → Records) (before after : Board S g h) (events later : List Event) (seat : ℕ)
+pub keeps_here : {S : Type 0} {E : Type 0} {g h : _} (setup : BoardFile) (before after : Board S g h) (events later : List Event) (seat : ℕ)
     (calls kept : List Call) (asked : AskedHere) (told result : Result (Result (Unit {0}) ℕ) E) (old new shown : List ℕ) → told ≡ result
-    → IfOk result (λ given. ExchangesHere setup records before after events later seat (meant asked) given old new)
+    → IfOk result (λ given. ExchangesHere setup before after events later seat (meant asked) given old new)
     → IfOk result (λ given. GainsCall calls kept (exchanged asked (code_given given) shown))
     → shown ≡ drop (length old) new → IfOk told (λ given. KeepsHere calls kept (meant asked) given old new)
-keeps_here setup records before after events later seat calls kept asked told result old new shown same done gained taken =
+keeps_here setup before after events later seat calls kept asked told result old new shown same done gained taken =
     subst (λ r. IfOk r (λ given. KeepsHere calls kept (meant asked) given old new)) (sym same)
-    (kept_by setup records before after events later seat calls kept asked result old new shown done gained taken)
+    (kept_by setup before after events later seat calls kept asked result old new shown done gained taken)

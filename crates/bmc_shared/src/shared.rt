@@ -93,7 +93,7 @@ impl<J: Opening, S: Store> Locked<J, S> {
         requires room { length (B.bytes reply.old) + room_for (meant asked.now) ≤ B.capacity }
         requires part { share.old.parts ≡ 1 }
         ensures exchanged { IfOk result (λ given.
-            ExchangesHere J.setup S.records self.old.held.board self.new.held.board
+            ExchangesHere J.setup self.old.held.board self.new.held.board
             self.old.held.history.items self.new.held.history.items number
             (meant asked.now) given (B.bytes reply.old) (B.bytes reply.new)) }
         ensures full { IsErr result ↔ (length self.old.held.history.items ≡ J.room) }
@@ -126,7 +126,7 @@ impl<J: Opening, S: Store> Locked<J, S> {
     ) -> Result<Result<(), Code>, PeriodFull>
         requires room { length (B.bytes reply.old) + room_for (meant asked.now) ≤ B.capacity }
         ensures exchanged { IfOk result (λ given.
-            ExchangesHere J.setup S.records self.old.held.board self.new.held.board
+            ExchangesHere J.setup self.old.held.board self.new.held.board
             self.old.held.history.items self.new.held.history.items seat.old.number
             (meant asked.now) given (B.bytes reply.old) (B.bytes reply.new)) }
         ensures full { IsErr result ↔ (length self.old.held.history.items ≡ J.room) }
@@ -152,9 +152,9 @@ impl<J: Opening, S: Store> Locked<J, S> {
     /// history has no room, the seat is marked as refused, and nothing else changes.
     pub fn exchange(&mut self, seat: &mut Seat<J>, asked: &Asked) -> Result<Answered, PeriodFull>
         ensures row { IfOk result
-            (IsRow J.setup S.records self.old.held.board self.new.held.board asked.now) }
+            (IsRow J.setup self.old.held.board self.new.held.board asked.now) }
         ensures answer { IfOk result
-            (IsReply J.setup S.records self.old.held.board self.new.held.board asked.now) }
+            (IsReply J.setup self.old.held.board self.new.held.board asked.now) }
         ensures fits { IfOk result (λ answered. length answered.body ≤ room_for asked.now) }
         ensures history { IfOk result (λ answered.
             GainsEvent self.old.held.history.items self.new.held.history.items
@@ -180,7 +180,7 @@ impl<J: Opening, S: Store> Locked<J, S> {
         bench: Bench,
     ) -> Result<Result<(), NoSensor>, PeriodFull>
         ensures answer { IfOk result
-            (IsHappening J.setup S.records self.old.held.board self.new.held.board bench) }
+            (IsHappening J.setup self.old.held.board self.new.held.board bench) }
         ensures history { IfOk result (λ answered.
             GainsEvent self.old.held.history.items self.new.held.history.items
             seat.old.number (Benched bench answered)) }
@@ -237,7 +237,7 @@ impl<J: Opening, S: Store + Drop> Shared<J, S> {
         requires parts { blank.parts ≡ J.parts }
         requires three { blank.parts ≡ 3 }
         requires setup { board.setup ≡ J.setup }
-        requires opening { state_of S.records board ≡ J.opening }
+        requires opening { state_of board ≡ J.opening }
         requires room { room ≡ J.room }
         ensures first { IfOk result (λ opened. IsFresh opened.1.first) }
         ensures second { IfOk result (λ opened. IsFresh opened.1.second) }
@@ -329,7 +329,7 @@ impl<J: Opening, S: Store + Drop> Shared<J, S> {
         requires three { J.parts ≡ 3 }
         ensures setup { IfOk result (λ closed. closed.0.setup ≡ J.setup) }
         ensures replays { IfOk result (λ closed.
-            Replays J.setup J.opening closed.1 (state_of S.records closed.0)) }
+            Replays J.setup J.opening closed.1 (state_of closed.0)) }
         ensures within { IfOk result (λ closed. length closed.1 ≤ J.room) }
         ensures first { IfOk result (λ closed. SeatMatches J.room closed.1 0 seats.first) }
         ensures second { IfOk result (λ closed. SeatMatches J.room closed.1 1 seats.second) }
@@ -352,7 +352,7 @@ impl<J: Opening, S: Store + Drop> Locked<J, S> {
         ensures history { IfOk result (λ closed. closed.1 ≡ self.held.history.items) }
         ensures setup { IfOk result (λ closed. closed.0.setup ≡ J.setup) }
         ensures replays { IfOk result (λ closed.
-            Replays J.setup J.opening closed.1 (state_of S.records closed.0)) }
+            Replays J.setup J.opening closed.1 (state_of closed.0)) }
         ensures within { IfOk result (λ closed. length closed.1 ≤ J.room) }
         ensures counted { length self.held.history.items ≡ calls_made seats }
     {

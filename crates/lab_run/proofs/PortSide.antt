@@ -34,7 +34,6 @@ use Rattle.model_lab.specs.Meaning.{lab_names}
 use Rattle.model_lab.specs.Played.{plans}
 use Rattle.lab_run.specs.declared.lab_state.Idles.{Idles}
 use Rattle.lab_run.specs.declared.lab_state.Lab.{Lab}
-use Rattle.bmc_board.specs.OwnStore.{own_records}
 use Rattle.lab_run.specs.Shown.{Shows, IsSentFrame, idles_in}
 use Rattle.lab_run.specs.Hearing.{HasHeard, done_on}
 use Rattle.lab_run.proofs.Sent.{beside, none_beside}
@@ -67,7 +66,7 @@ module _ (file : BoardFile) (old new : Lab) (x : LabModel plans) (shows : Shows 
   idles_still on = shows.idles on ∙ ap (λ (n : Idles). idles_in on n) (sym stays.idles)
 
   -- the port on IPMB did this deed
-  pub ipmb_shown : (d : Deed) → new.smbus ≡ old.smbus → ipmb.Shows new.ipmb d.port → state_of own_records new.board ≡ d.board → Keeps x.ipmb d
+  pub ipmb_shown : (d : Deed) → new.smbus ≡ old.smbus → ipmb.Shows new.ipmb d.port → state_of new.board ≡ d.board → Keeps x.ipmb d
       → Shows file new (with_port plans bus.Ipmb d.port (record x { board = d.board }))
   ipmb_shown d other port board keeps = record {
     setup = stays.setup ∙ shows.setup;
@@ -84,7 +83,7 @@ module _ (file : BoardFile) (old new : Lab) (x : LabModel plans) (shows : Shows 
     idles bus.Smbus = idles_still bus.Smbus
 
   -- and the one on SMBus
-  pub smbus_shown : (d : Deed) → new.ipmb ≡ old.ipmb → smbus.Shows new.smbus d.port → state_of own_records new.board ≡ d.board → Keeps x.smbus d
+  pub smbus_shown : (d : Deed) → new.ipmb ≡ old.ipmb → smbus.Shows new.smbus d.port → state_of new.board ≡ d.board → Keeps x.smbus d
       → Shows file new (with_port plans bus.Smbus d.port (record x { board = d.board }))
   smbus_shown d other port board keeps = record {
     setup = stays.setup ∙ shows.setup;
@@ -101,23 +100,23 @@ module _ (file : BoardFile) (old new : Lab) (x : LabModel plans) (shows : Shows 
     idles bus.Smbus = keeps.idles (own_on bus.Smbus x.manager.names) ∙ idles_still bus.Smbus
 
   -- what the ports heard, they heard at this board
-  pub ipmb_here : (bytes : List ℕ) → ipmb.Hears old.board.setup old.ipmb (state_of own_records old.board) bytes new.out new.ipmb (state_of own_records new.board)
-      → ipmb.Hears file old.ipmb x.board bytes new.out new.ipmb (state_of own_records new.board)
+  pub ipmb_here : (bytes : List ℕ) → ipmb.Hears old.board.setup old.ipmb (state_of old.board) bytes new.out new.ipmb (state_of new.board)
+      → ipmb.Hears file old.ipmb x.board bytes new.out new.ipmb (state_of new.board)
   ipmb_here bytes hearing =
-      subst (λ (t : BoardFile × State). ipmb.Hears t.0 old.ipmb t.1 bytes new.out new.ipmb (state_of own_records new.board)) (λ i. (shows.setup i, sym shows.board i)) hearing
+      subst (λ (t : BoardFile × State). ipmb.Hears t.0 old.ipmb t.1 bytes new.out new.ipmb (state_of new.board)) (λ i. (shows.setup i, sym shows.board i)) hearing
 
   pub smbus_here : (bytes : List ℕ)
-      → ((p : PortState) → smbus.Shows old.smbus p → smbus.HearsBytes old.board.setup p (state_of own_records old.board) bytes new.smbus new.out (state_of own_records new.board))
-      → smbus.HearsBytes file x.smbus x.board bytes new.smbus new.out (state_of own_records new.board)
+      → ((p : PortState) → smbus.Shows old.smbus p → smbus.HearsBytes old.board.setup p (state_of old.board) bytes new.smbus new.out (state_of new.board))
+      → smbus.HearsBytes file x.smbus x.board bytes new.smbus new.out (state_of new.board)
   smbus_here bytes hearing =
-      subst (λ (t : BoardFile × State). smbus.HearsBytes t.0 x.smbus t.1 bytes new.smbus new.out (state_of own_records new.board)) (λ i. (shows.setup i, sym shows.board i)) (hearing x.smbus shows.smbus)
+      subst (λ (t : BoardFile × State). smbus.HearsBytes t.0 x.smbus t.1 bytes new.smbus new.out (state_of new.board)) (λ i. (shows.setup i, sym shows.board i)) (hearing x.smbus shows.smbus)
 
   pub ipmb_hears : (bytes : List ℕ) (v : Value) → new.smbus ≡ old.smbus
-      → ipmb.Hears old.board.setup old.ipmb (state_of own_records old.board) bytes new.out new.ipmb (state_of own_records new.board)
+      → ipmb.Hears old.board.setup old.ipmb (state_of old.board) bytes new.out new.ipmb (state_of new.board)
       → IsFrameOn bus.Ipmb v bytes → HasHeard file bus.Ipmb x (hears file x.ipmb x.board v) new
   ipmb_hears bytes v other hearing is =
       let told = heard_as file x.ipmb x.board bytes v is in
-      let did = subst (λ (d : Deed). ipmb.Does d (ipmb.done_of x.ipmb told.heard) new.ipmb (state_of own_records new.board) new.out) told.same (ipmb_here bytes hearing x.ipmb shows.ipmb told.heard told.is) in
+      let did = subst (λ (d : Deed). ipmb.Does d (ipmb.done_of x.ipmb told.heard) new.ipmb (state_of new.board) new.out) told.same (ipmb_here bytes hearing x.ipmb shows.ipmb told.heard told.is) in
       let d = hears file x.ipmb x.board v in
       let written_so : sent new.out ≡ map written d.sent = ap sent did.sent in
       record {
@@ -125,7 +124,7 @@ module _ (file : BoardFile) (old new : Lab) (x : LabModel plans) (shows : Shows 
         out = record { frames = written_so; read = all_read bus.Ipmb d.sent (sent new.out) written_so did.read };
       }
 
-  smbus_did : (v : Value) (what : Done) → new.ipmb ≡ old.ipmb → smbus.Does new.smbus new.out (state_of own_records new.board) (hears file x.smbus x.board v) what
+  smbus_did : (v : Value) (what : Done) → new.ipmb ≡ old.ipmb → smbus.Does new.smbus new.out (state_of new.board) (hears file x.smbus x.board v) what
       → HasHeard file bus.Smbus x (hears file x.smbus x.board v) new
   smbus_did v what other did =
       let d = hears file x.smbus x.board v in
@@ -136,14 +135,14 @@ module _ (file : BoardFile) (old new : Lab) (x : LabModel plans) (shows : Shows 
       }
 
   pub smbus_hears : (bytes : List ℕ) (v : Value) → new.ipmb ≡ old.ipmb
-      → ((p : PortState) → smbus.Shows old.smbus p → smbus.HearsBytes old.board.setup p (state_of own_records old.board) bytes new.smbus new.out (state_of own_records new.board))
+      → ((p : PortState) → smbus.Shows old.smbus p → smbus.HearsBytes old.board.setup p (state_of old.board) bytes new.smbus new.out (state_of new.board))
       → IsFrameOn bus.Smbus v bytes → HasHeard file bus.Smbus x (hears file x.smbus x.board v) new
   smbus_hears bytes (Asks r) other hearing is = absurd is
   smbus_hears bytes (Tells r) other hearing is = absurd is
   smbus_hears bytes (Part p) other hearing is = smbus_did (Part p) _ other ((smbus_here bytes hearing).packet p is)
 
   -- what the port did stands in what is to be sent
-  pub ipmb_done : (bytes : List ℕ) (v : Value) → ipmb.Hears old.board.setup old.ipmb (state_of own_records old.board) bytes new.out new.ipmb (state_of own_records new.board)
+  pub ipmb_done : (bytes : List ℕ) (v : Value) → ipmb.Hears old.board.setup old.ipmb (state_of old.board) bytes new.out new.ipmb (state_of new.board)
       → IsFrameOn bus.Ipmb v bytes → new.out.done ≡ done_on bus.Ipmb x.ipmb v
   ipmb_done bytes v hearing is =
       let told = heard_as file x.ipmb x.board bytes v is in
@@ -151,7 +150,7 @@ module _ (file : BoardFile) (old new : Lab) (x : LabModel plans) (shows : Shows 
       ap (λ (o : Out). o.done) did.sent ∙ ap (λ (h : Result Request Reason). ipmb.done_of x.ipmb h) told.says
 
   pub smbus_done : (bytes : List ℕ) (v : Value)
-      → ((p : PortState) → smbus.Shows old.smbus p → smbus.HearsBytes old.board.setup p (state_of own_records old.board) bytes new.smbus new.out (state_of own_records new.board))
+      → ((p : PortState) → smbus.Shows old.smbus p → smbus.HearsBytes old.board.setup p (state_of old.board) bytes new.smbus new.out (state_of new.board))
       → IsFrameOn bus.Smbus v bytes → new.out.done ≡ done_on bus.Smbus x.smbus v
   smbus_done bytes (Asks r) hearing is = absurd is
   smbus_done bytes (Tells r) hearing is = absurd is

@@ -34,7 +34,6 @@ use Rattle.bmc_core.specs.SmbusShown as smbus
 use Rattle.undo_core.specs.declared.manager.Manager.{Manager}
 use Rattle.undo_core.specs.declared.sending.Sent.{Sent}
 use Rattle.lab_run.specs.declared.lab_state.Lab.{Lab}
-use Rattle.bmc_board.specs.OwnStore.{own_records}
 use Rattle.lab_run.specs.Shown.{Shows}
 use Rattle.lab_run.specs.Hearing.{HasHeard, Ignores}
 use Rattle.lab_run.proofs.PortSide.{Stays, ipmb_here, ipmb_shown, smbus_here, smbus_shown}
@@ -48,11 +47,11 @@ some_of None is = absurd (true≢false is)
 
 module _ (file : BoardFile) (old new : Lab) (x : LabModel plans) (shows : Shows file old x) (bytes : List ℕ) where
   abbrev HeardOnIpmb : Type 0
-  HeardOnIpmb = ipmb.Hears old.board.setup old.ipmb (state_of own_records old.board) bytes new.out new.ipmb (state_of own_records new.board)
+  HeardOnIpmb = ipmb.Hears old.board.setup old.ipmb (state_of old.board) bytes new.out new.ipmb (state_of new.board)
 
   abbrev HeardOnSmbus : Type 0
   HeardOnSmbus = (p : PortState) → smbus.Shows old.smbus p
-      → smbus.HearsBytes old.board.setup p (state_of own_records old.board) bytes new.smbus new.out (state_of own_records new.board)
+      → smbus.HearsBytes old.board.setup p (state_of old.board) bytes new.smbus new.out (state_of new.board)
 
   pub ipmb_noise : Stays old new → new.smbus ≡ old.smbus → HeardOnIpmb → is_frame bus.Ipmb bytes ≡ false → HasHeard file bus.Ipmb x (stays x.ipmb x.board) new
   ipmb_noise still other hearing noise =

@@ -4,7 +4,6 @@ use Rattle.std.specs.List.{AllZip}
 use Rattle.two_wire.specs.declared.Bus.{Bus}
 use Rattle.two_wire.specs.declared.Bus.TheVariants as bus
 use Rattle.cfg_records.specs.declared.board_file.BoardFile.{BoardFile}
-use Rattle.bmc_board.specs.OwnStore.{own_records}
 use Rattle.bmc_board.specs.State.{state_of}
 use Rattle.model_lab.specs.Lab.{LabFrame, Lab as LabModel, idles_on, sends}
 use Rattle.bmc_core.specs.IpmbShown as ipmb
@@ -44,7 +43,7 @@ pub record IsSentFrame (sent : SentFrame) (frame : LabFrame) : Type 0 where
 -- the lab is this lab of the model, on a board of this file
 pub record Shows (file : BoardFile) (lab : Lab) (lab_model : LabModel plans) : Type 0 where
   pub setup : lab.board.setup ≡ file
-  pub board : lab_model.board ≡ state_of own_records lab.board
+  pub board : lab_model.board ≡ state_of lab.board
   pub ipmb : ipmb.Shows lab.ipmb lab_model.ipmb
   pub smbus : smbus.Shows lab.smbus lab_model.smbus
   pub manager : manager.Shows lab_names lab.manager lab_model.manager

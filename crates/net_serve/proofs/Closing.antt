@@ -3,7 +3,6 @@ use Rattle.std.specs.Prelude.{IfOk, Result, Ok, Err}
 use Rattle.std.proofs.Common.{◌≡◌, ◌≤◌, ◌∙◌, inl, inr, sym, subst, ℕ, List, [], length}
 use Rattle.cfg_records.specs.declared.board_file.BoardFile.{BoardFile}
 use Rattle.bmc_board.specs.State.{State, state_of}
-use Rattle.bmc_board.specs.OwnStore.{own_records}
 use Rattle.bmc_lab.specs.declared.ending.Untold.{Untold}
 use Rattle.net_serve.specs.declared.periods.Period.{Period}
 use Rattle.bmc_links.specs.declared.link.Counts.{Counts}
@@ -77,13 +76,13 @@ pub closes_period : {J : Type 0} {g h : _} {A B : Type 0} (first_counts : A → 
     → IsBack first_counts fresh.first before.first seats.first after.first first_end
     → IsBack second_counts fresh.second before.second seats.second after.second second_end
     → IsPlayed list from to fresh.scanner seats.scanner scanner_end
-    → IfOk result (λ period. IsClosed setup opening (state_of own_records period.board) room seats period.history)
+    → IfOk result (λ period. IsClosed setup opening (state_of period.board) room seats period.history)
     → IfOk result (λ period. period.lanes ≡ after)
     → IfOk result (λ period. period.next ≡ to)
-    → IfOk result (λ period. IsPeriod first_counts second_counts setup opening (state_of own_records period.board) before period.lanes list from period.next period.history)
+    → IfOk result (λ period. IsPeriod first_counts second_counts setup opening (state_of period.board) before period.lanes list from period.next period.history)
 closes_period first_counts second_counts setup opening room fresh before list from to seats after first_end second_end scanner_end (Ok period) most none_first none_second none_third first second
     third closed lanes next =
-    let ending : State = state_of own_records period.board in
+    let ending : State = state_of period.board in
     subst (λ (n : ℕ). IsPeriod first_counts second_counts setup opening ending before period.lanes list from n period.history) (sym next)
     (subst (λ (l : Lanes _ _). IsPeriod first_counts second_counts setup opening ending before l list from to period.history) (sym lanes)
     (is_period first_counts second_counts setup opening ending room fresh before list from to seats after first_end second_end scanner_end period.history most none_first none_second none_third

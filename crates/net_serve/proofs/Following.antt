@@ -5,7 +5,6 @@ use Rattle.std.proofs.lemmas.List.{append-nil, append_assoc}
 use Rattle.std.proofs.lemmas.List.Sums.{sum_by_push}
 use Rattle.cfg_records.specs.declared.board_file.BoardFile.{BoardFile}
 use Rattle.bmc_board.specs.State.{State, state_of}
-use Rattle.bmc_board.specs.OwnStore.{own_records}
 use Rattle.bmc_links.specs.declared.link.Counts.{Counts}
 use Rattle.bmc_history.specs.declared.event.Event.{Event}
 use Rattle.bmc_history.specs.declared.event.Call.{Call}
@@ -67,7 +66,7 @@ module _ {A B : Type 0} (first_counts : A → Counts) (second_counts : B → Cou
 
   -- no period yet
   pub runs_none : (course : Course A B) → course.events ≡ 0
-      → RunsTo first_counts second_counts course.board.setup (state_of own_records course.board) course.lanes course.table.list.now course.table.next course
+      → RunsTo first_counts second_counts course.board.setup (state_of course.board) course.lanes course.table.list.now course.table.next course
   runs_none course none = record {
     histories = [];
     follow = (refl, refl, refl);
@@ -93,8 +92,8 @@ module _ {A B : Type 0} (first_counts : A → Counts) (second_counts : B → Cou
       → RunsTo first_counts second_counts setup opening before list from course → GoesToNext first_counts second_counts course next
       → RunsTo first_counts second_counts setup opening before list from next
   runs_more setup opening before list from course next runs goes =
-      let mid : State = state_of own_records course.board in
-      let ending : State = state_of own_records next.board in
+      let mid : State = state_of course.board in
+      let ending : State = state_of next.board in
       let place : ℕ = course.table.next in
       let to : ℕ = next.table.next in
       let period : IsPeriod first_counts second_counts setup mid ending course.lanes next.lanes list place to goes.history =

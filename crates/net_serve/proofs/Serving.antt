@@ -6,7 +6,6 @@ use Rattle.std.proofs.lemmas.List.{append-nil}
 use Rattle.cfg_records.specs.declared.board_file.BoardFile.{BoardFile}
 use Rattle.cfg_records.specs.Records.{Pair}
 use Rattle.bmc_board.specs.State.{State, state_of, opened}
-use Rattle.bmc_board.specs.OwnStore.{own_records}
 use Rattle.bmc_links.specs.declared.link.Counts.{Counts}
 use Rattle.bmc_history.specs.declared.event.Call.{Call}
 use Rattle.bmc_history.specs.declared.event.Event.{Event}
@@ -40,17 +39,17 @@ use Rattle.net_serve.proofs.Following.{follow_leads}
 
 -- what leads from a board as it begins leads from the file's
 from_file : (file : BoardFile) (begun : Begun) (histories : List (List Event)) (after : State) → IsBegun file begun
-    → Lead begun.board.setup (state_of own_records begun.board) histories after → Lead file (opened file) histories after
+    → Lead begun.board.setup (state_of begun.board) histories after → Lead file (opened file) histories after
 from_file file begun histories after begins lead =
     subst (λ (s : BoardFile). Lead s (opened file) histories after) begins.setup
     (subst (λ (o : State). Lead begun.board.setup o histories after) begins.opens lead)
 
 -- what is counted of a file's board that was served with one history
 pub tallies_once : (file : BoardFile) (begun : Begun) (served : Served) (start : List Pair) (events changed : ℕ) → IsBegun file begun → start ≡ begun.start.items
-    → IsServed begun.board.setup (state_of own_records begun.board) most_events served
-    → events ≡ length served.history → changed ≡ changed_in (state_of own_records served.board).records start → Tallies false None file events changed
+    → IsServed begun.board.setup (state_of begun.board) most_events served
+    → events ≡ length served.history → changed ≡ changed_in (state_of served.board).records start → Tallies false None file events changed
 tallies_once file begun served start events changed begins is_start is counted differ =
-    let after : State = state_of own_records served.board in
+    let after : State = state_of served.board in
     let one : length served.history ≡ sum_by length (served.history ∷ []) = omega arith in record {
       histories = served.history ∷ [];
       after = after;
@@ -75,11 +74,11 @@ plays_all (Some list) table to histories all gains =
 pub tallies_period : {A B : Type 0} (first_counts : A → Counts) (second_counts : B → Counts) (file : BoardFile) (given : Option (List Timed)) (begun : Begun) (table : Timetable)
     (course next : Course A B) (start : List Pair) (events changed : ℕ) → IsBegun file begun → IsAll given table → start ≡ begun.start.items
     → course.table.list ≡ table.list → course.table.next ≡ table.next
-    → course.board.setup ≡ begun.board.setup → state_of own_records course.board ≡ state_of own_records begun.board → course.events ≡ 0
+    → course.board.setup ≡ begun.board.setup → state_of course.board ≡ state_of begun.board → course.events ≡ 0
     → GoesToNext first_counts second_counts course next
-    → events ≡ next.events → changed ≡ changed_in (state_of own_records next.board).records start → Tallies false given file events changed
+    → events ≡ next.events → changed ≡ changed_in (state_of next.board).records start → Tallies false given file events changed
 tallies_period first_counts second_counts file given begun table course next start events changed begins all is_start is_list is_next is_setup is_state none goes counted differ =
-    let after : State = state_of own_records next.board in
+    let after : State = state_of next.board in
     let to : ℕ = next.table.next in
     let calls : List Call = flat_map (calls_of 2) (goes.history ∷ []) in
     let same : calls_of 2 goes.history ≡ calls = sym (append-nil (calls_of 2 goes.history)) in
@@ -88,13 +87,13 @@ tallies_period first_counts second_counts file given begun table course next sta
     (subst (λ (n : ℕ). Gains table.list.now n to [] (calls_of 2 goes.history)) is_next
     (subst (λ l. Gains l.now course.table.next to [] (calls_of 2 goes.history)) is_list goes.period.third)) in
     let one : next.events ≡ sum_by length (goes.history ∷ []) = (let more = goes.events in omega (arith, more, none)) in
-    let lead : Lead course.board.setup (state_of own_records course.board) (goes.history ∷ []) after = (after, goes.period.few, goes.period.replays, refl) in record {
+    let lead : Lead course.board.setup (state_of course.board) (goes.history ∷ []) after = (after, goes.period.few, goes.period.replays, refl) in record {
       histories = goes.history ∷ [];
       after = after;
       plays = plays_all given table to (goes.history ∷ []) all gains;
       count = refl;
       lead = from_file file begun (goes.history ∷ []) after begins
-          (subst (λ (s : BoardFile). Lead s (state_of own_records begun.board) (goes.history ∷ []) after) is_setup
+          (subst (λ (s : BoardFile). Lead s (state_of begun.board) (goes.history ∷ []) after) is_setup
           (subst (λ (o : State). Lead course.board.setup o (goes.history ∷ []) after) is_state lead));
       counted = counted ∙ one;
       differ = differ ∙ ap (changed_in after.records) (is_start ∙ begins.start);
@@ -103,16 +102,16 @@ tallies_period first_counts second_counts file given begun table course next sta
 -- what is counted of one that was served period by period
 pub tallies_all : {A B : Type 0} (first_counts : A → Counts) (second_counts : B → Counts) (file : BoardFile) (given : Option (List Timed)) (begun : Begun) (table : Timetable)
     (lanes : Lanes A B) (course : Course A B) (start : List Pair) (events changed : ℕ) → IsBegun file begun → IsAll given table → start ≡ begun.start.items
-    → RunsTo first_counts second_counts begun.board.setup (state_of own_records begun.board) lanes table.list.now table.next course
-    → events ≡ course.events → changed ≡ changed_in (state_of own_records course.board).records start → Tallies true given file events changed
+    → RunsTo first_counts second_counts begun.board.setup (state_of begun.board) lanes table.list.now table.next course
+    → events ≡ course.events → changed ≡ changed_in (state_of course.board).records start → Tallies true given file events changed
 tallies_all first_counts second_counts file given begun table lanes course start events changed begins all is_start runs counted differ =
-    let after : State = state_of own_records course.board in record {
+    let after : State = state_of course.board in record {
       histories = runs.histories;
       after = after;
       plays = plays_all given table course.table.next runs.histories all runs.plays;
       count = tt;
       lead = from_file file begun runs.histories after begins
-          (follow_leads first_counts second_counts begun.board.setup table.list.now (state_of own_records begun.board) after lanes course.lanes table.next course.table.next runs.histories
+          (follow_leads first_counts second_counts begun.board.setup table.list.now (state_of begun.board) after lanes course.lanes table.next course.table.next runs.histories
           runs.follow);
       counted = counted ∙ runs.events;
       differ = differ ∙ ap (changed_in after.records) (is_start ∙ begins.start);

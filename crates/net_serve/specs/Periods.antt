@@ -3,7 +3,6 @@ use Rattle.std.specs.Prelude.{◌≡◌, ◌≤◌, ◌+◌, ◌↔◌, ℕ, Lis
 use Rattle.std.specs.List.{flat_map, sum_by}
 use Rattle.cfg_records.specs.declared.board_file.BoardFile.{BoardFile}
 use Rattle.bmc_board.specs.State.{State, state_of}
-use Rattle.bmc_board.specs.OwnStore.{own_records}
 use Rattle.bmc_links.specs.declared.link.Counts.{Counts}
 use Rattle.bmc_history.specs.declared.event.Event.{Event}
 use Rattle.bmc_history.specs.Replay.{Replays, calls_of}
@@ -56,7 +55,7 @@ Follow {A} {B} first_counts second_counts setup list opening before from (histor
 pub record RunsTo {A B : Type 0} (first_counts : A → Counts) (second_counts : B → Counts) (setup : BoardFile) (opening : State) (before : Lanes A B)
     (list : List Timed) (from : ℕ) (course : Course A B) : Type 0 where
   pub histories : List (List Event)
-  pub follow : Follow first_counts second_counts setup list opening before from histories (state_of own_records course.board) course.lanes course.table.next
+  pub follow : Follow first_counts second_counts setup list opening before from histories (state_of course.board) course.lanes course.table.next
   pub plays : Gains list from course.table.next [] (flat_map (calls_of 2) histories)
   pub events : course.events ≡ sum_by length histories
   pub setup_is : course.board.setup ≡ setup
@@ -65,7 +64,7 @@ pub record RunsTo {A B : Type 0} (first_counts : A → Counts) (second_counts : 
 -- the board was served for one period more
 pub record GoesToNext {A B : Type 0} (first_counts : A → Counts) (second_counts : B → Counts) (before next : Course A B) : Type 0 where
   pub history : List Event
-  pub period : IsPeriod first_counts second_counts before.board.setup (state_of own_records before.board) (state_of own_records next.board)
+  pub period : IsPeriod first_counts second_counts before.board.setup (state_of before.board) (state_of next.board)
       before.lanes next.lanes before.table.list.now before.table.next next.table.next history
   pub events : next.events ≡ before.events + length history
   pub setup_is : next.board.setup ≡ before.board.setup

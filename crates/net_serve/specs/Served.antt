@@ -6,7 +6,6 @@ use Rattle.text_lines.specs.Cuts.{ended}
 use Rattle.cfg_records.specs.declared.board_file.BoardFile.{BoardFile}
 use Rattle.cfg_records.specs.Boards.{pairs_of}
 use Rattle.bmc_board.specs.State.{State, state_of, opened}
-use Rattle.bmc_board.specs.OwnStore.{own_records}
 use Rattle.bmc_history.specs.declared.event.Event.{Event}
 use Rattle.bmc_history.specs.Replay.{Replays, calls_of}
 use Rattle.bmc_ports.specs.declared.timed.Timed.{Timed}
@@ -24,13 +23,13 @@ most_events = 4096
 pub record IsBegun (file : BoardFile) (begun : Begun) : Type 0 where
   pub start : begun.start.items ≡ pairs_of file
   pub setup : begun.board.setup ≡ file
-  pub opens : state_of own_records begun.board ≡ opened file
+  pub opens : state_of begun.board ≡ opened file
 
 -- A board that was served has a history, with no more events than there was room for. It leads from the state that the board opened in
 -- to the board as it is.
 pub record IsServed (setup : BoardFile) (opening : State) (room : ℕ) (served : Served) : Type 0 where
   pub few : length served.history ≤ room
-  pub replays : Replays setup opening served.history (state_of own_records served.board)
+  pub replays : Replays setup opening served.history (state_of served.board)
 
 -- Histories lead, one after another, from the first state to the last, and none has more events than there is room for.
 abbrev pub Lead : BoardFile → (first : State) → List (List Event) → (last : State) → Type 0

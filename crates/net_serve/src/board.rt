@@ -3,7 +3,6 @@ ghost use Rattle.std.specs.Prelude.{◌≡◌, [], ◌∷◌, IfOk, IfSome};
 ghost use Rattle.std.specs.List.{AllZip};
 ghost use Rattle.two_wire.specs.declared.Bus.TheVariants as bus;
 ghost use Rattle.bmc_board.specs.State.{state_of};
-ghost use Rattle.bmc_board.specs.OwnStore.{own_records};
 ghost use Rattle.bmc_lab.specs.Run.{IsFresh};
 ghost use Rattle.net_serve.specs.Served.{IsServed, most_events};
 
@@ -98,7 +97,7 @@ where
     requires parts { blank.parts ≡ J.parts }
     requires three { blank.parts ≡ 3 }
     requires setup { board.setup ≡ J.setup }
-    requires opening { state_of own_records board ≡ J.opening }
+    requires opening { state_of board ≡ J.opening }
     requires room { room ≡ J.room }
     ensures { IfOk result (IsServed J.setup J.opening J.room) }
 {
@@ -126,7 +125,7 @@ where
     A: Link + Send,
     B: Link + Send,
     R: Threads + Wait + Sync,
-    ensures { IfOk result (IsServed board.setup (state_of own_records board) most_events) }
+    ensures { IfOk result (IsServed board.setup (state_of board) most_events) }
 {
     serve_opened::<Brand, A, B, R>(
         rt,

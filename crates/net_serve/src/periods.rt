@@ -2,7 +2,6 @@
 ghost use Rattle.std.specs.Prelude.{◌≡◌, ◌<◌, ◌+◌, ◌^◌, ◌↔◌, IfOk, IsTrue};
 ghost use Rattle.bmc_ports.specs.Slices.{EndsAt};
 ghost use Rattle.bmc_board.specs.State.{state_of};
-ghost use Rattle.bmc_board.specs.OwnStore.{own_records};
 ghost use Rattle.net_serve.specs.Served.{most_events};
 ghost use Rattle.net_serve.specs.Periods.{IsPeriod, IsClosed, GoesToNext, RunsTo};
 
@@ -46,7 +45,7 @@ fn close_period<J: Opening, A: Drop, B: Drop>(
 ) -> Result<Period<A, B>, Untold>
     requires three { J.parts ≡ 3 }
     ensures closed { IfOk result (λ period. IsClosed J.setup J.opening
-        (state_of own_records period.board) J.room sliced.seats period.history) }
+        (state_of period.board) J.room sliced.seats period.history) }
     ensures setup { IfOk result (λ period. period.board.setup ≡ J.setup) }
     ensures lanes { IfOk result (λ period. period.lanes ≡ sliced.lanes) }
     ensures next { IfOk result (λ period. period.next ≡ sliced.next) }
@@ -90,11 +89,11 @@ where
     requires parts { blank.parts ≡ J.parts }
     requires three { blank.parts ≡ 3 }
     requires setup { board.setup ≡ J.setup }
-    requires opening { state_of own_records board ≡ J.opening }
+    requires opening { state_of board ≡ J.opening }
     requires room { room ≡ J.room }
     requires most { room ≡ most_events }
     ensures period { IfOk result (λ period. IsPeriod A.counts_of B.counts_of J.setup J.opening
-        (state_of own_records period.board) lanes period.lanes
+        (state_of period.board) lanes period.lanes
         table.entry.list.now table.entry.next period.next period.history) }
     ensures setup { IfOk result (λ period. period.board.setup ≡ J.setup) }
 {
@@ -122,7 +121,7 @@ where
     B: Link + Send + Drop,
     R: Threads + Wait + Clock + Sync,
     ensures period { IfOk result (λ period. IsPeriod A.counts_of B.counts_of board.setup
-        (state_of own_records board) (state_of own_records period.board) lanes period.lanes
+        (state_of board) (state_of period.board) lanes period.lanes
         table.entry.list.now table.entry.next period.next period.history) }
     ensures setup { IfOk result (λ period. period.board.setup ≡ board.setup) }
 {
@@ -142,7 +141,7 @@ impl<'a, A: Link + Send + Drop, B: Link + Send + Drop> Course<'a, A, B> {
     /// A board that is to be served.
     pub fn new(board: Board<Records>, lanes: Lanes<A, B>, table: Timetable<'a>) -> Self
         ensures setup { result.board.setup ≡ board.setup }
-        ensures state { state_of own_records result.board ≡ state_of own_records board }
+        ensures state { state_of result.board ≡ state_of board }
         ensures lanes { result.lanes ≡ lanes }
         ensures list { result.table.list ≡ table.entry.list }
         ensures next { result.table.next ≡ table.entry.next }
@@ -215,7 +214,7 @@ where
     B: Link + Send + Drop,
     R: Threads + Wait + Clock + Sync,
     ensures runs { IfOk result (RunsTo A.counts_of B.counts_of board.setup
-        (state_of own_records board) lanes table.entry.list.now table.entry.next) }
+        (state_of board) lanes table.entry.list.now table.entry.next) }
     ensures over { IfOk result (λ course. EndsAt quiet course.lanes) }
 {
     let most = u64::from(lanes.first.turns) + u64::from(lanes.second.turns);

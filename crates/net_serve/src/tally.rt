@@ -2,7 +2,6 @@
 ghost use Rattle.std.specs.Prelude.{◌≡◌, IfOk, length, string_bytes};
 ghost use Rattle.cfg_records.specs.Boards.{pairs_of};
 ghost use Rattle.bmc_board.specs.State.{state_of, opened};
-ghost use Rattle.bmc_board.specs.OwnStore.{own_records};
 ghost use Rattle.bmc_lab.specs.declared.console.Stream.TheVariants.{Output};
 ghost use Rattle.bmc_lab.specs.declared.status.Status.TheVariants.{Success};
 ghost use Rattle.changed_records.specs.Changed.{changed_in};
@@ -26,7 +25,7 @@ pub struct Begun {
 pub fn begin(alloc: Global, file: BoardFile) -> Result<Begun, AllocError>
     ensures start { IfOk result (λ begun. begun.start.items ≡ pairs_of file) }
     ensures setup { IfOk result (λ begun. begun.board.setup ≡ file) }
-    ensures state { IfOk result (λ begun. state_of own_records begun.board ≡ opened file) }
+    ensures state { IfOk result (λ begun. state_of begun.board ≡ opened file) }
 {
     match file.records(alloc) {
         Ok(start) => match Board::of_file(alloc, file) {
@@ -48,7 +47,7 @@ pub struct Tally {
 pub(crate) fn count(start: &[(Key, StartValue)], board: &Board<Records>, events: usize) -> Tally
     ensures events { result.events ≡ events }
     ensures changed { result.changed
-        ≡ changed_in (state_of own_records board.now).records start.now }
+        ≡ changed_in (state_of board.now).records start.now }
 {
     Tally {
         events,
@@ -60,7 +59,7 @@ pub(crate) fn count(start: &[(Key, StartValue)], board: &Board<Records>, events:
 pub fn tally_of(start: &[(Key, StartValue)], served: &Served) -> Tally
     ensures events { result.events ≡ length served.now.history }
     ensures changed { result.changed
-        ≡ changed_in (state_of own_records served.now.board).records start.now }
+        ≡ changed_in (state_of served.now.board).records start.now }
 {
     count(start, &served.board, served.history.len())
 }

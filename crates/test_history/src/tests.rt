@@ -1,7 +1,6 @@
 //! A board with its history, on the sample board, and a link in memory.
 ghost use Rattle.std.specs.Prelude.{◌≡◌};
 ghost use Rattle.bmc_board.specs.State.{state_of};
-ghost use Rattle.bmc_board.specs.OwnStore.{own_records};
 
 mod gates;
 mod links;
@@ -42,7 +41,7 @@ pub(crate) fn open_shared<J: Opening, R: Abort>(
     requires parts { blank.parts ≡ J.parts }
     requires three { blank.parts ≡ 3 }
     requires setup { board.setup ≡ J.setup }
-    requires opening { state_of own_records board ≡ J.opening }
+    requires opening { state_of board ≡ J.opening }
     requires room { room ≡ J.room }
 {
     let opened = Shared::<J, Records>::open(alloc, blank, board, room);

@@ -2,7 +2,7 @@
 ghost use Rattle.std.specs.Prelude.{◌≡◌, ◌+◌, ◌≤◌, ◌++◌, ℕ, length};
 ghost use Rattle.pldm_base.specs.Parts.{part_length};
 ghost use Rattle.record_base.specs.AttributeSizes.{most_value};
-ghost use Rattle.bmc_board.specs.Gives.{Gives};
+ghost use Rattle.bmc_board.specs.Gives.{Appends};
 ghost use Rattle.bmc_board.specs.BiosTables.{values_in, table_asked, asked_part, longest_part, shown_part};
 
 use crate::board::serve::value_at;
@@ -64,7 +64,7 @@ pub(super) fn push_part<B: Buffer>(part: &Part<'_>, to: &mut B)
 /// Appends the part of a table that the request asks for.
 pub(super) fn show_part<B: Buffer>(body: &[u8], table: &[u8], to: &mut B) -> Result<(), Code>
     requires room { length (B.bytes to.old) + longest_part ≤ B.capacity }
-    ensures { Gives result (B.bytes to.old) (B.bytes to.new) (asked_part body.now table.now) }
+    ensures { Appends B.bytes result to.old to.new (asked_part body.now table.now) }
 {
     let part = part(table, byte_at(body, 4), transfer_handle(body))?;
     push_part(&part, to);

@@ -1,7 +1,7 @@
 //! What happens on a board beside requests.
-ghost use Rattle.std.specs.Prelude.{◌≡◌, ◌<◌, All, map};
-ghost use Rattle.sensor_recs.specs.Taken.{log_record};
-ghost use Rattle.bmc_board.specs.Sensing.{compared_at, logs, after_all, after_reading, after_tick, bench_of, NamesNoSensor};
+ghost use Rattle.std.specs.Prelude.{◌≡◌, ◌<◌, All};
+ghost use Rattle.bmc_board.specs.Sensing.{compared_at, logs, after_events, after_tick, bench_of, NamesNoSensor};
+ghost use Rattle.bmc_board.specs.Serves.{after_read};
 
 use super::serve::value_at;
 use crate::bench::{Bench, NoSensor};
@@ -19,9 +19,7 @@ const LOGGING_PLACE: usize = 3;
 /// Adds to the log each event that a reading of the sensor makes. A full log refuses, and notes that.
 fn log_events(log: &mut Sel, sensor: &Sensor, compared: &Compared, reading: u8, events: &Events)
     requires { All (λ event. event.place < 6) events.now.items }
-    ensures { log.new ≡ after_all log.old (map
-        (log_record sensor.now.sensor_type sensor.now.number compared.now reading)
-        events.now.items) }
+    ensures { log.new ≡ after_events sensor.now compared.now reading events.now.items log.old }
 {
     for event in events.as_slice() {
         let record = compared.log_record(sensor.sensor_type, sensor.number, reading, event);
@@ -58,7 +56,7 @@ impl<S: Store> Board<S> {
     /// The sensor gives a reading, which is taken only while the sensor scans.
     fn take_reading(&mut self, sensor: &Sensor, reading: u8)
         ensures left { self.new.activity
-            ≡ after_reading (S.records self.old.store) sensor.now reading self.old.activity }
+            ≡ after_read self.old sensor.now reading }
         ensures records { S.records self.new.store ≡ S.records self.old.store }
         ensures setup { self.new.setup ≡ self.old.setup }
     {
@@ -90,13 +88,13 @@ impl<S: Store> Board<S> {
     /// What happens on the board beside requests. It takes no memory, and leaves every record. A reading of a sensor that isn't there
     /// changes nothing.
     pub fn bench(&mut self, event: Bench) -> Result<(), NoSensor>
-        ensures happens { (result, state_of S.records self.new)
-            ≡ bench_of self.old.setup (state_of S.records self.old) event }
+        ensures happens { (result, state_of self.new)
+            ≡ bench_of self.old.setup (state_of self.old) event }
         ensures records { S.records self.new.store ≡ S.records self.old.store }
         ensures setup { self.new.setup ≡ self.old.setup }
         ensures unknown { IsErr result ↔ NamesNoSensor self.old.setup event }
         ensures refused { OnErr result
-            (IsUnchanged (state_of S.records self.old) (state_of S.records self.new)) }
+            (IsUnchanged (state_of self.old) (state_of self.new)) }
     {
         match event {
             Bench::Reading { sensor, raw } => {

@@ -3,7 +3,7 @@ ghost use Rattle.std.specs.Prelude.{◌≡◌, IfOk};
 ghost use Rattle.bmc_board.specs.State.{opened, state_of};
 
 use crate::board::Board;
-use cfg_records::{BoardFile, Store};
+use cfg_records::{BoardFile};
 use packed_store::PackedStore;
 use std::alloc::{AllocError, Global};
 
@@ -15,7 +15,7 @@ impl Board<Records> {
     pub fn of_file(alloc: Global, file: BoardFile) -> Result<Self, AllocError>
         ensures setup { IfOk result (λ board. board.setup ≡ file) }
         ensures state { IfOk result
-            (λ board. state_of ⟦<Records as Store>⟧.records board ≡ opened file) }
+            (λ board. state_of board ≡ opened file) }
     {
         match Records::of_file(alloc, &file) {
             Ok(store) => Board::open(alloc, file, store),

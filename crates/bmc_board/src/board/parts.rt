@@ -1,8 +1,7 @@
 //! The commands of attributes, with values that are whole or come in parts.
 ghost use Rattle.std.specs.Prelude.{◌≡◌, ◌+◌, ◌≤◌, length, Ok};
 ghost use Rattle.two_wire.specs.Sizes.{most_pldm_reply_data};
-ghost use Rattle.attribute_parts.specs.declared.set_part.SetPart.TheVariants as set_part;
-ghost use Rattle.bmc_board.specs.Gives.{Gives};
+ghost use Rattle.bmc_board.specs.Gives.{Appends};
 ghost use Rattle.bmc_board.specs.BiosTables.{longest_part};
 ghost use Rattle.bmc_board.specs.AttributeParts.{named_in, limits_named, later_part};
 
@@ -27,7 +26,7 @@ fn named_in(entry: &[u8]) -> u16
 /// Appends a later part of an entry.
 fn show_later_part<B: Buffer>(entry: &[u8], transfer: u32, to: &mut B) -> Result<(), Code>
     requires room { length (B.bytes to.old) + longest_part ≤ B.capacity }
-    ensures { Gives result (B.bytes to.old) (B.bytes to.new) (later_part entry.now transfer) }
+    ensures { Appends B.bytes result to.old to.new (later_part entry.now transfer) }
 {
     let part = entry_part(entry, GET_NEXT_PART, transfer)?;
     push_part(&part, to);
@@ -38,7 +37,7 @@ impl<S: Store> Board<S> {
     ghost use Rattle.bmc_board.specs.Request as request;
     ghost use Rattle.bios_attr.specs.BiosAttribute.{attribute_in};
     ghost use Rattle.attribute_parts.specs.SetParts.{part_in};
-    ghost use Rattle.bmc_board.specs.AttributeCommands.{whole_set, part_set, attribute_set, attribute_get};
+    ghost use Rattle.bmc_board.specs.AttributeCommands.{whole_asked, part_asked, first_part, part_between, last_part, attribute_set, attribute_get};
     ghost use Rattle.bmc_board.specs.Serves.{Fits, Serves, serve_by};
 
     /// What can be done with the attribute of this handle.
@@ -52,9 +51,9 @@ impl<S: Store> Board<S> {
     /// Stages the first part of an entry.
     fn start_set<B: Buffer>(&mut self, from: u8, entry: &[u8], to: &mut B) -> Result<(), Code>
         requires room { length (B.bytes to.old) + most_pldm_reply_data ≤ B.capacity }
-        ensures { Serves S.records self.old self.new
-            (Ok (request.PartOfSet from (set_part.Start entry.now)))
-            result (B.bytes to.old) (B.bytes to.new) }
+        ensures { Serves B.bytes self.old self.new
+            (first_part from entry.now)
+            result to.old to.new }
     {
         let limits = self.limits_named(named_in(entry));
         let next = self.activity.stagings.start(limits.as_ref(), from, entry)?;
@@ -70,9 +69,9 @@ impl<S: Store> Board<S> {
         to: &mut B,
     ) -> Result<(), Code>
         requires room { length (B.bytes to.old) + most_pldm_reply_data ≤ B.capacity }
-        ensures { Serves S.records self.old self.new
-            (Ok (request.PartOfSet from (set_part.Middle handle bytes.now)))
-            result (B.bytes to.old) (B.bytes to.new) }
+        ensures { Serves B.bytes self.old self.new
+            (part_between from handle bytes.now)
+            result to.old to.new }
     {
         let next = self.activity.stagings.add(from, handle, bytes)?;
         show(&next.to_le_bytes(), to)
@@ -88,9 +87,9 @@ impl<S: Store> Board<S> {
         to: &mut B,
     ) -> Result<(), Code>
         requires room { length (B.bytes to.old) + most_pldm_reply_data ≤ B.capacity }
-        ensures { Serves S.records self.old self.new
-            (Ok (request.PartOfSet from (set_part.End handle bytes.now)))
-            result (B.bytes to.old) (B.bytes to.new) }
+        ensures { Serves B.bytes self.old self.new
+            (last_part from handle bytes.now)
+            result to.old to.new }
     {
         let mut place = Entry::new();
         let op = self
@@ -105,9 +104,9 @@ impl<S: Store> Board<S> {
     /// Carries out the part of a Set that the data are.
     #[inline(never)]
     fn set_part<B: Buffer>(&mut self, from: u8, body: &[u8], to: &mut B) -> Result<(), Code>
-        requires { Fits (part_set from (part_in body.now)) (B.bytes to.old) B.capacity }
-        ensures { Serves S.records self.old self.new (part_set from (part_in body.now))
-            result (B.bytes to.old) (B.bytes to.new) }
+        requires { Fits (part_asked from body.now) (B.bytes to.old) B.capacity }
+        ensures { Serves B.bytes self.old self.new (part_asked from body.now)
+            result to.old to.new }
     {
         match part_in(body)? {
             SetPart::Start(entry) => self.start_set(from, entry.as_slice(), to),
@@ -119,9 +118,9 @@ impl<S: Store> Board<S> {
     /// Carries out the Set that the data are, whole.
     #[inline(never)]
     fn set_whole<B: Buffer>(&mut self, body: &[u8], to: &mut B) -> Result<(), Code>
-        requires { Fits (whole_set (attribute_in body.now)) (B.bytes to.old) B.capacity }
-        ensures { Serves S.records self.old self.new (whole_set (attribute_in body.now))
-            result (B.bytes to.old) (B.bytes to.new) }
+        requires { Fits (whole_asked body.now) (B.bytes to.old) B.capacity }
+        ensures { Serves B.bytes self.old self.new (whole_asked body.now)
+            result to.old to.new }
     {
         let op = attribute_in(body)?;
         self.set(&Op::BiosAttribute(op), to)
@@ -135,8 +134,8 @@ impl<S: Store> Board<S> {
         to: &mut B,
     ) -> Result<(), Code>
         requires { Fits (attribute_set from body.now) (B.bytes to.old) B.capacity }
-        ensures { Serves S.records self.old self.new (attribute_set from body.now)
-            result (B.bytes to.old) (B.bytes to.new) }
+        ensures { Serves B.bytes self.old self.new (attribute_set from body.now)
+            result to.old to.new }
     {
         if byte_at(body, 4) == START_AND_END {
             self.set_whole(body, to)
@@ -149,8 +148,8 @@ impl<S: Store> Board<S> {
     #[inline(never)]
     fn show_later<B: Buffer>(&self, handle: u16, transfer: u32, to: &mut B) -> Result<(), Code>
         requires room { length (B.bytes to.old) + longest_part ≤ B.capacity }
-        ensures { Gives result (B.bytes to.old) (B.bytes to.new)
-            (serve_by S.records self.now (request.LaterPart handle transfer)).0 }
+        ensures { Appends B.bytes result to.old to.new
+            (serve_by self.now (request.LaterPart handle transfer)).0 }
     {
         let key = Key::BiosAttribute(handle);
         match (self.setup.limits(&key), self.store.get(&key)) {
@@ -166,8 +165,8 @@ impl<S: Store> Board<S> {
     /// Carries out GetBIOSAttributeCurrentValueByHandle.
     pub(super) fn get_attribute<B: Buffer>(&mut self, body: &[u8], to: &mut B) -> Result<(), Code>
         requires { Fits (attribute_get body.now) (B.bytes to.old) B.capacity }
-        ensures { Serves S.records self.old self.new (attribute_get body.now)
-            result (B.bytes to.old) (B.bytes to.new) }
+        ensures { Serves B.bytes self.old self.new (attribute_get body.now)
+            result to.old to.new }
     {
         match attribute_shown_in(body)? {
             AskedPart::First(handle) => self.get(&Key::BiosAttribute(handle), to),

@@ -1,11 +1,11 @@
 //! What a board does with requests.
-ghost use Rattle.std.specs.Prelude.{◌≡◌, ◌≢◌, ◌+◌, ◌≤◌, ℕ, List, IfOk, [], length};
-ghost use Rattle.two_wire.specs.Codes.{success, node_busy, pldm_not_ready};
+ghost use Rattle.std.specs.Prelude.{◌≡◌, ◌≢◌, ◌+◌, ◌≤◌, IfOk, [], length};
+ghost use Rattle.two_wire.specs.Codes.{node_busy, pldm_not_ready};
 ghost use Rattle.cfg_records.specs.Records.{records_of};
 ghost use Rattle.cfg_records.specs.Boards.{pairs_of};
 ghost use Rattle.record_base.specs.Meaning.{room_for};
 ghost use Rattle.record_base.specs.declared.message.Answered.{Answered as Reply};
-ghost use Rattle.bmc_board.specs.Gives.{Gives};
+ghost use Rattle.bmc_board.specs.Gives.{Gives, Appends};
 ghost use Rattle.bmc_board.specs.Replies.{done, unknown_code};
 ghost use Rattle.bmc_board.specs.Sensing.{value_at};
 ghost use Rattle.bmc_board.specs.declared.board.Kept.TheVariants.{Stale};
@@ -80,7 +80,7 @@ pub(super) fn value_at<'a, S: Store>(store: &'a S, key: &Key) -> &'a [u8]
 /// Appends the data of a reply that is always given.
 pub(super) fn show<B: Buffer>(shown: &[u8], to: &mut B) -> Result<(), Code>
     requires { length (B.bytes to.old) + length shown.now ≤ B.capacity }
-    ensures { Gives result (B.bytes to.old) (B.bytes to.new) (done shown.now) }
+    ensures { Appends B.bytes result to.old to.new (done shown.now) }
 {
     to.extend_from_slice(shown);
     Ok(())
@@ -117,30 +117,25 @@ fn answered(done: Result<(), Code>, body: Bytes<{ MOST_PLDM_REPLY_DATA }>) -> An
 
 impl<S: Store> Board<S> {
     ghost use Rattle.bmc_board.specs.State.{opened, state_of};
-    ghost use Rattle.bmc_board.specs.Leaves.{Leaves};
-    ghost use Rattle.bmc_board.specs.Sensing.{reading_answer};
     ghost use Rattle.bmc_board.specs.Live.{progress_answer, leave_answer, longest_live_reply, longest_live};
-    ghost use Rattle.bmc_board.specs.Serves.{given_by, serve_by, live_by, Fits, Says, Serves};
+    ghost use Rattle.bmc_board.specs.Serves.{given_by, serve_by, live_by, outcome_by, reading_by, table_by, part_by, Fits, Says, Serves, ServesSilently, Refuses};
     ghost use Rattle.bmc_board.specs.declared.board.Kept.TheVariants as kept;
     ghost use Rattle.bios_attr.specs.declared.bios_table.BiosTable.TheVariants as bios_table;
-    ghost use Rattle.bmc_board.specs.BiosTables.{values_in, table_bytes, asked_part, table_answer, longest_part};
+    ghost use Rattle.bmc_board.specs.BiosTables.{longest_part};
     ghost use Rattle.bmc_board.specs.Row.{Row};
     ghost use Rattle.bmc_board.specs.Request as request;
-    ghost use Rattle.bmc_board.specs.Request.{asked_of, asked_by};
-    ghost use Rattle.bmc_board.specs.BootCommands.{boot_set, boot_get};
-    ghost use Rattle.bmc_board.specs.ChannelCommands.{channel_asked};
-    ghost use Rattle.bmc_board.specs.Answer.{outcome_at};
+    ghost use Rattle.bmc_board.specs.Request.{asked_of, live_asked, set_read, plain_set};
+    ghost use Rattle.bmc_board.specs.BootCommands.{boot_set_asked, boot_get_asked};
+    ghost use Rattle.bmc_board.specs.ChannelCommands.{channel_set_asked};
     ghost use Rattle.std.specs.Prelude.{Some, Ok};
     ghost use Rattle.record_base.specs.Meaning.{value_or_code};
-    ghost use Rattle.record_kinds.specs.Limits.{key_of, reader_of};
-    ghost use Rattle.watch_boot.specs.BootRequests.{boot_request_in, boot_shown_in};
-    ghost use Rattle.user_chan.specs.ChannelRequests.{channel_request_in};
+    ghost use Rattle.record_kinds.specs.Limits.{key_of};
 
     /// A board of this file over this store of its records.
     pub fn open(alloc: Global, file: BoardFile, store: S) -> Result<Self, AllocError>
         requires { S.records store ≡ records_of (pairs_of file) }
         ensures setup { IfOk result (λ board. board.setup ≡ file) }
-        ensures state { IfOk result (λ board. state_of S.records board ≡ opened file) }
+        ensures state { IfOk result (λ board. state_of board ≡ opened file) }
     {
         match Activity::opening(alloc, &file) {
             Ok(activity) => match Tables::open(alloc, &file.attributes) {
@@ -171,9 +166,9 @@ impl<S: Store> Board<S> {
 
     /// Starts the watchdog timer, where it was set once.
     fn reset_watchdog(&mut self) -> Result<(), Code>
-        ensures answer { Says result (live_by S.records self.old LiveCommand.ResetWatchdog []).0 }
+        ensures answer { Says result (live_by self.old LiveCommand.ResetWatchdog []).0 }
         ensures left { self.new.activity ≡
-            (live_by S.records self.old LiveCommand.ResetWatchdog []).1 }
+            (live_by self.old LiveCommand.ResetWatchdog []).1 }
         ensures records { S.records self.new.store ≡ S.records self.old.store }
         ensures setup { self.new.setup ≡ self.old.setup }
     {
@@ -225,9 +220,9 @@ impl<S: Store> Board<S> {
     /// Carries out Set User Password. An unknown user is refused before the size of the password.
     fn set_password(&mut self, body: &[u8]) -> Result<(), Code>
         ensures answer { Says result
-            (live_by S.records self.old LiveCommand.SetUserPassword body.now).0 }
+            (live_by self.old LiveCommand.SetUserPassword body.now).0 }
         ensures left { self.new.activity ≡
-            (live_by S.records self.old LiveCommand.SetUserPassword body.now).1 }
+            (live_by self.old LiveCommand.SetUserPassword body.now).1 }
         ensures records { S.records self.new.store ≡ S.records self.old.store }
         ensures setup { self.new.setup ≡ self.old.setup }
     {
@@ -249,8 +244,8 @@ impl<S: Store> Board<S> {
     /// Appends what Get Sensor Reading replies of the sensor of this number.
     fn show_reading<B: Buffer>(&self, sensor: u8, to: &mut B) -> Result<(), Code>
         requires room { length (B.bytes to.old) + longest_live_reply ≤ B.capacity }
-        ensures { Gives result (B.bytes to.old) (B.bytes to.new)
-            (reading_answer self.now.setup (S.records self.now.store) self.now.activity sensor) }
+        ensures { Appends B.bytes result to.old to.new
+            (reading_by self.now sensor) }
     {
         let key = Key::EventEnable(sensor);
         if self.setup.sensor(sensor).is_none() {
@@ -280,9 +275,8 @@ impl<S: Store> Board<S> {
     fn show_kept<B: Buffer>(&self, table: BiosTable, body: &[u8], to: &mut B) -> Result<(), Code>
         requires room { length (B.bytes to.old) + longest_part ≤ B.capacity }
         requires kept { table ≡ bios_table.Values → self.now.kept ≡ kept.Current }
-        ensures { Gives result (B.bytes to.old) (B.bytes to.new)
-            (asked_part body.now (table_bytes self.now.setup.attributes.items
-            (values_in (S.records self.now.store)) table)) }
+        ensures { Appends B.bytes result to.old to.new
+            (part_by self.now table body.now) }
     {
         show_part(body, self.tables.table(table), to)
     }
@@ -291,8 +285,8 @@ impl<S: Store> Board<S> {
     #[inline(never)]
     fn show_table<B: Buffer>(&mut self, body: &[u8], to: &mut B) -> Result<(), Code>
         requires room { length (B.bytes to.old) + longest_part ≤ B.capacity }
-        ensures answer { Gives result (B.bytes to.old) (B.bytes to.new)
-            (table_answer self.old.setup (S.records self.old.store) body.now) }
+        ensures answer { Appends B.bytes result to.old to.new
+            (table_by self.old body.now) }
         ensures activity { self.new.activity ≡ self.old.activity }
         ensures store { self.new.store ≡ self.old.store }
         ensures setup { self.new.setup ≡ self.old.setup }
@@ -313,8 +307,8 @@ impl<S: Store> Board<S> {
         to: &mut B,
     ) -> Result<(), Code>
         requires room { length (B.bytes to.old) + longest_live command ≤ B.capacity }
-        ensures { Serves S.records self.old self.new (Ok (request.Live command body.now))
-            result (B.bytes to.old) (B.bytes to.new) }
+        ensures { Serves B.bytes self.old self.new (live_asked command body.now)
+            result to.old to.new }
     {
         match command {
             LiveCommand::GetDeviceId => show(&device_data(self.setup.device()), to),
@@ -350,8 +344,8 @@ impl<S: Store> Board<S> {
     /// Appends what a Get of the key's record replies.
     pub(super) fn get<B: Buffer>(&self, key: &Key, to: &mut B) -> Result<(), Code>
         requires room { Fits (Ok (request.Get key.now)) (B.bytes to.old) B.capacity }
-        ensures { Gives result (B.bytes to.old) (B.bytes to.new)
-            (serve_by S.records self.now (request.Get key.now)).0 }
+        ensures { Appends B.bytes result to.old to.new
+            (serve_by self.now (request.Get key.now)).0 }
     {
         match (self.setup.limits(key), self.store.get(key)) {
             (Some(limits), Some(value)) => {
@@ -366,8 +360,8 @@ impl<S: Store> Board<S> {
     #[inline(always)]
     pub(super) fn set<B: Buffer>(&mut self, op: &Op<'_>, to: &mut B) -> Result<(), Code>
         requires room { Fits (Ok (request.Set op.now)) (B.bytes to.old) B.capacity }
-        ensures { Serves S.records self.old self.new (Ok (request.Set op.now))
-            result (B.bytes to.old) (B.bytes to.new) }
+        ensures { Serves B.bytes self.old self.new (Ok (request.Set op.now))
+            result to.old to.new }
     {
         let key = Limits::key(op);
         match (self.setup.limits(&key), self.store.find(&key)) {
@@ -392,29 +386,29 @@ impl<S: Store> Board<S> {
         body: &[u8],
         to: &mut B,
     ) -> Result<(), Code>
-        requires { Fits (Ok (request.Set (K.reader.op_in body.now))) (B.bytes to.old) B.capacity }
-        ensures { Serves S.records self.old self.new (Ok (request.Set (K.reader.op_in body.now)))
-            result (B.bytes to.old) (B.bytes to.new) }
+        requires { Fits (set_read K.reader body.now) (B.bytes to.old) B.capacity }
+        ensures { Serves B.bytes self.old self.new (set_read K.reader body.now)
+            result to.old to.new }
     {
         self.set(&K::op_in(body), to)
     }
 
     /// Carries out the command that changes a record of the kind.
     fn change<B: Buffer>(&mut self, kind: PlainKind, body: &[u8], to: &mut B) -> Result<(), Code>
-        requires { Fits (Ok (request.Set ((reader_of kind).op_in body.now))) (B.bytes to.old)
+        requires { Fits (plain_set kind body.now) (B.bytes to.old)
             B.capacity }
-        ensures { Serves S.records self.old self.new
-            (Ok (request.Set ((reader_of kind).op_in body.now)))
-            result (B.bytes to.old) (B.bytes to.new) }
+        ensures { Serves B.bytes self.old self.new
+            (plain_set kind body.now)
+            result to.old to.new }
     {
         of_each_plain_kind!(changed [self, kind, body, to])
     }
 
     /// Carries out Set System Boot Options.
     fn set_boot_options<B: Buffer>(&mut self, body: &[u8], to: &mut B) -> Result<(), Code>
-        requires { Fits (boot_set (boot_request_in body.now)) (B.bytes to.old) B.capacity }
-        ensures { Serves S.records self.old self.new (boot_set (boot_request_in body.now))
-            result (B.bytes to.old) (B.bytes to.new) }
+        requires { Fits (boot_set_asked body.now) (B.bytes to.old) B.capacity }
+        ensures { Serves B.bytes self.old self.new (boot_set_asked body.now)
+            result to.old to.new }
     {
         match boot_request_in(body)? {
             BootRequest::Progress(byte) => self.live(LiveCommand::SetBootProgress(byte), &[], to),
@@ -424,9 +418,9 @@ impl<S: Store> Board<S> {
 
     /// Carries out Get System Boot Options.
     fn get_boot_options<B: Buffer>(&mut self, body: &[u8], to: &mut B) -> Result<(), Code>
-        requires { Fits (boot_get (boot_shown_in body.now)) (B.bytes to.old) B.capacity }
-        ensures { Serves S.records self.old self.new (boot_get (boot_shown_in body.now))
-            result (B.bytes to.old) (B.bytes to.new) }
+        requires { Fits (boot_get_asked body.now) (B.bytes to.old) B.capacity }
+        ensures { Serves B.bytes self.old self.new (boot_get_asked body.now)
+            result to.old to.new }
     {
         match boot_shown_in(body)? {
             BootShown::Progress => self.live(LiveCommand::GetBootProgress, &[], to),
@@ -437,7 +431,7 @@ impl<S: Store> Board<S> {
     /// Makes the value that the operation makes of its record, and gives the record's place: nothing is written.
     fn try_set(&mut self, op: &Op<'_>) -> Result<S::Place, Code>
         ensures made { value_or_code result self.new.made_over_ipmi
-            ≡ outcome_at self.old.setup (state_of S.records self.old) op.now }
+            ≡ outcome_by self.old op.now }
         ensures place { IfOk result (λ at. S.places self.old.store (key_of op.now) ≡ Some at) }
         ensures store { self.new.store ≡ self.old.store }
         ensures activity { self.new.activity ≡ self.old.activity }
@@ -459,8 +453,7 @@ impl<S: Store> Board<S> {
         first: &SetChannelAccess,
         second: &SetChannelAccess,
     ) -> Result<(), Code>
-        ensures { (bytes : List ℕ) → Serves S.records self.old self.new
-            (Ok (request.SetStores first.now second.now)) result bytes bytes }
+        ensures { ServesSilently self.old self.new (Ok (request.SetStores first.now second.now)) result }
     {
         let place = self.try_set(&Op::ChannelAccess(*first))?;
         let made: Bytes<2> = Bytes::from_slice(self.made_over_ipmi.as_slice());
@@ -473,11 +466,11 @@ impl<S: Store> Board<S> {
 
     /// Carries out Set Channel Access.
     fn set_channel_access<B: Buffer>(&mut self, body: &[u8], to: &mut B) -> Result<(), Code>
-        requires { Fits (Ok (channel_asked (channel_request_in body.now))) (B.bytes to.old)
+        requires { Fits (channel_set_asked body.now) (B.bytes to.old)
             B.capacity }
-        ensures { Serves S.records self.old self.new
-            (Ok (channel_asked (channel_request_in body.now)))
-            result (B.bytes to.old) (B.bytes to.new) }
+        ensures { Serves B.bytes self.old self.new
+            (channel_set_asked body.now)
+            result to.old to.new }
     {
         match channel_request_in(body) {
             ChannelRequest::Leave(channel) => {
@@ -497,8 +490,8 @@ impl<S: Store> Board<S> {
         to: &mut B,
     ) -> Result<(), Code>
         requires room { Fits (asked_of from command body.now) (B.bytes to.old) B.capacity }
-        ensures { Serves S.records self.old self.new (asked_of from command body.now)
-            result (B.bytes to.old) (B.bytes to.new) }
+        ensures { Serves B.bytes self.old self.new (asked_of from command body.now)
+            result to.old to.new }
     {
         match command? {
             Command::Live(command) => self.live(command, body, to),
@@ -518,15 +511,14 @@ impl<S: Store> Board<S> {
     /// The answer to a request. It takes no memory.
     pub fn answer(&mut self, asked: &Asked) -> Answered
         // The answer and the state after it stand in the command relation, and are its function's.
-        ensures row { Row self.old.setup (state_of S.records self.old) asked.now
-            result (state_of S.records self.new) }
-        ensures answer { (result, state_of S.records self.new)
-            ≡ given_by S.records self.old asked.now }
+        ensures row { Row self.old.setup (state_of self.old) asked.now
+            result (state_of self.new) }
+        ensures answer { (result, state_of self.new)
+            ≡ given_by self.old asked.now }
         ensures setup { self.new.setup ≡ self.old.setup }
 
         // A refusal changes nothing, but that a full log which refuses a record notes that it overflowed.
-        ensures refused { result.code ≢ success → Leaves (asked_by asked.now) result.code
-            (state_of S.records self.old) (state_of S.records self.new) }
+        ensures refused { Refuses self.old asked.now result self.new }
         // The codes of a busy controller are not a board's.
         ensures not_busy { result.code ≢ node_busy }
         ensures ready { result.code ≢ pldm_not_ready }

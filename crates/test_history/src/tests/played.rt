@@ -1,7 +1,6 @@
 //! A timetable that goes on while two workers serve a board.
 ghost use Rattle.std.specs.Prelude.{◌≡◌};
 ghost use Rattle.bmc_board.specs.State.{state_of};
-ghost use Rattle.bmc_board.specs.OwnStore.{own_records};
 
 use super::gates::Open;
 use super::times::{LATER_TICK, READING, Slept, TICK, WARMS_UP, expect_happened};
@@ -163,7 +162,7 @@ fn serve_opened<J: Opening + Send + Sync, R: Threads + Wait + Abort + Sync>(
     requires parts { blank.parts ≡ J.parts }
     requires three { blank.parts ≡ 3 }
     requires setup { board.setup ≡ J.setup }
-    requires opening { state_of own_records board ≡ J.opening }
+    requires opening { state_of board ≡ J.opening }
     requires room { room ≡ J.room }
 {
     let (shared, seats) = open_shared::<J, R>(rt.rt, alloc, blank, board, room);

@@ -21,7 +21,7 @@ fn hold<J: Opening, S: Store + Drop>(
     room: usize,
 ) -> (OpenFault, Board<S>)
     requires setup { board.setup ≡ J.setup }
-    requires opening { state_of S.records board ≡ J.opening }
+    requires opening { state_of board ≡ J.opening }
     requires room { room ≡ J.room }
 {
     let opened = Held::<J, S>::open(alloc, board, room);
@@ -40,7 +40,7 @@ fn share<J: Opening, S: Store + Drop>(
     requires parts { blank.parts ≡ J.parts }
     requires three { blank.parts ≡ 3 }
     requires setup { board.setup ≡ J.setup }
-    requires opening { state_of S.records board ≡ J.opening }
+    requires opening { state_of board ≡ J.opening }
     requires room { room ≡ J.room }
 {
     let opened = Shared::<J, S>::open(alloc, blank, board, room);
@@ -103,7 +103,7 @@ fn expect_two_events<J: Opening, S: Store + Drop>(rt: &impl Abort, held: Held<J,
 /// Calls a board until its history, which has room for two events, is full.
 fn fill<J: Opening, S: Store + Drop>(rt: &impl Abort, alloc: Global, board: Board<S>, room: usize)
     requires setup { board.setup ≡ J.setup }
-    requires opening { state_of S.records board ≡ J.opening }
+    requires opening { state_of board ≡ J.opening }
     requires room { room ≡ J.room }
 {
     let opened = Held::<J, S>::open(alloc, board, room).ok();

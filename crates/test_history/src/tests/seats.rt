@@ -1,7 +1,6 @@
 //! Threads that share a board.
 ghost use Rattle.std.specs.Prelude.{◌≡◌};
 ghost use Rattle.bmc_board.specs.State.{state_of};
-ghost use Rattle.bmc_board.specs.OwnStore.{own_records};
 
 use super::{expect_equal, history_of, open_sample, open_shared};
 use bmc_board::{Board, Records};
@@ -102,7 +101,7 @@ fn share<J: Opening + Send + Sync, R: Threads + Wait + Abort + Sync>(
     requires parts { blank.parts ≡ J.parts }
     requires three { blank.parts ≡ 3 }
     requires setup { board.setup ≡ J.setup }
-    requires opening { state_of own_records board ≡ J.opening }
+    requires opening { state_of board ≡ J.opening }
     requires room { room ≡ J.room }
 {
     let (shared, seats) = open_shared::<J, R>(rt, alloc, blank, board, room);

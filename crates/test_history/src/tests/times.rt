@@ -1,7 +1,6 @@
 //! A scanner that waits for the times of what happens.
 ghost use Rattle.std.specs.Prelude.{◌≡◌};
 ghost use Rattle.bmc_board.specs.State.{state_of};
-ghost use Rattle.bmc_board.specs.OwnStore.{own_records};
 
 use super::{expect_equal, history_of, open_sample, open_shared};
 use bmc_board::{Bench, Board, Records};
@@ -126,7 +125,7 @@ fn scan<J: Opening, R: Wait + Abort>(
     requires parts { blank.parts ≡ J.parts }
     requires three { blank.parts ≡ 3 }
     requires setup { board.setup ≡ J.setup }
-    requires opening { state_of own_records board ≡ J.opening }
+    requires opening { state_of board ≡ J.opening }
     requires room { room ≡ J.room }
 {
     let (shared, mut seats) = open_shared::<J, R>(rt.rt, alloc, blank, board, room);

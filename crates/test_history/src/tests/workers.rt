@@ -1,7 +1,6 @@
 //! Two workers and a scanner on one board.
 ghost use Rattle.std.specs.Prelude.{◌≡◌};
 ghost use Rattle.bmc_board.specs.State.{state_of};
-ghost use Rattle.bmc_board.specs.OwnStore.{own_records};
 
 use super::gates::{Counted, Crossed, Mixed, Open};
 use super::links::link_of;
@@ -101,7 +100,7 @@ fn share<J: Opening + Send + Sync, G: Gate + Sync, R: Threads + Wait + Abort + S
     requires parts { blank.parts ≡ J.parts }
     requires three { blank.parts ≡ 3 }
     requires setup { board.setup ≡ J.setup }
-    requires opening { state_of own_records board ≡ J.opening }
+    requires opening { state_of board ≡ J.opening }
     requires room { room ≡ J.room }
 {
     let (shared, seats) = open_shared::<J, R>(rt, alloc, blank, board, room);
@@ -323,7 +322,7 @@ fn serve_alone<J: Opening, G: Gate, R: Wait + Abort>(
     requires parts { blank.parts ≡ J.parts }
     requires three { blank.parts ≡ 3 }
     requires setup { board.setup ≡ J.setup }
-    requires opening { state_of own_records board ≡ J.opening }
+    requires opening { state_of board ≡ J.opening }
     requires room { room ≡ J.room }
 {
     let (shared, mut seats) = open_shared::<J, R>(rt, alloc, blank, board, room);

@@ -1,7 +1,6 @@
 //! Workers that are lent ports and links, from one history to the next.
 ghost use Rattle.std.specs.Prelude.{◌≡◌};
 ghost use Rattle.bmc_board.specs.State.{state_of};
-ghost use Rattle.bmc_board.specs.OwnStore.{own_records};
 
 use super::served::{GET, Open, SET};
 use super::shared::{close, expect_equal, open_shared};
@@ -79,7 +78,7 @@ pub(super) fn serve_opened<J: Opening + Send + Sync, R: Threads + Wait + Clock +
     requires parts { blank.parts ≡ J.parts }
     requires three { blank.parts ≡ 3 }
     requires setup { board.setup ≡ J.setup }
-    requires opening { state_of own_records board ≡ J.opening }
+    requires opening { state_of board ≡ J.opening }
     requires room { room ≡ J.room }
 {
     let (shared, seats) = open_shared::<J, R>(rt, alloc, blank, board, room);

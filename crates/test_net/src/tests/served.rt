@@ -1,7 +1,6 @@
 //! A worker whose link fails.
 ghost use Rattle.std.specs.Prelude.{◌≡◌};
 ghost use Rattle.bmc_board.specs.State.{state_of};
-ghost use Rattle.bmc_board.specs.OwnStore.{own_records};
 
 use super::shared::{close, expect_equal, open_shared};
 use super::wired::{Failing, open_sample, port_on};
@@ -108,7 +107,7 @@ fn serve_first<J: Opening, R: Wait + Abort>(
     requires parts { blank.parts ≡ J.parts }
     requires three { blank.parts ≡ 3 }
     requires setup { board.setup ≡ J.setup }
-    requires opening { state_of own_records board ≡ J.opening }
+    requires opening { state_of board ≡ J.opening }
     requires room { room ≡ J.room }
 {
     let (shared, mut seats) = open_shared::<J, R>(rt, alloc, blank, board, room);

@@ -22,13 +22,13 @@ reply-requires g c =
 pub returns-clause-given : goal.returns-clause-given
 returns-clause-given g c =
     let read : asked_of c.requester.result c.command.result c.body.result.now ≡ asked_by (meant c.args.asked.now) = (λ i. asked_of (c.requester.ensures i) c.command.result (c.body.ensures i)) ∙ c.command.ensures in
-    subst (λ (r : Result Request ℕ). Gives c.reply.result (g.B.Buffer.bytes c.args.reply.now) (g.B.Buffer.bytes c.reply.new.to) (reply_by g.S.Store.records c.args.board.now r).0) read
+    subst (λ (r : Result Request ℕ). Gives c.reply.result (g.B.Buffer.bytes c.args.reply.now) (g.B.Buffer.bytes c.reply.new.to) (reply_by c.args.board.now r).0) read
     c.reply.ensures.answer
 
 pub returns-clause-left : goal.returns-clause-left
 returns-clause-left g c =
     let read : asked_of c.requester.result c.command.result c.body.result.now ≡ asked_by (meant c.args.asked.now) = (λ i. asked_of (c.requester.ensures i) c.command.result (c.body.ensures i)) ∙ c.command.ensures in
-    c.reply.ensures.left ∙ ap (λ (r : Result Request ℕ). (reply_by g.S.Store.records c.args.board.now r).1) read
+    c.reply.ensures.left ∙ ap (λ (r : Result Request ℕ). (reply_by c.args.board.now r).1) read
 
 pub returns-clause-fits : goal.returns-clause-fits
-returns-clause-fits g c = answers_fit c.args.board.now.setup (state_of g.S.Store.records c.args.board.now) (meant c.args.asked.now) c.args.board.now.sound
+returns-clause-fits g c = answers_fit c.args.board.now.setup (state_of c.args.board.now) (meant c.args.asked.now) c.args.board.now.sound

@@ -17,8 +17,8 @@ pub returns : goal.returns
 returns g c =
     let setup = c.args.self.now.setup in
     let asked = c.args.asked.now in
-    let before : State = state_of g.S.Store.records c.args.self.now in
-    let after : State = state_of g.S.Store.records c.reply-done.new.self in
+    let before : State = state_of c.args.self.now in
+    let after : State = state_of c.reply-done.new.self in
     let given : Result Request ℕ → Given = λ r. reply setup before r in
     let read : Result Request ℕ = asked_of c.requester.result c.read_request-command.result.0 c.read_request-command.result.1.now in
     let same_read : read ≡ asked_by asked = ap (λ (from : ℕ). asked_of from c.read_request-command.result.0 c.read_request-command.result.1.now) c.requester.ensures ∙ c.read_request-command.ensures in

@@ -4,7 +4,7 @@ use Rattle.bmc_carry.proofs.alone.AloneCarrier.carry.Goals as goal
 
 pub returns-clause-carried : goal.returns-clause-carried
 returns-clause-carried g c =
-    let given = given_by g.S.Store.records c.args.kept.now (meant c.args.asked.now) in
+    let given = given_by c.args.kept.now (meant c.args.asked.now) in
     record {
       answered = given.0;
       gives = c.answer_here.ensures.given;

@@ -16,15 +16,15 @@ pub invariant_of-self-clause-replays : goal.invariant_of-self-clause-replays
 invariant_of-self-clause-replays g c =
     let old = c.args.self.now in
     let asked = meant c.args.asked.now in
-    let given : Given = given_by g.S.Store.records old.board asked in
+    let given : Given = given_by old.board asked in
     let event : Event = record { seat = c.args.port; call = Exchanged asked given.0 } in
     let here = call_is c.args.asked.now c.answer_here-given.result (g.B.Buffer.bytes c.args.reply.now) (g.B.Buffer.bytes c.answer_here-given.new.reply)
     _ c.code_of.result given.0 c.answer_here-given.ensures.given c.code_of.ensures
     (rest_given c.as_slice.result.now c.as_slice-start.result.now (g.B.Buffer.bytes c.args.reply.now) (g.B.Buffer.bytes c.answer_here-given.new.reply) c.as_slice.ensures c.as_slice-start.ensures) in
     let pushed : c.gain_exchange.new.self.items ≡ old.history.items ++ event ∷ [] =
     c.gain_exchange.ensures.items ∙ ap (λ (call : Call). old.history.items ++ (let e : Event = record { seat = c.args.port; call = call } in e) ∷ []) here in
-    let before : State = state_of g.S.Store.records old.board in
-    let after : State = state_of g.S.Store.records c.answer_here-given.new.board in
+    let before : State = state_of old.board in
+    let after : State = state_of c.answer_here-given.new.board in
     let is : answer_of g.J.Opening.setup before asked ≡ given = ap (λ (setup : BoardFile). answer_of setup before asked) (sym old.setup) in
     subst (λ (events : List Event). Replays g.J.Opening.setup g.J.Opening.opening events after) (sym pushed)
     (goes_on_to g.J.Opening.setup g.J.Opening.opening old.history.items before after event old.replays (ap (λ (given : Given). given.0) is)
@@ -34,19 +34,19 @@ pub returns : goal.returns
 returns g c =
     let old = c.args.self.now in
     let asked = meant c.args.asked.now in
-    let given : Given = given_by g.S.Store.records old.board asked in
+    let given : Given = given_by old.board asked in
     let here = call_is c.args.asked.now c.answer_here-given.result (g.B.Buffer.bytes c.args.reply.now) (g.B.Buffer.bytes c.answer_here-given.new.reply)
     _ c.code_of.result given.0 c.answer_here-given.ensures.given c.code_of.ensures
     (rest_given c.as_slice.result.now c.as_slice-start.result.now (g.B.Buffer.bytes c.args.reply.now) (g.B.Buffer.bytes c.answer_here-given.new.reply) c.as_slice.ensures c.as_slice-start.ensures) in
-    let before : State = state_of g.S.Store.records old.board in
-    let after : State = state_of g.S.Store.records c.answer_here-given.new.board in
+    let before : State = state_of old.board in
+    let after : State = state_of c.answer_here-given.new.board in
     let is : given ≡ answer_of g.J.Opening.setup before asked = ap (λ (setup : BoardFile). answer_of setup before asked) old.setup in
     let reply : (let p : Given = (given.0, after) in p) ≡ answer_of g.J.Opening.setup before asked = (λ i. (given.0, c.answer_here-given.ensures.left i)) ∙ is in
     record {
       answered = given.0;
       gives = c.answer_here-given.ensures.given;
       fits = c.answer_here-given.ensures.fits;
-      row = row_of g.J.Opening.setup g.S.Store.records old.board c.answer_here-given.new.board asked given.0 reply;
+      row = row_of g.J.Opening.setup old.board c.answer_here-given.new.board asked given.0 reply;
       reply = reply;
       gained = c.gain_exchange.ensures.items ∙ ap (λ (call : Call). old.history.items ++ (let e : Event = record { seat = c.args.port; call = call } in e) ∷ []) here;
     }

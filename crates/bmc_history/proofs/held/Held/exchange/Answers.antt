@@ -15,6 +15,6 @@ pub returns-in-Ok : goal.returns-in-Ok
 returns-in-Ok g c =
     let done = c.in-Ok.ensures.exchanged in
     let said : c.answered.result ≡ done.answered = c.answered.ensures done.answered (subst (λ (xs : List ℕ). Gives c.in-Ok.given xs c.exchange_here.new.reply done.answered) c.new-body.ensures done.gives) in
-    let all = exchanged_as g.J.Opening.setup g.S.Store.records c.args.self.now.board c.exchange_here.new.self.board c.args.self.now.history.items c.exchange_here.new.self.history.items
+    let all = exchanged_as g.J.Opening.setup c.args.self.now.board c.exchange_here.new.self.board c.args.self.now.history.items c.exchange_here.new.self.history.items
     c.args.port (meant c.of.result) c.args.asked.now c.in-Ok.given c.new-body.result c.exchange_here.new.reply c.answered.result c.of.ensures done said in
     record { row = all.0; answer = all.1; fits = all.2; history = all.3; full = c.in-Ok.ensures.full; same = tt }

@@ -14,8 +14,8 @@ invariant_of-self-clause-replays g c =
     let old = c.args.self.now in
     let event : Event = record { seat = c.args.port; call = Benched c.args.bench.now c.bench-answered.result } in
     let pushed : c.gain_bench.new.self.items ≡ old.history.items ++ event ∷ [] = search rules in
-    let before : State = state_of g.S.Store.records old.board in
-    let after : State = state_of g.S.Store.records c.bench-answered.new.self in
+    let before : State = state_of old.board in
+    let after : State = state_of c.bench-answered.new.self in
     let is : (let given : Result (Unit {0}) NoSensor × State = (c.bench-answered.result, after) in given) ≡ bench_of g.J.Opening.setup before c.args.bench.now =
     subst (λ (setup : BoardFile). (let given : Result (Unit {0}) NoSensor × State = (c.bench-answered.result, after) in given) ≡ bench_of setup before c.args.bench.now) old.setup c.bench-answered.ensures.happens in
     subst (λ (events : List Event). Replays g.J.Opening.setup g.J.Opening.opening events after) (sym pushed)

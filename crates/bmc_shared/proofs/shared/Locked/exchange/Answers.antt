@@ -18,7 +18,7 @@ returns-in-Ok g c =
     let kept = c.in-Ok.ensures.kept in
     let said : c.answered.result ≡ done.answered = c.answered.ensures done.answered (subst (λ (xs : List ℕ). Gives c.in-Ok.given xs c.exchange_here.new.reply done.answered) c.new-body.ensures done.gives) in
     let told : c.answered.result ≡ kept.answered = c.answered.ensures kept.answered (subst (λ (xs : List ℕ). Gives c.in-Ok.given xs c.exchange_here.new.reply kept.answered) c.new-body.ensures kept.gives) in
-    let all = exchanged_as g.J.Opening.setup g.S.Store.records c.args.self.now.held.board c.exchange_here.new.self.held.board c.args.self.now.held.history.items
+    let all = exchanged_as g.J.Opening.setup c.args.self.now.held.board c.exchange_here.new.self.held.board c.args.self.now.held.history.items
     c.exchange_here.new.self.held.history.items c.args.seat.now.number (meant c.of.result) c.args.asked.now c.in-Ok.given c.new-body.result c.exchange_here.new.reply c.answered.result c.of.ensures
     done said in
     record {
