@@ -1,5 +1,5 @@
 -- More runs that compute: many steps, somebody else's requests, and packets out of order.
-use Rattle.std.specs.Prelude.{◌≡◌, ℕ, zero, suc, ◌+◌, true, List, [], ◌∷◌, ◌++◌, length, map, Option, Some, slice_get}
+use Rattle.std.specs.Prelude.{◌≡◌, ℕ, zero, suc, ◌+◌, true, List, [], ◌∷◌, ◌++◌, length, map, refl, Option, Some, slice_get}
 use Rattle.std.specs.Option.{option_map}
 use Rattle.two_wire.specs.declared.Bus.TheVariants as bus
 use Rattle.mctp_net.specs.declared.packet.Packet.{Packet}
@@ -7,7 +7,6 @@ use Rattle.mctp_net.specs.declared.message.Message.{Message}
 use Rattle.mctp_net.specs.Grammar.{unchecked}
 use Rattle.record_base.specs.declared.key.Key.TheVariants as key
 use Rattle.record_base.specs.declared.op.Op.{Op}
-use Rattle.record_base.specs.declared.op.Op.TheVariants as op
 use Rattle.bmc_board.specs.State.{opened}
 use Rattle.model_undo.specs.declared.phase.Phase.TheVariants.{Getting}
 use Rattle.model_ports.specs.Values.{Value, Asks, Tells, Part, written, parts_of}
@@ -19,14 +18,14 @@ use Rattle.model_lab.specs.Lab.{LabFrame, Event, Calls, ToBmc, ToMgr, OtherIpmb,
 use Rattle.model_lab.specs.declared.fault.Fault.TheVariants.{Aged}
 use Rattle.model_lab.specs.Faults.{fault_of, AllTaken}
 use Rattle.model_lab.specs.Own.{AllOwn}
-use Rattle.model_lab.specs.Example.{board_file, plans, start, after, phase_after, bytes_at, other_request, exchange}
+use Rattle.model_lab.specs.Example.{board_file, plans, start, after, phase_after, bytes_at, set_thresholds, other_request, exchange}
 
 -- ---- many steps
 
--- so many steps on the hysteresis of sensor 5: step i sets i + 1 for rising thresholds
+-- so many steps on the upper critical threshold of sensor 5: step i sets i + 52h
 abbrev pub rising : ℕ → ℕ → List Op
 rising zero i = []
-rising (suc n) i = op.Hysteresis (record { sensor = 5; positive = i + 1; negative = 2 }) ∷ rising n (i + 1)
+rising (suc n) i = set_thresholds 0x10 (0 ∷ 0 ∷ 0 ∷ 0 ∷ i + 0x52 ∷ 0 ∷ []) refl ∷ rising n (i + 1)
 
 -- so many exchanges, from the frame of this number on
 abbrev pub exchanges : ℕ → ℕ → List Event
@@ -47,7 +46,7 @@ forty = copied ++ ToBmc 60 ∷ ToMgr 62 ∷ exchanges 9 63
 pub record CopiesAge : Type 0 where
   pub sent : length (after (rising 21 0) 3 thirty).frames ≡ 61
   pub kept_reply : bytes_at (after (rising 21 0) 3 copied) 61 ≡ bytes_at (after (rising 21 0) 3 copied) 7
-  pub stays : (after (rising 21 0) 3 copied).board.records (key.Hysteresis 5) ≡ Some (15 ∷ 2 ∷ [])
+  pub stays : (after (rising 21 0) 3 copied).board.records (key.Thresholds 5) ≡ Some (0x14 ∷ 0x0A ∷ 0x05 ∷ 0x50 ∷ 0x60 ∷ 0x6E ∷ [])
   pub phase : phase_after (rising 21 0) 3 forty ≡ Getting 20
   pub frames : length (after (rising 21 0) 3 forty).frames ≡ 82
   pub undo : length (after (rising 21 0) 3 forty).manager.machine.undo ≡ 20
