@@ -4,7 +4,7 @@ use std::alloc::{AllocError, Global};
 use text_board::{FileFault, TOP, read_board};
 
 /// The sample board's own fields.
-pub const SAMPLE_FIELDS: &str = "tid = 5
+const SAMPLE_FIELDS: &str = "tid = 5
 clock = 0
 log = 2
 enables = 0x08
@@ -16,8 +16,8 @@ boot3 = 0
 boot4 = 0
 boot5 = [0, 0, 0, 0, 0]";
 
-/// The sample board's tables.
-pub const SAMPLE_TABLES: &str = "[device]
+/// The sample board's tables but its sensors and attributes.
+const SAMPLE_TABLES: &str = "[device]
 id = 0x20
 revision = 1
 major = 1
@@ -26,64 +26,12 @@ support = 0x07
 manufacturer = 0xABCD
 product = 0x1234
 
-[[sensor]]
-number = 5
-type = 1
-readable = 0x3F
-settable = 0x3F
-thresholds = [0x14, 0x0A, 0x05, 0x50, 0x5F, 0x6E]
-hysteresis = [2, 2]
-supported = 0xFFF
-flags = 0xC0
-assert = 0x200
-deassert = 0
-
-[[sensor]]
-number = 7
-type = 4
-readable = 0x18
-settable = 0x38
-thresholds = [0, 0, 0, 0x90, 0xA0, 0xB0]
-hysteresis = [0, 0]
-supported = 0xFC0
-flags = 0
-assert = 0
-deassert = 0
-
 [[channel]]
 number = 1
 sessions = true
 access = [2, 2]
 limit = [4, 4]
-users = [0x14, 0x14]
-
-[[attribute]]
-name = \"Quiet\"
-kind = \"enumeration\"
-values = [\"off\", \"on\"]
-default = [0]
-current = [0]
-readonly = false
-
-[[attribute]]
-name = \"Asset\"
-kind = \"string\"
-string_type = 1
-least = 0
-most = 200
-default = \"\"
-current = \"rack-1\"
-readonly = false
-
-[[attribute]]
-name = \"Delay\"
-kind = \"integer\"
-lower = 0
-upper = 300
-increment = 10
-default = 30
-current = 30
-readonly = false";
+users = [0x14, 0x14]";
 
 /// What stands behind a line's word, where the line is one of the board's.
 fn board_line(line: &str) -> Option<&str> {
@@ -168,19 +116,32 @@ fn board_text(alloc: Global, story: &str) -> Result<Option<String>, AllocError> 
     Ok(Some(file))
 }
 
-/// The board of the story's lines `board FIELD = VALUE`: the sample board, with these fields in place of its own.
-pub fn board_of(alloc: Global, story: &str) -> Result<BoardFile, FileFault> {
-    match board_text(alloc, story) {
-        Ok(Some(file)) => read_board(alloc, file.as_str()),
-        Ok(None) => sample_of(alloc),
-        Err(_) => Err(FileFault::Memory),
-    }
-}
-
 /// The sample board.
 fn sample_of(alloc: Global) -> Result<BoardFile, FileFault> {
     match sample_board(alloc) {
         Ok(file) => Ok(file),
+        Err(_) => Err(FileFault::Memory),
+    }
+}
+
+/// The board of this text, with the sample board's sensors and attributes where the story gives none.
+fn filled_up(alloc: Global, story: &str, text: &str) -> Result<BoardFile, FileFault> {
+    let sample = sample_of(alloc)?;
+    let mut file = read_board(alloc, text)?;
+    if !is_given(story, "sensor") {
+        file.sensors = sample.sensors;
+    }
+    if !is_given(story, "attribute") {
+        file.attributes = sample.attributes;
+    }
+    Ok(file)
+}
+
+/// The board of the story's lines `board FIELD = VALUE`: the sample board, with these fields in place of its own.
+pub fn board_of(alloc: Global, story: &str) -> Result<BoardFile, FileFault> {
+    match board_text(alloc, story) {
+        Ok(Some(text)) => filled_up(alloc, story, text.as_str()),
+        Ok(None) => sample_of(alloc),
         Err(_) => Err(FileFault::Memory),
     }
 }

@@ -17,5 +17,5 @@ mod story;
 mod window_lines;
 
 pub use board_lines::asks;
-pub use boards::{SAMPLE_FIELDS, SAMPLE_TABLES, board_of};
+pub use boards::board_of;
 pub use story::{open_sample, play};
