@@ -29,21 +29,27 @@ pub enum PlainKind {
     UserAccess,
 }
 
-/// The plain kinds, a line for each kind: its name, its limits, and its keys.
+/// The plain kinds, a line for each kind: its name, its limits, its keys, and the limits of a key's record.
 #[macro_export]
 macro_rules! of_each_plain_kind {
     ($does:ident $how:tt) => {
         $does! { $how
-            Thresholds sensor_recs::ThresholdLimits {Key::Thresholds(sensor) => sensor}
-            Hysteresis sensor_recs::HysteresisLimits {Key::Hysteresis(sensor) => sensor}
-            EventEnable sensor_recs::EventEnableLimits {Key::EventEnable(sensor) => sensor}
-            PowerPolicy watch_boot::PowerPolicyLimits {Key::PowerPolicy => &()}
-            Watchdog watch_boot::WatchdogLimits {Key::Watchdog => &()}
-            GlobalEnables watch_boot::GlobalEnablesLimits {Key::GlobalEnables => &()}
-            NumericEffecter effecter_recs::NumericLimits {Key::NumericEffecter(id) => id}
-            StateEffecter effecter_recs::StateLimits {Key::StateEffecter(id) => id}
-            UserName user_chan::UserNameLimits {Key::UserName(user) => user}
-            UserAccess user_chan::UserAccessLimits {Key::UserAccess(on) => on}
+            Thresholds sensor_recs::ThresholdLimits {Key::Thresholds(n) => n; at => ThresholdLimits::of(at.sensor(*n)?)}
+            Hysteresis sensor_recs::HysteresisLimits {Key::Hysteresis(n) => n; at => HysteresisLimits::of(at.sensor(*n)?)}
+            EventEnable sensor_recs::EventEnableLimits {Key::EventEnable(n) => n; at => EventEnableLimits::of(at.sensor(*n)?)}
+            PowerPolicy watch_boot::PowerPolicyLimits {Key::PowerPolicy => &(); _ => PowerPolicyLimits}
+            Watchdog watch_boot::WatchdogLimits {Key::Watchdog => &(); _ => WatchdogLimits}
+            GlobalEnables watch_boot::GlobalEnablesLimits {Key::GlobalEnables => &(); _ => GlobalEnablesLimits}
+            NumericEffecter effecter_recs::NumericLimits {Key::NumericEffecter(id) => id; at => NumericLimits::of(at.numeric_effecter(*id)?)}
+            StateEffecter effecter_recs::StateLimits {Key::StateEffecter(id) => id; at => StateLimits::of(at.state_effecter(*id)?)}
+            UserName user_chan::UserNameLimits {Key::UserName(user) => user; at => {
+                let _ = at.user(*user)?;
+                UserNameLimits
+            }}
+            UserAccess user_chan::UserAccessLimits {Key::UserAccess(on) => on; at => {
+                let _ = at.user_access(on)?;
+                UserAccessLimits { user: on.user, most: at.most_users() }
+            }}
         }
     };
 }
@@ -72,15 +78,24 @@ macro_rules! of_all_kinds {
     ([$does:ident $how:tt] $($plain:tt)*) => {
         $does! { $how
             $($plain)*
-            BootParam watch_boot::BootParamLimits {Key::BootParam(parameter) => parameter}
-            ChannelAccess user_chan::ChannelAccessLimits {Key::ChannelAccess(at) => at}
-            BiosAttribute bios_attr::AttributeLimits {Key::BiosAttribute(handle) => handle}
-            LanParam user_chan::LanParamLimits {Key::LanParam(on) => on}
+            BootParam watch_boot::BootParamLimits {Key::BootParam(parameter) => parameter; _ => BootParamLimits { parameter: *parameter }}
+            ChannelAccess user_chan::ChannelAccessLimits {Key::ChannelAccess(stored) => stored; at => {
+                let _ = at.stored_access(stored)?;
+                ChannelAccessLimits
+            }}
+            BiosAttribute bios_attr::AttributeLimits {Key::BiosAttribute(handle) => handle; at => {
+                let attribute = at.attribute(*handle)?;
+                AttributeLimits::of(*handle, attribute)
+            }}
+            LanParam user_chan::LanParamLimits {Key::LanParam(on) => on; at => {
+                let _ = at.lan(on.channel)?;
+                LanParamLimits { parameter: on.parameter }
+            }}
         }
     };
 }
 
-/// The kinds, a line for each kind: its name, its limits, and its keys.
+/// The kinds, as `of_each_plain_kind!` has them.
 macro_rules! of_each_kind {
     ($does:ident $how:tt) => {
         of_each_plain_kind!(of_all_kinds [$does $how])
@@ -138,9 +153,21 @@ macro_rules! op_by_op {
 
 /// A call of the key's kind.
 macro_rules! by_key {
-    ([$any:expr, $function:ident] $($kind:ident $limits:ty {$key:pat => $own:expr})*) => {
+    ([$any:expr, $function:ident] $($kind:ident $limits:ty {$key:pat => $own:expr; $($found:tt)*})*) => {
         match $any {
             $($key => <$limits>::$function($own),)*
+        }
+    };
+}
+
+/// The limits of the key's record, in this set-up.
+macro_rules! limits_at {
+    ([$any:expr, $setup:expr] $($kind:ident $limits:ty {$key:pat => $own:expr; $at:pat => $found:expr})*) => {
+        match $any {
+            $($key => {
+                let $at = $setup;
+                Limits::$kind($found)
+            })*
         }
     };
 }
@@ -172,43 +199,7 @@ impl Setup {
     pub fn limits(&self, key: &Key) -> Option<Limits<'_>>
         ensures { result ≡ limits_at self.now key.now }
     {
-        Some(match key {
-            Key::Thresholds(n) => Limits::Thresholds(ThresholdLimits::of(self.sensor(*n)?)),
-            Key::Hysteresis(n) => Limits::Hysteresis(HysteresisLimits::of(self.sensor(*n)?)),
-            Key::EventEnable(n) => Limits::EventEnable(EventEnableLimits::of(self.sensor(*n)?)),
-            Key::PowerPolicy => Limits::PowerPolicy(PowerPolicyLimits),
-            Key::Watchdog => Limits::Watchdog(WatchdogLimits),
-            Key::GlobalEnables => Limits::GlobalEnables(GlobalEnablesLimits),
-            Key::BootParam(parameter) => Limits::BootParam(BootParamLimits {
-                parameter: *parameter,
-            }),
-            Key::NumericEffecter(id) => {
-                Limits::NumericEffecter(NumericLimits::of(self.numeric_effecter(*id)?))
-            }
-            Key::StateEffecter(id) => {
-                Limits::StateEffecter(StateLimits::of(self.state_effecter(*id)?))
-            }
-            Key::UserName(user) => {
-                let _ = self.user(*user)?;
-                Limits::UserName(UserNameLimits)
-            }
-            Key::UserAccess(on) => {
-                let _ = self.user_access(on)?;
-                Limits::UserAccess(UserAccessLimits {
-                    user: on.user,
-                    most: self.most_users(),
-                })
-            }
-            Key::ChannelAccess(at) => {
-                let _ = self.stored_access(at)?;
-                Limits::ChannelAccess(ChannelAccessLimits)
-            }
-            Key::BiosAttribute(handle) => {
-                let attribute = self.attribute(*handle)?;
-                Limits::BiosAttribute(AttributeLimits::of(*handle, attribute))
-            }
-            Key::LanParam(on) => self.lan_limits(on)?,
-        })
+        Some(of_each_kind!(limits_at [key, self]))
     }
 }
 
