@@ -1,5 +1,5 @@
 -- The records that a board file gives are sound.
-use Rattle.std.proofs.Common.{◌≡◌, ℕ, List, [], ◌∷◌, map, length, ap, Option, Some, None, Bool, true, false, cond, ◌==◌, refl, sym, subst, eq-eqb, arith}
+use Rattle.std.proofs.Common.{◌≡◌, ℕ, List, [], ◌∷◌, map, length, ap, Option, Some, None, Bool, true, false, cond, ◌==◌, refl, sym, subst, eq-eqb, arith, rules}
 use Rattle.std.specs.List.{find}
 use Rattle.std.specs.Option.{option_map}
 use Rattle.std.proofs.lemmas.Bool.Decides.{nat_tests}
@@ -132,11 +132,8 @@ begin_allowed (f ∷ fs) = both _ _ f.valid (begin_allowed fs)
 
 -- ---- each kind
 
--- the record of a key is sound where only the pairs of its kind are: a line for each kind
+-- the record of a key is sound where only the pairs of its kind are: a line for each kind, and one for those of sensors
 sound_in_kind : (file : BoardFile) (k : Key) → IsSoundAt (limits_at file k) (records_of (pairs_at file (place_of k)) k)
-sound_in_kind file (key.Thresholds number) = of_sensors file key.Thresholds _ _ number (λ m n same. cc) (λ s. s.thresholds.valid)
-sound_in_kind file (key.Hysteresis number) = of_sensors file key.Hysteresis _ _ number (λ m n same. cc) (λ s. refl)
-sound_in_kind file (key.EventEnable number) = of_sensors file key.EventEnable _ _ number (λ m n same. cc) (λ s. s.events.valid)
 sound_in_kind file key.PowerPolicy = file.policy.valid
 sound_in_kind file key.Watchdog = file.watchdog.valid
 sound_in_kind file key.GlobalEnables = file.enables.valid
@@ -161,6 +158,7 @@ sound_in_kind file (key.BiosAttribute handle) =
 sound_in_kind file (key.LanParam on) = subst (λ (pairs : List Pair). IsSoundAt (limits_at file (key.LanParam on)) (records_of pairs (key.LanParam on))) (lan_pairs_at file on.parameter)
     (sound_of (lan_pair on.parameter) (λ l. limits.LanParam (record { parameter = on.parameter })) (λ l. l.number.number == on.channel.number) file.lans.items (key.LanParam on)
     (λ l. same_lan_key on.parameter l.number on.channel) (lan_begins on.parameter))
+sound_in_kind file of_a_sensor = of_sensors file _ _ _ _ (λ m n same. cc) (λ s. search rules)
 
 pub starts_sound : StartsSound
 starts_sound file k = subst (IsSoundAt (limits_at file k)) (sym (record_of_kind file k)) (sound_in_kind file k)
