@@ -9,7 +9,7 @@ ghost use Rattle.bmc_host.specs.Drawn.{AsksOptions, AsksSchedule, NamesPercent, 
 use crate::number::{MOST_PERCENT, number_of, percent_of};
 use clap::error::ErrorKind;
 use clap::{ArgMatches, Command};
-use host_base::{Refusal, flag, has_flag, named, needed, new_command, option, refusal_by};
+use host_base::{Argument, Refusal, has_flag, named, new_command, refusal_by};
 use lab_schedule::{Chances, Links, Percent, Wanted};
 use std::alloc::{AllocError, Global};
 
@@ -56,19 +56,28 @@ const SCHEDULE_EXAMPLES: &str = "Examples:
 
 Without --lose, --repeat, --delay, --others and --seed it is the clean one: each frame comes once, as soon as it was sent.";
 
+const SCHEDULE_ARGUMENTS: [Argument<'static>; 8] = [
+    Argument::Option("lose", "N", LOSE_HELP),
+    Argument::Option("repeat", "N", REPEAT_HELP),
+    Argument::Option("delay", "N", DELAY_HELP),
+    Argument::Option("others", "N", OTHERS_HELP),
+    Argument::Option("seed", "S", SEED_HELP),
+    Argument::Flag("undo", UNDO_HELP),
+    Argument::Needed("BOARD", "The board file, as sample.toml"),
+    Argument::Needed("PLAN", "The plan, as examples/clean/plan.toml"),
+];
+
 /// `schedule [--lose N] [--repeat N] [--delay N] [--others N] [--seed S] [--undo] BOARD PLAN`.
 pub fn schedule_command<'a>(alloc: Global) -> Result<Command<'a>, AllocError>
     ensures { IfOk result (IsCommand schedule_app) }
 {
-    new_command(alloc, "schedule", SCHEDULE_ABOUT, SCHEDULE_EXAMPLES)
-        .arg(option(alloc, "lose", "N", LOSE_HELP))?
-        .arg(option(alloc, "repeat", "N", REPEAT_HELP))?
-        .arg(option(alloc, "delay", "N", DELAY_HELP))?
-        .arg(option(alloc, "others", "N", OTHERS_HELP))?
-        .arg(option(alloc, "seed", "S", SEED_HELP))?
-        .arg(flag(alloc, "undo", UNDO_HELP))?
-        .arg(needed(alloc, "BOARD", "The board file, as sample.toml"))?
-        .arg(needed(alloc, "PLAN", "The plan, as examples/clean/plan.toml"))
+    new_command(
+        alloc,
+        "schedule",
+        SCHEDULE_ABOUT,
+        SCHEDULE_EXAMPLES,
+        &SCHEDULE_ARGUMENTS,
+    )
 }
 
 /// The refusal of a word that isn't a decimal number up to this one, of the option with this name and this value.

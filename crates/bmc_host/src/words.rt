@@ -3,7 +3,7 @@ ghost use Rattle.std.specs.Prelude.{◌≡◌, IfOk, IfErr, map, string_bytes};
 ghost use Rattle.clap.specs.Words.{app_of, found_of, rows_of, subcommand_rows_of};
 ghost use Rattle.host_base.specs.Line.{IsCommand};
 ghost use Rattle.host_base.specs.Asked.{Refuses};
-ghost use Rattle.bmc_host.specs.Line.{check_app, frame_app, play_app, program, runs};
+ghost use Rattle.bmc_host.specs.Line.{check_app, frame_app, play_app, program};
 ghost use Rattle.bmc_host.specs.Asked.{AsksBy, AsksCheck, AsksFor, AsksFrame, AsksPlay, shown_of};
 
 use crate::schedule_words::{ScheduleWords, schedule_command, schedule_words};
@@ -12,8 +12,8 @@ use bmc_play::Shown;
 use clap::error::ErrorKind;
 use clap::{ArgMatches, Command};
 use host_base::{
-    Refusal, all_named, flag, given, has_flag, lacking, named, needed, new_command, option,
-    refusal_by, refusal_of, several,
+    Argument, Refusal, all_named, given, has_flag, lacking, named, new_command, new_program,
+    refusal_by, refusal_of, with_command,
 };
 use std::alloc::{AllocError, Global};
 use two_wire::Bus;
@@ -73,14 +73,23 @@ const FRAME_EXAMPLES: &str = "Examples:
   bmclab frame 2018C82C0001D3
   bmclab frame --bus smbus --board sample.toml 200F0931010A08C801800002BE";
 
+const FRAME_ARGUMENTS: [Argument<'static>; 3] = [
+    Argument::Option("bus", "BUS", BUS_HELP),
+    Argument::Option("board", "FILE", BOARD_HELP),
+    Argument::Needed("HEX", HEX_HELP),
+];
+
 /// `frame [--bus ipmb|smbus] [--board FILE] HEX`.
 fn frame_command<'a>(alloc: Global) -> Result<Command<'a>, AllocError>
     ensures { IfOk result (IsCommand frame_app) }
 {
-    new_command(alloc, "frame", FRAME_ABOUT, FRAME_EXAMPLES)
-        .arg(option(alloc, "bus", "BUS", BUS_HELP))?
-        .arg(option(alloc, "board", "FILE", BOARD_HELP))?
-        .arg(needed(alloc, "HEX", HEX_HELP))
+    new_command(
+        alloc,
+        "frame",
+        FRAME_ABOUT,
+        FRAME_EXAMPLES,
+        &FRAME_ARGUMENTS,
+    )
 }
 
 const PLAY_ABOUT: &str = "Plays a plan on a board, over buses that lose, repeat and delay frames";
@@ -98,17 +107,20 @@ const PLAY_EXAMPLES: &str = "Examples:
   bmclab play --premises sample.toml examples/clean/plan.toml examples/clean/schedule.txt
   bmclab play --chart sample.toml examples/clean/plan.toml examples/clean/schedule.txt";
 
+const PLAY_ARGUMENTS: [Argument<'static>; 6] = [
+    Argument::Flag("frames", FRAMES_HELP),
+    Argument::Flag("premises", PREMISES_HELP),
+    Argument::Flag("chart", "Draws the play in place of its lines"),
+    Argument::Needed("BOARD", "The board file, as sample.toml"),
+    Argument::Needed("PLAN", "The plan, as examples/clean/plan.toml"),
+    Argument::Needed("SCHEDULE", SCHEDULE_HELP),
+];
+
 /// `play [[--frames] [--premises] | --chart] BOARD PLAN SCHEDULE`.
 fn play_command<'a>(alloc: Global) -> Result<Command<'a>, AllocError>
     ensures { IfOk result (IsCommand play_app) }
 {
-    new_command(alloc, "play", PLAY_ABOUT, PLAY_EXAMPLES)
-        .arg(flag(alloc, "frames", FRAMES_HELP))?
-        .arg(flag(alloc, "premises", PREMISES_HELP))?
-        .arg(flag(alloc, "chart", "Draws the play in place of its lines"))?
-        .arg(needed(alloc, "BOARD", "The board file, as sample.toml"))?
-        .arg(needed(alloc, "PLAN", "The plan, as examples/clean/plan.toml"))?
-        .arg(needed(alloc, "SCHEDULE", SCHEDULE_HELP))
+    new_command(alloc, "play", PLAY_ABOUT, PLAY_EXAMPLES, &PLAY_ARGUMENTS)
 }
 
 const CHECK_ABOUT: &str = "Tells what files hold, where a fault is, and which keys nothing reads";
@@ -119,11 +131,19 @@ const CHECK_EXAMPLES: &str = "Examples:
 
 const FILES_HELP: &str = "The files: board files, plans, schedules and undo texts";
 
+const CHECK_ARGUMENTS: [Argument<'static>; 1] = [Argument::Several("FILE", FILES_HELP)];
+
 /// `check FILE..`.
 fn check_command<'a>(alloc: Global) -> Result<Command<'a>, AllocError>
     ensures { IfOk result (IsCommand check_app) }
 {
-    new_command(alloc, "check", CHECK_ABOUT, CHECK_EXAMPLES).arg(several(alloc, "FILE", FILES_HELP))
+    new_command(
+        alloc,
+        "check",
+        CHECK_ABOUT,
+        CHECK_EXAMPLES,
+        &CHECK_ARGUMENTS,
+    )
 }
 
 const ABOUT: &str =
@@ -135,24 +155,15 @@ const EXAMPLES: &str = "Examples:
   bmclab schedule --undo sample.toml examples/clean/plan.toml
   bmclab check sample.toml examples/clean/plan.toml examples/clean/schedule.txt";
 
-/// `bmclab`, and what it can do with a board.
-fn run_commands<'a>(alloc: Global) -> Result<Command<'a>, AllocError>
-    ensures { IfOk result (λ command. app_of command ≡ runs) }
-{
-    new_command(alloc, "bmclab", ABOUT, EXAMPLES)
-        .bin_name("bmclab")?
-        .subcommand_required(true)
-        .subcommand(frame_command(alloc)?)?
-        .subcommand(play_command(alloc)?)
-}
-
 /// `bmclab`, and what it can do.
 fn command<'a>(alloc: Global) -> Result<Command<'a>, AllocError>
     ensures { IfOk result (λ command. app_of command ≡ program) }
 {
-    run_commands(alloc)?
-        .subcommand(schedule_command(alloc)?)?
-        .subcommand(check_command(alloc)?)
+    let program = new_program(alloc, "bmclab", ABOUT, EXAMPLES)?;
+    let program = with_command(program, frame_command(alloc))?;
+    let program = with_command(program, play_command(alloc))?;
+    let program = with_command(program, schedule_command(alloc))?;
+    with_command(program, check_command(alloc))
 }
 
 /// What is wrong with the words BUS and HEX that name no frame.

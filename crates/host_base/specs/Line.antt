@@ -2,6 +2,8 @@
 use Rattle.std.specs.Prelude.{◌≡◌, true, false, Some}
 use Rattle.clap.specs.Lexer.{usize_max}
 use Rattle.clap.specs.Words.{App, Rule, Text, app_of, new_rule, rule_of}
+use Rattle.host_base.specs.declared.build.Argument.{Argument}
+use Rattle.host_base.specs.declared.build.Argument.TheVariants.{Flag, Option as Optional, Needed, Several}
 use Rattle.clap.specs.declared.builder.ArgAction.TheVariants.{SetTrue}
 use Rattle.clap.specs.declared.builder.arg.Arg.{Arg}
 use Rattle.clap.specs.declared.builder.command.Command.{Command}
@@ -22,6 +24,13 @@ needed_rule name = record (new_rule name) { required = true }
 -- words of which at least one must be there
 abbrev pub several_rule : Text → Rule
 several_rule name = record (new_rule name) { required = true; range = Some (record { start_inclusive = 1; end_inclusive = usize_max }) }
+
+-- the rule of an argument, by its name
+abbrev pub argument_rule : Argument → Rule
+argument_rule (Flag name help) = flag_rule name.now
+argument_rule (Optional name value help) = option_rule name.now
+argument_rule (Needed name help) = needed_rule name.now
+argument_rule (Several name help) = several_rule name.now
 
 -- one of the command's subcommands must be used
 abbrev pub needing_subcommand : App → App

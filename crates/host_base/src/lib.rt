@@ -9,7 +9,7 @@ pub mod number;
 pub mod process;
 pub mod refusal;
 
-pub use build::{flag, needed, new_command, option, several};
+pub use build::{Argument, new_command, new_program, with_command};
 pub use file::HostFiles;
 pub use matched::{all_named, given, has_flag, lacking, named};
 pub use number::has_plus;

@@ -2,10 +2,10 @@
 ghost use Rattle.std.specs.Prelude.{◌≡◌, IfOk};
 ghost use Rattle.clap.specs.Words.{app_of};
 ghost use Rattle.host_base.specs.Line.{IsCommand};
-ghost use Rattle.net_host.specs.Line.{app_named, program, serves};
+ghost use Rattle.net_host.specs.Line.{app_named, program};
 
 use clap::Command;
-use host_base::{flag, needed, new_command, option};
+use host_base::{Argument, new_command, new_program, with_command};
 use std::alloc::{AllocError, Global};
 
 /// What `bmcnet` can do.
@@ -57,20 +57,29 @@ const SERVE_EXAMPLES: &str = "Examples:
   bmcnet serve --forget 50 sample.toml 9620 9621 1000
   bmcnet serve --readings examples/readings.txt sample.toml 9620 9621 1000";
 
+const SERVE_ARGUMENTS: [Argument<'static>; 9] = [
+    Argument::Option("wait", "MS", WAIT_HELP),
+    Argument::Flag("periods", PERIODS_HELP),
+    Argument::Option("quiet", "N", QUIET_HELP),
+    Argument::Option("forget", "N", FORGET_HELP),
+    Argument::Option("readings", "FILE", READINGS_HELP),
+    Argument::Needed("BOARD", BOARD_HELP),
+    Argument::Needed("P0", P0_HELP),
+    Argument::Needed("P1", P1_HELP),
+    Argument::Needed("TURNS", TURNS_HELP),
+];
+
 /// `serve [--wait MS] [--periods] [--quiet N] [--forget N] [--readings FILE] BOARD P0 P1 TURNS`.
 fn serve_command<'a>(alloc: Global) -> Result<Command<'a>, AllocError>
     ensures { IfOk result (IsCommand (app_named Task.Serve)) }
 {
-    new_command(alloc, "serve", SERVE_ABOUT, SERVE_EXAMPLES)
-        .arg(option(alloc, "wait", "MS", WAIT_HELP))?
-        .arg(flag(alloc, "periods", PERIODS_HELP))?
-        .arg(option(alloc, "quiet", "N", QUIET_HELP))?
-        .arg(option(alloc, "forget", "N", FORGET_HELP))?
-        .arg(option(alloc, "readings", "FILE", READINGS_HELP))?
-        .arg(needed(alloc, "BOARD", BOARD_HELP))?
-        .arg(needed(alloc, "P0", P0_HELP))?
-        .arg(needed(alloc, "P1", P1_HELP))?
-        .arg(needed(alloc, "TURNS", TURNS_HELP))
+    new_command(
+        alloc,
+        "serve",
+        SERVE_ABOUT,
+        SERVE_EXAMPLES,
+        &SERVE_ARGUMENTS,
+    )
 }
 
 const RUN_ABOUT: &str = "Runs a plan on a controller that is served, and writes the undo text";
@@ -90,19 +99,22 @@ const RUN_EXAMPLES: &str = "Examples:
   bmcnet run --wait 500 --again 3 examples/clean/plan.toml 9620 9621 1000 undo.txt
   bmcnet run --forget 50 examples/clean/plan.toml 9620 9621 1000 undo.txt";
 
+const RUN_ARGUMENTS: [Argument<'static>; 8] = [
+    Argument::Option("wait", "MS", WAIT_HELP),
+    Argument::Option("again", "N", AGAIN_HELP),
+    Argument::Option("forget", "N", FORGETTING_HELP),
+    Argument::Needed("PLAN", PLAN_HELP),
+    Argument::Needed("P0", P0_HELP),
+    Argument::Needed("P1", P1_HELP),
+    Argument::Needed("TURNS", TURNS_HELP),
+    Argument::Needed("UNDO", UNDO_FILE_HELP),
+];
+
 /// `run [--wait MS] [--again N] [--forget N] PLAN P0 P1 TURNS UNDO`.
 fn run_command<'a>(alloc: Global) -> Result<Command<'a>, AllocError>
     ensures { IfOk result (IsCommand (app_named Task.Run)) }
 {
-    new_command(alloc, "run", RUN_ABOUT, RUN_EXAMPLES)
-        .arg(option(alloc, "wait", "MS", WAIT_HELP))?
-        .arg(option(alloc, "again", "N", AGAIN_HELP))?
-        .arg(option(alloc, "forget", "N", FORGETTING_HELP))?
-        .arg(needed(alloc, "PLAN", PLAN_HELP))?
-        .arg(needed(alloc, "P0", P0_HELP))?
-        .arg(needed(alloc, "P1", P1_HELP))?
-        .arg(needed(alloc, "TURNS", TURNS_HELP))?
-        .arg(needed(alloc, "UNDO", UNDO_FILE_HELP))
+    new_command(alloc, "run", RUN_ABOUT, RUN_EXAMPLES, &RUN_ARGUMENTS)
 }
 
 const UNDO_ABOUT: &str = "Takes back what a run did on a controller that is served";
@@ -113,16 +125,19 @@ const UNDO_EXAMPLES: &str = "Examples:
   bmcnet undo undo.txt 9620 9621 1000
   bmcnet undo --wait 500 undo.txt 9620 9621 1000";
 
+const UNDO_ARGUMENTS: [Argument<'static>; 5] = [
+    Argument::Option("wait", "MS", WAIT_HELP),
+    Argument::Needed("UNDO", UNDO_TEXT_HELP),
+    Argument::Needed("P0", P0_HELP),
+    Argument::Needed("P1", P1_HELP),
+    Argument::Needed("TURNS", TURNS_HELP),
+];
+
 /// `undo [--wait MS] UNDO P0 P1 TURNS`.
 fn undo_command<'a>(alloc: Global) -> Result<Command<'a>, AllocError>
     ensures { IfOk result (IsCommand (app_named Task.Undo)) }
 {
-    new_command(alloc, "undo", UNDO_ABOUT, UNDO_EXAMPLES)
-        .arg(option(alloc, "wait", "MS", WAIT_HELP))?
-        .arg(needed(alloc, "UNDO", UNDO_TEXT_HELP))?
-        .arg(needed(alloc, "P0", P0_HELP))?
-        .arg(needed(alloc, "P1", P1_HELP))?
-        .arg(needed(alloc, "TURNS", TURNS_HELP))
+    new_command(alloc, "undo", UNDO_ABOUT, UNDO_EXAMPLES, &UNDO_ARGUMENTS)
 }
 
 const PAIR_ABOUT: &str =
@@ -131,14 +146,17 @@ const PAIR_ABOUT: &str =
 const PAIR_EXAMPLES: &str = "Examples:
   bmcnet pair sample.toml examples/reply_lost/plan.toml 20";
 
+const PAIR_ARGUMENTS: [Argument<'static>; 3] = [
+    Argument::Needed("BOARD", BOARD_HELP),
+    Argument::Needed("PLAN", PLAN_HELP),
+    Argument::Needed("TURNS", TURNS_HELP),
+];
+
 /// `pair BOARD PLAN TURNS`.
 fn pair_command<'a>(alloc: Global) -> Result<Command<'a>, AllocError>
     ensures { IfOk result (IsCommand (app_named Task.Pair)) }
 {
-    new_command(alloc, "pair", PAIR_ABOUT, PAIR_EXAMPLES)
-        .arg(needed(alloc, "BOARD", BOARD_HELP))?
-        .arg(needed(alloc, "PLAN", PLAN_HELP))?
-        .arg(needed(alloc, "TURNS", TURNS_HELP))
+    new_command(alloc, "pair", PAIR_ABOUT, PAIR_EXAMPLES, &PAIR_ARGUMENTS)
 }
 
 impl Task {
@@ -174,22 +192,13 @@ const EXAMPLES: &str = "Examples:
   bmcnet undo undo.txt 9620 9621 1000
   bmcnet pair sample.toml examples/reply_lost/plan.toml 20";
 
-/// `bmcnet`, and what it does with one side.
-fn side_commands<'a>(alloc: Global) -> Result<Command<'a>, AllocError>
-    ensures { IfOk result (λ command. app_of command ≡ serves) }
-{
-    new_command(alloc, "bmcnet", ABOUT, EXAMPLES)
-        .bin_name("bmcnet")?
-        .subcommand_required(true)
-        .subcommand(serve_command(alloc)?)?
-        .subcommand(run_command(alloc)?)
-}
-
 /// `bmcnet`, and what it can do.
 pub fn command<'a>(alloc: Global) -> Result<Command<'a>, AllocError>
     ensures { IfOk result (λ command. app_of command ≡ program) }
 {
-    side_commands(alloc)?
-        .subcommand(undo_command(alloc)?)?
-        .subcommand(pair_command(alloc)?)
+    let program = new_program(alloc, "bmcnet", ABOUT, EXAMPLES)?;
+    let program = with_command(program, serve_command(alloc))?;
+    let program = with_command(program, run_command(alloc))?;
+    let program = with_command(program, undo_command(alloc))?;
+    with_command(program, pair_command(alloc))
 }

@@ -1,9 +1,8 @@
-use Rattle.std.proofs.Common.{◌∙◌, ap}
-use Rattle.clap.specs.Simple.{app_of_fields}
+use Rattle.std.proofs.Common.{◌∙◌, sym}
+use Rattle.host_base.proofs.Builders.{adds_rule, one_rule_more}
 use Rattle.host_base.proofs.build.new_command.Goals as goal
 
-pub returns : goal.returns
-returns c = (
-  ap app_of_fields c.after_help.ensures ∙ (ap app_of_fields c.about.ensures ∙ c.new.ensures.app),
-  ap (λ f. f.has_globals) c.after_help.ensures ∙ (ap (λ f. f.has_globals) c.about.ensures ∙ c.new.ensures.local),
-)
+pub loop-argument-preserved : goal.loop-argument-preserved
+loop-argument-preserved c =
+    let added = adds_rule _ _ _ _ _ c.loop-argument.invariant c.arg.ensures c.in_ok-command.ensures in
+    (added.0 ∙ sym (one_rule_more _ c.args.arguments.now c.loop-argument.argument-index _ c.loop-argument-test.true), added.1)

@@ -1,9 +1,0 @@
-use Rattle.std.proofs.lemmas.Result.{IfOk-weaker}
-use Rattle.host_base.proofs.Builders.{adds_rule}
-use Rattle.bmc_host.proofs.words.frame_command.Goals as goal
-
-pub returns : goal.returns
-returns c =
-    let one = adds_rule _ _ _ _ _ c.new_command.ensures c.option.ensures c.in_ok-arg.ensures in
-    let two = adds_rule _ _ _ _ _ one c.option-2.ensures c.in_ok-arg-2.ensures in
-    IfOk-weaker c.arg-3.result _ _ (λ command added. adds_rule _ _ _ _ _ two c.needed.ensures added) c.arg-3.ensures
