@@ -40,7 +40,10 @@ fn error_of(
     kind: ErrorKind,
     message: &str,
 ) -> Result<Error, AllocError> {
-    command.bin_name(name)?.error(kind, message)
+    let mut command = command.bin_name(name)?;
+    let error = command.error(kind, message);
+    drop(command);
+    error
 }
 
 /// The refusal of words that clap takes for the command and this program doesn't: the message, and the usage of the command of this name.
