@@ -5,6 +5,8 @@ ghost use Rattle.cfg_records.specs.Records.{records_of};
 ghost use Rattle.cfg_records.specs.Boards.{pairs_of};
 ghost use Rattle.record_base.specs.Meaning.{room_for};
 ghost use Rattle.record_base.specs.declared.message.Answered.{Answered as Reply};
+ghost use Rattle.bios_attr.specs.Tables.{AreTables};
+ghost use Rattle.bmc_board.specs.State.{opening};
 ghost use Rattle.bmc_board.specs.Gives.{Gives, Appends};
 ghost use Rattle.bmc_board.specs.Replies.{done, unknown_code};
 ghost use Rattle.bmc_board.specs.Sensing.{value_at};
@@ -115,6 +117,23 @@ fn answered(done: Result<(), Code>, body: Bytes<{ MOST_PLDM_REPLY_DATA }>) -> An
     }
 }
 
+/// What a board of this file keeps in memory beside its set-up.
+fn opened_parts(alloc: Global, file: &BoardFile) -> Result<(Activity, Tables), AllocError>
+    ensures activity { IfOk result (λ parts. parts.0 ≡ opening file.now) }
+    ensures tables { IfOk result (λ parts. AreTables file.now.attributes.items parts.1) }
+{
+    match Activity::opening(alloc, file) {
+        Ok(activity) => match Tables::open(alloc, &file.attributes) {
+            Ok(tables) => Ok((activity, tables)),
+            Err(why) => {
+                drop(activity);
+                Err(why)
+            }
+        },
+        Err(why) => Err(why),
+    }
+}
+
 impl<S: Store> Board<S> {
     ghost use Rattle.bmc_board.specs.State.{opened, state_of};
     ghost use Rattle.bmc_board.specs.Live.{progress_answer, leave_answer, longest_live_reply, longest_live};
@@ -137,23 +156,29 @@ impl<S: Store> Board<S> {
         ensures setup { IfOk result (λ board. board.setup ≡ file) }
         ensures state { IfOk result (λ board. state_of board ≡ opened file) }
     {
-        match Activity::opening(alloc, &file) {
-            Ok(activity) => match Tables::open(alloc, &file.attributes) {
-                Ok(tables) => match Setup::new(alloc, file) {
-                    Ok(setup) => Ok(Board {
-                        setup,
-                        activity,
-                        store,
-                        made_over_pldm: Value::new(),
-                        tables,
-                        made_over_ipmi: Value::new(),
-                        kept: Kept::Stale,
-                    }),
-                    Err(why) => Err(why),
-                },
-                Err(why) => Err(why),
+        match opened_parts(alloc, &file) {
+            Ok((activity, tables)) => match Setup::new(alloc, file) {
+                Ok(setup) => Ok(Board {
+                    setup,
+                    activity,
+                    store,
+                    made_over_pldm: Value::new(),
+                    tables,
+                    made_over_ipmi: Value::new(),
+                    kept: Kept::Stale,
+                }),
+                Err(why) => {
+                    drop(activity);
+                    drop(tables);
+                    drop(store);
+                    Err(why)
+                }
             },
-            Err(why) => Err(why),
+            Err(why) => {
+                drop(file);
+                drop(store);
+                Err(why)
+            }
         }
     }
 
