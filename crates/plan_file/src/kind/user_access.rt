@@ -1,5 +1,5 @@
 //! The step that sets what a user may do on a channel.
-ghost use Rattle.std.specs.Prelude.{◌≡◌, ◌<◌, ◌/◌, ◌%◌};
+ghost use Rattle.std.specs.Prelude.{◌≡◌, ◌<◌, ◌≤◌, ◌/◌, ◌%◌};
 ghost use Rattle.toml.specs.View.{table_view};
 ghost use Rattle.text_fields.specs.Trees.{flag_in, HasNumber};
 ghost use Rattle.plan_file.specs.Kinds.UserAccess.{bit_of, access_bits, HoldsUserAccess};
@@ -21,7 +21,8 @@ pub const FIELDS: [Row; 6] = [
 
 /// 1 where the step has `true` in the field.
 fn bit(step: &Table, field: Field) -> u8
-    ensures { result ≡ bit_of (flag_in field (table_view step.now)) }
+    ensures few { result ≤ 1 }
+    ensures value { result ≡ bit_of (flag_in field (table_view step.now)) }
 {
     match in_field(step, field) {
         Some(value) => match value.as_bool() {
