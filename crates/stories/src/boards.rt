@@ -1,6 +1,7 @@
 //! The boards that stories are told of.
 use cfg_records::{BoardFile, sample_board};
 use std::alloc::{AllocError, Global};
+use std::mem::swap;
 use text_board::{FileFault, TOP, read_board};
 
 /// The sample board's own fields.
@@ -124,17 +125,30 @@ fn sample_of(alloc: Global) -> Result<BoardFile, FileFault> {
     }
 }
 
-/// The board of this text, with the sample board's sensors and attributes where the story gives none.
-fn filled_up(alloc: Global, story: &str, text: &str) -> Result<BoardFile, FileFault> {
-    let sample = sample_of(alloc)?;
-    let mut file = read_board(alloc, text)?;
+/// Gives the board the sample board's sensors and attributes where the story gives none.
+fn fill_up(file: &mut BoardFile, mut sample: BoardFile, story: &str) {
     if !is_given(story, "sensor") {
-        file.sensors = sample.sensors;
+        swap(&mut file.sensors, &mut sample.sensors);
     }
     if !is_given(story, "attribute") {
-        file.attributes = sample.attributes;
+        swap(&mut file.attributes, &mut sample.attributes);
     }
-    Ok(file)
+    drop(sample);
+}
+
+/// The board of this text, with what the sample board fills up.
+fn filled_up(alloc: Global, story: &str, text: &str) -> Result<BoardFile, FileFault> {
+    let mut file = read_board(alloc, text)?;
+    match sample_of(alloc) {
+        Ok(sample) => {
+            fill_up(&mut file, sample, story);
+            Ok(file)
+        }
+        Err(fault) => {
+            drop(file);
+            Err(fault)
+        }
+    }
 }
 
 /// The board of the story's lines `board FIELD = VALUE`: the sample board, with these fields in place of its own.
