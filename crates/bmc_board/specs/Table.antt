@@ -1,10 +1,12 @@
--- The tables of commands (IPMI 2.0; DSP0240, "GetTID" and "GetPLDMTypes"; DSP0248, commands of effecters; DSP0247, "GetBIOSTable" and commands of BIOS attributes): one line each.
-use Rattle.std.specs.Prelude.{ℕ, ◌+◌, ◌*◌, List, [], ◌∷◌, length, Option, Some, None, Bool, true, false, find, nat_le, ◌==◌, ◌&&◌, ◌||◌}
+-- The tables of commands (IPMI 2.0; DSP0240, "GetTID" and "GetPLDMTypes"; DSP0248, commands of effecters; DSP0247, "GetBIOSTable" and commands of BIOS attributes):
+-- one line for each command, or for both commands of a plain kind.
+use Rattle.std.specs.Prelude.{ℕ, ◌+◌, ◌*◌, List, [], ◌∷◌, ◌++◌, length, Option, Some, None, Bool, true, false, find, nat_le, ◌==◌, ◌&&◌, ◌||◌}
 use Rattle.record_base.specs.declared.message.Asked.{Asked}
 use Rattle.record_base.specs.declared.message.Asked.TheVariants.{Ipmi, Pldm}
 use Rattle.record_base.specs.Requests.{byte_at}
 use Rattle.bmc_board.specs.declared.command.Command.{Command}
 use Rattle.bmc_board.specs.declared.command.Command.TheVariants as command
+use Rattle.record_kinds.specs.declared.limits.PlainKind.{PlainKind}
 use Rattle.record_kinds.specs.declared.limits.PlainKind.TheVariants as kind
 use Rattle.bmc_board.specs.declared.command.Lengths.{Lengths}
 use Rattle.bmc_board.specs.declared.command.Lengths.TheVariants.{Exactly, Between, AtLeast, OneOf, PairsCountedAt}
@@ -20,35 +22,32 @@ pub record Listed : Type 0 where
 abbrev pub listed : ℕ → ℕ → Lengths → Bool → Command → Listed
 listed group number lengths changing command = record { group = group; number = number; line = record { command = command; lengths = lengths; changing = changing } }
 
--- The commands on the power policy are Get Chassis Status and Set Power Restore Policy. Each other kind's have the kind's name in their own.
+-- the commands that set and get the records of a plain kind: each by its number, with its lengths
+abbrev pub set_and_get : ℕ → PlainKind → ℕ → Lengths → ℕ → Lengths → List Listed
+set_and_get group kind set set_lengths get get_lengths = listed group set set_lengths true (command.Set kind) ∷ listed group get get_lengths false (command.Get kind) ∷ []
 
--- IPMI: network function, number, lengths, whether it sets the configuration, command
+-- The commands on the power policy are Set Power Restore Policy and Get Chassis Status. Each other kind's have the kind's name in their own.
+
+-- IPMI. Of a plain kind: network function, kind, number and lengths of its Set, number and lengths of its Get. Of another command: network function, number,
+-- lengths, whether it sets the configuration, command.
 abbrev pub table : List Listed
 table =
-    listed 0x00 0x01 (Exactly 0) false (command.Get kind.PowerPolicy) ∷
-    listed 0x00 0x06 (Exactly 1) true (command.Set kind.PowerPolicy) ∷
+    set_and_get 0x00 kind.PowerPolicy 0x06 (Exactly 1) 0x01 (Exactly 0) ++
+    set_and_get 0x04 kind.Hysteresis 0x24 (Exactly 4) 0x25 (Exactly 2) ++
+    set_and_get 0x04 kind.Thresholds 0x26 (Exactly 8) 0x27 (Exactly 1) ++
+    set_and_get 0x04 kind.EventEnable 0x28 (Between 2 6) 0x29 (Exactly 1) ++
+    set_and_get 0x06 kind.Watchdog 0x24 (Exactly 6) 0x25 (Exactly 0) ++
+    set_and_get 0x06 kind.GlobalEnables 0x2E (Exactly 1) 0x2F (Exactly 0) ++
+    set_and_get 0x06 kind.UserAccess 0x43 (Between 3 4) 0x44 (Exactly 2) ++
+    set_and_get 0x06 kind.UserName 0x45 (Exactly 17) 0x46 (Exactly 1) ++
     listed 0x00 0x08 (AtLeast 1) true command.SetBootOptions ∷
     listed 0x00 0x09 (Exactly 3) false command.GetBootOptions ∷
-    listed 0x04 0x24 (Exactly 4) true (command.Set kind.Hysteresis) ∷
-    listed 0x04 0x25 (Exactly 2) false (command.Get kind.Hysteresis) ∷
-    listed 0x04 0x26 (Exactly 8) true (command.Set kind.Thresholds) ∷
-    listed 0x04 0x27 (Exactly 1) false (command.Get kind.Thresholds) ∷
-    listed 0x04 0x28 (Between 2 6) true (command.Set kind.EventEnable) ∷
-    listed 0x04 0x29 (Exactly 1) false (command.Get kind.EventEnable) ∷
     listed 0x04 0x2D (Exactly 1) false (command.Live live.GetSensorReading) ∷
     listed 0x06 0x01 (Exactly 0) false (command.Live live.GetDeviceId) ∷
     listed 0x06 0x04 (Exactly 0) false (command.Live live.GetSelfTestResults) ∷
     listed 0x06 0x22 (Exactly 0) false (command.Live live.ResetWatchdog) ∷
-    listed 0x06 0x24 (Exactly 6) true (command.Set kind.Watchdog) ∷
-    listed 0x06 0x25 (Exactly 0) false (command.Get kind.Watchdog) ∷
-    listed 0x06 0x2E (Exactly 1) true (command.Set kind.GlobalEnables) ∷
-    listed 0x06 0x2F (Exactly 0) false (command.Get kind.GlobalEnables) ∷
     listed 0x06 0x40 (Exactly 3) true command.SetChannelAccess ∷
     listed 0x06 0x41 (Exactly 2) false command.GetChannelAccess ∷
-    listed 0x06 0x43 (Between 3 4) true (command.Set kind.UserAccess) ∷
-    listed 0x06 0x44 (Exactly 2) false (command.Get kind.UserAccess) ∷
-    listed 0x06 0x45 (Exactly 17) true (command.Set kind.UserName) ∷
-    listed 0x06 0x46 (Exactly 1) false (command.Get kind.UserName) ∷
     listed 0x06 0x47 (OneOf 2 18 22) false (command.Live live.SetUserPassword) ∷
     listed 0x0A 0x20 (Exactly 0) false (command.Live live.GetSdrRepositoryInfo) ∷
     listed 0x0A 0x22 (Exactly 0) false (command.Live live.ReserveSdrRepository) ∷
@@ -64,15 +63,13 @@ table =
     listed 0x0C 0x02 (Exactly 4) false command.GetLanParam ∷
     []
 
--- PLDM: type, number, lengths, whether it sets the configuration, command
+-- PLDM: the same, with the type in place of the network function
 abbrev pub pldm_table : List Listed
 pldm_table =
+    set_and_get 0x02 kind.NumericEffecter 0x31 (AtLeast 4) 0x32 (Exactly 2) ++
+    set_and_get 0x02 kind.StateEffecter 0x39 (PairsCountedAt 2) 0x3A (Exactly 2) ++
     listed 0x00 0x02 (Exactly 0) false (command.Live live.GetTid) ∷
     listed 0x00 0x04 (Exactly 0) false (command.Live live.GetPldmTypes) ∷
-    listed 0x02 0x31 (AtLeast 4) true (command.Set kind.NumericEffecter) ∷
-    listed 0x02 0x32 (Exactly 2) false (command.Get kind.NumericEffecter) ∷
-    listed 0x02 0x39 (PairsCountedAt 2) true (command.Set kind.StateEffecter) ∷
-    listed 0x02 0x3A (Exactly 2) false (command.Get kind.StateEffecter) ∷
     listed 0x03 0x01 (Exactly 6) false (command.Live live.GetBiosTable) ∷
     listed 0x03 0x07 (AtLeast 6) true command.SetBiosAttribute ∷
     listed 0x03 0x08 (Exactly 7) false command.GetBiosAttribute ∷
