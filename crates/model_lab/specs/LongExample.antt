@@ -25,7 +25,7 @@ use Rattle.model_lab.specs.Example.{board_file, plans, start, after, phase_after
 -- so many steps on the upper critical threshold of sensor 5: step i sets i + 52h
 abbrev pub rising : ℕ → ℕ → List Op
 rising zero i = []
-rising (suc n) i = set_thresholds 0x10 (0 ∷ 0 ∷ 0 ∷ 0 ∷ i + 0x52 ∷ 0 ∷ []) refl ∷ rising n (i + 1)
+rising (suc n) i = set_thresholds 0x10 (0 ∷ 0 ∷ 0 ∷ 0 ∷ (i + 0x52) ∷ 0 ∷ []) refl ∷ rising n (i + 1)
 
 -- so many exchanges, from the frame of this number on
 abbrev pub exchanges : ℕ → ℕ → List Event
