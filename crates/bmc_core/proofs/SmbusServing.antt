@@ -18,19 +18,15 @@ use Rattle.bmc_core.specs.declared.out.Done.TheVariants as what
 use Rattle.bmc_core.specs.declared.step.Served.{Served}
 use Rattle.bmc_core.specs.declared.step.Served.TheVariants.{CarriedOut, NothingAsked}
 use Rattle.bmc_core.specs.declared.step.Step.TheVariants as step
+use Rattle.bmc_core.specs.declared.port.At.{At}
 use Rattle.bmc_core.specs.declared.smbus_port.SmbusPort.{SmbusPort}
-use Rattle.bmc_core.specs.declared.smbus_port.pending.SmbusPending.{SmbusPending}
 use Rattle.bmc_core.specs.Outs.{sends}
 use Rattle.bmc_core.specs.SmbusHeard.{InMessage, Heard, message_heard, asked_of, found, kept_with}
-use Rattle.bmc_core.specs.SmbusShown.{AreOf, Shows, ForPortsAt, Hearing, HearsBytes, IsGiven, IsStep, Answers, IsRead, frames_from, request_in}
+use Rattle.bmc_core.specs.SmbusShown.{AreOf, Shows, ForPortsAt, Hearing, HearsBytes, IsGiven, IsStep, Answers, IsRead, IsKept, KeepsReply, Replies, RepliesWith, frames_from, request_in, pending_of}
 use Rattle.bmc_core.specs.Served.{HasCarried}
-use Rattle.bmc_core.specs.SmbusServed.{IsCarriedOut, Serves}
+use Rattle.bmc_core.specs.SmbusServed.{IsAnsweredBy, Serves}
 use Rattle.bmc_core.proofs.SmbusPorts.{hearing_map, ended, message_is, parts_at, answered}
 use Rattle.bmc_core.proofs.PortSteps.{is_asked, smbus_settled, smbus_asked}
-
--- the request, as it waits for an answer
-abbrev pub pending_of : InMessage → SmbusPending
-pending_of m = record { envelope = m.envelope; header = m.request.header; body = m.request.body }
 
 -- what the port `read` shows, where it has read bytes: all but what waits is as it was
 abbrev pub ReadBy : SmbusPort → SmbusPort → List ℕ → Out → Option Packet → Type 0
@@ -41,6 +37,25 @@ abbrev pub HeardBy : SmbusPort → SmbusPort → Packet → List ℕ → Out →
 HeardBy port now packet body out request =
     (p : PortState) (next : SmbusPort) → p.wire ≡ port.wire → p.eid ≡ port.endpoint → AreOf port.windows p.log → Shows next (record p { eid = now.endpoint })
     → IsGiven next out request p (message_heard (record { envelope = packet.envelope; body = body }))
+
+-- a new request was carried out and kept, and the port sends its reply from a place
+pub record IsCarriedOut {K : Type 0} (carries : Asked → Answered → K → Type 0) (at : At) (old : Held) (m : InMessage) (after : K)
+    (new : Held) (out : Out) : Type 0 where
+  pub answered : Answered
+  pub carried : carries (asked_of m) answered after
+  pub kept : IsKept old (kept_with m answered) new
+  pub sent : RepliesWith at m answered out
+
+-- the reply that was made, kept and sent is that of the answer
+pub carried_out : {K : Type 0} (carries : Asked → Answered → K → Type 0) (at : At) (old new : Held) (m : InMessage)
+    (reply : List ℕ) (after : K) (out : Out) → IsAnsweredBy carries m reply after → KeepsReply old m reply new
+    → Replies at m.envelope reply what.Answered out → IsCarriedOut carries at old m after new out
+carried_out carries at old new m reply after out done kept sent = record {
+  answered = done.answered;
+  carried = done.carried;
+  kept = subst (λ (xs : List ℕ). KeepsReply old m xs new) done.reply_is kept;
+  sent = subst (λ (xs : List ℕ). Replies at m.envelope xs what.Answered out) done.reply_is sent;
+}
 
 module _ (port now : SmbusPort) (bytes : List ℕ) where
   -- no packet ended a message

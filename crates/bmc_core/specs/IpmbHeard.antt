@@ -26,3 +26,7 @@ IsIgnored wire bytes _ = ⊥
 abbrev pub IsHeard : ℕ → List ℕ → Result Request Reason → Type 0
 IsHeard wire bytes (Ok request) = IsRequest request bytes × (request.header.responder.address ≡ wire)
 IsHeard wire bytes (Err why) = IsIgnored wire bytes why
+
+-- it hears at most one thing in them
+abbrev pub HearsAtMostOne : ℕ → List ℕ → Type 0
+HearsAtMostOne wire bytes = (one other : Result Request Reason) → IsHeard wire bytes one → IsHeard wire bytes other → one ≡ other

@@ -29,6 +29,10 @@ pub record IsHeardThenAnswered (setup : BoardFile) (port : PortState) (before : 
   pub answered : outcome_at port request ≡ IsNew → let given = answer_of setup before (asked_in request) in hears_request setup port before request ≡ answered_deed port request given.0 given.1
   pub settled : outcome_at port request ≢ IsNew → (answered : Answered) → hears_request setup port before request ≡ answered_deed port request answered before
 
+-- and so it is for each request, port and board
+abbrev pub AreHeardThenAnswered : Type 0
+AreHeardThenAnswered = (setup : BoardFile) (port : PortState) (before : State) (request : Request) → IsHeardThenAnswered setup port before request
+
 -- ---- lists with no board in them
 
 -- What comes to a port: a frame in which it hears this, an answer to a request that it heard, or the news that a requester is idle. A new

@@ -11,7 +11,8 @@ use Rattle.model_bus.specs.Numbering.{is_above}
 use Rattle.model_bus.specs.Carried.{Outcome, Repeats, IsBusy, IsNew, outcome, log_after, reply_after}
 use Rattle.two_wire.specs.Circles.{sequence_numbers}
 use Rattle.two_wire.specs.declared.Bus.TheVariants.{Ipmb}
-use Rattle.bmc_board.specs.State.{State}
+use Rattle.bmc_board.specs.declared.board.Board.{Board}
+use Rattle.bmc_board.specs.State.{State, state_of}
 use Rattle.bmc_windows.specs.Keeps.{Reading, Held, Keeps}
 use Rattle.model_ports.specs.Bytes.{heard_in}
 use Rattle.model_ports.specs.Values.{Value, Tells, written}
@@ -82,6 +83,10 @@ response_frame header code body = written (Tells (response header code body))
 abbrev pub response_giving : Request → Answered → Response
 response_giving request answered = response request.header answered.code answered.body
 
+-- a reader of the frame's bytes gives the response
+abbrev pub ResponseIsRead : Header → ℕ → List ℕ → Type 0
+ResponseIsRead header code body = IsResponse (response header code body) (response_frame header code body)
+
 -- ---- what comes of what is heard
 
 -- the lab's port and the board after it, and what is sent
@@ -111,9 +116,18 @@ abbrev pub Hears : BoardFile → IpmbPort → State → List ℕ → Out → Ipm
 Hears setup port before bytes out next after = (at : PortState) → Shows port at → (heard : Result Request Reason) → IsHeard at.wire bytes heard
     → Does (deed_of setup at before heard) (done_of at heard) next after out
 
+-- so it is with this board before and that board after
+abbrev pub HearsOn : {S : Type 0} {g h : _} → Board S g h → IpmbPort → List ℕ → Out → IpmbPort → Board S g h → Type 0
+HearsOn board port bytes out next left = Hears board.setup port (state_of board) bytes out next (state_of left)
+
 -- the port sends the frame of this value alone, and a reader of the frame's bytes gives the value
 abbrev pub IsSent : Value → Done → Out → Type 0
 IsSent value what out = (out ≡ sends (written value ∷ []) what) × AreRead Ipmb (value ∷ [])
+
+-- the port sends the kept response once more, to any request of this header that the kept frame answers
+abbrev pub RepeatsTo : Header → List ℕ → Done → Out → Type 0
+RepeatsTo header frame what out = (request : Request) → request.header ≡ header → IsAnswered (record { request = heard_in request; reply = frame })
+    → IsSent (response_after request (Some (reading.reply frame))) what out
 
 -- ---- before the board is asked
 
@@ -126,6 +140,14 @@ abbrev pub IsSettled : Request → Outcome → Out → Bool → Type 0
 IsSettled request (Repeats reply) out settled = (settled ≡ true) × IsSent (response_after request (Some reply)) done.Repeated out
 IsSettled request IsBusy out settled = (settled ≡ true) × IsSent (response_after request None) done.Busy out
 IsSettled request IsNew out settled = settled ≡ false
+
+-- the port has settled the request so, whatever log the windows keep
+abbrev pub Settles : Held → Request → Out → Bool → Type 0
+Settles windows request out settled = (port : PortState) → AreOf windows port.log → IsSettled request (outcome_at port request) out settled
+
+-- the request is new, whatever log the windows keep
+abbrev pub IsNewTo : Held → Request → Type 0
+IsNewTo windows request = (port : PortState) → AreOf windows port.log → outcome_at port request ≡ IsNew
 
 -- what the caller does next: it has a new request carried out
 abbrev pub next_of : Bool → Request → Step Request

@@ -5,8 +5,10 @@ use Rattle.two_wire.specs.declared.Bus.TheVariants as bus
 use Rattle.cfg_records.specs.declared.board_file.BoardFile.{BoardFile}
 use Rattle.record_base.specs.declared.message.Asked.{Asked}
 use Rattle.record_base.specs.declared.message.Answered.{Answered}
-use Rattle.bmc_board.specs.State.{State}
+use Rattle.bmc_board.specs.declared.board.Board.{Board}
+use Rattle.bmc_board.specs.State.{State, state_of}
 use Rattle.bmc_board.specs.Answer.{answer_of}
+use Rattle.bmc_carry.specs.declared.carrier.Carrier.{Ghosts}
 use Rattle.model_ports.specs.PortSteps.{PortState, asked_in}
 use Rattle.bmc_core.specs.declared.out.Out.{Out}
 use Rattle.bmc_core.specs.declared.step.Served.{Served}
@@ -38,6 +40,10 @@ Hears setup (Ipmb port) before bytes out (Ipmb next) after = ipmb.Hears setup po
 Hears setup (Smbus port) before bytes out (Smbus next) after = smbus.Hears setup port before bytes out next after
 Hears setup _ before bytes out _ after = ⊥
 
+-- so it is with this board before and that board after
+abbrev pub HearsOn : {S : Type 0} {g h : _} → Board S g h → Port → List ℕ → Out → Port → Board S g h → Type 0
+HearsOn board port bytes out next left = Hears board.setup port (state_of board) bytes out next (state_of left)
+
 -- ---- in two steps, with the board between
 
 -- the bus of the port that heard a request
@@ -60,8 +66,8 @@ IsOn on Done = Unit {0}
 abbrev pub IsStep : Port → List ℕ → Port → Out → Step Pending → Type 0
 IsStep (Ipmb port) bytes (Ipmb next) out (Ask (pending.Ipmb request)) = ipmb.IsStep port bytes next out (Ask request)
 IsStep (Ipmb port) bytes (Ipmb next) out Done = ipmb.IsStep port bytes next out Done
-IsStep (Smbus port) bytes (Smbus next) out (Ask (pending.Smbus request)) = (at : PortState) → smbus.Shows port at → smbus.Hearing at bytes (smbus.IsStep next out (Ask request))
-IsStep (Smbus port) bytes (Smbus next) out Done = (at : PortState) → smbus.Shows port at → smbus.Hearing at bytes (smbus.IsStep next out Done)
+IsStep (Smbus port) bytes (Smbus next) out (Ask (pending.Smbus request)) = smbus.Steps port bytes next out (Ask request)
+IsStep (Smbus port) bytes (Smbus next) out Done = smbus.Steps port bytes next out Done
 IsStep _ bytes _ out _ = ⊥
 
 -- a port answers a request that it heard, with this answer
@@ -77,6 +83,10 @@ pub record IsHeardThenAnswered (setup : BoardFile) (port : Port) (before : State
       → let given = answer_of setup before (asked_of pending) in Answers between pending given.0 next out → Hears setup port before bytes out next given.1
   pub settled : (next : Port) (out : Out) → IsStep port bytes next out Done → Hears setup port before bytes out next before
 
+-- and so it is for each port, board and bytes
+abbrev pub AreHeardThenAnswered : Type 0
+AreHeardThenAnswered = (setup : BoardFile) (port : Port) (before : State) (bytes : List ℕ) → IsHeardThenAnswered setup port before bytes
+
 -- ---- in one step, with a carrier beside it
 
 -- A port took the bytes, with a carrier beside it. The bytes asked nothing; or the carrier carried out their request, and the port got the
@@ -84,3 +94,8 @@ pub record IsHeardThenAnswered (setup : BoardFile) (port : Port) (before : State
 abbrev pub Serves : {K Error : Type 0} → (Asked → Answered → K → Type 0) → (Error → K → Type 0) → Port → List ℕ → K → Result Served Error → Port → Out → K → Type 0
 Serves carries refuses port bytes before result next out after =
     ServesBy (λ between heard step. IsStep port bytes between heard step) Answers asked_of carries refuses before result next out after
+
+-- and this was the carrier
+abbrev pub Takes : {C K Error : Type 0} → Ghosts C K Error → C → Port → List ℕ → K → Result Served Error → Port → Out → K → Type 0
+Takes of carrier port bytes before result next out after =
+    Serves (of.carries carrier before) (of.refuses carrier before) port bytes before result next out after

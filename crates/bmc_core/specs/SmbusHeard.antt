@@ -55,17 +55,29 @@ pldm_heard envelope (Some request) fault = Asks (record { envelope = envelope; r
 pldm_heard envelope None (Some fault) = Ignored (reason.Pldm fault)
 pldm_heard envelope None None = Ignored reason.NotRequest
 
+-- what a port hears in the body of a control message
+abbrev pub control_in : Envelope → List ℕ → Heard
+control_in envelope body = control_heard envelope (control_request_of body)
+
+-- and in the bytes of a PLDM message, behind their type
+abbrev pub pldm_in : Envelope → List ℕ → Heard
+pldm_in envelope bytes = pldm_heard envelope (pldm_request_in bytes) (find (has_pldm_fault bytes) pldm_faults)
+
 -- what a port hears in a message whose sender owns its tag, by the message's type: control, or PLDM
 abbrev pub typed_heard : Message → List ℕ → Heard
 typed_heard message [] = Ignored reason.MessageType
 typed_heard message (kind ∷ rest) =
-    if kind == control_message_type then control_heard message.envelope (control_request_of message.body)
-    else if kind == pldm_message_type then pldm_heard message.envelope (pldm_request_in rest) (find (has_pldm_fault rest) pldm_faults)
+    if kind == control_message_type then control_in message.envelope message.body
+    else if kind == pldm_message_type then pldm_in message.envelope rest
     else Ignored reason.MessageType
 
 -- what a port hears in a whole message
 abbrev pub message_heard : Message → Heard
 message_heard message = if message.envelope.tag_owner then typed_heard message message.body else Ignored reason.NotRequest
+
+-- and in a message of this envelope and body
+abbrev pub message_in : Envelope → List ℕ → Heard
+message_in envelope body = message_heard (record { envelope = envelope; body = body })
 
 -- what a port that has taken a packet hears in it, by the cause for which it dropped the packet, if any
 abbrev pub part_heard : PortState → Packet → Option DropCause → Heard

@@ -32,6 +32,10 @@ pub record IsHeardThenAnswered (setup : BoardFile) (port : PortState) (before : 
   pub settled : asks (taken port packet) (heard_in port packet) ≡ None → (answered : Answered)
       → hears setup port before (Part packet) ≡ with_board before (effect (taken port packet) (heard_in port packet) answered)
 
+-- and so it is for each packet, port and board
+abbrev pub AreHeardThenAnswered : Type 0
+AreHeardThenAnswered = (setup : BoardFile) (port : PortState) (before : State) (packet : Packet) → IsHeardThenAnswered setup port before packet
+
 -- ---- lists with no board in them
 
 -- What comes to a port: a packet, an answer to a request that it heard, or the news that a requester is idle. A new request is dropped if the port

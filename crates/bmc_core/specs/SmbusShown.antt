@@ -1,13 +1,12 @@
 -- The port of a lab that a port on the System Management Bus shows.
 use Rattle.std.specs.Prelude.{◌≡◌, ℕ, ◌<◌, Bool, true, false, List, [], ◌∷◌, length, map, find, Option, Some, None, refl}
 use Rattle.mctp_net.specs.declared.fault.PacketFault.{PacketFault}
-use Rattle.mctp_net.specs.declared.message.Message.{Message}
 use Rattle.mctp_net.specs.declared.packet.Envelope.{Envelope}
 use Rattle.mctp_net.specs.declared.packet.Packet.{Packet}
 use Rattle.mctp_net.specs.Assembly.{Assemblies, message_of}
 use Rattle.mctp_net.specs.Control.{reply_to as control_reply_to, eid_after}
 use Rattle.mctp_net.specs.Grammar.{IsPacket, has_fault, faults}
-use Rattle.mctp_net.specs.Places.{seen}
+use Rattle.mctp_net.specs.Places.{Kept as Places, seen}
 use Rattle.record_base.specs.declared.message.Answered.{Answered}
 use Rattle.cfg_records.specs.declared.board_file.BoardFile.{BoardFile}
 use Rattle.model_bus.specs.Bytes.{pldm_message_type}
@@ -15,7 +14,8 @@ use Rattle.model_bus.specs.Request.{Kept, Entry, Carried, Idled}
 use Rattle.model_bus.specs.Numbering.{is_above}
 use Rattle.model_bus.specs.Carried.{Outcome, Repeats, IsBusy, IsNew, outcome}
 use Rattle.bmc_windows.specs.Keeps.{Reading, Held, Keeps}
-use Rattle.bmc_board.specs.State.{State}
+use Rattle.bmc_board.specs.declared.board.Board.{Board}
+use Rattle.bmc_board.specs.State.{State, state_of}
 use Rattle.model_ports.specs.Values.{Value, Part, written}
 use Rattle.model_ports.specs.PortSteps.{PortState, Deed, stays, hears, quiet_port}
 use Rattle.bmc_core.specs.declared.out.Out.{Out}
@@ -30,7 +30,7 @@ use Rattle.bmc_core.specs.declared.smbus_port.SmbusPort.{SmbusPort}
 use Rattle.two_wire.specs.Circles.{instances}
 use Rattle.two_wire.specs.declared.Bus.TheVariants.{Smbus}
 use Rattle.bmc_core.specs.Outs.{sends, ignored, waiting, AreRead}
-use Rattle.bmc_core.specs.SmbusHeard.{InMessage, Heard, Ignored, Waiting, Control, Asks, taken, heard_in, asks, done_of, reply_parts, Effect, effect, message_heard}
+use Rattle.bmc_core.specs.SmbusHeard.{InMessage, Heard, Ignored, Waiting, Control, Asks, taken, heard_in, asking, asks, found_in, busy_reply, kept_with, done_of, reply_parts, Effect, effect, message_heard, message_in}
 
 -- ---- what a port shows
 
@@ -81,6 +81,10 @@ Ends next out port heard answered = HasEffect next out (effect port heard answer
 abbrev pub request_in : SmbusPending → InMessage
 request_in pending = record { envelope = pending.envelope; request = record { header = pending.header; body = pending.body } }
 
+-- the request, as it waits for its answer
+abbrev pub pending_of : InMessage → SmbusPending
+pending_of asking = record { envelope = asking.envelope; header = asking.request.header; body = asking.request.body }
+
 -- A port answers a request that it heard, with this answer. For each port of the lab that it shows, it has the effect of the request at the lab's port.
 abbrev pub Answers : SmbusPort → SmbusPending → Answered → SmbusPort → Out → Type 0
 Answers port pending answered next out = (at : PortState) → Shows port at → Ends next out at (Asks (request_in pending)) answered
@@ -91,16 +95,20 @@ abbrev pub IsGiven : SmbusPort → Out → Option InMessage → PortState → He
 IsGiven next out (Some asking) port heard = (asks port heard ≡ Some asking) × Shows next port
 IsGiven next out None port heard = (asks port heard ≡ None) × ((answered : Answered) → Ends next out port heard answered)
 
--- The message is heard at each port of a lab at this address, with this endpoint before and that endpoint after, and with these windows: a new request
--- is given.
-abbrev pub GivesHeard : (wire : ℕ) → Held → (before after : ℕ) → Message → Out → Option InMessage → Type 0
-GivesHeard wire windows before after message out given = (at : PortState) (next : SmbusPort) → at.wire ≡ wire → at.eid ≡ before → AreOf windows at.log
-    → Shows next (record at { eid = after }) → IsGiven next out given at (message_heard message)
+-- A message of this envelope and body is heard at each port of a lab at this address, with this endpoint before and that endpoint after, and with
+-- these windows: a new request is given.
+abbrev pub GivesHeard : (wire : ℕ) → Held → (before after : ℕ) → Envelope → (body : List ℕ) → Out → Option InMessage → Type 0
+GivesHeard wire windows before after envelope body out given = (at : PortState) (next : SmbusPort) → at.wire ≡ wire → at.eid ≡ before
+    → AreOf windows at.log → Shows next (record at { eid = after }) → IsGiven next out given at (message_in envelope body)
 
 -- the caller's next step: it asks the board a new request
 abbrev pub IsStep : SmbusPort → Out → Step SmbusPending → PortState → Heard → Type 0
 IsStep next out (step.Ask pending) port heard = IsGiven next out (Some (request_in pending)) port heard
 IsStep next out step.Done port heard = IsGiven next out None port heard
+
+-- a port hears the bytes up to where the caller asks the board: so it is for each port of a lab that the port shows
+abbrev pub Steps : SmbusPort → List ℕ → SmbusPort → Out → Step SmbusPending → Type 0
+Steps port bytes next out given = (at : PortState) → Shows port at → Hearing at bytes (IsStep next out given)
 
 -- The port and the board are then those of the deed, and the port sends the deed's packets. A reader of each packet's bytes gives the packet. `Out`
 -- names what was done.
@@ -120,6 +128,10 @@ pub record HearsBytes (setup : BoardFile) (port : PortState) (before : State) (b
 abbrev pub Hears : BoardFile → SmbusPort → State → List ℕ → Out → SmbusPort → State → Type 0
 Hears setup port before bytes out next after = (at : PortState) → Shows port at → HearsBytes setup at before bytes next out after
 
+-- and so with this board before and that board after
+abbrev pub HearsOn : {S : Type 0} {g h : _} → Board S g h → SmbusPort → List ℕ → Out → SmbusPort → Board S g h → Type 0
+HearsOn board port bytes out next left = Hears board.setup port (state_of board) bytes out next (state_of left)
+
 -- ---- on the way there, with the endpoint apart from the windows
 
 -- the packets of a reply to a message of this envelope, from this place, and their frames
@@ -135,9 +147,17 @@ pub record Replies (at : At) (to : Envelope) (body : List ℕ) (what : Done) (ou
   pub sent : out ≡ sends (frames_from at.wire at.eid to body) what
   pub read : AreRead Smbus (parts_from at.wire at.eid to body)
 
+-- and the reply is that of this answer to the request
+abbrev pub RepliesWith : At → InMessage → Answered → Out → Type 0
+RepliesWith at asking answered out = Replies at asking.envelope (kept_with asking answered).reply done.Answered out
+
 -- a new request was kept with its reply
 abbrev pub IsKept : Held → Kept → Held → Type 0
 IsKept old kept new = (log : List Entry) → AreOf old log → outcome (is_above instances) kept.request log ≡ IsNew → AreOf new (Carried kept ∷ log)
+
+-- a new request was kept with these bytes as its reply
+abbrev pub KeepsReply : Held → InMessage → List ℕ → Held → Type 0
+KeepsReply old message reply new = IsKept old (record { request = asking message; reply = reply }) new
 
 -- What a port makes of what it heard: it gives a request, and answers a control message. The endpoint then has this identifier. A reader of each
 -- packet's bytes gives the packet.
@@ -159,11 +179,19 @@ pub record HasTaken (port : PortState) (packet : Packet) (left : Assemblies) (ou
   pub kept : left ≡ (taken port packet).kept
   pub heard : IsPart (taken port packet) packet (heard_in port packet) out whole
 
+-- so it is at each port of a lab at this address, with this endpoint, at which what these places have waits
+abbrev pub TakesAt : (wire eid : ℕ) → Places → Packet → Places → Out → (whole : Bool) → Type 0
+TakesAt wire eid before packet after out whole = ForPortsAt wire eid (seen before) (λ at. HasTaken at packet (seen after) out whole)
+
 -- A port read a packet in the bytes that ends a message, and hears that message; or it hears no request, and `Out` has what the port sends. These
 -- assemblies then wait.
 abbrev pub IsRead : PortState → List ℕ → Assemblies → Out → Option Packet → Type 0
 IsRead port bytes left out (Some packet) = Hearing port bytes (λ now h. (now ≡ record port { kept = left }) × (h ≡ message_heard (message_of left packet)))
 IsRead port bytes left out None = Hearing port bytes (λ now h. (now ≡ record port { kept = left }) × HasHeard port.wire port.eid h port.eid out None)
+
+-- so it is at each port of a lab at this address, with this endpoint, at which what these places have waits
+abbrev pub ReadsAt : (wire eid : ℕ) → Places → List ℕ → Places → Out → Option Packet → Type 0
+ReadsAt wire eid before bytes after out packet = ForPortsAt wire eid (seen before) (λ at. IsRead at bytes (seen after) out packet)
 
 -- The port has answered a request that repeats another, or for which it has no window, by these packets, and hasn't answered a new one. A reader of
 -- each packet's bytes gives the packet.
@@ -171,3 +199,8 @@ abbrev pub IsSettled : Outcome → (busy : List ℕ) → (List ℕ → List Valu
 IsSettled (Repeats reply) busy parts before out settled = (settled ≡ true) × (out ≡ sends (map written (parts reply)) done.Repeated) × AreRead Smbus (parts reply)
 IsSettled IsBusy busy parts before out settled = (settled ≡ true) × (out ≡ sends (map written (parts busy)) done.Busy) × AreRead Smbus (parts busy)
 IsSettled IsNew busy parts before out settled = (settled ≡ false) × (out ≡ before)
+
+-- the port has settled a request at this place so, whatever log the windows keep
+abbrev pub Settles : At → Held → InMessage → Out → Out → Bool → Type 0
+Settles at windows asking before out settled = (log : List Entry) → AreOf windows log
+    → IsSettled (found_in log asking) (busy_reply asking) (parts_from at.wire at.eid asking.envelope) before out settled

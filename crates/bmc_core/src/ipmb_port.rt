@@ -2,13 +2,11 @@
 ghost use Rattle.std.specs.Prelude.{◌≡◌, ◌≤◌, ℕ, length, IfOk, IfSome};
 ghost use Rattle.two_wire.specs.Sizes.{most_ipmi_reply_data};
 ghost use Rattle.ipmb_frame.specs.Grammar.{IsRequest};
-ghost use Rattle.bmc_board.specs.State.{state_of};
 ghost use Rattle.model_ports.specs.PortSteps.{PortState, quiet_port, idles};
 ghost use Rattle.bmc_core.specs.Rule.{has_window};
 ghost use Rattle.bmc_core.specs.IpmbHeard.{IsHeard};
-ghost use Rattle.bmc_core.specs.IpmbShown.{AreOf, Shows, Hears, IsHeardAt, IsFresh, IsStep, Answers, outcome_at};
-ghost use Rattle.bmc_core.specs.IpmbServed.{Serves};
-ghost use Rattle.model_bus.specs.Carried.{IsNew};
+ghost use Rattle.bmc_core.specs.IpmbShown.{Shows, HearsOn, IsHeardAt, IsFresh, IsNewTo, IsStep, Answers};
+ghost use Rattle.bmc_core.specs.IpmbServed.{Takes};
 
 pub mod laws;
 mod pending;
@@ -68,8 +66,7 @@ fn heard<'a>(
 ) -> Option<RequestInFrame<'a>>
     ensures heard { IsHeardAt wire windows.now bytes.now result out.new }
     ensures fresh { IfSome result (λ request. IsFresh windows.now request) }
-    ensures new { IfSome result (λ request. (p : PortState) → AreOf windows.now p.log
-        → outcome_at p request ≡ IsNew) }
+    ensures new { IfSome result (λ request. IsNewTo windows.now request) }
 {
     let request = match read(wire, bytes) {
         Ok(request) => request,
@@ -105,8 +102,8 @@ impl IpmbPort {
         bytes: &[u8],
         out: &mut Out,
     ) -> Result<Served, C::Refusal>
-        ensures { Serves (C.carries carrier.now kept.old) (C.refuses carrier.now kept.old)
-            self.old bytes.now kept.old result self.new out.new kept.new }
+        ensures { Takes C.Carrier carrier.now self.old bytes.now kept.old result
+            self.new out.new kept.new }
     {
         let Some(request) = heard(self.wire, &self.windows, bytes, out) else {
             return Ok(Served::NothingAsked);
@@ -119,8 +116,7 @@ impl IpmbPort {
 
     /// Takes what is heard on the bus, has the board carry a new request out, and fills in what is to be sent. It takes no memory.
     pub fn on_frame<S: Store>(&mut self, board: &mut Board<S>, bytes: &[u8], out: &mut Out)
-        ensures heard { Hears board.old.setup self.old (state_of board.old) bytes.now
-            out.new self.new (state_of board.new) }
+        ensures heard { HearsOn board.old self.old bytes.now out.new self.new board.new }
         ensures setup { board.new.setup ≡ board.old.setup }
     {
         let _ = self.serve(&Alone::new(), board, bytes, out);

@@ -1,10 +1,9 @@
 //! The port of either bus.
 ghost use Rattle.std.specs.Prelude.{◌≡◌, ◌≤◌, IfOk, length};
 ghost use Rattle.record_base.specs.Meaning.{room_for};
-ghost use Rattle.bmc_board.specs.State.{state_of};
 ghost use Rattle.model_ports.specs.PortSteps.{PortState, quiet_port, idles};
 ghost use Rattle.bmc_core.specs.Rule.{has_window};
-ghost use Rattle.bmc_core.specs.Port.{bus_of, bus_asked, asked_of, Shows, Hears, IsStep, IsOn, Answers, Serves};
+ghost use Rattle.bmc_core.specs.Port.{bus_of, bus_asked, asked_of, Shows, HearsOn, IsStep, IsOn, Answers, Takes};
 
 pub mod laws;
 
@@ -74,8 +73,8 @@ impl Port {
         bytes: &[u8],
         out: &mut Out,
     ) -> Result<Served, C::Refusal>
-        ensures served { Serves (C.carries carrier.now kept.old) (C.refuses carrier.now kept.old)
-            self.old bytes.now kept.old result self.new out.new kept.new }
+        ensures served { Takes C.Carrier carrier.now self.old bytes.now kept.old result
+            self.new out.new kept.new }
         ensures bus { bus_of self.new ≡ bus_of self.old }
     {
         match self {
@@ -86,8 +85,7 @@ impl Port {
 
     /// Takes what is heard on the bus, and fills in what is to be sent. It takes no memory.
     pub fn on_frame<S: Store>(&mut self, board: &mut Board<S>, bytes: &[u8], out: &mut Out)
-        ensures heard { Hears board.old.setup self.old (state_of board.old) bytes.now
-            out.new self.new (state_of board.new) }
+        ensures heard { HearsOn board.old self.old bytes.now out.new self.new board.new }
         ensures setup { board.new.setup ≡ board.old.setup }
         ensures bus { bus_of self.new ≡ bus_of self.old }
     {

@@ -1,12 +1,10 @@
 //! A port on the System Management Bus, which carries each distinct request out once.
 ghost use Rattle.std.specs.Prelude.{◌≡◌, ◌≤◌, length, IfOk};
 ghost use Rattle.two_wire.specs.Sizes.{most_message_bytes};
-ghost use Rattle.mctp_net.specs.Places.{seen};
-ghost use Rattle.bmc_board.specs.State.{state_of};
 ghost use Rattle.model_ports.specs.PortSteps.{PortState, quiet_port, idles};
 ghost use Rattle.bmc_core.specs.Rule.{has_window};
-ghost use Rattle.bmc_core.specs.SmbusShown.{Shows, ForPortsAt, Hearing, GivesHeard, IsStep, Answers, IsRead, Hears};
-ghost use Rattle.bmc_core.specs.SmbusServed.{Serves};
+ghost use Rattle.bmc_core.specs.SmbusShown.{Shows, ReadsAt, GivesHeard, Steps, Answers, HearsOn};
+ghost use Rattle.bmc_core.specs.SmbusServed.{Takes};
 
 mod hearing;
 pub mod laws;
@@ -50,8 +48,7 @@ fn read<'a>(
     bytes: &'a [u8],
     out: &mut Out,
 ) -> Option<Packet<'a>>
-    ensures { ForPortsAt wire endpoint.now (seen assembler.old) (λ at.
-        IsRead at bytes.now (seen assembler.new) out.new result) }
+    ensures { ReadsAt wire endpoint.now assembler.old bytes.now assembler.new out.new result }
 {
     let packet = match read_packet(bytes) {
         Ok(packet) => packet,
@@ -76,8 +73,8 @@ fn heard<'a>(
     out: &mut Out,
 ) -> Option<RequestInMessage<'a>>
     requires { length body.now ≤ most_message_bytes }
-    ensures { GivesHeard wire windows.now endpoint.old endpoint.new
-        (record { envelope = envelope; body = body.now }) out.new result }
+    ensures { GivesHeard wire windows.now endpoint.old endpoint.new envelope body.now
+        out.new result }
 {
     let Some(request) = hear(wire, endpoint, envelope, body, out) else {
         return None;
@@ -119,8 +116,7 @@ impl SmbusPort {
 
     /// Takes what is heard on the bus: asks what a new request asks of the board, or fills in what is to be sent. It takes no memory.
     pub fn hear(&mut self, bytes: &[u8], out: &mut Out) -> Step<SmbusPending>
-        ensures { (p : PortState) → Shows self.old p
-            → Hearing p bytes.now (IsStep self.new out.new result) }
+        ensures { Steps self.old bytes.now self.new out.new result }
     {
         let Some(packet) = read(self.wire, &self.endpoint, &mut self.assembler, bytes, out) else {
             return Step::Done;
@@ -169,8 +165,8 @@ impl SmbusPort {
         bytes: &[u8],
         out: &mut Out,
     ) -> Result<Served, C::Refusal>
-        ensures { Serves (C.carries carrier.now kept.old) (C.refuses carrier.now kept.old)
-            self.old bytes.now kept.old result self.new out.new kept.new }
+        ensures { Takes C.Carrier carrier.now self.old bytes.now kept.old result
+            self.new out.new kept.new }
     {
         let Some(packet) = read(self.wire, &self.endpoint, &mut self.assembler, bytes, out) else {
             return Ok(Served::NothingAsked);
@@ -205,8 +201,7 @@ impl SmbusPort {
 
     /// Takes what is heard on the bus, has the board carry a new request out, and fills in what is to be sent. It takes no memory.
     pub fn on_frame<S: Store>(&mut self, board: &mut Board<S>, bytes: &[u8], out: &mut Out)
-        ensures heard { Hears board.old.setup self.old (state_of board.old) bytes.now
-            out.new self.new (state_of board.new) }
+        ensures heard { HearsOn board.old self.old bytes.now out.new self.new board.new }
         ensures setup { board.new.setup ≡ board.old.setup }
     {
         let _ = self.serve(&Alone::new(), board, bytes, out);

@@ -1,23 +1,18 @@
 //! What holds of what a port on IPMB does: each law is the contract of a function without a body.
-ghost use Rattle.std.specs.Prelude.{List, ℕ, ◌≡◌, Result};
-ghost use Rattle.ipmb_frame.specs.declared.message.Request.{Request};
+ghost use Rattle.std.specs.Prelude.{List, ℕ};
 ghost use Rattle.cfg_records.specs.declared.board_file.BoardFile.{BoardFile};
-ghost use Rattle.bmc_board.specs.State.{State};
 ghost use Rattle.model_ports.specs.PortSteps.{PortState};
-ghost use Rattle.bmc_core.specs.declared.out.Reason.{Reason};
-ghost use Rattle.bmc_core.specs.IpmbHeard.{IsHeard};
-ghost use Rattle.bmc_core.specs.IpmbRuns.{IsHeardThenAnswered, Coming, KeepsTheRule, Ends, Happening, CarriesTheRule};
+ghost use Rattle.bmc_core.specs.IpmbHeard.{HearsAtMostOne};
+ghost use Rattle.bmc_core.specs.IpmbRuns.{AreHeardThenAnswered, Coming, KeepsTheRule, Ends, Happening, CarriesTheRule};
 
 /// A port at an address hears at most one thing in the same bytes.
 pub fn one_thing_is_heard()
-    ensures { (wire : ℕ) (bytes : List ℕ) (a b : Result Request Reason)
-        → IsHeard wire bytes a → IsHeard wire bytes b → a ≡ b }
+    ensures { (wire : ℕ) (bytes : List ℕ) → HearsAtMostOne wire bytes }
 {}
 
 /// A port of a board hears a request, and then gets the board's answer to it.
 pub fn a_request_is_heard_and_then_answered()
-    ensures { (setup : BoardFile) (port : PortState) (before : State) (r : Request)
-        → IsHeardThenAnswered setup port before r }
+    ensures { AreHeardThenAnswered }
 {}
 
 /// Over any list of frames, idle requesters and requests that get any answer or are dropped, the requests that a port carries out are

@@ -1,16 +1,10 @@
 //! What a port replies to requests, and what it keeps of them.
-ghost use Rattle.std.specs.Prelude.{◌≡◌, ◌≤◌, ◌-◌, ◌∷◌, [], length, drop, slice_index, true, false, Some, IfOk, IfErr, OnErr};
+ghost use Rattle.std.specs.Prelude.{◌≡◌, ◌≤◌, ◌-◌, ◌∷◌, [], length, drop, slice_index, true, false, IfErr, OnErr};
 ghost use Rattle.two_wire.specs.Sizes.{most_ipmb_bytes, most_ipmi_reply_data};
 ghost use Rattle.two_wire.specs.declared.Bus.TheVariants.{Ipmb};
-ghost use Rattle.ipmb_frame.specs.declared.message.Request.{Request as AnyRequest};
-ghost use Rattle.ipmb_frame.specs.Grammar.{IsResponse, response_start};
-ghost use Rattle.record_base.specs.declared.message.Answered.{Answered as AnyAnswer};
-ghost use Rattle.bmc_board.specs.Gives.{Gives};
-ghost use Rattle.model_ports.specs.Bytes.{heard_in};
-ghost use Rattle.model_ports.specs.PortSteps.{PortState, response_after};
 ghost use Rattle.bmc_core.specs.Outs.{sends, AreRead};
-ghost use Rattle.bmc_core.specs.IpmbShown.{reading, HasUnits, IsAnswered, AreOf, IsFresh, IsSent, IsSettled, IsKept, outcome_at, response, response_frame, first_answer, first_response};
-ghost use Rattle.bmc_core.specs.IpmbServed.{IsBegun, IsAnsweredBy, IsCarriedOut};
+ghost use Rattle.bmc_core.specs.IpmbShown.{reading, HasUnits, IsFresh, RepeatsTo, Settles, IsKept, response_frame, ResponseIsRead, first_answer, first_response};
+ghost use Rattle.bmc_core.specs.IpmbServed.{IsBegun, IsEnded, AnswersBy, CarriesOut};
 
 use super::pending::RequestInFrame;
 use crate::out::{Done, Out};
@@ -33,8 +27,8 @@ fn respond<C: Carrier>(
     request: &RequestInFrame<'_>,
     frame: &mut Frame,
 ) -> Result<(), C::Refusal>
-    ensures answered { IfOk result (λ done. IsAnsweredBy (C.carries carrier.now kept.old)
-        request.now frame.new kept.new) }
+    ensures answered { AnswersBy C.Carrier carrier.now kept.old request.now result
+        frame.new kept.new }
     ensures refused { IfErr result (λ why. C.refuses carrier.now kept.old why kept.new) }
 {
     let header = request.header();
@@ -52,9 +46,7 @@ fn respond<C: Carrier>(
 #[inline(always)]
 fn finish(frame: &mut Frame, header: &Header, given: Result<(), Code>)
     requires { IsBegun header.now given frame.old }
-    ensures { (a : AnyAnswer) → Gives given (response_start header.now 0) frame.old a
-        → length a.body ≤ most_ipmi_reply_data
-        → IsResponse (response header.now a.code a.body) frame.new }
+    ensures { IsEnded header.now given frame.old frame.new }
 {
     match given {
         Ok(()) => end_response(frame),
@@ -70,8 +62,7 @@ fn finish(frame: &mut Frame, header: &Header, given: Result<(), Code>)
 fn send(out: &mut Out, header: &Header, code: u8, body: &[u8])
     requires { length body.now ≤ most_ipmi_reply_data }
     ensures sent { out.new ≡ sends (response_frame header.now code body.now ∷ []) out.old.done }
-    ensures read { IsResponse (response header.now code body.now)
-        (response_frame header.now code body.now) }
+    ensures read { ResponseIsRead header.now code body.now }
 {
     out.frames.keep_one();
     match out.frames.list.as_mut_slice() {
@@ -98,9 +89,7 @@ fn reply_in(frame: &[u8]) -> (u8, &[u8])
 fn repeat(out: &mut Out, header: &Header, kept: &[u8])
     requires units { HasUnits header.now }
     requires fits { length kept.now ≤ most_ipmb_bytes }
-    ensures { (r : AnyRequest) → r.header ≡ header.now
-        → IsAnswered (record { request = heard_in r; reply = kept.now })
-        → IsSent (response_after r (Some (reading.reply kept.now))) out.old.done out.new }
+    ensures { RepeatsTo header.now kept.now out.old.done out.new }
 {
     out.frames.keep_one();
     match out.frames.list.as_mut_slice() {
@@ -119,8 +108,7 @@ fn repeat(out: &mut Out, header: &Header, kept: &[u8])
 /// Answers a request that isn't new: by the response that is kept for it, or that the port is busy. Returns whether it did.
 pub(super) fn settle(windows: &Kept, request: &RequestInFrame<'_>, out: &mut Out) -> bool
     ensures fresh { result ≡ false → IsFresh windows.now request.now }
-    ensures settles { (p : PortState) → AreOf windows.now p.log
-        → IsSettled request.now (outcome_at p request.now) out.new result }
+    ensures settles { Settles windows.now request.now out.new result }
 {
     let heard = request.kept();
     match windows.find(&heard) {
@@ -175,8 +163,8 @@ pub(super) fn carry_out<C: Carrier>(
     request: &RequestInFrame<'_>,
     out: &mut Out,
 ) -> Result<(), C::Refusal>
-    ensures carried { IfOk result (λ done. IsCarriedOut (C.carries carrier.now kept.old)
-        windows.old request.now kept.new windows.new out.new) }
+    ensures carried { CarriesOut C.Carrier carrier.now kept.old windows.old request.now result
+        kept.new windows.new out.new }
     ensures refused { IfErr result (λ why. C.refuses carrier.now kept.old why kept.new) }
     ensures same { OnErr result (windows.new ≡ windows.old) }
 {

@@ -1,11 +1,8 @@
 //! Packets to requests, and what becomes of all else.
-ghost use Rattle.std.specs.Prelude.{◌≤◌, ℕ, length, find, None};
+ghost use Rattle.std.specs.Prelude.{◌≤◌, ℕ, length, None};
 ghost use Rattle.two_wire.specs.Sizes.{most_message_bytes};
-ghost use Rattle.mctp_net.specs.Control.{request_of as control_request_of};
-ghost use Rattle.mctp_net.specs.Places.{seen};
-ghost use Rattle.pldm_base.specs.Message.{request_in as pldm_request_in, has_fault, faults};
-ghost use Rattle.bmc_core.specs.SmbusShown.{ForPortsAt, HasTaken, HasHeard};
-ghost use Rattle.bmc_core.specs.SmbusHeard.{message_heard, control_heard, pldm_heard};
+ghost use Rattle.bmc_core.specs.SmbusShown.{TakesAt, HasHeard};
+ghost use Rattle.bmc_core.specs.SmbusHeard.{message_in, control_in, pldm_in};
 
 use super::pending::RequestInMessage;
 use super::replying::send;
@@ -24,8 +21,7 @@ pub(super) fn take(
     packet: &Packet<'_>,
     out: &mut Out,
 ) -> bool
-    ensures { ForPortsAt wire endpoint.now (seen assembler.old) (λ at.
-        HasTaken at packet.now (seen assembler.new) out.new result) }
+    ensures { TakesAt wire endpoint.now assembler.old packet.now assembler.new out.new result }
 {
     let envelope = packet.envelope;
     if envelope.destination.byte() != wire.byte() {
@@ -54,9 +50,8 @@ pub(super) fn hear<'a>(
     out: &mut Out,
 ) -> Option<RequestInMessage<'a>>
     requires { length body.now ≤ most_message_bytes }
-    ensures { HasHeard wire endpoint.old
-        (message_heard (record { envelope = envelope; body = body.now }))
-        endpoint.new out.new result }
+    ensures { HasHeard wire endpoint.old (message_in envelope body.now) endpoint.new
+        out.new result }
 {
     if !envelope.tag_owner {
         out.ignore(Reason::NotRequest);
@@ -77,8 +72,8 @@ pub(super) fn hear<'a>(
 
 /// Has a control message answered by the endpoint.
 fn control(wire: Address, endpoint: &mut Endpoint, envelope: Envelope, body: &[u8], out: &mut Out)
-    ensures { HasHeard wire endpoint.old (control_heard envelope (control_request_of body.now))
-        endpoint.new out.new None }
+    ensures { HasHeard wire endpoint.old (control_in envelope body.now) endpoint.new
+        out.new None }
 {
     match endpoint.control(body) {
         Some(reply) => {
@@ -96,9 +91,8 @@ fn control(wire: Address, endpoint: &mut Endpoint, envelope: Envelope, body: &[u
 /// Reads a request in the bytes of a PLDM message, if they are one.
 fn pldm<'a>(envelope: Envelope, bytes: &'a [u8], out: &mut Out) -> Option<RequestInMessage<'a>>
     requires { length bytes.now ≤ 255 }
-    ensures { (wire eid : ℕ) → HasHeard wire eid
-        (pldm_heard envelope (pldm_request_in bytes.now) (find (has_fault bytes.now) faults))
-        eid out.new result }
+    ensures { (wire eid : ℕ) → HasHeard wire eid (pldm_in envelope bytes.now) eid
+        out.new result }
 {
     match read_pldm(&PldmBytes::new(bytes)) {
         Ok(request) => Some(RequestInMessage::new(envelope, request, &bytes[1..])),

@@ -1,15 +1,12 @@
 //! What holds of what a port on the System Management Bus does: each law is the contract of a function without a body.
 ghost use Rattle.std.specs.Prelude.{List};
-ghost use Rattle.mctp_net.specs.declared.packet.Packet.{Packet};
 ghost use Rattle.cfg_records.specs.declared.board_file.BoardFile.{BoardFile};
-ghost use Rattle.bmc_board.specs.State.{State};
 ghost use Rattle.model_ports.specs.PortSteps.{PortState};
-ghost use Rattle.bmc_core.specs.SmbusRuns.{IsHeardThenAnswered, Coming, KeepsTheRule, Ends, Happening, CarriesTheRule};
+ghost use Rattle.bmc_core.specs.SmbusRuns.{AreHeardThenAnswered, Coming, KeepsTheRule, Ends, Happening, CarriesTheRule};
 
 /// A port of a board hears a packet, and then gets the board's answer to what the packet asks.
 pub fn a_packet_is_heard_and_then_answered()
-    ensures { (setup : BoardFile) (port : PortState) (before : State) (p : Packet)
-        → IsHeardThenAnswered setup port before p }
+    ensures { AreHeardThenAnswered }
 {}
 
 /// Over any list of packets, idle requesters and requests that get any answer or are dropped, the requests that a port carries out are

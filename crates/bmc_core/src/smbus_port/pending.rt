@@ -5,7 +5,7 @@ ghost use Rattle.pldm_base.specs.Message.{request_bytes};
 ghost use Rattle.bmc_windows.specs.Heard.{request_of};
 ghost use Rattle.bmc_carry.specs.Asking.{meant};
 ghost use Rattle.bmc_core.specs.SmbusHeard.{asking, asked_of, behind_first};
-ghost use Rattle.bmc_core.specs.SmbusShown.{pldm_reading, request_in};
+ghost use Rattle.bmc_core.specs.SmbusShown.{pldm_reading, request_in, pending_of};
 
 use bmc_carry::AskedHere;
 use cfg_records::Asked;
@@ -89,11 +89,7 @@ impl<'a> RequestInMessage<'a> {
 
     /// A copy that waits for an answer.
     pub fn pending(&self) -> SmbusPending
-        ensures { result ≡ record {
-          envelope = self.now.envelope;
-          header = self.now.request.header;
-          body = self.now.request.body;
-        } }
+        ensures { result ≡ pending_of self.now }
     {
         SmbusPending {
             envelope: self.envelope,

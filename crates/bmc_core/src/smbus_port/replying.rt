@@ -1,15 +1,11 @@
 //! What a port replies to requests, and what it keeps of them.
-ghost use Rattle.std.specs.Prelude.{◌≡◌, ◌<◌, ◌≤◌, ◌∷◌, ◌++◌, length, List, IfOk, IfErr, OnErr};
+ghost use Rattle.std.specs.Prelude.{◌≡◌, ◌<◌, ◌≤◌, length, IfErr, OnOk, OnErr};
 ghost use Rattle.two_wire.specs.Sizes.{most_message_bytes};
-ghost use Rattle.pldm_base.specs.Message.{IsHeader, reply_start};
-ghost use Rattle.model_bus.specs.Bytes.{pldm_message_type};
-ghost use Rattle.model_bus.specs.Request.{Entry};
-ghost use Rattle.record_base.specs.declared.message.Answered.{Answered as AnyAnswer};
-ghost use Rattle.bmc_board.specs.Gives.{Gives};
+ghost use Rattle.pldm_base.specs.Message.{IsHeader};
 ghost use Rattle.bmc_core.specs.declared.out.Done.TheVariants as done_as;
-ghost use Rattle.bmc_core.specs.SmbusHeard.{asking, found_in, busy_reply, kept_with};
-ghost use Rattle.bmc_core.specs.SmbusShown.{AreOf, parts_from, IsSettled, IsKept, Replies};
-ghost use Rattle.bmc_core.specs.SmbusServed.{IsAnsweredBy, IsCarriedOut};
+ghost use Rattle.bmc_core.specs.SmbusHeard.{busy_reply, kept_with};
+ghost use Rattle.bmc_core.specs.SmbusShown.{Settles, IsKept, KeepsReply, Replies, RepliesWith};
+ghost use Rattle.bmc_core.specs.SmbusServed.{reply_before_data, IsEnded, AnswersBy};
 
 use super::pending::RequestInMessage;
 use crate::out::{Done, Out};
@@ -54,7 +50,7 @@ pub(super) fn send(at: &At, to: &Envelope, body: &[u8], out: &mut Out)
 
 /// Replaces the bytes by the start of a reply: all that stands before its data.
 fn begin(header: &Header, code: u8, reply: &mut Reply)
-    ensures started { reply.new ≡ pldm_message_type ∷ reply_start header.now code }
+    ensures started { reply.new ≡ reply_before_data header.now code }
     ensures header { IsHeader header.now }
 {
     reply.replace(&[PLDM_MESSAGE_TYPE]);
@@ -77,9 +73,7 @@ fn refuse(at: &At, request: &RequestInMessage<'_>, out: &mut Out)
 
 /// Answers a request that isn't new: by the reply that is kept for it, or that the port is busy. Returns whether it did.
 pub(super) fn settle(windows: &Kept, at: &At, request: &RequestInMessage<'_>, out: &mut Out) -> bool
-    ensures { (log : List Entry) → AreOf windows.now log
-        → IsSettled (found_in log request.now) (busy_reply request.now)
-        (parts_from at.now.wire at.now.eid request.now.envelope) out.old out.new result }
+    ensures { Settles at.now windows.now request.now out.old out.new result }
 {
     match windows.find(&request.kept()) {
         Found::Repeats(reply) => {
@@ -99,8 +93,7 @@ pub(super) fn settle(windows: &Kept, at: &At, request: &RequestInMessage<'_>, ou
 fn keep(windows: &mut Kept, at: &At, request: &RequestInMessage<'_>, reply: &[u8], out: &mut Out)
     requires some { 0 < length reply.now }
     requires fits { length reply.now ≤ most_message_bytes }
-    ensures kept { IsKept windows.old
-        (record { request = asking request.now; reply = reply.now }) windows.new }
+    ensures kept { KeepsReply windows.old request.now reply.now windows.new }
     ensures sent { Replies at.now request.now.envelope reply.now done_as.Answered out.new }
 {
     windows.keep(&request.kept(), reply);
@@ -118,8 +111,7 @@ pub(super) fn keep_answer(
     out: &mut Out,
 )
     ensures kept { IsKept windows.old (kept_with request.now answered.now) windows.new }
-    ensures sent { Replies at.now request.now.envelope (kept_with request.now answered.now).reply
-        done_as.Answered out.new }
+    ensures sent { RepliesWith at.now request.now answered.now out.new }
 {
     begin(&request.request.header, answered.code, made);
     made.extend_from_slice(answered.body.as_slice());
@@ -136,8 +128,11 @@ pub(super) fn carry_out<C: Carrier>(
     request: &RequestInMessage<'_>,
     out: &mut Out,
 ) -> Result<(), C::Refusal>
-    ensures carried { IfOk result (λ done. IsCarriedOut (C.carries carrier.now kept.old)
-        at.now windows.old request.now kept.new windows.new out.new) }
+    ensures answered { AnswersBy C.Carrier carrier.now kept.old request.now result
+        made.new kept.new }
+    ensures kept { OnOk result (KeepsReply windows.old request.now made.new windows.new) }
+    ensures sent { OnOk result (Replies at.now request.now.envelope made.new
+        done_as.Answered out.new) }
     ensures refused { IfErr result (λ why. C.refuses carrier.now kept.old why kept.new) }
     ensures same { OnErr result (windows.new ≡ windows.old) }
 {
@@ -157,8 +152,8 @@ fn respond<C: Carrier>(
     request: &RequestInMessage<'_>,
     reply: &mut Reply,
 ) -> Result<(), C::Refusal>
-    ensures answered { IfOk result (λ done. IsAnsweredBy (C.carries carrier.now kept.old)
-        request.now reply.new kept.new) }
+    ensures answered { AnswersBy C.Carrier carrier.now kept.old request.now result
+        reply.new kept.new }
     ensures refused { IfErr result (λ why. C.refuses carrier.now kept.old why kept.new) }
 {
     let header = &request.request.header;
@@ -175,8 +170,7 @@ fn respond<C: Carrier>(
 /// Leaves the reply to which data were appended, or makes it that of a refusal.
 #[inline(always)]
 fn finish(header: &Header, given: Result<(), Code>, reply: &mut Reply)
-    ensures { (a : AnyAnswer) → Gives given (pldm_message_type ∷ reply_start header.now 0)
-        reply.old a → reply.new ≡ (pldm_message_type ∷ reply_start header.now a.code) ++ a.body }
+    ensures { IsEnded header.now given reply.old reply.new }
 {
     match given {
         Ok(()) => {}

@@ -3,8 +3,8 @@ use Rattle.mctp_net.specs.declared.packet.Packet.{Packet}
 use Rattle.mctp_net.specs.Places.{seen}
 use Rattle.bmc_core.specs.declared.smbus_port.SmbusPort.{SmbusPort}
 use Rattle.bmc_core.specs.SmbusHeard.{InMessage, message_heard}
-use Rattle.bmc_core.specs.SmbusShown.{IsGiven, IsRead}
-use Rattle.bmc_core.proofs.SmbusServing.{ReadBy, HeardBy, unread, unasked, refused_so, carried_so, pending_of}
+use Rattle.bmc_core.specs.SmbusShown.{IsGiven, IsRead, pending_of}
+use Rattle.bmc_core.proofs.SmbusServing.{ReadBy, HeardBy, unread, unasked, refused_so, carried_out, carried_so}
 use Rattle.bmc_core.proofs.smbus_port.SmbusPort.serve.Goals as goal
 
 pub returns-in_default : goal.returns-in_default
@@ -47,8 +47,10 @@ returns-in-Ok g c =
     let heard : HeardBy port now q c.body.result.now c.heard.new.out (Some m) =
     λ p next wire eid of shows. subst (λ (o : Option InMessage). IsGiven next c.heard.new.out o p (message_heard (record { envelope = q.envelope; body = c.body.result.now }))) some
     (c.heard.ensures p next wire eid of shows) in
-    carried_so port now c.args.bytes.now q c.body.result.now c.read.new.out read c.body.ensures.value (g.C.Carrier.carries c.args.carrier.now c.args.kept.now) c.heard.new.out m next
-    c.eid.result c.carry_out.new.out c.carry_out.new.kept heard (sym c.eid.ensures) c.in-Ok.ensures.carried
+    let carries = g.C.Carrier.carries c.args.carrier.now c.args.kept.now in
+    carried_so port now c.args.bytes.now q c.body.result.now c.read.new.out read c.body.ensures.value carries c.heard.new.out m next
+    c.eid.result c.carry_out.new.out c.carry_out.new.kept heard (sym c.eid.ensures)
+    (carried_out carries _ _ _ m _ _ _ c.in-Ok.ensures.answered c.in-Ok.ensures.kept c.in-Ok.ensures.sent)
 
 pub returns-in-Err : goal.returns-in-Err
 returns-in-Err g c =

@@ -1,8 +1,6 @@
-use Rattle.std.proofs.Common.{◌<◌, ◌≡◌, ℕ, List, ◌∷◌, length, sym, ◌∙◌, subst, arith}
-use Rattle.model_bus.specs.Request.{Carried}
+use Rattle.std.proofs.Common.{◌<◌, ℕ, List, length, sym, ◌∙◌, subst, arith}
 use Rattle.bmc_core.specs.declared.out.Done.TheVariants as done_as
-use Rattle.bmc_core.specs.SmbusHeard.{asking, kept_with}
-use Rattle.bmc_core.specs.SmbusShown.{AreOf, Replies}
+use Rattle.bmc_core.specs.SmbusShown.{KeepsReply, Replies}
 use Rattle.bmc_core.proofs.smbus_port.replying.carry_out.Goals as goal
 
 pub keep-requires : goal.keep-requires
@@ -13,14 +11,11 @@ keep-requires g c =
       fits = c.as_slice.ensures.fits;
     }
 
-pub returns-in-Ok-clause-carried : goal.returns-in-Ok-clause-carried
-returns-in-Ok-clause-carried g c =
-    let m = c.args.request.now in
-    let done = c.in-Ok.ensures.answered in
-    let bytes : c.as_slice.result.now ≡ (kept_with m done.answered).reply = c.as_slice.ensures.value ∙ done.reply_is in
-    record {
-      answered = done.answered;
-      carried = done.carried;
-      kept = λ log h new. subst (λ (xs : List ℕ). AreOf c.keep.new.windows (Carried (record { request = asking m; reply = xs }) ∷ log)) bytes (c.keep.ensures.kept log h new);
-      sent = subst (λ (xs : List ℕ). Replies c.args.at.now m.envelope xs done_as.Answered c.keep.new.out) bytes c.keep.ensures.sent;
-    }
+pub returns-in-Ok-clause-kept : goal.returns-in-Ok-clause-kept
+returns-in-Ok-clause-kept g c =
+    subst (λ (xs : List ℕ). KeepsReply c.args.windows.now c.args.request.now xs c.keep.new.windows) c.as_slice.ensures.value c.keep.ensures.kept
+
+pub returns-in-Ok-clause-sent : goal.returns-in-Ok-clause-sent
+returns-in-Ok-clause-sent g c =
+    subst (λ (xs : List ℕ). Replies c.args.at.now c.args.request.now.envelope xs done_as.Answered c.keep.new.out) c.as_slice.ensures.value
+    c.keep.ensures.sent
