@@ -3,7 +3,7 @@ ghost use Rattle.std.specs.Prelude.{◌≡◌, IfOk};
 ghost use Rattle.bmc_board.specs.State.{opened, state_of};
 
 use crate::board::Board;
-use cfg_records::{BoardFile};
+use cfg_records::BoardFile;
 use packed_store::PackedStore;
 use std::alloc::{AllocError, Global};
 
