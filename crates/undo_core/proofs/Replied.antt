@@ -11,14 +11,14 @@ use Rattle.undo_core.specs.declared.stage.Task.TheVariants as task
 use Rattle.undo_core.specs.declared.stage.Stage.{Stage}
 use Rattle.undo_core.specs.Joining.{AreJoined}
 use Rattle.undo_core.specs.Shown.{words_of, backs, answered_in, IsTask, IsGot, IsStage}
-use Rattle.undo_core.specs.Entered.{AfterReply}
+use Rattle.undo_core.specs.Entered.{AfterTask}
 
 module _ (plan : List Op) (stopped : Bool) (step parts : ℕ) (reply : Reply) (old new : RequestList) (r : Stage) where
   -- of a Get, which leaves the requests that undo
   pub got : (before after : List ℕ) → new.members ≡ old.members
       → ((names : Names) (op : Op) (part : machine.Part (words_of names)) → slice_get plan step ≡ Some op → length part.before ≡ parts → AreJoined before part.before
       → IsStage names plan new after r (machine.stage_after (words_of names) stopped plan (answered_in reply) (machine.Gets step op) part))
-      → AfterReply plan stopped (task.Gets step) parts reply old new before after r
+      → AfterTask plan stopped (task.Gets step) parts reply old new before after r
   got before after same goes = record { stage = at; undo = undo } where
     at : (names : Names) (of : machine.Task (words_of names)) (part : machine.Part (words_of names)) → IsTask names plan old (task.Gets step) of → length part.before ≡ parts
         → IsGot (task.Gets step) before part.before → IsStage names plan new after r (machine.stage_after (words_of names) stopped plan (answered_in reply) of part)
@@ -38,7 +38,7 @@ module _ (plan : List Op) (stopped : Bool) (step parts : ℕ) (reply : Reply) (o
       → IsStage names plan new replies r (machine.stage_after (words_of names) stopped plan (answered_in reply) (machine.Sets step op back) part))
       → ((names : Names) (op back : Op) (part : machine.Part (words_of names)) → slice_get plan step ≡ Some op → old.waiting ≡ Some (set_whole back) → length part.before ≡ parts
       → machine.undo_after (words_of names) (answered_in reply) (machine.Sets step op back) part (backs old.members) ≡ backs new.members)
-      → (any : List ℕ) → AfterReply plan stopped (task.Sets step) parts reply old new any any r
+      → (any : List ℕ) → AfterTask plan stopped (task.Sets step) parts reply old new any any r
   set goes leaves any = record { stage = at; undo = undo } where
     at : (names : Names) (of : machine.Task (words_of names)) (part : machine.Part (words_of names)) → IsTask names plan old (task.Sets step) of → length part.before ≡ parts
         → IsGot (task.Sets step) any part.before → IsStage names plan new any r (machine.stage_after (words_of names) stopped plan (answered_in reply) of part)
@@ -60,7 +60,7 @@ module _ (plan : List Op) (stopped : Bool) (step parts : ℕ) (reply : Reply) (o
   pub undid : ((names : Names) (first : Series) (rest : List Series) (part : machine.Part (words_of names)) (replies : List ℕ)
       → IsTask names plan old (task.Undoes step) (machine.Undoes first rest) → length part.before ≡ parts
       → IsStage names plan old replies r (machine.stage_after (words_of names) stopped plan (answered_in reply) (machine.Undoes first rest) part))
-      → (any : List ℕ) → AfterReply plan stopped (task.Undoes step) parts reply old old any any r
+      → (any : List ℕ) → AfterTask plan stopped (task.Undoes step) parts reply old old any any r
   undid goes any = record { stage = at; undo = undo } where
     at : (names : Names) (of : machine.Task (words_of names)) (part : machine.Part (words_of names)) → IsTask names plan old (task.Undoes step) of → length part.before ≡ parts
         → IsGot (task.Undoes step) any part.before → IsStage names plan old any r (machine.stage_after (words_of names) stopped plan (answered_in reply) of part)

@@ -85,6 +85,10 @@ left_at plan requests stage = replies_left (length plan) (length requests.member
 abbrev pub left_of : List Op → RequestList → Task → (parts : ℕ) → ℕ
 left_of plan requests task parts = task_left (length plan) (length requests.members) task parts
 
+-- fewer replies are left at the stage, with these requests that undo, than while the task's request is open after so many others, with the old ones
+abbrev pub FewerAreLeft : List Op → (old new : RequestList) → Task → (parts : ℕ) → Stage → Type 0
+FewerAreLeft plan old new task parts stage = left_at plan new stage < left_of plan old task parts
+
 -- whatever requests undo, fewer replies are left at the stage than while the task's request is open after so many others
 abbrev pub LeavesFewer : List Op → Task → (parts : ℕ) → Stage → Type 0
 LeavesFewer plan task parts stage = (any : RequestList) → left_at plan any stage < left_of plan any task parts

@@ -1,7 +1,8 @@
 -- How many of a manager's requests were answered, as its machine counts them.
-use Rattle.std.specs.Prelude.{◌≡◌, ℕ, ◌%◌, true, List, map}
+use Rattle.std.specs.Prelude.{◌≡◌, ℕ, ◌%◌, true, List, [], ◌∷◌, map}
 use Rattle.std.specs.List.{AllZip}
 use Rattle.record_base.specs.declared.message.Asked.{Asked}
+use Rattle.record_base.specs.declared.message.Asked.TheVariants.{Ipmi, Pldm}
 use Rattle.undo_plans.specs.declared.names.Names.{Names}
 use Rattle.model_undo.specs.Machine.{Counts as MachineCounts, count_of}
 use Rattle.model_ports.specs.Wires.{bus_of}
@@ -23,6 +24,14 @@ values_at names counts asked = values_of names (count_of (bus_of asked) (counts_
 pub record AreFramesOf (names : Names) (counts : Counts) (asked : Asked) (frames : List (List ℕ)) : Type 0 where
   pub written_as : frames ≡ map written (values_at names counts asked)
   pub read : AllZip (IsFrameOn (bus_of asked)) (values_at names counts asked) frames
+
+-- this is the frame of the IPMI request that follows so many, whoever sends the request
+abbrev pub IsIpmiFrame : Names → Counts → (net_fn lun command : ℕ) → (body frame : List ℕ) → Type 0
+IsIpmiFrame names counts net_fn lun command body frame = (from : ℕ) → AreFramesOf names counts (Ipmi from net_fn lun command body) (frame ∷ [])
+
+-- these are the frames of the PLDM request that follows so many, whoever sends the request
+abbrev pub ArePldmFrames : Names → Counts → (kind command : ℕ) → (body : List ℕ) → (frames : List (List ℕ)) → Type 0
+ArePldmFrames names counts kind command body frames = (from : ℕ) → AreFramesOf names counts (Pldm from kind command body) frames
 
 -- the sender, the receiver and the tag of the message of the request on SMBus that follows so many
 abbrev pub envelope_at : Names → Counts → Envelope

@@ -12,7 +12,7 @@ use Rattle.model_undo.specs.declared.call.Call.TheVariants.{Undo}
 use Rattle.model_lab.specs.ManagerSteps.{Sent, ManagerState, ManagerDeed, board_plans, called, rests, manager_hears}
 use Rattle.undo_core.specs.declared.manager.Manager.{Manager}
 use Rattle.undo_core.specs.declared.sending.Sent.{Sent as SentFrames}
-use Rattle.undo_core.specs.Shown.{words_of, Does}
+use Rattle.undo_core.specs.Shown.{words_of, Does, ForShown}
 
 -- what comes to a manager: a call, or bytes over a bus
 pub data Input : Type 0 where
@@ -79,3 +79,7 @@ module _ (names : Names) where
     pub one : (state : ManagerState (board_plans names)) (inputs : List Input) → All HasBytes inputs → (a b : List Seen) → Course inputs state a → Course inputs state b → a ≡ b
     pub alike : (state : ManagerState (board_plans names)) → IsOver (words_of names) (phase_of (words_of names) state.machine) → (inputs : List Input) → All HasBytes inputs
         → (seen : List Seen) → Course (Calls Undo ∷ inputs) state seen → Course (Calls Undo ∷ inputs) (resumes state) seen
+
+-- whatever machine the manager showed, this comes of the input
+abbrev pub ComesOf : Input → Manager → Manager → Option SentFrames → Type 0
+ComesOf input old new sent = ForShown old (λ names s. Comes names input s new sent)

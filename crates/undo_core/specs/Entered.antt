@@ -7,6 +7,7 @@ use Rattle.undo_plans.specs.Requests.{RequestList}
 use Rattle.model_undo.specs.Machine as machine
 use Rattle.undo_core.specs.declared.entering.Reply.{Reply}
 use Rattle.undo_core.specs.declared.stage.Task.{Task}
+use Rattle.undo_core.specs.declared.stage.Task.TheVariants.{Gets, Sets, Undoes}
 use Rattle.undo_core.specs.declared.stage.Stage.{Stage}
 use Rattle.undo_core.specs.Shown.{words_of, backs, answered_in, IsTask, IsGot, IsStage}
 
@@ -27,9 +28,22 @@ EntersSet plan stopped step shown requests stage = (names : Names) (op : Op) (re
 
 -- The reply to a task's request came, after so many others of the task. Whatever task of the machine it is, the machine enters this stage, and has
 -- these requests that undo.
-pub record AfterReply (plan : List Op) (stopped : Bool) (task : Task) (parts : ℕ) (reply : Reply) (old new : RequestList) (before after : List ℕ) (entered : Stage) : Type 0 where
+pub record AfterTask (plan : List Op) (stopped : Bool) (task : Task) (parts : ℕ) (reply : Reply) (old new : RequestList) (before after : List ℕ) (entered : Stage) : Type 0 where
   pub stage : (names : Names) (of : machine.Task (words_of names)) (part : machine.Part (words_of names)) → IsTask names plan old task of → length part.before ≡ parts
       → IsGot task before part.before
       → IsStage names plan new after entered (machine.stage_after (words_of names) stopped plan (answered_in reply) of part)
   pub undo : (names : Names) (of : machine.Task (words_of names)) (part : machine.Part (words_of names)) → IsTask names plan old task of → length part.before ≡ parts
       → machine.undo_after (words_of names) (answered_in reply) of part (backs old.members) ≡ backs new.members
+
+-- the reply to a request of a step's Get came
+abbrev pub AfterGet : List Op → (stopped : Bool) → (step parts : ℕ) → Reply → (old new : RequestList) → (before after : List ℕ) → Stage → Type 0
+AfterGet plan stopped step = AfterTask plan stopped (Gets step)
+
+-- or of its Set, whatever replies to Gets came before
+abbrev pub AfterSet : List Op → (stopped : Bool) → (step parts : ℕ) → Reply → (old new : RequestList) → Stage → Type 0
+AfterSet plan stopped step parts reply old new entered = (any : List ℕ) → AfterTask plan stopped (Sets step) parts reply old new any any entered
+
+-- or of those that undo a step, whatever the plan is
+abbrev pub AfterUndo : (step parts : ℕ) → Reply → RequestList → Stage → Type 0
+AfterUndo step parts reply requests entered = (plan : List Op) (stopped : Bool) (any : List ℕ)
+    → AfterTask plan stopped (Undoes step) parts reply requests requests any any entered

@@ -5,7 +5,7 @@ use Rattle.record_base.specs.declared.key.Key.{Key}
 use Rattle.record_base.specs.declared.key.Key.TheVariants as key
 use Rattle.record_base.specs.declared.message.Asked.{Asked}
 use Rattle.pldm_base.specs.Parts.{part_length}
-use Rattle.bios_attr.specs.EntryParts.{before_part, most_entry, entry_in, no_handle, start_and_end, get_part, goes_on}
+use Rattle.bios_attr.specs.EntryParts.{before_part, most_entry, entry_in, no_handle, start_and_end, get_part, goes_on, joined}
 
 -- the data with the parts of an entry that these replies show
 abbrev pub whole_of : List (List ℕ) → List ℕ
@@ -19,6 +19,14 @@ AreJoined bytes (body ∷ bodies) = bytes ≡ whole_of (body ∷ bodies)
 -- this holds of each list of so many replies whose data these are
 abbrev pub ForJoined : (parts : ℕ) → (bytes : List ℕ) → (List (List ℕ) → Type 0) → Type 0
 ForJoined parts bytes Holds = (before : List (List ℕ)) → length before ≡ parts → AreJoined bytes before → Holds before
+
+-- the new data are those of the same replies with this one behind them
+abbrev pub JoinsNext : (parts : ℕ) → (old body new : List ℕ) → Type 0
+JoinsNext parts old body new = ForJoined parts old (λ before. new ≡ whole_of (before ++ body ∷ []))
+
+-- and the data of the whole entry, where this reply is the last
+abbrev pub JoinsLast : (parts : ℕ) → (old body new : List ℕ) → Type 0
+JoinsLast parts old body new = ForJoined parts old (λ before. new ≡ joined (before ++ body ∷ []))
 
 -- how many bytes the data of so many replies have at most
 abbrev pub most_joined : ℕ → ℕ

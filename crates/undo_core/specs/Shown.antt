@@ -1,8 +1,9 @@
 -- The machine that a manager shows, and the packets that wait at it.
-use Rattle.std.specs.Prelude.{◌≡◌, ◌≢◌, Result, Ok, Err, ℕ, suc, ◌<◌, Bool, not, List, ◌∷◌, length, map, take, reverse, Option, Some, None, slice_get, if◌then◌else◌}
+use Rattle.std.specs.Prelude.{◌≡◌, ◌≢◌, Result, Ok, Err, ℕ, suc, ◌<◌, ◌≤◌, Bool, ◌&&◌, not, List, ◌∷◌, length, map, take, reverse, Option, Some, None, slice_get, if◌then◌else◌}
 use Rattle.std.specs.List.{AllZip}
 use Rattle.std.specs.Option.{option_map}
 use Rattle.two_wire.specs.declared.Bus.TheVariants.{Ipmb, Smbus}
+use Rattle.two_wire.specs.Retries.{most_retries}
 use Rattle.ipmb_frame.specs.declared.message.Response.{Response}
 use Rattle.ipmb_frame.specs.Grammar.{IsResponse}
 use Rattle.record_base.specs.declared.op.Op.{Op}
@@ -51,6 +52,10 @@ own names asked = from_manager (addresses names) asked
 abbrev pub AreOthers : Names → Option Names → Type 0
 AreOthers names None = ⊥
 AreOthers names (Some listed) = listed ≢ names
+
+-- the number of retries is taken, and the list's names are others
+abbrev pub IsForOthers : (listed : Option Names) → Names → (retries : ℕ) → Type 0
+IsForOthers listed names retries = (retries ≤ most_retries) × AreOthers names listed
 
 -- the series that carry these requests out, the last first
 abbrev pub backs : List Asked → List Series
@@ -181,6 +186,10 @@ answered_in reply = record { code = reply.code; body = reply.body.now }
 abbrev pub TellsResponse : Asked → (sequence : ℕ) → Response → Bool → Type 0
 TellsResponse asked sequence response passes = (names : Names) → bus_of asked ≡ Ipmb → ipmb_answers (bytes_of sequence (own names asked)) (response_bytes response) ≡ passes
 
+-- the test says whether the response answers this request, but for the codes of a busy port
+abbrev pub TellsButForBusy : Asked → (sequence : ℕ) → Response → Bool → Type 0
+TellsButForBusy asked sequence response passes = TellsResponse asked sequence response (passes && not (is_busy response.code))
+
 -- and whether the message answers this request on SMBus
 abbrev pub TellsMessage : Asked → (instance : ℕ) → (message : List ℕ) → Bool → Type 0
 TellsMessage asked instance message passes = (names : Names) → bus_of asked ≡ Smbus → pldm_answers (bytes_of instance (own names asked)) message ≡ passes
@@ -215,6 +224,10 @@ HearsResponseIn bytes old new sent = (response : Response) → IsResponse respon
 
 abbrev pub HearsPacketIn : (bytes : List ℕ) → Manager → Manager → Option Sent → Type 0
 HearsPacketIn bytes old new sent = (packet : Packet) → IsPacket packet bytes → HearsPacket packet old new sent
+
+-- the manager stays as it was, and sends nothing
+abbrev pub StaysSilent : Manager → Manager → Option Sent → Type 0
+StaysSilent old new sent = (new ≡ old) × (sent ≡ None)
 
 -- the bytes are no response, or no packet
 abbrev pub IsNoResponse : (bytes : List ℕ) → Type 0

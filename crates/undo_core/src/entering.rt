@@ -1,14 +1,13 @@
 //! The stages that a manager enters, and what a reply does with the list of requests that undo.
-ghost use Rattle.std.specs.Prelude.{◌≡◌, ◌*◌, ◌≤◌, ◌<◌, ℕ, Bool, suc, length, drop, List};
+ghost use Rattle.std.specs.Prelude.{◌≡◌, ◌*◌, ◌≤◌, ◌<◌, ℕ, suc, length, drop, List};
 ghost use Rattle.record_base.specs.declared.op.Op.{Op};
 ghost use Rattle.undo_plans.specs.Fitting.{most_requests};
 ghost use Rattle.undo_plans.specs.Steps.{most_steps};
-ghost use Rattle.undo_plans.specs.Requests.{RequestList};
 ghost use Rattle.undo_core.specs.declared.stage.Task.TheVariants.{Gets as IsGets, Sets as IsSets, Undoes as IsUndoes};
 ghost use Rattle.undo_core.specs.Joining.{most_joined};
-ghost use Rattle.undo_core.specs.Entered.{EntersStep, EntersUndo, AfterReply};
-ghost use Rattle.undo_core.specs.Bounds.{parts_at, most_got, most_replied, task_steps, steps_needed, task_undone, undone_needed, task_backs, most_backs, replies_left, left_of, left_at, LeavesFewer, LeavesNoMore, task_ahead, steps_ahead};
-ghost use Rattle.undo_core.specs.Room.{HasRoom};
+ghost use Rattle.undo_core.specs.Entered.{EntersStep, EntersUndo, AfterTask, AfterSet, AfterUndo};
+ghost use Rattle.undo_core.specs.Bounds.{parts_at, most_got, most_replied, task_steps, steps_needed, task_undone, undone_needed, task_backs, most_backs, replies_left, FewerAreLeft, LeavesFewer, LeavesNoMore, task_ahead, steps_ahead};
+ghost use Rattle.undo_core.specs.Room.{HasRoom, NeedsNoMoreRoom, NeedsNoRoom};
 
 use crate::Why;
 use crate::getting::after_get;
@@ -34,8 +33,7 @@ pub(crate) fn step_stage(steps: &Steps, stopped: bool, step: usize) -> Stage
     ensures kept { undone_needed result ≡ 0 }
     ensures few { step ≤ most_backs result }
     ensures left { LeavesNoMore steps.now (IsGets step) 0 result }
-    ensures room { (any : RequestList)
-        → HasRoom (drop step steps.now) any → HasRoom (steps_ahead steps.now result) any }
+    ensures room { NeedsNoMoreRoom steps.now step result }
     ensures first { parts_at result ≡ 0 }
 {
     let _steps = steps.len();
@@ -64,7 +62,7 @@ pub(crate) fn undo_stage(requests: &Requests, left: usize) -> Stage
     ensures few { most_backs result ≡ most_steps }
     ensures left { (steps undone : ℕ)
         → replies_left steps undone result ≤ most_requests * left }
-    ensures room { (plan : List Op) (any : RequestList) → HasRoom (steps_ahead plan result) any }
+    ensures room { NeedsNoRoom result }
     ensures first { parts_at result ≡ 0 }
 {
     if left == 0 {
@@ -98,13 +96,12 @@ pub(crate) fn stage_after(
     requires room { HasRoom (task_ahead steps.now task) requests.old }
     requires parts { parts < most_requests }
     requires filled { length replies.old ≤ most_got task parts }
-    ensures after { AfterReply steps.now stopped task parts reply.entry
+    ensures after { AfterTask steps.now stopped task parts reply.entry
         requests.old requests.new replies.old replies.new result }
     ensures planned { steps_needed result ≤ length steps.now }
     ensures kept { undone_needed result ≤ length requests.new.members }
     ensures few { length requests.new.members ≤ most_backs result }
-    ensures left { left_at steps.now requests.new result
-        < left_of steps.now requests.old task parts }
+    ensures left { FewerAreLeft steps.now requests.old requests.new task parts result }
     ensures room { HasRoom (steps_ahead steps.now result) requests.new }
     ensures parted { parts_at result < most_requests }
     ensures filled { length replies.new ≤ most_replied result }
@@ -130,13 +127,12 @@ fn after_set(
     requires few { length requests.old.members ≤ step }
     requires room { HasRoom (drop (suc step) steps.now) requests.old }
     requires parts { parts < most_requests }
-    ensures after { (any : List ℕ) → AfterReply steps.now stopped (IsSets step) parts
-        reply.entry requests.old requests.new any any result }
+    ensures after { AfterSet steps.now stopped step parts
+        reply.entry requests.old requests.new result }
     ensures planned { steps_needed result ≤ length steps.now }
     ensures kept { undone_needed result ≡ 0 }
     ensures few { length requests.new.members ≤ most_backs result }
-    ensures left { left_at steps.now requests.new result
-        < left_of steps.now requests.old (IsSets step) parts }
+    ensures left { FewerAreLeft steps.now requests.old requests.new (IsSets step) parts result }
     ensures room { HasRoom (steps_ahead steps.now result) requests.new }
     ensures parted { parts_at result < most_requests }
     ensures free { most_replied result ≡ most_joined 0 }
@@ -164,14 +160,12 @@ fn after_set(
 fn after_undo(requests: &Requests, step: usize, parts: u8, reply: Reply<'_>) -> Stage
     requires step { step < length requests.now.members }
     requires parts { parts < most_requests }
-    ensures after { (plan : List Op) (stopped : Bool) (any : List ℕ)
-        → AfterReply plan stopped (IsUndoes step) parts
-        reply.entry requests.now requests.now any any result }
+    ensures after { AfterUndo step parts reply.entry requests.now result }
     ensures planned { steps_needed result ≡ 0 }
     ensures kept { undone_needed result ≤ suc step }
     ensures few { most_backs result ≡ most_steps }
     ensures left { (plan : List Op) → LeavesFewer plan (IsUndoes step) parts result }
-    ensures room { (plan : List Op) (any : RequestList) → HasRoom (steps_ahead plan result) any }
+    ensures room { NeedsNoRoom result }
     ensures parted { parts_at result < most_requests }
     ensures free { most_replied result ≡ most_joined 0 }
 {

@@ -3,7 +3,7 @@ ghost use Rattle.std.specs.Prelude.{◌≡◌, ◌+◌, ◌≤◌, ◌<◌, leng
 ghost use Rattle.undo_plans.specs.Fitting.{most_requests};
 ghost use Rattle.undo_core.specs.declared.stage.Task.TheVariants.{Gets as IsGets, Sets as IsSets};
 ghost use Rattle.undo_core.specs.Joining.{most_joined, get_after_reply};
-ghost use Rattle.undo_core.specs.Entered.{EntersSet, AfterReply};
+ghost use Rattle.undo_core.specs.Entered.{EntersSet, AfterGet};
 ghost use Rattle.undo_core.specs.Bounds.{parts_at, most_replied, steps_needed, undone_needed, most_backs, LeavesFewer, LeavesNoMore, steps_ahead};
 ghost use Rattle.undo_core.specs.Room.{HasRoom};
 
@@ -44,7 +44,7 @@ pub(crate) fn after_get(
     requires room { HasRoom (drop step steps.now) requests.old }
     requires parts { parts < most_requests }
     requires filled { length replies.old ≤ most_joined parts }
-    ensures after { AfterReply steps.now stopped (IsGets step) parts reply.entry
+    ensures after { AfterGet steps.now stopped step parts reply.entry
         requests.old requests.new replies.old replies.new result }
     ensures members { requests.new.members ≡ requests.old.members }
     ensures planned { steps_needed result ≤ length steps.now }

@@ -1,9 +1,9 @@
 //! Frames that come to a manager.
-ghost use Rattle.std.specs.Prelude.{◌≡◌, ◌&&◌, not, ◌≤◌, length, None, IfSome, false};
+ghost use Rattle.std.specs.Prelude.{◌≡◌, ◌≤◌, length, None, IfSome, false};
 ghost use Rattle.two_wire.specs.Sizes.{most_message_bytes};
-ghost use Rattle.undo_core.specs.Shown.{ForShown, Takes, answered_in, TellsResponse, TellsMessage, IsReplyTo, IsTakenIf, IsJoinedIf, HearsResponse, HearsPacket, HearsMessage, HearsResponseIn, HearsPacketIn, IsNoResponse, IsNoPacket};
+ghost use Rattle.undo_core.specs.Shown.{Takes, answered_in, TellsButForBusy, TellsMessage, IsReplyTo, IsTakenIf, IsJoinedIf, HearsResponse, HearsPacket, HearsMessage, HearsResponseIn, HearsPacketIn, StaysSilent, IsNoResponse, IsNoPacket};
 ghost use Rattle.model_undo.specs.Words.{is_busy as is_busy_code};
-ghost use Rattle.undo_core.specs.Course.{Hears, Comes};
+ghost use Rattle.undo_core.specs.Course.{Hears, ComesOf};
 ghost use Rattle.two_wire.specs.declared.Bus.TheVariants.{Ipmb as IsIpmb, Smbus as IsSmbus};
 ghost use Rattle.model_lab.specs.ManagerSteps.{is_answer as is_answer_of, is_part as is_part_of};
 
@@ -27,13 +27,12 @@ impl Manager {
         ensures response { bus ≡ IsIpmb → HearsResponseIn bytes.now self.old self.new result }
         ensures packet { bus ≡ IsSmbus → HearsPacketIn bytes.now self.old self.new result }
         // Of all bytes one thing comes: of a frame what comes of its value, and of others nothing.
-        ensures heard { ForShown self.old (λ names s.
-            Comes names (Hears bus bytes.now) s self.new result) }
+        ensures heard { ComesOf (Hears bus bytes.now) self.old self.new result }
         // Nothing else changes the manager, and it sends nothing then.
         ensures no_response { bus ≡ IsIpmb → IsNoResponse bytes.now
-            → (self.new ≡ self.old) × (result ≡ None) }
+            → StaysSilent self.old self.new result }
         ensures no_packet { bus ≡ IsSmbus → IsNoPacket bytes.now
-            → (self.new ≡ self.old) × (result ≡ None) }
+            → StaysSilent self.old self.new result }
     {
         match bus {
             Bus::Ipmb => match read_frame(bytes) {
@@ -168,8 +167,7 @@ impl Manager {
 
 /// Whether the response has the number, the network function and the command of the request.
 fn is_answer_to(asked: &Asked, sequence: Sequence, response: &Response<'_>) -> bool
-    ensures { TellsResponse asked.now sequence response.now
-        (result && not (is_busy_code response.now.code)) }
+    ensures { TellsButForBusy asked.now sequence response.now result }
 {
     let header = response.header;
     let _luns = (header.responder.lun.number(), header.requester.lun.number());

@@ -1,9 +1,9 @@
 //! The replies to a Get that goes in parts.
-ghost use Rattle.std.specs.Prelude.{◌≡◌, ◌+◌, ◌*◌, ◌≤◌, ◌<◌, ◌++◌, ◌∷◌, [], ℕ, List, length, IfOk};
+ghost use Rattle.std.specs.Prelude.{◌≡◌, ◌+◌, ◌*◌, ◌≤◌, ◌<◌, ◌++◌, ◌∷◌, [], length, IfOk};
 ghost use Rattle.pldm_base.specs.Parts.{part_length};
-ghost use Rattle.bios_attr.specs.EntryParts.{before_part, most_entry, entry_in, no_handle, start_and_end, joined};
+ghost use Rattle.bios_attr.specs.EntryParts.{before_part, most_entry, entry_in, no_handle, start_and_end};
 ghost use Rattle.undo_plans.specs.Fitting.{most_requests};
-ghost use Rattle.undo_core.specs.Joining.{whole_of, ForJoined, most_joined};
+ghost use Rattle.undo_core.specs.Joining.{JoinsNext, JoinsLast, most_joined};
 
 use bios_attr::bios_attribute::START_AND_END;
 use bios_attr::entry_parts::{BEFORE_PART, MOST_ENTRY, ends, entry_in};
@@ -71,8 +71,7 @@ impl JoinedReplies {
     pub(crate) fn take(&mut self, parts: u8, body: &[u8])
         requires few { length self.old ≤ most_joined parts }
         requires room { part_length * parts + length (entry_in body.now) ≤ most_entry }
-        ensures joined { ForJoined parts self.old (λ before.
-            self.new ≡ whole_of (before ++ body.now ∷ [])) }
+        ensures joined { JoinsNext parts self.old body.now self.new }
         ensures few { length self.new
             ≤ before_part + (part_length * parts + length (entry_in body.now)) }
     {
@@ -87,8 +86,7 @@ impl JoinedReplies {
         requires some { 0 < parts }
         requires most { parts < most_requests }
         requires few { length self.old ≤ most_joined parts }
-        ensures { ForJoined parts self.old (λ before.
-            self.new ≡ joined (before ++ body.now ∷ [])) }
+        ensures { JoinsLast parts self.old body.now self.new }
     {
         if ends(parts + 1, body) {
             self.add(body);

@@ -1,7 +1,7 @@
 //! How a manager begins.
 ghost use Rattle.std.specs.Prelude.{◌≡◌, ◌<◌, ◌≤◌, ◌↔◌, IfOk, SomeIff, true, Err};
 ghost use Rattle.two_wire.specs.Retries.{most_retries};
-ghost use Rattle.undo_core.specs.Shown.{AreOthers, Shows, opened_with, resumed_from};
+ghost use Rattle.undo_core.specs.Shown.{AreOthers, IsForOthers, Shows, opened_with, resumed_from};
 
 use crate::Why;
 use crate::joining::JoinedReplies;
@@ -65,7 +65,7 @@ impl Manager {
     ) -> Result<Self, ResumeFault>
         ensures refused { (result ≡ Err ResumeFault.Retries) ↔ (most_retries < retries) }
         ensures others { (result ≡ Err ResumeFault.OtherNames)
-            ↔ ((retries ≤ most_retries) × AreOthers names undo.names) }
+            ↔ IsForOthers undo.names names retries }
         ensures resumed { IfOk result (λ m. Shows names m (resumed_from names undo retries)) }
     {
         let Some(retries) = retries_of(retries) else {

@@ -1,13 +1,12 @@
 //! Requests as the frames that are sent.
-ghost use Rattle.std.specs.Prelude.{◌≡◌, ◌+◌, ◌%◌, ◌<◌, suc, [], ◌∷◌, ℕ};
+ghost use Rattle.std.specs.Prelude.{◌≡◌, ◌+◌, ◌%◌, ◌<◌, suc};
 ghost use Rattle.model_undo.specs.Machine.{count_of, one_answered};
 ghost use Rattle.model_undo.specs.Wires.{number_of};
 ghost use Rattle.model_ports.specs.Wires.{bus_of as bus_of_request};
-ghost use Rattle.record_base.specs.declared.message.Asked.TheVariants as asked_as;
 ghost use Rattle.two_wire.specs.Circles.{tags};
 ghost use Rattle.two_wire.specs.declared.Bus.TheVariants.{Ipmb as IsIpmb, Smbus as IsSmbus};
 ghost use Rattle.undo_core.specs.Bounds.{most_replies};
-ghost use Rattle.undo_core.specs.Counted.{counts_of, AreFramesOf, envelope_at};
+ghost use Rattle.undo_core.specs.Counted.{counts_of, AreFramesOf, IsIpmiFrame, ArePldmFrames, envelope_at};
 
 use arrayvec::ArrayVec;
 use cfg_records::Asked;
@@ -132,8 +131,7 @@ fn request_frame(
     command: u8,
     body: &Bytes<{ MOST_IPMI_REQUEST_DATA }>,
 ) -> Frame
-    ensures { (from : ℕ) → AreFramesOf names.now counts
-        (asked_as.Ipmi from net_fn lun command body.now) (result ∷ []) }
+    ensures { IsIpmiFrame names.now counts net_fn lun command body.now result }
 {
     let header = ipmb_frame::Header {
         responder: Party {
@@ -160,8 +158,7 @@ fn message_frames(
     command: u8,
     body: &Bytes<{ MOST_PLDM_REQUEST_DATA }>,
 ) -> ArrayVec<Frame, 4>
-    ensures { (from : ℕ) → AreFramesOf names.now counts
-        (asked_as.Pldm from kind command body.now) result.items }
+    ensures { ArePldmFrames names.now counts kind command body.now result.items }
 {
     let header = pldm_base::Header {
         instance: counts.instance(),
