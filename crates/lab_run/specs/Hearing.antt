@@ -7,7 +7,7 @@ use Rattle.ipmb_frame.specs.declared.message.Request.{Request}
 use Rattle.ipmb_frame.specs.Fault.{has_fault as has_frame_fault, faults as frame_faults}
 use Rattle.mctp_net.specs.Grammar.{has_fault as has_packet_fault, faults as packet_faults}
 use Rattle.cfg_records.specs.declared.board_file.BoardFile.{BoardFile}
-use Rattle.model_ports.specs.Values.{Value, Asks, Tells, Part, written, IsFrameOn}
+use Rattle.model_ports.specs.Values.{Value, Asks, Tells, Part, written, IsFrameOn, parts_of}
 use Rattle.model_ports.specs.PortSteps.{PortState, Deed, hears, stays}
 use Rattle.model_lab.specs.declared.way.Way.{Way}
 use Rattle.model_lab.specs.declared.way.Way.TheVariants.{ToOthers}
@@ -23,7 +23,10 @@ use Rattle.bmc_core.specs.IpmbShown as ipmb
 use Rattle.bmc_core.specs.SmbusHeard as smbus
 use Rattle.text_schedule.specs.declared.event.Event.{Event}
 use Rattle.text_schedule.specs.declared.event.Event.TheVariants as event
+use Rattle.undo_plans.specs.declared.names.Names.{Names}
+use Rattle.model_lab.specs.Meaning.{message_of}
 use Rattle.model_lab.specs.Played.{plans}
+use Rattle.text_schedule.specs.declared.event.OtherMessage.{OtherMessage}
 use Rattle.lab_run.specs.declared.lab_state.Lab.{Lab}
 use Rattle.lab_run.specs.declared.marks.Mark.{Mark}
 use Rattle.lab_run.specs.Shown.{Shows, ForShown}
@@ -42,6 +45,10 @@ pub record HasHeard (file : BoardFile) (on : Bus) (lab_model : LabModel plans) (
 abbrev pub SendsOut : Way → Mark → Lab → Lab → Type 0
 SendsOut way mark old new = (file : BoardFile) (lab_model : LabModel plans) (values : List Value) → Shows file old lab_model → HasFrames mark.on values old.out
     → Shows file new (with_frames plans mark.on way mark.request values lab_model)
+
+-- the packets of another requester's message to the controller of these names
+abbrev pub packets_of : Names → OtherMessage → List Value
+packets_of names message = map (λ p. Part p) (parts_of (message_of names message))
 
 -- ---- what a port did
 

@@ -6,7 +6,7 @@ use Rattle.model_undo.specs.Machine.{open_bus}
 use Rattle.undo_plans.specs.declared.names.Names.{Names}
 use Rattle.lab_run.specs.declared.marks.Mark.{Mark}
 use Rattle.lab_run.specs.declared.marks.Known.{Known}
-use Rattle.model_lab.specs.ManagerSteps.{Plans}
+use Rattle.model_lab.specs.ManagerSteps.{Plans, board_plans}
 use Rattle.model_lab.specs.Lab.{LabFrame, ToBmc, Idles, Lab, idles_on, step}
 use Rattle.model_lab.specs.declared.fault.Fault.TheVariants.{StillOpen}
 use Rattle.model_lab.specs.Faults.{begun_on, is_live, fault_of}
@@ -16,6 +16,10 @@ pub record HasMark (frame : LabFrame) (mark : Mark) : Type 0 where
   pub on : frame.on ≡ mark.on
   pub request : frame.request ≡ mark.request
   pub idles : frame.idles ≡ mark.idles
+
+-- the mark, with so many times that the manager's window was forgotten
+abbrev pub with_idles : Mark → ℕ → Mark
+with_idles mark idles = record { on = mark.on; request = mark.request; idles = idles }
 
 module _ (plans : Plans) where
   -- the manager began so many requests on the bus, and the port there forgot the manager's window so often
@@ -37,3 +41,7 @@ module _ (plans : Plans) where
   abbrev pub TellsOpen : Names → Bus → ℕ → Option Bus → Bool → Type 0
   TellsOpen names on requester where_open refused = (lab : Lab plans) → lab.manager.names ≡ names → open_bus plans.words lab.manager.machine ≡ where_open
       → fault_of plans lab (Idles on requester) ≡ (if refused then Some StillOpen else None)
+
+-- so each frame has this mark that the port sends in labs of all names, on boards of all files
+abbrev pub MarksAllReplies : Mark → ℕ → Mark → Type 0
+MarksAllReplies delivered idles mark = (names : Names) (setup : BoardFile) → MarksReplies (board_plans names) setup delivered idles mark

@@ -1,14 +1,17 @@
 -- The lab of the model that a lab shows.
-use Rattle.std.specs.Prelude.{◌≡◌, ◌<◌, ℕ, Option, Some, None, Result, Ok, Err}
+use Rattle.std.specs.Prelude.{◌≡◌, ◌<◌, ◌≤◌, ℕ, suc, List, OnOk, Option, Some, None, Result, Ok, Err}
 use Rattle.std.specs.List.{AllZip}
 use Rattle.two_wire.specs.declared.Bus.{Bus}
 use Rattle.two_wire.specs.declared.Bus.TheVariants as bus
 use Rattle.cfg_records.specs.declared.board_file.BoardFile.{BoardFile}
 use Rattle.bmc_board.specs.State.{state_of}
-use Rattle.model_lab.specs.Lab.{LabFrame, Lab as LabModel, idles_on, sends}
+use Rattle.model_lab.specs.Lab.{LabFrame, Lab as LabModel, idles_on, sends, opening}
+use Rattle.bmc_core.specs.declared.ipmb_port.IpmbPort.{IpmbPort}
+use Rattle.bmc_core.specs.declared.smbus_port.SmbusPort.{SmbusPort}
 use Rattle.bmc_core.specs.IpmbShown as ipmb
 use Rattle.bmc_core.specs.SmbusShown as smbus
 use Rattle.model_ports.specs.Values.{IsFrameOn}
+use Rattle.model_ports.specs.PortSteps.{quiet_port}
 use Rattle.model_lab.specs.ManagerSteps.{Sent as AllSent}
 use Rattle.undo_core.specs.declared.sending.Sent.{Sent}
 use Rattle.undo_core.specs.Shown as manager
@@ -35,6 +38,14 @@ longest_slice = 9223372036854775807
 abbrev pub CanCountOn : Idles → Type 0
 CanCountOn idles = (on : Bus) → idles_in on idles < longest_slice
 
+-- no window was forgotten
+abbrev pub ForgotNone : Idles → Type 0
+ForgotNone idles = (on : Bus) → idles_in on idles ≡ 0
+
+-- on each bus at most one more window was forgotten
+abbrev pub ForgetsOneMore : Idles → Idles → Type 0
+ForgetsOneMore old new = (on : Bus) → idles_in on new ≤ suc (idles_in on old)
+
 -- the frame was sent so, and its bytes are its value on its bus
 pub record IsSentFrame (sent : SentFrame) (frame : LabFrame) : Type 0 where
   pub is : IsFrame sent frame
@@ -51,6 +62,19 @@ pub record Shows (file : BoardFile) (lab : Lab) (lab_model : LabModel plans) : T
   pub frames : AllZip IsSentFrame lab.frames lab_model.frames
   pub idles : (on : Bus) → idles_on plans on lab_model ≡ idles_in on lab.idles
 
+-- ---- a lab as it begins
+
+-- the controller's port on IPMB, and the one on SMBus
+abbrev pub BeginsOnIpmb : IpmbPort → Type 0
+BeginsOnIpmb port = ipmb.Shows port (quiet_port lab_names.peer_address lab_names.peer_eid)
+
+abbrev pub BeginsOnSmbus : SmbusPort → Type 0
+BeginsOnSmbus port = smbus.Shows port (quiet_port lab_names.peer_wire lab_names.peer_eid)
+
+-- a lab with a plan, on a board of this file
+abbrev pub Begins : BoardFile → List plans.words.Op → (retries : ℕ) → Lab → Type 0
+Begins file plan retries lab = Shows file lab (opening plans file lab_names plan retries)
+
 -- ---- what the calls make of a lab
 
 -- this holds of each lab of the model that it shows, on a board of each file
@@ -64,6 +88,10 @@ ForSent lab sent Holds = (file : BoardFile) (lab_model : LabModel plans) (frame 
 -- whatever lab of the model the lab showed, on a board of whatever file, it goes on to the lab that `makes` gives
 abbrev pub Becomes : Lab → Lab → (BoardFile → LabModel plans → LabModel plans) → Type 0
 Becomes old new makes = ForShown old (λ file x. Shows file new (makes file x))
+
+-- it goes on so, unless memory was refused
+abbrev pub GoesOn : {E : Type 0} → Result (Unit {0}) E → Lab → Lab → (BoardFile → LabModel plans → LabModel plans) → Type 0
+GoesOn result old new makes = OnOk result (Becomes old new makes)
 
 -- the frames that the manager sends, if it sends some, are sent in each lab of the model that it showed
 abbrev pub Sends : Option Sent → Lab → Lab → Type 0

@@ -1,10 +1,8 @@
 //! What the manager is called to do, and what it hears.
-ghost use Rattle.std.specs.Prelude.{◌≡◌, OnOk, slice_get};
+ghost use Rattle.std.specs.Prelude.{◌≡◌, OnOk};
 ghost use Rattle.undo_core.specs.Shown.{Calls};
-ghost use Rattle.model_lab.specs.ManagerSteps.{called};
-ghost use Rattle.model_lab.specs.Lab.{call_does, returned};
-ghost use Rattle.model_lab.specs.Played.{plans};
-ghost use Rattle.lab_run.specs.Shown.{Becomes, Sends};
+ghost use Rattle.lab_run.specs.Makes.{calls, returns};
+ghost use Rattle.lab_run.specs.Shown.{GoesOn, Sends};
 
 use crate::lab_state::Lab;
 use crate::marks::Mark;
@@ -29,8 +27,7 @@ fn made(manager: &mut Manager, call: Call) -> Result<Option<Sent>, WrongPhase>
 impl Lab {
     /// The manager is called. In a wrong phase nothing changes.
     pub(crate) fn call(&mut self, call: Call) -> Result<(), AllocError>
-        ensures becomes { OnOk result (Becomes self.old self.new (λ _ x.
-            call_does plans (called plans call x.manager) x)) }
+        ensures becomes { GoesOn result self.old self.new (calls call) }
         ensures idles { self.new.idles ≡ self.old.idles }
     {
         match made(&mut self.manager, call) {
@@ -41,8 +38,7 @@ impl Lab {
 
     /// The bytes of the frame of this number come to the manager, if there is such a frame.
     pub(crate) fn to_manager(&mut self, number: u32) -> Result<(), AllocError>
-        ensures becomes { OnOk result (Becomes self.old self.new (λ file x.
-            returned plans file (slice_get x.frames number) x)) }
+        ensures becomes { GoesOn result self.old self.new (returns number) }
         ensures idles { self.new.idles ≡ self.old.idles }
     {
         let Some(frame) = self.frames.get(number) else {

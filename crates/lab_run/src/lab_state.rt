@@ -2,15 +2,9 @@
 ghost use Rattle.std.specs.Prelude.{◌≡◌, IfOk};
 ghost use Rattle.undo_core.specs.Shown as manager;
 ghost use Rattle.undo_core.specs.Shown.{opened_with};
-ghost use Rattle.two_wire.specs.declared.Bus.{Bus as AnyBus};
-ghost use Rattle.model_lab.specs.Lab.{opening};
-ghost use Rattle.model_ports.specs.PortSteps.{quiet_port};
-ghost use Rattle.bmc_core.specs.IpmbShown as ipmb;
-ghost use Rattle.bmc_core.specs.SmbusShown as smbus;
 ghost use Rattle.model_lab.specs.Meaning.{lab_names as the_names};
-ghost use Rattle.model_lab.specs.Played.{plans};
 ghost use Rattle.lab_run.specs.FramesShown.{ShowsFrames};
-ghost use Rattle.lab_run.specs.Shown.{Shows, ForShown, idles_in};
+ghost use Rattle.lab_run.specs.Shown.{ForShown, BeginsOnIpmb, BeginsOnSmbus, Begins, ForgotNone, idles_in};
 
 use crate::fault::Marks;
 use crate::frames::Frames;
@@ -73,16 +67,14 @@ fn opened_manager(alloc: Global, plan: Plan, names: Names) -> Result<Manager, Al
 
 /// The controller's port on IPMB.
 fn opened_ipmb(alloc: Global) -> Result<IpmbPort, AllocError>
-    ensures { IfOk result (λ port.
-        ipmb.Shows port (quiet_port the_names.peer_address the_names.peer_eid)) }
+    ensures { IfOk result BeginsOnIpmb }
 {
     IpmbPort::new(alloc, lab_names().peer_address)
 }
 
 /// The controller's port on the System Management Bus.
 fn opened_smbus(alloc: Global) -> Result<SmbusPort, AllocError>
-    ensures { IfOk result (λ port.
-        smbus.Shows port (quiet_port the_names.peer_wire the_names.peer_eid)) }
+    ensures { IfOk result BeginsOnSmbus }
 {
     let names = lab_names();
     let wire = names.peer_wire;
@@ -93,9 +85,8 @@ fn opened_smbus(alloc: Global) -> Result<SmbusPort, AllocError>
 impl Lab {
     /// A lab as it begins.
     pub fn open(alloc: Global, file: BoardFile, plan: Plan) -> Result<Lab, AllocError>
-        ensures shows { IfOk result (λ lab.
-            Shows file lab (opening plans file the_names plan.steps plan.retries)) }
-        ensures never { IfOk result (λ lab. (on : AnyBus) → idles_in on lab.idles ≡ 0) }
+        ensures shows { IfOk result (Begins file plan.steps plan.retries) }
+        ensures never { IfOk result (λ lab. ForgotNone lab.idles) }
     {
         Ok(Lab {
             board: Board::of_file(alloc, file)?,

@@ -1,10 +1,9 @@
 //! How old the frames of a lab are, and which window may be forgotten.
 
 ghost use Rattle.std.specs.Prelude.{◌≡◌};
-ghost use Rattle.cfg_records.specs.declared.board_file.BoardFile.{BoardFile};
 ghost use Rattle.undo_plans.specs.declared.names.Names.{Names as NamesValue};
 ghost use Rattle.model_lab.specs.ManagerSteps.{board_plans};
-ghost use Rattle.lab_run.specs.Marks.{TellsLive, MarksReplies, TellsOpen};
+ghost use Rattle.lab_run.specs.Marks.{TellsLive, MarksAllReplies, TellsOpen, with_idles};
 
 use model_bus::span;
 use two_wire::Bus;
@@ -39,9 +38,8 @@ impl Mark {
 
     /// The mark of each frame that the port sends when this one comes.
     pub fn reply(self, idles: usize) -> Mark
-        ensures value { result ≡ record { on = self.on; request = self.request; idles = idles } }
-        ensures marks { (names : NamesValue) (setup : BoardFile)
-            → MarksReplies (board_plans names) setup self idles result }
+        ensures value { result ≡ with_idles self idles }
+        ensures marks { MarksAllReplies self idles result }
     {
         Mark {
             on: self.on,

@@ -1,18 +1,14 @@
 //! What the controller's ports hear, and what they forget.
-ghost use Rattle.std.specs.Prelude.{◌≡◌, ◌≤◌, map, OnOk, suc, slice_get};
+ghost use Rattle.std.specs.Prelude.{◌≡◌, OnOk};
 ghost use Rattle.std.specs.List.{AllZip};
-ghost use Rattle.two_wire.specs.declared.Bus.{Bus as AnyBus};
-ghost use Rattle.two_wire.specs.declared.Bus.TheVariants.{Ipmb, Smbus};
+ghost use Rattle.two_wire.specs.declared.Bus.TheVariants.{Smbus};
 ghost use Rattle.ipmb_frame.specs.Grammar.{IsRequest};
-ghost use Rattle.model_ports.specs.Values.{Asks, Part, IsFrameOn, parts_of};
-ghost use Rattle.model_ports.specs.PortSteps.{hears, hears_all, idles};
-ghost use Rattle.model_lab.specs.declared.way.Way.TheVariants.{ToOthers};
-ghost use Rattle.model_lab.specs.Lab.{delivered, port_does, port_on, with_port};
-ghost use Rattle.model_lab.specs.Meaning.{lab_names as the_names, other_wire, request_of, message_of};
-ghost use Rattle.model_lab.specs.Played.{plans};
-ghost use Rattle.lab_run.specs.Shown.{Becomes, CanCountOn, idles_in};
+ghost use Rattle.model_ports.specs.Values.{IsFrameOn};
+ghost use Rattle.model_lab.specs.Meaning.{other_wire, request_of};
+ghost use Rattle.lab_run.specs.Makes.{delivers, hears_request, hears_message, forgets};
+ghost use Rattle.lab_run.specs.Shown.{Becomes, GoesOn, CanCountOn, ForgetsOneMore, idles_in};
 ghost use Rattle.text_schedule.specs.declared.event.Event.TheVariants.{ToBmc};
-ghost use Rattle.lab_run.specs.Hearing.{Did, SendsOut, PortHears, HearsOther, StaysAtNoise, IgnoresNoise};
+ghost use Rattle.lab_run.specs.Hearing.{Did, SendsOut, PortHears, HearsOther, StaysAtNoise, IgnoresNoise, packets_of};
 
 use crate::lab_state::Lab;
 use crate::marks::Mark;
@@ -55,8 +51,7 @@ fn request_frame(names: &Names, request: &OtherRequest) -> Frame
 
 /// The frames of somebody else's message to the controller.
 fn message_frames(names: &Names, message: &OtherMessage) -> ArrayVec<Frame, 4>
-    ensures { AllZip (IsFrameOn Smbus)
-        (map (λ p. Part p) (parts_of (message_of names.now message.now))) result.items }
+    ensures { AllZip (IsFrameOn Smbus) (packets_of names.now message.now) result.items }
 {
     let envelope = Envelope {
         destination: names.peer_wire,
@@ -73,8 +68,7 @@ fn message_frames(names: &Names, message: &OtherMessage) -> ArrayVec<Frame, 4>
 impl Lab {
     /// The frame of this number comes to the controller's port on its bus, if there is such a frame.
     pub(crate) fn to_port(&mut self, number: u32) -> Result<(), AllocError>
-        ensures becomes { OnOk result (Becomes self.old self.new (λ file x.
-            delivered plans file (slice_get x.frames number) x)) }
+        ensures becomes { GoesOn result self.old self.new (delivers number) }
         ensures done { OnOk result (Did (ToBmc number) self.old self.new) }
         ensures idles { self.new.idles ≡ self.old.idles }
     {
@@ -90,9 +84,7 @@ impl Lab {
 
     /// Somebody else's request comes to the port on IPMB.
     pub(crate) fn other_request(&mut self, request: &OtherRequest) -> Result<(), AllocError>
-        ensures becomes { OnOk result (Becomes self.old self.new (λ file x.
-            port_does plans Ipmb ToOthers 0
-            (hears file x.ipmb x.board (Asks (request_of the_names request.now))) x)) }
+        ensures becomes { GoesOn result self.old self.new (hears_request request.now) }
         ensures idles { self.new.idles ≡ self.old.idles }
     {
         let frame = request_frame(&self.names, request);
@@ -101,9 +93,7 @@ impl Lab {
 
     /// All packets of somebody else's message come to the port on the System Management Bus.
     pub(crate) fn other_message(&mut self, message: &OtherMessage) -> Result<(), AllocError>
-        ensures becomes { OnOk result (Becomes self.old self.new (λ file x.
-            port_does plans Smbus ToOthers 0
-            (hears_all file x.smbus x.board (message_of the_names message.now)) x)) }
+        ensures becomes { GoesOn result self.old self.new (hears_message message.now) }
         ensures idles { self.new.idles ≡ self.old.idles }
     {
         let frames = message_frames(&self.names, message);
@@ -153,10 +143,8 @@ impl Lab {
     /// The port on a bus forgets a requester's window.
     pub(crate) fn idle(&mut self, on: Bus, requester: u8)
         requires { CanCountOn self.now.idles }
-        ensures becomes { Becomes self.old self.new (λ _ x.
-            with_port plans on (idles requester (port_on plans on x)) x) }
-        ensures few { (bus : AnyBus)
-            → idles_in bus self.new.idles ≤ suc (idles_in bus self.old.idles) }
+        ensures becomes { Becomes self.old self.new (forgets on requester) }
+        ensures few { ForgetsOneMore self.old.idles self.new.idles }
     {
         match on {
             Bus::Ipmb => {

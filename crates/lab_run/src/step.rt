@@ -1,10 +1,9 @@
 //! Events.
-ghost use Rattle.std.specs.Prelude.{◌≡◌, ◌≤◌, suc, None, OnOk};
-ghost use Rattle.two_wire.specs.declared.Bus.{Bus as AnyBus};
+ghost use Rattle.std.specs.Prelude.{◌≡◌, None, OnOk};
 ghost use Rattle.model_lab.specs.Played.{fault_at, happens};
-ghost use Rattle.lab_run.specs.Shown.{ForShown, Becomes, Steps, CanCountOn, idles_in};
+ghost use Rattle.lab_run.specs.Makes.{benches};
+ghost use Rattle.lab_run.specs.Shown.{ForShown, Becomes, GoesOn, Steps, CanCountOn, ForgetsOneMore};
 ghost use Rattle.lab_run.specs.Hearing.{Did};
-ghost use Rattle.bmc_board.specs.Sensing.{bench_of};
 ghost use Rattle.model_lab.specs.Meaning.{on_board};
 
 use crate::lab_state::Lab;
@@ -64,8 +63,7 @@ impl Lab {
 
     /// The activity of the board changes beside requests. A reading of a sensor that the board doesn't have changes nothing.
     fn bench(&mut self, event: Bench)
-        ensures becomes { Becomes self.old self.new (λ file x.
-            record x { board = (bench_of file x.board event).1 }) }
+        ensures becomes { Becomes self.old self.new (benches event) }
         ensures idles { self.new.idles ≡ self.old.idles }
     {
         let _ = self.board.bench(event);
@@ -75,11 +73,9 @@ impl Lab {
     fn happen(&mut self, event: &Event) -> Result<(), AllocError>
         requires taken { ForShown self.now (λ file x. fault_at file x event.now ≡ None) }
         requires few { CanCountOn self.now.idles }
-        ensures becomes { OnOk result
-            (Becomes self.old self.new (λ file. happens file event.now)) }
+        ensures becomes { GoesOn result self.old self.new (λ file. happens file event.now) }
         ensures done { OnOk result (Did event.now self.old self.new) }
-        ensures few { (on : AnyBus)
-            → idles_in on self.new.idles ≤ suc (idles_in on self.old.idles) }
+        ensures few { ForgetsOneMore self.old.idles self.new.idles }
     {
         match event {
             Event::Calls(call) => return self.call(*call),
@@ -99,8 +95,7 @@ impl Lab {
         requires { CanCountOn self.now.idles }
         ensures steps { Steps event.now self.old result self.new }
         ensures done { OnOk result (Did event.now self.old self.new) }
-        ensures few { (on : AnyBus)
-            → idles_in on self.new.idles ≤ suc (idles_in on self.old.idles) }
+        ensures few { ForgetsOneMore self.old.idles self.new.idles }
     {
         if let Some(fault) = self.fault(event) {
             return Err(Refused::Fault(fault));

@@ -11,6 +11,7 @@ use Rattle.model_lab.specs.Faults.{is_frame}
 use Rattle.model_lab.specs.Played.{fault_at, happens}
 use Rattle.lab_run.specs.declared.lab_state.Lab.{Lab}
 use Rattle.lab_run.specs.Shown.{Shows, Becomes}
+use Rattle.lab_run.specs.Makes.{benches}
 use Rattle.lab_run.specs.Hearing.{Ignores, Did}
 use Rattle.lab_run.proofs.Sent.{on_ok, on_any}
 use Rattle.lab_run.proofs.Silence.{is_no_frame}
@@ -22,7 +23,7 @@ After old new e = Becomes old new (λ file. happens file e)
 
 -- the lab becomes what it is once this happened on the board
 abbrev Benched : Lab → Lab → Bench → Type 0
-Benched old new happened = Becomes old new (λ file x. record x { board = (bench_of file x.board happened).1 })
+Benched old new happened = Becomes old new (benches happened)
 
 -- what happens on the bench leaves what is staged
 benched : (old new : Lab) (happened : Bench) → Benched old new happened

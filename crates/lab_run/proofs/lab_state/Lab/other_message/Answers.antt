@@ -1,27 +1,24 @@
-use Rattle.std.proofs.Common.{◌≡◌, ℕ, suc, ◌+◌, List, ◌∷◌, [], ◌++◌, map, take, refl, sym, ◌∙◌, ap, subst, arith}
+use Rattle.std.proofs.Common.{◌≡◌, ℕ, suc, ◌+◌, List, ◌∷◌, [], ◌++◌, take, refl, sym, ◌∙◌, ap, subst, arith}
 use Rattle.std.specs.List.{AllZip}
 use Rattle.two_wire.specs.declared.Bus.TheVariants as bus
 use Rattle.undo_plans.specs.declared.names.Names.{Names}
-use Rattle.model_ports.specs.Values.{Value, Part, parts_of, IsFrameOn}
+use Rattle.model_ports.specs.Values.{Value, IsFrameOn}
 use Rattle.model_lab.specs.declared.way.Way.TheVariants.{ToOthers}
 use Rattle.model_lab.specs.Lab.{port_does}
 use Rattle.model_lab.specs.Meaning.{lab_names, message_of}
 use Rattle.model_lab.specs.Played.{plans}
 use Rattle.text_schedule.specs.declared.event.OtherMessage.{OtherMessage}
+use Rattle.lab_run.specs.Hearing.{packets_of}
 use Rattle.lab_run.proofs.Sent.{at_place}
 use Rattle.lab_run.proofs.Deeds.{hears_each}
 use Rattle.lab_run.proofs.PortSide.{none_heard, next_heard, message_heard}
 use Rattle.lab_run.proofs.lab_state.Lab.other_message.Goals as goal
 
--- the packets of a message, as values
-abbrev values_of : Names → OtherMessage → List Value
-values_of names message = map (λ p. Part p) (parts_of (message_of names message))
-
--- the frames are read as them
-reads : (names : Names) (message : OtherMessage) (frames given : List (List ℕ)) → given ≡ frames → names ≡ lab_names → AllZip (IsFrameOn bus.Smbus) (values_of names message) frames
-    → AllZip (IsFrameOn bus.Smbus) (values_of lab_names message) given
+-- the frames are read as the message's packets
+reads : (names : Names) (message : OtherMessage) (frames given : List (List ℕ)) → given ≡ frames → names ≡ lab_names → AllZip (IsFrameOn bus.Smbus) (packets_of names message) frames
+    → AllZip (IsFrameOn bus.Smbus) (packets_of lab_names message) given
 reads names message frames given same named all =
-    subst (λ (n : Names). AllZip (IsFrameOn bus.Smbus) (values_of n message) given) named (subst (λ (fs : List (List ℕ)). AllZip (IsFrameOn bus.Smbus) (values_of names message) fs) (sym same) all)
+    subst (λ (n : Names). AllZip (IsFrameOn bus.Smbus) (packets_of n message) given) named (subst (λ (fs : List (List ℕ)). AllZip (IsFrameOn bus.Smbus) (packets_of names message) fs) (sym same) all)
 
 pub loop-frame-init : goal.loop-frame-init
 loop-frame-init c = (λ file x shows. none_heard file c.args.self.now x shows, refl)
@@ -30,7 +27,7 @@ pub loop-frame-preserved : goal.loop-frame-preserved
 loop-frame-preserved c = (
   λ file x shows.
       let message = c.args.message.now in
-      let values = values_of lab_names message in
+      let values = packets_of lab_names message in
       let given = c.as_slice-frame-items.result.now in
       let place = c.loop-frame.frame-index in
       let read : AllZip (IsFrameOn bus.Smbus) values given = reads c.args.self.now.names message c.message_frames-frames.result.items given c.as_slice-frame-items.ensures.value shows.named c.message_frames-frames.ensures in
