@@ -2,7 +2,7 @@ use Rattle.std.proofs.Common.{◌≡◌, ℕ, suc, ◌+◌, List, ◌∷◌, [],
 use Rattle.std.specs.List.{AllZip}
 use Rattle.two_wire.specs.declared.Bus.TheVariants as bus
 use Rattle.undo_plans.specs.declared.names.Names.{Names}
-use Rattle.model_ports.specs.Values.{Value, IsFrameOn}
+use Rattle.model_ports.specs.Values.{IsFrameOn}
 use Rattle.model_lab.specs.declared.way.Way.TheVariants.{ToOthers}
 use Rattle.model_lab.specs.Lab.{port_does}
 use Rattle.model_lab.specs.Meaning.{lab_names, message_of}
