@@ -111,7 +111,8 @@ pub fn new_program<'a>(
     about: &'a str,
     end: &'a str,
 ) -> Result<Command<'a>, AllocError>
-    ensures { IfOk result (λ program. app_of program ≡ needing_subcommand (new_app name.entry.now)) }
+    ensures { IfOk result (λ program.
+        app_of program ≡ needing_subcommand (new_app name.entry.now)) }
 {
     let program = bare_command(alloc, name, about, end).subcommand_required(true);
     program.bin_name(name)
