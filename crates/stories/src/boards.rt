@@ -1,7 +1,6 @@
 //! The boards that stories are told of.
 use cfg_records::{BoardFile, sample_board};
 use std::alloc::{AllocError, Global};
-use std::mem::swap;
 use text_board::{FileFault, TOP, read_board};
 
 /// The sample board's own fields.
@@ -126,14 +125,18 @@ fn sample_of(alloc: Global) -> Result<BoardFile, FileFault> {
 }
 
 /// Gives the board the sample board's sensors and attributes where the story gives none.
-fn fill_up(file: &mut BoardFile, mut sample: BoardFile, story: &str) {
+fn fill_up(file: &mut BoardFile, sample: BoardFile, story: &str) {
+    let BoardFile {
+        sensors,
+        attributes,
+        ..
+    } = sample;
     if !is_given(story, "sensor") {
-        swap(&mut file.sensors, &mut sample.sensors);
+        file.sensors = sensors;
     }
     if !is_given(story, "attribute") {
-        swap(&mut file.attributes, &mut sample.attributes);
+        file.attributes = attributes;
     }
-    drop(sample);
 }
 
 /// The board of this text, with what the sample board fills up.
