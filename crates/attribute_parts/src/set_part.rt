@@ -22,7 +22,7 @@ const MIDDLE: u8 = TransferFlag::Middle as u8;
 const END: u8 = TransferFlag::End as u8;
 
 /// A part of a Set. Its bytes lie where they came. A later part has a transfer handle, which counts the bytes before it.
-#[derive(Debug, Drop)]
+#[derive(Drop)]
 pub enum SetPart<'a> {
     Start(Rest<'a>),
     Middle(u32, Rest<'a>),

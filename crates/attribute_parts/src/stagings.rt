@@ -18,7 +18,7 @@ use two_wire::code::{PLDM_ERROR, PLDM_INVALID_ATTRIBUTE, PLDM_INVALID_DATA};
 pub const MOST_STAGINGS: usize = 8;
 
 /// What a requester has staged of an entry.
-#[derive(Debug, Drop)]
+#[derive(Drop)]
 pub struct Staging {
     /// The requester, by its byte.
     pub from: u8,

@@ -15,7 +15,7 @@ use std::time::{Clock, Duration, Instant};
 use two_wire::Code;
 
 /// A seat at a board that nobody shares: the board's history gains what the seat asks.
-#[derive(Debug, Drop)]
+#[derive(Drop)]
 struct Recorder<J> {
     seat: u8,
     of: PhantomData<J>,

@@ -17,7 +17,7 @@ const MOST_HANDLES: usize = 510;
 const NUMBERS: usize = 28;
 
 /// What an entry says of an enumeration. Both lie where they are read from.
-#[derive(Debug, Drop)]
+#[derive(Drop)]
 pub struct EnumerationFields<'a> {
     /// The handles of the possible values, two bytes each.
     pub values: Data<'a, { MOST_HANDLES }>,
@@ -26,7 +26,7 @@ pub struct EnumerationFields<'a> {
 }
 
 /// What an entry says of a string.
-#[derive(Debug, Drop)]
+#[derive(Drop)]
 pub struct TextFields<'a> {
     /// How its bytes are characters.
     pub string_type: u8,
@@ -37,7 +37,7 @@ pub struct TextFields<'a> {
 }
 
 /// What an entry says of an integer.
-#[derive(Clone, Copy, Debug, PartialEq, Eq)]
+#[derive(Clone, Copy, PartialEq, Eq)]
 pub struct IntegerFields {
     pub lower: u64,
     pub upper: u64,
@@ -46,7 +46,7 @@ pub struct IntegerFields {
 }
 
 /// What an entry says of the attribute's kind.
-#[derive(Debug, Drop)]
+#[derive(Drop)]
 pub enum KindFields<'a> {
     Enumeration(EnumerationFields<'a>),
     Text(TextFields<'a>),
@@ -54,7 +54,7 @@ pub enum KindFields<'a> {
 }
 
 /// An attribute's handle, whether it can only be read, the handle of its name, and what is said of its kind.
-#[derive(Debug, Drop)]
+#[derive(Drop)]
 pub struct AttributeEntry<'a> {
     pub attribute: u16,
     pub read_only: bool,

@@ -1,7 +1,7 @@
 //! Which tables there are.
 
 /// A table that tells of a board's attributes, by its number.
-#[derive(Clone, Copy, Debug, PartialEq, Eq)]
+#[derive(Clone, Copy, PartialEq, Eq)]
 pub enum BiosTable {
     /// The texts of names and possible values.
     Strings = 0,

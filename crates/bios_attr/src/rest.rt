@@ -2,7 +2,7 @@
 use std::marker::Model;
 
 /// The bytes behind what was read.
-#[derive(Debug, Drop)]
+#[derive(Drop)]
 pub struct Rest<'a> {
     bytes: &'a [u8],
 }

@@ -7,7 +7,7 @@ use record_base::attribute_sizes::LONGEST_TEXT;
 use two_wire::{Buffer, Data};
 
 /// A string's handle, and its text. The text lies where it is read from.
-#[derive(Debug, Drop)]
+#[derive(Drop)]
 pub struct StringEntry<'a> {
     pub handle: u16,
     pub text: Data<'a, { LONGEST_TEXT }>,

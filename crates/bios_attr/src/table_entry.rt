@@ -9,7 +9,7 @@ use crate::string_entry::{StringEntry, string_at};
 use crate::value_entry::{ValueEntry, value_at};
 
 /// An entry of a table.
-#[derive(Debug, Drop)]
+#[derive(Drop)]
 pub enum TableEntry<'a> {
     /// Of the string table.
     String(StringEntry<'a>),

@@ -13,7 +13,7 @@ use two_wire::Buffer;
 pub const READ_ONLY_BIT: u8 = 0x80;
 
 /// An attribute's handle, its type, and its value. The value tells the type, but for whether the attribute can only be read.
-#[derive(Debug, Drop)]
+#[derive(Drop)]
 pub struct ValueEntry<'a> {
     pub attribute: u16,
     pub read_only: bool,

@@ -35,7 +35,7 @@ pub fn answer_here<S: Store, B: Reply>(
 }
 
 /// Has a board carry out whatever it is asked, with no history.
-#[derive(Clone, Copy, Debug)]
+#[derive(Clone, Copy)]
 pub struct Alone<S> {
     of: PhantomData<S>,
 }

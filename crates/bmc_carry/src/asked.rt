@@ -10,7 +10,7 @@ use two_wire::size::{MOST_IPMI_REQUEST_DATA, MOST_PLDM_REQUEST_DATA};
 use two_wire::{Below, Code, Data, Lun, NetFn};
 
 /// A request, and who sent it, as in `Asked`. Its data lie where they came.
-#[derive(Debug, Drop)]
+#[derive(Drop)]
 pub enum AskedHere<'a> {
     /// IPMI: network function, logical unit of the controller, command and data.
     Ipmi {

@@ -7,7 +7,7 @@ ghost use Rattle.bmc_check.specs.Looks.{begins, is_digit, is_silent, is_number, 
 use std::alloc::{AllocError, Global};
 
 /// What a text looks like.
-#[derive(Clone, Copy, Debug, PartialEq, Eq)]
+#[derive(Clone, Copy, PartialEq, Eq)]
 pub enum Looks {
     /// An undo text.
     Undo,

@@ -14,7 +14,7 @@ use text_fields::{Field, LanField, Row};
 use toml::{Table, Value};
 
 /// A table of a file.
-#[derive(Clone, Copy, Debug)]
+#[derive(Clone, Copy)]
 struct Spot<'a> {
     /// The file's name.
     name: &'a str,

@@ -65,7 +65,7 @@ pub enum Done {
 }
 
 /// At most four frames, in the order in which they are to be sent.
-#[derive(Debug, Drop)]
+#[derive(Drop)]
 pub struct Frames {
     pub(crate) list: ArrayVec<Frame, 4>,
 }
@@ -107,7 +107,7 @@ impl Frames {
 }
 
 /// What a port sends, and what it did. A port overwrites all of it, so one `Out` serves for many calls.
-#[derive(Debug, Drop)]
+#[derive(Drop)]
 pub struct Out {
     pub frames: Frames,
     pub done: Done,

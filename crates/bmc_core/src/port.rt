@@ -19,14 +19,14 @@ use std::alloc::{AllocError, Global};
 use two_wire::{Address, Bus};
 
 /// Where the controller is on a bus: its two-wire address, and the EID that its endpoint begins with, which a port on IPMB ignores.
-#[derive(Clone, Copy, Debug, PartialEq, Eq)]
+#[derive(Clone, Copy, PartialEq, Eq)]
 pub struct At {
     pub wire: Address,
     pub eid: EndpointId,
 }
 
 /// A request that waits for an answer of the board, as a port of its bus heard it.
-#[derive(Debug, Drop)]
+#[derive(Drop)]
 pub enum Pending {
     Ipmb(IpmbPending),
     Smbus(SmbusPending),

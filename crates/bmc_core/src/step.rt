@@ -1,7 +1,7 @@
 //! What comes of what a port heard, apart from the board.
 
 /// What is to be done next.
-#[derive(Debug, Drop)]
+#[derive(Drop)]
 pub enum Step<P> {
     /// A request is to be carried out. The caller gives this back with the answer. Where it is dropped, the request
     /// counts as not carried out.
@@ -11,7 +11,7 @@ pub enum Step<P> {
 }
 
 /// What came of bytes that a port heard with a carrier beside it. The caller's `Out` says what the port did.
-#[derive(Clone, Copy, Debug, PartialEq, Eq)]
+#[derive(Clone, Copy, PartialEq, Eq)]
 pub enum Served {
     /// The bytes were a new request, and the carrier carried it out.
     CarriedOut,

@@ -21,7 +21,7 @@ use two_wire::size::{MOST_PLDM_REPLY_DATA, MOST_PLDM_REQUEST_DATA};
 const MOST_BYTES: usize = MOST_PLDM_REQUEST_DATA + MOST_PLDM_REPLY_DATA;
 
 /// Events in order.
-#[derive(Debug, Drop)]
+#[derive(Drop)]
 pub struct Events {
     marks: Vec<Mark>,
     /// How many of the bytes are those of events. The others have no meaning.
@@ -147,7 +147,7 @@ impl Events {
 }
 
 /// Calls in order: the events of a seat, which keeps its number itself.
-#[derive(Debug, Drop)]
+#[derive(Drop)]
 pub struct Calls {
     events: Events,
 }

@@ -7,7 +7,7 @@ use crate::event::{Call, Event};
 use std::marker::Model;
 
 /// What was asked of a board and answered, in order.
-#[derive(Debug, Drop)]
+#[derive(Drop)]
 pub struct History {
     events: Events,
 }

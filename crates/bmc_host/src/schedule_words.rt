@@ -14,7 +14,7 @@ use lab_schedule::{Chances, Links, Percent, Wanted};
 use std::alloc::{AllocError, Global};
 
 /// What the words of `bmclab schedule` ask for.
-#[derive(Debug, Drop)]
+#[derive(Drop)]
 pub struct ScheduleWords {
     pub wanted: Wanted,
     /// The word of the board file.
@@ -24,7 +24,7 @@ pub struct ScheduleWords {
 }
 
 /// The options by which a schedule is drawn, each where it is given.
-#[derive(Clone, Copy, Debug, PartialEq, Eq)]
+#[derive(Clone, Copy, PartialEq, Eq)]
 pub struct Options {
     pub lose: Option<Percent>,
     pub repeat: Option<Percent>,

@@ -19,7 +19,7 @@ use std::alloc::{AllocError, Global};
 use two_wire::Bus;
 
 /// What the words ask for.
-#[derive(Debug, Drop)]
+#[derive(Drop)]
 pub enum Words {
     Frame(FrameWords),
     Play(PlayWords),
@@ -28,7 +28,7 @@ pub enum Words {
 }
 
 /// What the words of `bmclab frame` ask for.
-#[derive(Debug, Drop)]
+#[derive(Drop)]
 pub struct FrameWords {
     /// The word of the board file, where one is given.
     pub board: Option<String>,
@@ -36,7 +36,7 @@ pub struct FrameWords {
 }
 
 /// What the words of `bmclab play` ask for.
-#[derive(Debug, Drop)]
+#[derive(Drop)]
 pub struct PlayWords {
     /// How the play is shown.
     pub shown: Shown,
@@ -49,7 +49,7 @@ pub struct PlayWords {
 }
 
 /// What the words of `bmclab check` ask for.
-#[derive(Debug, Drop)]
+#[derive(Drop)]
 pub struct CheckWords {
     /// The words of the files, at least one.
     pub files: Vec<String>,

@@ -15,7 +15,7 @@ pub enum Stream {
 
 /// The writers of standard output and standard error, and a note of whether a write to one of them failed. Only a failed write sets
 /// that note.
-#[derive(Debug, Drop)]
+#[derive(Drop)]
 pub struct Console<W, E> {
     pub out: W,
     pub err: E,

@@ -10,7 +10,7 @@ use std::alloc::AllocError;
 use std::io;
 
 /// What a run writes, where it writes it, and the status that it ends with where all of that was written.
-#[derive(Debug, Drop)]
+#[derive(Drop)]
 pub struct Ending<'a> {
     pub stream: Stream,
     pub text: &'a [u8],

@@ -11,7 +11,7 @@ use text_board::FileFault;
 use two_wire::Frame;
 
 /// The lines that a run writes, where it writes them, and how it ends.
-#[derive(Debug, Drop)]
+#[derive(Drop)]
 pub struct Report {
     pub stream: Stream,
     pub text: String,

@@ -2,7 +2,7 @@
 use two_wire::Frame;
 
 /// What `next` answers.
-#[derive(Debug, PartialEq, Eq, Drop)]
+#[derive(PartialEq, Eq, Drop)]
 pub enum Heard {
     /// A frame came, which may be no frame of any bus.
     Frame(Frame),

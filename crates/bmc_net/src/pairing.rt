@@ -29,7 +29,7 @@ use std::thread::Threads;
 use undo_plans::Plan;
 
 /// What the words of `bmcnet pair` ask for.
-#[derive(Debug, Drop)]
+#[derive(Drop)]
 pub struct PairWords {
     /// The word of the board file.
     pub board: String,
@@ -47,7 +47,7 @@ struct Texts {
 }
 
 /// What is told of a pair: the manager's phases, and how many records changed, where the serving came to an end.
-#[derive(Clone, Copy, Debug)]
+#[derive(Clone, Copy)]
 struct Account {
     phases: Phases,
     changed: Option<usize>,

@@ -21,7 +21,7 @@ use std::thread::Threads;
 use undo_core::{Manager, Phase};
 
 /// The manager's phases: once it ran its plan, and once it undid it.
-#[derive(Clone, Copy, Debug, PartialEq, Eq)]
+#[derive(Clone, Copy, PartialEq, Eq)]
 pub(crate) struct Phases {
     pub run: Phase,
     pub undone: Phase,

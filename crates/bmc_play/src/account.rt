@@ -14,7 +14,7 @@ use undo_core::Phase;
 use undo_plans::Requests;
 
 /// What is told of a play, after its last event or before the one that the lab didn't take.
-#[derive(Clone, Copy, Debug)]
+#[derive(Clone, Copy)]
 pub struct Account<'a> {
     /// The manager's phase.
     pub phase: Phase,

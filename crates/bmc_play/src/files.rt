@@ -11,7 +11,7 @@ use std::alloc::Global;
 use std::io;
 
 /// The words that name the files of a play.
-#[derive(Clone, Copy, Debug)]
+#[derive(Clone, Copy)]
 pub struct PlayFiles<'a> {
     /// That of the board file.
     pub board: &'a str,

@@ -2,7 +2,7 @@
 use two_wire::{Below, Data};
 
 /// A request of one of `NUMBERS` numbers.
-#[derive(Debug, Drop)]
+#[derive(Drop)]
 pub struct Request<'a, const NUMBERS: u8> {
     /// Who asks: an address of IPMB, or an EID.
     pub requester: u8,
@@ -15,7 +15,7 @@ pub struct Request<'a, const NUMBERS: u8> {
 }
 
 /// What is to be done with a request.
-#[derive(Debug, Drop)]
+#[derive(Drop)]
 pub enum Found<'a, const CAP: usize> {
     /// It is answered by the reply of the request that it repeats.
     Repeats(Data<'a, CAP>),

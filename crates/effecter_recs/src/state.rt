@@ -24,7 +24,7 @@ const GET_STATE_EFFECTER_STATES: u8 = 0x3A;
 
 /// The states that the effecter's fields can be in, and whether a Set can set the effecter: the effecter itself, borrowed from the
 /// board file.
-#[derive(Debug, Drop)]
+#[derive(Drop)]
 pub struct StateLimits<'f> {
     effecter: &'f StateEffecter,
 }

@@ -26,7 +26,7 @@ pub struct Header {
 }
 
 /// A request to carry a command out.
-#[derive(Debug, Drop)]
+#[derive(Drop)]
 pub struct Request<'a> {
     pub header: Header,
     /// The command's data.
@@ -34,7 +34,7 @@ pub struct Request<'a> {
 }
 
 /// The response to a request, whose header it has.
-#[derive(Debug, Drop)]
+#[derive(Drop)]
 pub struct Response<'a> {
     pub header: Header,
     /// The completion code. 00h stands for success.
@@ -59,7 +59,7 @@ pub struct Response<'a> {
 /// Each logical unit (LUN) belongs to the address before it. A response's netFn is the request's, which is even, plus 1.
 /// Bytes 0 to 2 add up to 0 modulo 256, and so do those from byte 3 to the last. Bit 0 of an address is clear. A frame has
 /// at most 32 bytes.
-#[derive(Debug, Drop)]
+#[derive(Drop)]
 pub enum Msg<'a> {
     Request(Request<'a>),
     Response(Response<'a>),

@@ -13,7 +13,7 @@ use two_wire::Frame;
 pub const MOST_FRAMES: usize = 65_536;
 
 /// A frame that was sent.
-#[derive(Debug, Drop)]
+#[derive(Drop)]
 pub struct SentFrame {
     pub way: Way,
     /// Its bus, and what tells how old it is.
@@ -22,7 +22,7 @@ pub struct SentFrame {
 }
 
 /// All frames that were sent, each at its number. Memory is taken as they come.
-#[derive(Debug, Drop)]
+#[derive(Drop)]
 pub struct Frames {
     items: Vec<SentFrame>,
 }

@@ -20,7 +20,7 @@ pub struct Mark {
 }
 
 /// What tells on a bus which frames are too old.
-#[derive(Clone, Copy, Debug, PartialEq, Eq)]
+#[derive(Clone, Copy, PartialEq, Eq)]
 pub struct Known {
     /// How many requests the manager began there.
     pub begun: usize,

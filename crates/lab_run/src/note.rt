@@ -5,7 +5,7 @@ use two_wire::Bus;
 use undo_core::Phase;
 
 /// A frame that came to an end.
-#[derive(Clone, Copy, Debug, PartialEq, Eq)]
+#[derive(Clone, Copy, PartialEq, Eq)]
 pub struct Came {
     /// The bus that it came over.
     pub on: Bus,
@@ -14,7 +14,7 @@ pub struct Came {
 }
 
 /// What is noted of an event that happened.
-#[derive(Clone, Copy, Debug)]
+#[derive(Clone, Copy)]
 pub struct Note<'a> {
     pub event: &'a Event,
     /// The frame that it delivered.

@@ -9,7 +9,7 @@ use two_wire::Below;
 pub type Percent = Below<101>;
 
 /// What may happen on buses that are honest, and how often.
-#[derive(Clone, Copy, Debug, PartialEq, Eq)]
+#[derive(Clone, Copy, PartialEq, Eq)]
 pub struct Chances {
     /// A frame is lost.
     pub lose: Percent,
@@ -26,7 +26,7 @@ pub struct Chances {
 }
 
 /// A generator of numbers.
-#[derive(Debug, Drop)]
+#[derive(Drop)]
 pub(crate) struct Dice {
     rng: SplitMix64,
 }

@@ -31,7 +31,7 @@ pub(crate) fn delivery(frames: &[SentFrame], number: u32) -> Option<Event>
 }
 
 /// What came of an event that was offered.
-#[derive(Clone, Copy, Debug, PartialEq, Eq)]
+#[derive(Clone, Copy, PartialEq, Eq)]
 pub(crate) enum Offer {
     /// It happened.
     Taken,

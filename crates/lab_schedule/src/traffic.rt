@@ -16,7 +16,7 @@ const MOST_PAST: u32 = 4;
 const MOST_NUMBER: u32 = 1_000_000;
 
 /// A frame that lets others past.
-#[derive(Clone, Copy, Debug)]
+#[derive(Clone, Copy)]
 struct Held {
     number: u32,
     /// So many frames still come before it.
@@ -24,7 +24,7 @@ struct Held {
 }
 
 /// The frames that are on their way, what is drawn, and where the schedule stands.
-#[derive(Debug, Drop)]
+#[derive(Drop)]
 pub(crate) struct Traffic {
     dice: Dice,
     chances: Chances,

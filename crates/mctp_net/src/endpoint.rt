@@ -10,7 +10,7 @@ use two_wire::circles::INSTANCES;
 
 /// An endpoint's own identifier. 00h stands for any endpoint, 01h to 07h are reserved, and FFh is broadcast (DSP0236,
 /// "Special endpoint IDs").
-#[derive(Clone, Copy, Debug, PartialEq, Eq)]
+#[derive(Clone, Copy, PartialEq, Eq)]
 pub struct EndpointId {
     byte: u8,
 }
@@ -49,7 +49,7 @@ impl EndpointId {
 }
 
 /// An endpoint.
-#[derive(Clone, Copy, Debug, PartialEq, Eq)]
+#[derive(Clone, Copy, PartialEq, Eq)]
 pub struct Endpoint {
     eid: EndpointId,
 }

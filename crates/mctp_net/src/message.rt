@@ -3,7 +3,7 @@ use crate::{Envelope, SomeData};
 use two_wire::size::MOST_MESSAGE_BYTES;
 
 /// A message: its first byte is its type, 00h for control and 01h for PLDM (DSP0239, "MCTP message type codes").
-#[derive(Debug, Drop)]
+#[derive(Drop)]
 pub struct Message<'a> {
     pub envelope: Envelope,
     /// All bytes of the message, the type first, where they lie.

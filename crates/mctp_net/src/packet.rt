@@ -18,7 +18,7 @@ pub const UNIT_SIZE: usize = 64;
 pub type Payload<'a> = SomeData<'a, { UNIT_SIZE }>;
 
 /// What tells the messages that are put together at one time apart.
-#[derive(Clone, Copy, Debug, PartialEq, Eq)]
+#[derive(Clone, Copy, PartialEq, Eq)]
 pub struct Name {
     /// The endpoint from which the message comes.
     pub source_eid: u8,

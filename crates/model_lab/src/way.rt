@@ -1,7 +1,7 @@
 //! To whom frames go.
 
 /// To whom a frame goes.
-#[derive(Clone, Copy, Debug, PartialEq, Eq)]
+#[derive(Clone, Copy, PartialEq, Eq)]
 pub enum Way {
     ToPort,
     ToManager,

@@ -14,7 +14,7 @@ use host_base::{Refusal, given, has_flag, lacking, named, refusal_by, refusal_of
 use std::alloc::{AllocError, Global};
 
 /// What the words ask for.
-#[derive(Debug, Drop)]
+#[derive(Drop)]
 pub enum Words {
     Serve(ServeWords),
     Run(RunWords),

@@ -9,7 +9,7 @@ use text_undo::write_undo;
 use undo_plans::UndoList;
 
 /// The words that name the file of an undo text and the two beside it.
-#[derive(Debug, Drop)]
+#[derive(Drop)]
 pub(crate) struct Beside<'a> {
     /// The word of the file that gets the undo text, once it is over.
     pub undo: &'a str,

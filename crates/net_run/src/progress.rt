@@ -11,7 +11,7 @@ use undo_core::Phase;
 use undo_plans::Steps;
 
 /// Where a manager is, as a line tells it.
-#[derive(Clone, Copy, Debug, PartialEq, Eq)]
+#[derive(Clone, Copy, PartialEq, Eq)]
 pub struct Moment {
     pub phase: Phase,
     /// How often the open request was sent again.
@@ -19,7 +19,7 @@ pub struct Moment {
 }
 
 /// What lies before a manager.
-#[derive(Clone, Copy, Debug)]
+#[derive(Clone, Copy)]
 pub(crate) struct Course<'a> {
     /// How many steps it does, or undoes.
     pub steps: usize,
@@ -28,7 +28,7 @@ pub(crate) struct Course<'a> {
 }
 
 /// A line that is written over again and again, where its writer is a terminal.
-#[derive(Debug, Drop)]
+#[derive(Drop)]
 pub struct Progress<P> {
     pub writer: P,
     /// Whether it is written: the writer is a terminal, and no write to it failed.

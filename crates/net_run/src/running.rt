@@ -33,7 +33,7 @@ use undo_core::{Manager, Phase};
 use undo_plans::Plan;
 
 /// What the words of `bmcnet run` ask for.
-#[derive(Debug, Drop)]
+#[derive(Drop)]
 pub struct RunWords {
     /// The word of the plan.
     pub plan: String,

@@ -24,7 +24,7 @@ use undo_core::{Manager, Phase};
 use undo_plans::UndoList;
 
 /// What the words of `bmcnet undo` ask for.
-#[derive(Debug, Drop)]
+#[derive(Drop)]
 pub struct UndoWords {
     /// The word of the undo text.
     pub undo: String,

@@ -28,7 +28,7 @@ use text_board::{FileFault, read_board};
 pub const WAIT_MS: u32 = 200;
 
 /// What the words of `bmcnet serve` ask for.
-#[derive(Debug, Drop)]
+#[derive(Drop)]
 pub struct ServeWords {
     /// The word of the board file.
     pub board: String,

@@ -37,7 +37,7 @@ pub fn begin(alloc: Global, file: BoardFile) -> Result<Begun, AllocError>
 }
 
 /// How many events the histories of a board have, and how many records are no longer what they were at its start.
-#[derive(Clone, Copy, Debug, PartialEq, Eq)]
+#[derive(Clone, Copy, PartialEq, Eq)]
 pub struct Tally {
     pub events: usize,
     pub changed: usize,

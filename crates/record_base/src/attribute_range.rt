@@ -7,7 +7,7 @@ use crate::attribute_sizes::{MOST_INDEXES, MOST_TEXT};
 use crate::attribute_value::{AttributeValue, ENUMERATION_TYPE, INTEGER_TYPE, STRING_TYPE};
 
 /// How many possible values an enumeration has.
-#[derive(Clone, Copy, Debug, PartialEq, Eq)]
+#[derive(Clone, Copy, PartialEq, Eq)]
 pub struct PossibleValues {
     pub count: u8,
     ghost few: { count ≤ most_indexes },
@@ -30,7 +30,7 @@ pub struct IntegerSteps {
 }
 
 /// Which values an attribute can have.
-#[derive(Clone, Copy, Debug, PartialEq, Eq)]
+#[derive(Clone, Copy, PartialEq, Eq)]
 pub enum AttributeRange {
     Enumeration(PossibleValues),
     Text(TextLengths),

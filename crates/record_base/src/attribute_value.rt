@@ -15,7 +15,7 @@ pub const STRING_TYPE: u8 = 0x01;
 pub const INTEGER_TYPE: u8 = 0x03;
 
 /// The value of an attribute. Its bytes may be borrowed.
-#[derive(Debug, Drop)]
+#[derive(Drop)]
 pub enum AttributeValue<'a> {
     /// The indexes of the possible values that an enumeration has.
     Indexes(Data<'a, { MOST_COUNTED }>),

@@ -7,7 +7,7 @@ use two_wire::Data;
 
 /// Sets the value of an attribute, by the bytes of the request's entry: the attribute, its type, and the value. The operation borrows
 /// the value's bytes where they lie, in a request or in a reply.
-#[derive(Debug, Drop)]
+#[derive(Drop)]
 pub struct SetBiosAttribute<'a> {
     pub attribute: u16,
     pub attribute_type: u8,

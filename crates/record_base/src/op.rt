@@ -2,7 +2,7 @@
 use crate::*;
 
 /// A change of one record, as a request asks for it: any bytes that the request may carry. The value of an attribute lies where it came.
-#[derive(Debug, Drop)]
+#[derive(Drop)]
 pub enum Op<'a> {
     Thresholds(SetThresholds),
     Hysteresis(SetHysteresis),

@@ -7,7 +7,7 @@ use std::marker::Model;
 use two_wire::Bytes;
 
 /// Where the bytes of such a value lie.
-#[derive(Debug, Drop)]
+#[derive(Drop)]
 enum StartBytes {
     /// A few, in the value itself.
     Few(Bytes<{ MOST_FEW }>),
@@ -17,7 +17,7 @@ enum StartBytes {
 
 /// The value that a record begins with. A few bytes lie in it itself, so that a list of such values is short, and a text has memory of
 /// its own.
-#[derive(Debug, Drop)]
+#[derive(Drop)]
 pub struct StartValue {
     bytes: StartBytes,
 }

@@ -14,7 +14,7 @@ use watch_boot::*;
 
 /// A kind of record with one command to show a record and one command to change it. Each command names the record and the change by its
 /// data alone, and any data name some.
-#[derive(Clone, Copy, Debug, PartialEq, Eq)]
+#[derive(Clone, Copy, PartialEq, Eq)]
 pub enum PlainKind {
     Thresholds,
     Hysteresis,
@@ -55,7 +55,7 @@ macro_rules! of_each_plain_kind {
 }
 
 /// The limits of one record. Limits that are a table lie in the board file.
-#[derive(Debug, Drop)]
+#[derive(Drop)]
 pub enum Limits<'f> {
     Thresholds(ThresholdLimits),
     Hysteresis(HysteresisLimits),

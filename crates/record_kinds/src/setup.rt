@@ -19,7 +19,7 @@ pub mod lans;
 const NOWHERE: u8 = 255;
 
 /// A board file, in which a sensor is found by its number in one step. The file lies in memory of its own.
-#[derive(Debug, Drop)]
+#[derive(Drop)]
 pub struct Setup {
     file: Box<BoardFile>,
     /// For each number, where in the file its sensor stands.

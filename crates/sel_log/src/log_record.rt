@@ -18,7 +18,7 @@ pub fn record_size_is_the_definition()
 
 /// The bytes of a record: its id in two bytes, its type, and 13 bytes whose first four are its time where its type has one.
 /// Numbers have their lowest byte first.
-#[derive(Debug, Drop)]
+#[derive(Drop)]
 pub struct LogRecord {
     bytes: Bytes<{ RECORD_SIZE }>,
 }

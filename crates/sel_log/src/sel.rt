@@ -33,7 +33,7 @@ pub enum SelFault {
 }
 
 /// A record, and the id of the one behind it.
-#[derive(Debug, Drop)]
+#[derive(Drop)]
 pub struct Entry<'a> {
     pub kept: &'a LogRecord,
     /// FFFFh where no record is behind it.

@@ -4,7 +4,7 @@ ghost use Rattle.std.specs.Prelude.{◌≡◌, length};
 use record_base::{EventMasks, Hysteresis, ThresholdMasks};
 
 /// The thresholds and the hysteresis to which a sensor compares its readings, and the events that count.
-#[derive(Clone, Copy, Debug)]
+#[derive(Clone, Copy)]
 pub struct Compared {
     pub masks: ThresholdMasks,
     /// One at each place: lower non-critical, lower critical, lower non-recoverable, upper non-critical, upper critical, upper

@@ -19,7 +19,7 @@ const GET_SENSOR_HYSTERESIS: u8 = 0x25;
 const HYSTERESIS_MASK: u8 = 0xFF;
 
 /// A Set can set any hysteresis.
-#[derive(Clone, Copy, Debug, PartialEq, Eq)]
+#[derive(Clone, Copy, PartialEq, Eq)]
 pub struct HysteresisLimits;
 
 impl HysteresisLimits {

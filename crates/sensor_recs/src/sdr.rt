@@ -11,7 +11,7 @@ use std::alloc::{AllocError, Global};
 use std::marker::Model;
 
 /// A record, and the id of the next record.
-#[derive(Debug, Drop)]
+#[derive(Drop)]
 pub struct SdrEntry<'a> {
     pub kept: &'a SdrRecord,
     /// FFFFh behind the last record.

@@ -24,7 +24,7 @@ const EVENT_FORMAT: u8 = 0x04;
 
 /// The last reading of each sensor, if the sensor has one. Contracts see a list with a place for each number of a sensor. It takes
 /// all its memory when it is made.
-#[derive(Debug, Drop)]
+#[derive(Drop)]
 pub struct Readings {
     items: Vec<Option<Taken>>,
 }

@@ -1,7 +1,7 @@
 //! The first words of lines.
 
 /// What a line begins with: what comes to the board or to a port of its.
-#[derive(Clone, Copy, Debug, PartialEq, Eq)]
+#[derive(Clone, Copy, PartialEq, Eq)]
 pub enum Word {
     /// A line of the board's file.
     Board,

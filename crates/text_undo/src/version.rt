@@ -8,7 +8,7 @@ use text_lines::behind;
 use undo_plans::Names;
 
 /// The version of a text.
-#[derive(Clone, Copy, Debug, PartialEq, Eq)]
+#[derive(Clone, Copy, PartialEq, Eq)]
 pub enum Version {
     /// The text has no names.
     One,

@@ -14,7 +14,7 @@ use std::marker::Model;
 const MOST_SHOWN: usize = BEFORE_PART + MOST_ENTRY;
 
 /// The data that replies to a Get show together: those of a whole entry, as far as its parts came. Their memory is taken once.
-#[derive(Debug, Drop)]
+#[derive(Drop)]
 pub struct JoinedReplies {
     bytes: Vec<u8>,
 }

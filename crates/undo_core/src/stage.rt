@@ -12,7 +12,7 @@ use cfg_records::Asked;
 use two_wire::{Bus, Code};
 
 /// One step of the way there or back.
-#[derive(Clone, Copy, Debug)]
+#[derive(Clone, Copy)]
 pub enum Task {
     /// It gets the record that the step changes.
     Gets(usize),
@@ -23,7 +23,7 @@ pub enum Task {
 }
 
 /// How far a manager is.
-#[derive(Debug, Drop)]
+#[derive(Drop)]
 pub enum Stage {
     AtStart,
     /// A task's request is open, after so many others of the task that were answered. Where it isn't heeded, no reply to it is taken.

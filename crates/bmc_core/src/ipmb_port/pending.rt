@@ -16,7 +16,7 @@ use two_wire::size::MOST_IPMI_REQUEST_DATA;
 use two_wire::{Bytes, Data};
 
 /// A request, where it lies in its frame.
-#[derive(Debug, Drop)]
+#[derive(Drop)]
 pub(super) struct RequestInFrame<'a> {
     request: Request<'a>,
     /// Its bytes behind the first that is compared.
@@ -94,7 +94,7 @@ impl<'a> RequestInFrame<'a> {
 }
 
 /// A request that waits for an answer of the board, and isn't kept yet. Contracts see it as that request.
-#[derive(Debug, Drop)]
+#[derive(Drop)]
 pub struct IpmbPending {
     header: Header,
     /// The command's data.

@@ -20,7 +20,7 @@ use two_wire::{Bytes, Data};
 const REQUEST: u8 = 0x80;
 
 /// A request of PLDM, where it lies in its message.
-#[derive(Debug, Drop)]
+#[derive(Drop)]
 pub(super) struct RequestInMessage<'a> {
     /// The envelope of its message.
     pub envelope: Envelope,
@@ -100,7 +100,7 @@ impl<'a> RequestInMessage<'a> {
 }
 
 /// A request that waits for an answer of the board. The caller gives it back to the port together with that answer.
-#[derive(Debug, Drop)]
+#[derive(Drop)]
 pub struct SmbusPending {
     /// The envelope of the message, which says where the reply goes.
     envelope: Envelope,
