@@ -1,5 +1,6 @@
 //! The boards that stories are told of.
-use cfg_records::{BoardFile, sample_board};
+use cfg_records::{BoardFile, Sensors, sample_board};
+use record_base::Attributes;
 use std::alloc::{AllocError, Global};
 use text_board::{FileFault, TOP, read_board};
 
@@ -124,13 +125,18 @@ fn sample_of(alloc: Global) -> Result<BoardFile, FileFault> {
     }
 }
 
-/// Gives the board the sample board's sensors and attributes where the story gives none.
-fn fill_up(file: &mut BoardFile, sample: BoardFile, story: &str) {
+/// The sensors and attributes of the sample board.
+fn filling_of(alloc: Global) -> Result<(Sensors, Attributes), FileFault> {
     let BoardFile {
         sensors,
         attributes,
         ..
-    } = sample;
+    } = sample_of(alloc)?;
+    Ok((sensors, attributes))
+}
+
+/// Gives the board the sensors and the attributes where the story gives none.
+fn fill_up(file: &mut BoardFile, sensors: Sensors, attributes: Attributes, story: &str) {
     if !is_given(story, "sensor") {
         file.sensors = sensors;
     }
@@ -141,16 +147,13 @@ fn fill_up(file: &mut BoardFile, sample: BoardFile, story: &str) {
 
 /// The board of this text, with what the sample board fills up.
 fn filled_up(alloc: Global, story: &str, text: &str) -> Result<BoardFile, FileFault> {
-    let mut file = read_board(alloc, text)?;
-    match sample_of(alloc) {
-        Ok(sample) => {
-            fill_up(&mut file, sample, story);
+    let (sensors, attributes) = filling_of(alloc)?;
+    match read_board(alloc, text) {
+        Ok(mut file) => {
+            fill_up(&mut file, sensors, attributes, story);
             Ok(file)
         }
-        Err(fault) => {
-            drop(file);
-            Err(fault)
-        }
+        Err(fault) => Err(fault),
     }
 }
 
