@@ -1,6 +1,6 @@
 //! The sample board.
 ghost use Rattle.std.specs.Prelude.{◌≡◌, [], ◌∷◌, IfOk, false};
-ghost use Rattle.cfg_records.specs.Sample.{IsSampleDevice, IsTemperature, IsFan, IsUnset, sample_record, IsSampleBoot, AreSampleUsers, AreSampleChannels, AreSampleAccesses, IsQuiet, IsAsset, IsDelay, AreSampleAttributes, IsSampleBoard};
+ghost use Rattle.cfg_records.specs.Sample.{IsSampleDevice, IsTemperature, IsFan, AreSampleSensors, IsUnset, sample_record, IsSampleBoot, AreSampleUsers, AreSampleChannels, AreSampleAccesses, IsQuiet, IsAsset, IsDelay, AreSampleAttributes, IsSampleBoard};
 
 use crate::board_file::BoardFile;
 use record_base::user_sizes::USER_NAME_SIZE;
@@ -120,6 +120,16 @@ fn sdr(alloc: Global) -> Result<SdrRecords, AllocError>
     Ok(Distinct::new(records).unwrap())
 }
 
+/// Its two sensors.
+fn sensors(alloc: Global) -> Result<Sensors, AllocError>
+    ensures { IfOk result (λ sensors. AreSampleSensors sensors.items) }
+{
+    let mut sensors = Vec::new(alloc);
+    sensors.push(temperature())?;
+    sensors.push(fan())?;
+    Ok(Distinct::new(sensors).unwrap())
+}
+
 /// Two users: the first has no name, and the second is the administrator.
 fn users(alloc: Global) -> Result<Users, AllocError>
     ensures { IfOk result (λ users. AreSampleUsers users.items) }
@@ -169,6 +179,27 @@ fn user_accesses(alloc: Global) -> Result<UserAccesses, AllocError>
         byte: 0x14,
     })?;
     Ok(Distinct::new(accesses).unwrap())
+}
+
+/// Its users, its channel, and what the users may do there.
+#[derive(Drop)]
+struct Accounts {
+    users: Users,
+    channels: Channels,
+    user_accesses: UserAccesses,
+}
+
+/// The users, the channel and the accesses of the sample board.
+fn sample_accounts(alloc: Global) -> Result<Accounts, AllocError>
+    ensures users { IfOk result (λ accounts. AreSampleUsers accounts.users.items) }
+    ensures channels { IfOk result (λ accounts. AreSampleChannels accounts.channels.items) }
+    ensures accesses { IfOk result (λ accounts. AreSampleAccesses accounts.user_accesses.items) }
+{
+    Ok(Accounts {
+        users: users(alloc)?,
+        channels: channels(alloc)?,
+        user_accesses: user_accesses(alloc)?,
+    })
 }
 
 /// A setting that is off or on: "Quiet", now off.
@@ -232,31 +263,58 @@ fn attributes(alloc: Global) -> Result<Attributes, AllocError>
     Ok(Attributes::new(attributes).unwrap())
 }
 
-/// The sample board, which the program takes where it is given no board file.
-pub fn sample_board(alloc: Global) -> Result<BoardFile, AllocError>
-    ensures { IfOk result IsSampleBoard }
+/// No items.
+fn no_items<T: Numbered + Drop, const MOST: usize>(alloc: Global) -> Distinct<T, MOST>
+    ensures { result.items ≡ [] }
 {
-    let mut sensors = Vec::new(alloc);
-    sensors.push(temperature())?;
-    sensors.push(fan())?;
-    Ok(BoardFile {
+    Distinct::new(Vec::new(alloc)).unwrap()
+}
+
+/// The sample board, of these parts and with no other lists.
+fn board_with(
+    alloc: Global,
+    sensors: Sensors,
+    sdr: SdrRecords,
+    attributes: Attributes,
+    accounts: Accounts,
+) -> BoardFile
+    requires sensors { AreSampleSensors sensors.items }
+    requires sdr { sdr.items ≡ sample_record ∷ [] }
+    requires users { AreSampleUsers accounts.users.items }
+    requires channels { AreSampleChannels accounts.channels.items }
+    requires accesses { AreSampleAccesses accounts.user_accesses.items }
+    requires attributes { AreSampleAttributes attributes.items }
+    ensures { IsSampleBoard result }
+{
+    BoardFile {
         tid: 5,
         device: device(),
-        sensors: Distinct::new(sensors).unwrap(),
+        sensors,
         policy: PowerPolicy { number: 1 },
         watchdog: unset_watchdog(),
         clock: 0,
         log: LogCapacity { records: 2 },
         enables: GlobalEnables { byte: 0x08 },
         boot: boot(),
-        sdr: sdr(alloc)?,
-        numeric_effecters: Distinct::new(Vec::new(alloc)).unwrap(),
-        state_effecters: Distinct::new(Vec::new(alloc)).unwrap(),
-        users: users(alloc)?,
-        channels: channels(alloc)?,
-        sessionless: Distinct::new(Vec::new(alloc)).unwrap(),
-        user_accesses: user_accesses(alloc)?,
-        attributes: attributes(alloc)?,
-        lans: Distinct::new(Vec::new(alloc)).unwrap(),
-    })
+        sdr,
+        numeric_effecters: no_items(alloc),
+        state_effecters: no_items(alloc),
+        users: accounts.users,
+        channels: accounts.channels,
+        sessionless: no_items(alloc),
+        user_accesses: accounts.user_accesses,
+        attributes,
+        lans: no_items(alloc),
+    }
+}
+
+/// The sample board, which the program takes where it is given no board file.
+pub fn sample_board(alloc: Global) -> Result<BoardFile, AllocError>
+    ensures { IfOk result IsSampleBoard }
+{
+    let sensors = sensors(alloc)?;
+    let sdr = sdr(alloc)?;
+    let attributes = attributes(alloc)?;
+    let accounts = sample_accounts(alloc)?;
+    Ok(board_with(alloc, sensors, sdr, attributes, accounts))
 }
