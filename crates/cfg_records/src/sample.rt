@@ -124,9 +124,7 @@ fn sdr(alloc: Global) -> Result<SdrRecords, AllocError>
 fn sensors(alloc: Global) -> Result<Sensors, AllocError>
     ensures { IfOk result (λ sensors. AreSampleSensors sensors.items) }
 {
-    let mut sensors = Vec::new(alloc);
-    sensors.push(temperature())?;
-    sensors.push(fan())?;
+    let sensors = vec![in alloc; temperature(), fan()]?;
     Ok(Distinct::new(sensors).unwrap())
 }
 
@@ -134,17 +132,17 @@ fn sensors(alloc: Global) -> Result<Sensors, AllocError>
 fn users(alloc: Global) -> Result<Users, AllocError>
     ensures { IfOk result (λ users. AreSampleUsers users.items) }
 {
-    let mut users = Vec::new(alloc);
-    users.push(User {
+    let nameless = User {
         number: UserNumber { number: 1 },
         name: [0; USER_NAME_SIZE],
-    })?;
-    users.push(User {
+    };
+    let administrator = User {
         number: UserNumber { number: 2 },
         name: [
             0x61, 0x64, 0x6D, 0x69, 0x6E, 0, 0, 0, 0, 0, 0, 0, 0, 0, 0, 0,
         ],
-    })?;
+    };
+    let users = vec![in alloc; nameless, administrator]?;
     Ok(Users::new(users).unwrap())
 }
 
@@ -169,15 +167,15 @@ fn channels(alloc: Global) -> Result<Channels, AllocError>
 fn user_accesses(alloc: Global) -> Result<UserAccesses, AllocError>
     ensures { IfOk result (λ accesses. AreSampleAccesses accesses.items) }
 {
-    let mut accesses = Vec::new(alloc);
-    accesses.push(UserAccess {
+    let nameless = UserAccess {
         on: UserOnChannel::of(1, 1),
         byte: 0x14,
-    })?;
-    accesses.push(UserAccess {
+    };
+    let administrator = UserAccess {
         on: UserOnChannel::of(1, 2),
         byte: 0x14,
-    })?;
+    };
+    let accesses = vec![in alloc; nameless, administrator]?;
     Ok(Distinct::new(accesses).unwrap())
 }
 
@@ -206,9 +204,10 @@ fn sample_accounts(alloc: Global) -> Result<Accounts, AllocError>
 fn quiet(alloc: Global) -> Result<AttributeKind, AllocError>
     ensures { IfOk result IsQuiet }
 {
-    let mut values = Vec::new(alloc);
-    values.push(Text::from_slice(&[0x6F, 0x66, 0x66]))?;
-    values.push(Text::from_slice(&[0x6F, 0x6E]))?;
+    let values = vec![in alloc;
+        Text::from_slice(&[0x6F, 0x66, 0x66]),
+        Text::from_slice(&[0x6F, 0x6E]),
+    ]?;
     let off = Indexes::from_slice(&[0]);
     let kind = EnumerationAttribute::new(values, off.copy(), off);
     Ok(AttributeKind::Enumeration(kind.unwrap()))
@@ -256,10 +255,10 @@ fn attribute(handle: u16, name: &[u8; 5], kind: AttributeKind) -> Attribute
 fn attributes(alloc: Global) -> Result<Attributes, AllocError>
     ensures { IfOk result (λ attributes. AreSampleAttributes attributes.items) }
 {
-    let mut attributes = Vec::new(alloc);
-    attributes.push(attribute(0, &[0x51, 0x75, 0x69, 0x65, 0x74], quiet(alloc)?))?;
-    attributes.push(attribute(1, &[0x41, 0x73, 0x73, 0x65, 0x74], asset(alloc)?))?;
-    attributes.push(attribute(2, &[0x44, 0x65, 0x6C, 0x61, 0x79], delay()))?;
+    let quiet = attribute(0, &[0x51, 0x75, 0x69, 0x65, 0x74], quiet(alloc)?);
+    let asset = attribute(1, &[0x41, 0x73, 0x73, 0x65, 0x74], asset(alloc)?);
+    let delay = attribute(2, &[0x44, 0x65, 0x6C, 0x61, 0x79], delay());
+    let attributes = vec![in alloc; quiet, asset, delay]?;
     Ok(Attributes::new(attributes).unwrap())
 }
 
