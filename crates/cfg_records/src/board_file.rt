@@ -46,9 +46,9 @@ pub struct BoardFile {
 }
 
 impl BoardFile {
-    ghost use Rattle.std.specs.Prelude.{◌≡◌, [], IfOk, OnOk};
+    ghost use Rattle.std.specs.Prelude.{◌≡◌, [], IfOk, OnOk, take, drop};
     ghost use Rattle.cfg_records.specs.Records.{KeysDiffer, LengthsFit};
-    ghost use Rattle.cfg_records.specs.Boards.{joined, effecter_kinds, access_kinds, item_kinds, attribute_pairs, pairs_of, sensor_kinds};
+    ghost use Rattle.cfg_records.specs.Boards.{joined, effecter_kinds, access_kinds, item_kinds, attribute_pairs, kinds_of, pairs_of, sensor_kinds};
 
     /// The records of its sensors: a line for each kind.
     fn sensor_records(&self, alloc: Global) -> Result<Vec<(Key, StartValue)>, AllocError>
@@ -74,21 +74,34 @@ impl BoardFile {
         numeric.chain(state).collect(alloc)
     }
 
-    /// The records of its users and channels: a line for each kind, and one for each store.
-    fn access_records(&self, alloc: Global) -> Result<Vec<(Key, StartValue)>, AllocError>
-        ensures { IfOk result (λ pairs. pairs.items ≡ joined [] (access_kinds self.now)) }
+    /// The records of its users: a line for each kind.
+    fn user_records(&self, alloc: Global) -> Result<Vec<(Key, StartValue)>, AllocError>
+        ensures { IfOk result (λ pairs. pairs.items ≡ joined [] (take 2 (access_kinds self.now))) }
     {
         let names = self.users.items.as_slice().iter().map(|u| u.pair());
         let accesses = self.user_accesses.items.as_slice();
         let accesses = accesses.iter().map(|a| a.pair());
+        names.chain(accesses).collect(alloc)
+    }
+
+    /// The records of its channels: a line for each store.
+    fn channel_records(&self, alloc: Global) -> Result<Vec<(Key, StartValue)>, AllocError>
+        ensures { IfOk result (λ pairs. pairs.items ≡ joined [] (drop 2 (access_kinds self.now))) }
+    {
         let channels = self.channels.items.as_slice();
         let non_volatile = channels.iter().map(|c| c.non_volatile_pair());
         let volatile = channels.iter().map(|c| c.volatile_pair());
-        names
-            .chain(accesses)
-            .chain(non_volatile)
-            .chain(volatile)
-            .collect(alloc)
+        non_volatile.chain(volatile).collect(alloc)
+    }
+
+    /// The records of its users and channels: a line for each kind, and one for each store.
+    fn access_records(&self, alloc: Global) -> Result<Vec<(Key, StartValue)>, AllocError>
+        ensures { IfOk result (λ pairs. pairs.items ≡ joined [] (access_kinds self.now)) }
+    {
+        let mut pairs = self.user_records(alloc)?;
+        let mut more = self.channel_records(alloc)?;
+        pairs.append(&mut more)?;
+        Ok(pairs)
     }
 
     /// The records of its items.
@@ -114,6 +127,20 @@ impl BoardFile {
         Ok(pairs)
     }
 
+    /// Adds the records that a board has once: the six kinds behind the nine of its items.
+    fn push_single(&self, pairs: &mut Vec<(Key, StartValue)>) -> Result<(), AllocError>
+        ensures { OnOk result
+            (pairs.new.items ≡ joined pairs.old.items (take 6 (drop 9 (kinds_of self.now)))) }
+    {
+        pairs.push(self.policy.pair())?;
+        pairs.push(self.watchdog.pair())?;
+        pairs.push(self.enables.pair())?;
+        pairs.push(self.boot.pair(BootParameter::ValidBitClearing))?;
+        pairs.push(self.boot.pair(BootParameter::InfoAcknowledge))?;
+        pairs.push(self.boot.pair(BootParameter::Flags))?;
+        Ok(())
+    }
+
     /// The keys of the board's records, each once, with the values that they begin with: kind after kind.
     pub fn records(&self, alloc: Global) -> Result<Vec<(Key, StartValue)>, AllocError>
         ensures pairs { IfOk result (λ pairs. pairs.items ≡ pairs_of self.now) }
@@ -121,12 +148,7 @@ impl BoardFile {
         ensures fit { OnOk result (LengthsFit (pairs_of self.now)) }
     {
         let mut pairs = self.item_records(alloc)?;
-        pairs.push(self.policy.pair())?;
-        pairs.push(self.watchdog.pair())?;
-        pairs.push(self.enables.pair())?;
-        pairs.push(self.boot.pair(BootParameter::ValidBitClearing))?;
-        pairs.push(self.boot.pair(BootParameter::InfoAcknowledge))?;
-        pairs.push(self.boot.pair(BootParameter::Flags))?;
+        self.push_single(&mut pairs)?;
         let mut more = self.attribute_records(alloc)?;
         pairs.append(&mut more)?;
         self.push_lans(alloc, &mut pairs)?;

@@ -4,7 +4,7 @@ use record_base::{Key, LanAddress, LanParameter, StartValue};
 use std::alloc::{AllocError, Global};
 
 impl BoardFile {
-    ghost use Rattle.std.specs.Prelude.{◌≡◌, IfOk, OnOk};
+    ghost use Rattle.std.specs.Prelude.{◌≡◌, ◌++◌, IfOk, OnOk};
     ghost use Rattle.cfg_records.specs.Boards.{joined};
     ghost use Rattle.cfg_records.specs.LanBoards.{lan_pairs, lan_kinds};
 
@@ -20,6 +20,19 @@ impl BoardFile {
         lans.iter().map(|l| l.pair(parameter)).collect(alloc)
     }
 
+    /// Adds the records of one parameter.
+    fn push_parameter(
+        &self,
+        alloc: Global,
+        parameter: LanParameter,
+        pairs: &mut Vec<(Key, StartValue)>,
+    ) -> Result<(), AllocError>
+        ensures { OnOk result (pairs.new.items ≡ pairs.old.items ++ lan_pairs self.now parameter) }
+    {
+        let mut more = self.lan_pairs(alloc, parameter)?;
+        pairs.append(&mut more)
+    }
+
     /// Adds the records of each parameter, in the order of their numbers.
     pub(crate) fn push_lans(
         &self,
@@ -28,16 +41,11 @@ impl BoardFile {
     ) -> Result<(), AllocError>
         ensures { OnOk result (pairs.new.items ≡ joined pairs.old.items (lan_kinds self.now)) }
     {
-        let mut ips = self.lan_pairs(alloc, LanParameter::Address(LanAddress::Ip))?;
-        pairs.append(&mut ips)?;
-        let mut sources = self.lan_pairs(alloc, LanParameter::AddressSource)?;
-        pairs.append(&mut sources)?;
-        let mut masks = self.lan_pairs(alloc, LanParameter::Address(LanAddress::SubnetMask))?;
-        pairs.append(&mut masks)?;
+        self.push_parameter(alloc, LanParameter::Address(LanAddress::Ip), pairs)?;
+        self.push_parameter(alloc, LanParameter::AddressSource, pairs)?;
+        self.push_parameter(alloc, LanParameter::Address(LanAddress::SubnetMask), pairs)?;
         let gateway = LanParameter::Address(LanAddress::DefaultGateway);
-        let mut gateways = self.lan_pairs(alloc, gateway)?;
-        pairs.append(&mut gateways)?;
-        let mut vlans = self.lan_pairs(alloc, LanParameter::Vlan)?;
-        pairs.append(&mut vlans)
+        self.push_parameter(alloc, gateway, pairs)?;
+        self.push_parameter(alloc, LanParameter::Vlan, pairs)
     }
 }

@@ -1,8 +1,9 @@
 //! Records in a list, found by their keys.
-ghost use Rattle.std.specs.Prelude.{◌≡◌, ◌↔◌, IfOk, OnOk, Err, IsTrue};
+ghost use Rattle.std.specs.Prelude.{◌≡◌, ◌↔◌, IfOk, OnOk, IfSome, IsSome, Err, IsTrue};
+ghost use Rattle.record_base.specs.declared.key.Key.{Key as AnyKey};
 ghost use Rattle.cfg_records.specs.Boards.{pairs_of};
 ghost use Rattle.cfg_records.specs.Index.{place_of};
-ghost use Rattle.cfg_records.specs.Places.{ArePlaced};
+ghost use Rattle.cfg_records.specs.Places.{value_at, ArePlaced};
 ghost use Rattle.cfg_records.specs.PlacesLaws.{ArePlaced-prop};
 ghost use Rattle.cfg_records.specs.Records.{records_of, KeysDiffer, LengthsFit};
 
@@ -45,23 +46,14 @@ impl PlainStore {
         ensures bad_keys { result ≡ Err StoreFault.BadValue → KeysDiffer pairs.now }
         ensures bad { result ≡ Err StoreFault.BadValue → ¬ LengthsFit pairs.now }
     {
-        let mut records = Vec::new(alloc);
-        let Ok(mut places) = Index::new(alloc) else {
+        let places = match places_in(alloc, pairs) {
+            Ok(Some(places)) => places,
+            Ok(None) => return Err(StoreFault::TwiceTheSameKey),
+            Err(_) => return Err(StoreFault::Memory),
+        };
+        let Ok(records) = kept_records(alloc, pairs) else {
             return Err(StoreFault::Memory);
         };
-        for (key, value) in pairs {
-            match places.insert(*key, records.len()) {
-                Err(_) => return Err(StoreFault::Memory),
-                Ok(Some(_)) => return Err(StoreFault::TwiceTheSameKey),
-                Ok(None) => {}
-            }
-            let Ok(kept) = KeptRecord::new(alloc, *key, value.as_slice()) else {
-                return Err(StoreFault::Memory);
-            };
-            let Ok(()) = records.push(kept) else {
-                return Err(StoreFault::Memory);
-            };
-        }
         if !lengths_fit(pairs) {
             return Err(StoreFault::BadValue);
         }
@@ -82,6 +74,35 @@ impl PlainStore {
     }
 }
 
+/// The place of each pair, found by its key, or nothing where two pairs have one key.
+fn places_in(alloc: Global, pairs: &[(Key, StartValue)]) -> Result<Option<Index>, AllocError>
+    ensures placed { IfOk result (λ made. IfSome made
+        (λ places. ArePlaced pairs.now (place_of places))) }
+    ensures written { IfOk result (λ made. IfSome made (λ places. (key : AnyKey) →
+        value_at pairs.now (place_of places key) ≡ records_of pairs.now key)) }
+    ensures differ { IfOk result (λ made. IsSome made ↔ KeysDiffer pairs.now) }
+{
+    let mut places = Index::new(alloc)?;
+    for (place, (key, _)) in pairs.iter().enumerate() {
+        if places.insert(*key, place)?.is_some() {
+            return Ok(None);
+        }
+    }
+    Ok(Some(places))
+}
+
+/// A record of each pair, in the pairs' order.
+fn kept_records(alloc: Global, pairs: &[(Key, StartValue)]) -> Result<Vec<KeptRecord>, AllocError>
+    ensures { IfOk result (λ records. records.items ≡ pairs.now) }
+{
+    let mut records = Vec::new(alloc);
+    for (key, value) in pairs {
+        records.push(KeptRecord::new(alloc, *key, value.as_slice())?)?;
+    }
+    Ok(records)
+}
+
+/// Whether each value has a length of its key's kind.
 fn lengths_fit(pairs: &[(Key, StartValue)]) -> bool
     ensures { IsTrue result ↔ LengthsFit pairs.now }
 {

@@ -1,6 +1,6 @@
 //! The sample board.
 ghost use Rattle.std.specs.Prelude.{◌≡◌, [], ◌∷◌, IfOk, false};
-ghost use Rattle.cfg_records.specs.Sample.{IsSampleDevice, IsTemperature, IsFan, IsUnset, sample_record, IsSampleBoot, AreSampleUsers, AreSampleChannels, AreSampleAccesses, IsQuiet, IsAsset, IsDelay, AreSampleAttributes, IsSampleBoard};
+ghost use Rattle.cfg_records.specs.Sample.{IsSampleDevice, IsTemperature, IsFan, AreSampleSensors, IsUnset, sample_record, IsSampleBoot, AreSampleUsers, AreSampleChannels, AreSampleAccesses, IsQuiet, IsAsset, IsDelay, AreSampleAttributes, IsSampleBoard};
 
 use crate::board_file::BoardFile;
 use record_base::user_sizes::USER_NAME_SIZE;
@@ -120,21 +120,29 @@ fn sdr(alloc: Global) -> Result<SdrRecords, AllocError>
     Ok(Distinct::new(records).unwrap())
 }
 
+/// Its two sensors.
+fn sensors(alloc: Global) -> Result<Sensors, AllocError>
+    ensures { IfOk result (λ sensors. AreSampleSensors sensors.items) }
+{
+    let sensors = vec![in alloc; temperature(), fan()]?;
+    Ok(Distinct::new(sensors).unwrap())
+}
+
 /// Two users: the first has no name, and the second is the administrator.
 fn users(alloc: Global) -> Result<Users, AllocError>
     ensures { IfOk result (λ users. AreSampleUsers users.items) }
 {
-    let mut users = Vec::new(alloc);
-    users.push(User {
+    let nameless = User {
         number: UserNumber { number: 1 },
         name: [0; USER_NAME_SIZE],
-    })?;
-    users.push(User {
+    };
+    let administrator = User {
         number: UserNumber { number: 2 },
         name: [
             0x61, 0x64, 0x6D, 0x69, 0x6E, 0, 0, 0, 0, 0, 0, 0, 0, 0, 0, 0,
         ],
-    })?;
+    };
+    let users = vec![in alloc; nameless, administrator]?;
     Ok(Users::new(users).unwrap())
 }
 
@@ -159,25 +167,47 @@ fn channels(alloc: Global) -> Result<Channels, AllocError>
 fn user_accesses(alloc: Global) -> Result<UserAccesses, AllocError>
     ensures { IfOk result (λ accesses. AreSampleAccesses accesses.items) }
 {
-    let mut accesses = Vec::new(alloc);
-    accesses.push(UserAccess {
+    let nameless = UserAccess {
         on: UserOnChannel::of(1, 1),
         byte: 0x14,
-    })?;
-    accesses.push(UserAccess {
+    };
+    let administrator = UserAccess {
         on: UserOnChannel::of(1, 2),
         byte: 0x14,
-    })?;
+    };
+    let accesses = vec![in alloc; nameless, administrator]?;
     Ok(Distinct::new(accesses).unwrap())
+}
+
+/// Its users, its channel, and what the users may do there.
+#[derive(Drop)]
+struct Accounts {
+    users: Users,
+    channels: Channels,
+    user_accesses: UserAccesses,
+}
+
+/// The users, the channel and the accesses of the sample board.
+fn sample_accounts(alloc: Global) -> Result<Accounts, AllocError>
+    ensures users { IfOk result (λ accounts. AreSampleUsers accounts.users.items) }
+    ensures channels { IfOk result (λ accounts. AreSampleChannels accounts.channels.items) }
+    ensures accesses { IfOk result (λ accounts. AreSampleAccesses accounts.user_accesses.items) }
+{
+    Ok(Accounts {
+        users: users(alloc)?,
+        channels: channels(alloc)?,
+        user_accesses: user_accesses(alloc)?,
+    })
 }
 
 /// A setting that is off or on: "Quiet", now off.
 fn quiet(alloc: Global) -> Result<AttributeKind, AllocError>
     ensures { IfOk result IsQuiet }
 {
-    let mut values = Vec::new(alloc);
-    values.push(Text::from_slice(&[0x6F, 0x66, 0x66]))?;
-    values.push(Text::from_slice(&[0x6F, 0x6E]))?;
+    let values = vec![in alloc;
+        Text::from_slice(&[0x6F, 0x66, 0x66]),
+        Text::from_slice(&[0x6F, 0x6E]),
+    ]?;
     let off = Indexes::from_slice(&[0]);
     let kind = EnumerationAttribute::new(values, off.copy(), off);
     Ok(AttributeKind::Enumeration(kind.unwrap()))
@@ -225,38 +255,65 @@ fn attribute(handle: u16, name: &[u8; 5], kind: AttributeKind) -> Attribute
 fn attributes(alloc: Global) -> Result<Attributes, AllocError>
     ensures { IfOk result (λ attributes. AreSampleAttributes attributes.items) }
 {
-    let mut attributes = Vec::new(alloc);
-    attributes.push(attribute(0, &[0x51, 0x75, 0x69, 0x65, 0x74], quiet(alloc)?))?;
-    attributes.push(attribute(1, &[0x41, 0x73, 0x73, 0x65, 0x74], asset(alloc)?))?;
-    attributes.push(attribute(2, &[0x44, 0x65, 0x6C, 0x61, 0x79], delay()))?;
+    let quiet = attribute(0, &[0x51, 0x75, 0x69, 0x65, 0x74], quiet(alloc)?);
+    let asset = attribute(1, &[0x41, 0x73, 0x73, 0x65, 0x74], asset(alloc)?);
+    let delay = attribute(2, &[0x44, 0x65, 0x6C, 0x61, 0x79], delay());
+    let attributes = vec![in alloc; quiet, asset, delay]?;
     Ok(Attributes::new(attributes).unwrap())
 }
 
-/// The sample board, which the program takes where it is given no board file.
-pub fn sample_board(alloc: Global) -> Result<BoardFile, AllocError>
-    ensures { IfOk result IsSampleBoard }
+/// No items.
+fn no_items<T: Numbered + Drop, const MOST: usize>(alloc: Global) -> Distinct<T, MOST>
+    ensures { result.items ≡ [] }
 {
-    let mut sensors = Vec::new(alloc);
-    sensors.push(temperature())?;
-    sensors.push(fan())?;
-    Ok(BoardFile {
+    Distinct::new(Vec::new(alloc)).unwrap()
+}
+
+/// The sample board, of these parts and with no other lists.
+fn board_with(
+    alloc: Global,
+    sensors: Sensors,
+    sdr: SdrRecords,
+    attributes: Attributes,
+    accounts: Accounts,
+) -> BoardFile
+    requires sensors { AreSampleSensors sensors.items }
+    requires sdr { sdr.items ≡ sample_record ∷ [] }
+    requires users { AreSampleUsers accounts.users.items }
+    requires channels { AreSampleChannels accounts.channels.items }
+    requires accesses { AreSampleAccesses accounts.user_accesses.items }
+    requires attributes { AreSampleAttributes attributes.items }
+    ensures { IsSampleBoard result }
+{
+    BoardFile {
         tid: 5,
         device: device(),
-        sensors: Distinct::new(sensors).unwrap(),
+        sensors,
         policy: PowerPolicy { number: 1 },
         watchdog: unset_watchdog(),
         clock: 0,
         log: LogCapacity { records: 2 },
         enables: GlobalEnables { byte: 0x08 },
         boot: boot(),
-        sdr: sdr(alloc)?,
-        numeric_effecters: Distinct::new(Vec::new(alloc)).unwrap(),
-        state_effecters: Distinct::new(Vec::new(alloc)).unwrap(),
-        users: users(alloc)?,
-        channels: channels(alloc)?,
-        sessionless: Distinct::new(Vec::new(alloc)).unwrap(),
-        user_accesses: user_accesses(alloc)?,
-        attributes: attributes(alloc)?,
-        lans: Distinct::new(Vec::new(alloc)).unwrap(),
-    })
+        sdr,
+        numeric_effecters: no_items(alloc),
+        state_effecters: no_items(alloc),
+        users: accounts.users,
+        channels: accounts.channels,
+        sessionless: no_items(alloc),
+        user_accesses: accounts.user_accesses,
+        attributes,
+        lans: no_items(alloc),
+    }
+}
+
+/// The sample board, which the program takes where it is given no board file.
+pub fn sample_board(alloc: Global) -> Result<BoardFile, AllocError>
+    ensures { IfOk result IsSampleBoard }
+{
+    let sensors = sensors(alloc)?;
+    let sdr = sdr(alloc)?;
+    let attributes = attributes(alloc)?;
+    let accounts = sample_accounts(alloc)?;
+    Ok(board_with(alloc, sensors, sdr, attributes, accounts))
 }

@@ -29,27 +29,22 @@ pub enum PlainKind {
     UserAccess,
 }
 
-/// The plain kinds, a line for each kind: its name, its limits, its keys, and the limits of a key's record.
+/// The plain kinds, a line for each kind: its name, its limits, its keys, and the limits of a key's record, by the item that the set-up has
+/// for the key where they depend on one.
 #[macro_export]
 macro_rules! of_each_plain_kind {
     ($does:ident $how:tt) => {
         $does! { $how
-            Thresholds sensor_recs::ThresholdLimits {Key::Thresholds(n) => n; at => ThresholdLimits::of(at.sensor(*n)?)}
-            Hysteresis sensor_recs::HysteresisLimits {Key::Hysteresis(n) => n; at => HysteresisLimits::of(at.sensor(*n)?)}
-            EventEnable sensor_recs::EventEnableLimits {Key::EventEnable(n) => n; at => EventEnableLimits::of(at.sensor(*n)?)}
-            PowerPolicy watch_boot::PowerPolicyLimits {Key::PowerPolicy => &(); _ => PowerPolicyLimits}
-            Watchdog watch_boot::WatchdogLimits {Key::Watchdog => &(); _ => WatchdogLimits}
-            GlobalEnables watch_boot::GlobalEnablesLimits {Key::GlobalEnables => &(); _ => GlobalEnablesLimits}
-            NumericEffecter effecter_recs::NumericLimits {Key::NumericEffecter(id) => id; at => NumericLimits::of(at.numeric_effecter(*id)?)}
-            StateEffecter effecter_recs::StateLimits {Key::StateEffecter(id) => id; at => StateLimits::of(at.state_effecter(*id)?)}
-            UserName user_chan::UserNameLimits {Key::UserName(user) => user; at => {
-                let _ = at.user(*user)?;
-                UserNameLimits
-            }}
-            UserAccess user_chan::UserAccessLimits {Key::UserAccess(on) => on; at => {
-                let _ = at.user_access(on)?;
-                UserAccessLimits { user: on.user, most: at.most_users() }
-            }}
+            Thresholds sensor_recs::ThresholdLimits {Key::Thresholds(n) => n; at => at.sensor(*n); sensor => ThresholdLimits::of(sensor)}
+            Hysteresis sensor_recs::HysteresisLimits {Key::Hysteresis(n) => n; at => at.sensor(*n); sensor => HysteresisLimits::of(sensor)}
+            EventEnable sensor_recs::EventEnableLimits {Key::EventEnable(n) => n; at => at.sensor(*n); sensor => EventEnableLimits::of(sensor)}
+            PowerPolicy watch_boot::PowerPolicyLimits {Key::PowerPolicy => &(); PowerPolicyLimits}
+            Watchdog watch_boot::WatchdogLimits {Key::Watchdog => &(); WatchdogLimits}
+            GlobalEnables watch_boot::GlobalEnablesLimits {Key::GlobalEnables => &(); GlobalEnablesLimits}
+            NumericEffecter effecter_recs::NumericLimits {Key::NumericEffecter(id) => id; at => at.numeric_effecter(*id); effecter => NumericLimits::of(effecter)}
+            StateEffecter effecter_recs::StateLimits {Key::StateEffecter(id) => id; at => at.state_effecter(*id); effecter => StateLimits::of(effecter)}
+            UserName user_chan::UserNameLimits {Key::UserName(user) => user; at => at.user(*user); _ => UserNameLimits}
+            UserAccess user_chan::UserAccessLimits {Key::UserAccess(on) => on; at => at.user_access(on); _ => UserAccessLimits { user: on.user, most: at.most_users() }}
         }
     };
 }
@@ -78,19 +73,10 @@ macro_rules! of_all_kinds {
     ([$does:ident $how:tt] $($plain:tt)*) => {
         $does! { $how
             $($plain)*
-            BootParam watch_boot::BootParamLimits {Key::BootParam(parameter) => parameter; _ => BootParamLimits { parameter: *parameter }}
-            ChannelAccess user_chan::ChannelAccessLimits {Key::ChannelAccess(stored) => stored; at => {
-                let _ = at.stored_access(stored)?;
-                ChannelAccessLimits
-            }}
-            BiosAttribute bios_attr::AttributeLimits {Key::BiosAttribute(handle) => handle; at => {
-                let attribute = at.attribute(*handle)?;
-                AttributeLimits::of(*handle, attribute)
-            }}
-            LanParam user_chan::LanParamLimits {Key::LanParam(on) => on; at => {
-                let _ = at.lan(on.channel)?;
-                LanParamLimits { parameter: on.parameter }
-            }}
+            BootParam watch_boot::BootParamLimits {Key::BootParam(parameter) => parameter; BootParamLimits { parameter: *parameter }}
+            ChannelAccess user_chan::ChannelAccessLimits {Key::ChannelAccess(stored) => stored; at => at.stored_access(stored); _ => ChannelAccessLimits}
+            BiosAttribute bios_attr::AttributeLimits {Key::BiosAttribute(handle) => handle; at => at.attribute(*handle); attribute => AttributeLimits::of(*handle, attribute)}
+            LanParam user_chan::LanParamLimits {Key::LanParam(on) => on; at => at.lan(on.channel); _ => LanParamLimits { parameter: on.parameter }}
         }
     };
 }
@@ -160,14 +146,25 @@ macro_rules! by_key {
     };
 }
 
+/// The limits of a kind's record: those that any set-up gives, or those that the item gives which the set-up has for the record.
+macro_rules! limits_of {
+    ($setup:ident, $kind:ident, $made:expr) => {
+        Some(Limits::$kind($made))
+    };
+    ($setup:ident, $kind:ident, $at:ident => $item:expr; $found:pat => $made:expr) => {{
+        let $at = $setup;
+        match $item {
+            Some($found) => Some(Limits::$kind($made)),
+            None => None,
+        }
+    }};
+}
+
 /// The limits of the key's record, in this set-up.
 macro_rules! limits_at {
-    ([$any:expr, $setup:expr] $($kind:ident $limits:ty {$key:pat => $own:expr; $at:pat => $found:expr})*) => {
+    ([$any:expr, $setup:ident] $($kind:ident $limits:ty {$key:pat => $own:expr; $($made:tt)*})*) => {
         match $any {
-            $($key => {
-                let $at = $setup;
-                Limits::$kind($found)
-            })*
+            $($key => limits_of!($setup, $kind, $($made)*),)*
         }
     };
 }
@@ -199,7 +196,7 @@ impl Setup {
     pub fn limits(&self, key: &Key) -> Option<Limits<'_>>
         ensures { result ≡ limits_at self.now key.now }
     {
-        Some(of_each_kind!(limits_at [key, self]))
+        of_each_kind!(limits_at [key, self])
     }
 }
 

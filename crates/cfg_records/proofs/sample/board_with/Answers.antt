@@ -1,0 +1,15 @@
+use Rattle.std.proofs.Common.{◌≡◌, [], rules}
+use Rattle.cfg_records.proofs.SampleChannels.{sample_apart, sample_few, sample_each}
+use Rattle.cfg_records.proofs.sample.board_with.Goals as goal
+
+pub invariant_of-result-4 : goal.invariant_of-result-4
+invariant_of-result-4 c =
+    let accounts = c.args.accounts in
+    let is = c.requires in
+    let sessionless = c.no_items-3.result.items in
+    let none : sessionless ≡ [] = search rules in
+    record {
+      apart = sample_apart accounts.channels.items sessionless is.channels none;
+      few = sample_few accounts.channels.items sessionless is.channels none;
+      each = sample_each accounts.users.items accounts.channels.items accounts.user_accesses.items is.users is.channels is.accesses;
+    }
