@@ -478,7 +478,8 @@ impl<S: Store> Board<S> {
         first: &SetChannelAccess,
         second: &SetChannelAccess,
     ) -> Result<(), Code>
-        ensures { ServesSilently self.old self.new (Ok (request.SetStores first.now second.now)) result }
+        ensures { ServesSilently self.old self.new
+            (Ok (request.SetStores first.now second.now)) result }
     {
         let place = self.try_set(&Op::ChannelAccess(*first))?;
         let made: Bytes<2> = Bytes::from_slice(self.made_over_ipmi.as_slice());
