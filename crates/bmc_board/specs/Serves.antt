@@ -1,6 +1,9 @@
 -- What a board gives to what is asked of it, and that it was served.
 use Rattle.std.specs.Prelude.{◌≡◌, ◌≢◌, ◌+◌, ◌≤◌, ℕ, List, length, Result, IfOk}
 use Rattle.two_wire.specs.Codes.{success}
+use Rattle.cfg_records.specs.Records.{Records}
+use Rattle.cfg_records.specs.declared.board_file.BoardFile.{BoardFile}
+use Rattle.record_kinds.specs.Limits.{key_of, limits_at}
 use Rattle.record_base.specs.declared.op.Op.{Op}
 use Rattle.record_base.specs.declared.sensor.Sensor.{Sensor}
 use Rattle.bios_attr.specs.declared.bios_table.BiosTable.{BiosTable}
@@ -13,8 +16,9 @@ use Rattle.bmc_board.specs.Request.{Request, asked_by}
 use Rattle.bmc_board.specs.State.{records_in, state_of}
 use Rattle.bmc_board.specs.Room.{longest_reply}
 use Rattle.bmc_board.specs.Gives.{Gives, Appends}
+use Rattle.bmc_board.specs.Replies.{unknown_code}
 use Rattle.bmc_board.specs.Live.{live_answer}
-use Rattle.bmc_board.specs.Answer.{Given, serve, reply, answer_of, outcome_at}
+use Rattle.bmc_board.specs.Answer.{Given, serve, reply, answer_of, set_outcome}
 use Rattle.bmc_board.specs.BiosTables.{values_in, table_bytes, asked_part, table_answer}
 use Rattle.bmc_board.specs.Leaves.{Leaves}
 use Rattle.bmc_board.specs.Sensing.{reading_answer, after_reading}
@@ -59,9 +63,9 @@ Refuses old asked answer new = answer.code ≢ success → Leaves (asked_by aske
 
 -- ---- parts of what a board gives
 
--- the value that an operation makes of its record, or the code that refuses it
-abbrev pub outcome_by : {S : Type 0} {g h : _} → Board S g h → Op → Result (List ℕ) ℕ
-outcome_by board op = outcome_at board.setup (state_of board) op
+-- the value that an operation makes of its record among these, or the code that refuses it
+abbrev pub outcome_among : BoardFile → Records → Op → Result (List ℕ) ℕ
+outcome_among setup records op = set_outcome (limits_at setup (key_of op)) (records (key_of op)) (unknown_code setup (key_of op)) op
 
 -- what Get Sensor Reading replies of the sensor of this number
 abbrev pub reading_by : {S : Type 0} {g h : _} → Board S g h → ℕ → Answered

@@ -19,7 +19,7 @@ pub use opening::Records;
 use record_kinds::Setup;
 
 /// Whether the table of values that a board keeps is that of the values as they stand. A record that is written makes it stale.
-#[derive(Clone, Copy, Debug, PartialEq, Eq)]
+#[derive(Clone, Copy, PartialEq, Eq)]
 enum Kept {
     Stale,
     Current,

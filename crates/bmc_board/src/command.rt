@@ -7,7 +7,7 @@ use cfg_records::{Asked, byte_at};
 use record_kinds::PlainKind;
 
 /// A command of the tables.
-#[derive(Clone, Copy, PartialEq, Eq)]
+#[derive(Clone, Copy)]
 pub enum Command {
     /// A command that asks for no record.
     Live(LiveCommand),
@@ -34,7 +34,7 @@ pub enum Command {
 }
 
 /// How many bytes of data a command takes.
-#[derive(Clone, Copy, PartialEq, Eq)]
+#[derive(Clone, Copy)]
 pub enum Lengths {
     Exactly(u8),
     /// The least and the greatest.
@@ -46,7 +46,7 @@ pub enum Lengths {
 }
 
 /// What its table says of a command: how many bytes of data it takes, and whether it sets the configuration.
-#[derive(Clone, Copy, PartialEq, Eq)]
+#[derive(Clone, Copy)]
 pub struct Line {
     pub command: Command,
     pub lengths: Lengths,

@@ -9,7 +9,7 @@ use two_wire::Code;
 use user_chan::lan_request::LanAnswer;
 
 /// A command that asks for no record, and leaves all of them.
-#[derive(Clone, Copy, PartialEq, Eq)]
+#[derive(Clone, Copy)]
 pub enum LiveCommand {
     GetDeviceId,
     GetSelfTestResults,

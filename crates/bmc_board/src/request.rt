@@ -7,7 +7,7 @@ use cfg_records::Asked;
 use two_wire::{Below, Code, Lun, NetFn, code};
 
 /// What refuses a command that isn't listed, and one whose data has a length that it doesn't take.
-#[derive(Clone, Copy, PartialEq, Eq)]
+#[derive(Clone, Copy)]
 pub struct Refusals {
     pub unlisted: Code,
     pub not_allowed: Code,

@@ -34,7 +34,7 @@ const STATUS: u8 = 0x00;
 const ERASED: u8 = 0x01;
 
 /// The part of a record that is asked for.
-#[derive(Clone, Copy, PartialEq, Eq)]
+#[derive(Clone, Copy)]
 pub struct PartAsked {
     pub reservation: u16,
     /// 0000h asks for the first record, and FFFFh for the last.

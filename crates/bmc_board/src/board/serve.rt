@@ -1,15 +1,18 @@
 //! What a board does with requests.
-ghost use Rattle.std.specs.Prelude.{◌≡◌, ◌≢◌, ◌+◌, ◌≤◌, IfOk, [], length};
+ghost use Rattle.std.specs.Prelude.{◌≡◌, ◌≢◌, ◌+◌, ◌≤◌, IfOk, Some, [], length};
 ghost use Rattle.two_wire.specs.Codes.{node_busy, pldm_not_ready};
 ghost use Rattle.cfg_records.specs.Records.{records_of};
 ghost use Rattle.cfg_records.specs.Boards.{pairs_of};
-ghost use Rattle.record_base.specs.Meaning.{room_for};
+ghost use Rattle.record_base.specs.Meaning.{room_for, value_or_code};
 ghost use Rattle.record_base.specs.declared.message.Answered.{Answered as Reply};
+ghost use Rattle.record_kinds.specs.Limits.{key_of};
+ghost use Rattle.record_kinds.specs.Sound.{IsSound};
 ghost use Rattle.bios_attr.specs.Tables.{AreTables};
 ghost use Rattle.bmc_board.specs.State.{opening};
 ghost use Rattle.bmc_board.specs.Gives.{Gives, Appends};
 ghost use Rattle.bmc_board.specs.Replies.{done, unknown_code};
 ghost use Rattle.bmc_board.specs.Sensing.{value_at};
+ghost use Rattle.bmc_board.specs.Serves.{outcome_among};
 ghost use Rattle.bmc_board.specs.declared.board.Kept.TheVariants.{Stale};
 
 use crate::activity::Activity;
@@ -134,10 +137,33 @@ fn opened_parts(alloc: Global, file: &BoardFile) -> Result<(Activity, Tables), A
     }
 }
 
+/// Makes the value that the operation makes of its record, and gives the record's place: nothing is written.
+#[inline(always)]
+fn try_set<S: Store>(
+    setup: &Setup,
+    store: &S,
+    op: &Op<'_>,
+    made: &mut Value,
+) -> Result<S::Place, Code>
+    requires { IsSound setup.now (S.records store.now) }
+    ensures made { value_or_code result made.new
+        ≡ outcome_among setup.now (S.records store.now) op.now }
+    ensures place { IfOk result (λ at. S.places store.now (key_of op.now) ≡ Some at) }
+{
+    let key = Limits::key(op);
+    match (setup.limits(&key), store.find(&key)) {
+        (Some(limits), Some(place)) => {
+            limits.apply(op, store.value(place), made)?;
+            Ok(place)
+        }
+        _ => Err(unknown_code(setup, &key)),
+    }
+}
+
 impl<S: Store> Board<S> {
     ghost use Rattle.bmc_board.specs.State.{opened, state_of};
     ghost use Rattle.bmc_board.specs.Live.{progress_answer, leave_answer, longest_live_reply, longest_live};
-    ghost use Rattle.bmc_board.specs.Serves.{given_by, serve_by, live_by, outcome_by, reading_by, table_by, part_by, Fits, Says, Serves, ServesSilently, Refuses};
+    ghost use Rattle.bmc_board.specs.Serves.{given_by, serve_by, live_by, reading_by, table_by, part_by, Fits, Says, Serves, ServesSilently, Refuses};
     ghost use Rattle.bmc_board.specs.declared.board.Kept.TheVariants as kept;
     ghost use Rattle.bios_attr.specs.declared.bios_table.BiosTable.TheVariants as bios_table;
     ghost use Rattle.bmc_board.specs.BiosTables.{longest_part};
@@ -146,9 +172,7 @@ impl<S: Store> Board<S> {
     ghost use Rattle.bmc_board.specs.Request.{asked_of, live_asked, set_read, plain_set};
     ghost use Rattle.bmc_board.specs.BootCommands.{boot_set_asked, boot_get_asked};
     ghost use Rattle.bmc_board.specs.ChannelCommands.{channel_set_asked};
-    ghost use Rattle.std.specs.Prelude.{Some, Ok};
-    ghost use Rattle.record_base.specs.Meaning.{value_or_code};
-    ghost use Rattle.record_kinds.specs.Limits.{key_of};
+    ghost use Rattle.std.specs.Prelude.{Ok};
 
     /// A board of this file over this store of its records.
     pub fn open(alloc: Global, file: BoardFile, store: S) -> Result<Self, AllocError>
@@ -388,19 +412,13 @@ impl<S: Store> Board<S> {
         ensures { Serves B.bytes self.old self.new (Ok (request.Set op.now))
             result to.old to.new }
     {
-        let key = Limits::key(op);
-        match (self.setup.limits(&key), self.store.find(&key)) {
-            (Some(limits), Some(place)) => {
-                let new = place_for(op, &mut self.made_over_ipmi, &mut self.made_over_pldm);
-                limits.apply(op, self.store.value(place), new)?;
-                outdate(&mut self.kept);
-                self.store.write(place, new.as_slice());
-                Limits::next_live(op, &mut self.activity.live);
-                Limits::set_reply(op, to);
-                Ok(())
-            }
-            _ => Err(unknown_code(&self.setup, &key)),
-        }
+        let new = place_for(op, &mut self.made_over_ipmi, &mut self.made_over_pldm);
+        let place = try_set(&self.setup, &self.store, op, new)?;
+        outdate(&mut self.kept);
+        self.store.write(place, new.as_slice());
+        Limits::next_live(op, &mut self.activity.live);
+        Limits::set_reply(op, to);
+        Ok(())
     }
 
     /// Carries out the operation that the data say. Each kind has a function of its own: a function fills all operations of its own with
@@ -453,39 +471,22 @@ impl<S: Store> Board<S> {
         }
     }
 
-    /// Makes the value that the operation makes of its record, and gives the record's place: nothing is written.
-    fn try_set(&mut self, op: &Op<'_>) -> Result<S::Place, Code>
-        ensures made { value_or_code result self.new.made_over_ipmi
-            ≡ outcome_by self.old op.now }
-        ensures place { IfOk result (λ at. S.places self.old.store (key_of op.now) ≡ Some at) }
-        ensures store { self.new.store ≡ self.old.store }
-        ensures activity { self.new.activity ≡ self.old.activity }
-        ensures setup { self.new.setup ≡ self.old.setup }
-    {
-        let key = Limits::key(op);
-        match (self.setup.limits(&key), self.store.find(&key)) {
-            (Some(limits), Some(place)) => {
-                limits.apply(op, self.store.value(place), &mut self.made_over_ipmi)?;
-                Ok(place)
-            }
-            _ => Err(unknown_code(&self.setup, &key)),
-        }
-    }
-
     /// Changes the access of a channel in one store, and its limit in another: both or neither.
     fn set_stores(
         &mut self,
         first: &SetChannelAccess,
         second: &SetChannelAccess,
     ) -> Result<(), Code>
-        ensures { ServesSilently self.old self.new (Ok (request.SetStores first.now second.now)) result }
+        ensures { ServesSilently self.old self.new
+            (Ok (request.SetStores first.now second.now)) result }
     {
-        let place = self.try_set(&Op::ChannelAccess(*first))?;
-        let made: Bytes<2> = Bytes::from_slice(self.made_over_ipmi.as_slice());
-        let other = self.try_set(&Op::ChannelAccess(*second))?;
+        let new = &mut self.made_over_ipmi;
+        let place = try_set(&self.setup, &self.store, &Op::ChannelAccess(*first), new)?;
+        let made: Bytes<2> = Bytes::from_slice(new.as_slice());
+        let other = try_set(&self.setup, &self.store, &Op::ChannelAccess(*second), new)?;
         outdate(&mut self.kept);
         self.store.write(place, made.as_slice());
-        self.store.write(other, self.made_over_ipmi.as_slice());
+        self.store.write(other, new.as_slice());
         Ok(())
     }
 
