@@ -19,7 +19,7 @@ pub struct Inputs {
 }
 
 /// Why texts tell no pair.
-#[derive(Clone, Copy, Debug, PartialEq, Eq)]
+#[derive(Clone, Copy, Debug)]
 pub enum InputFault {
     /// The first text is no board file.
     Board(FileFault),

@@ -3,7 +3,7 @@ use std::fmt;
 use text_fields::FieldFault;
 
 /// What no plan changes, since nothing can undo it.
-#[derive(Clone, Copy, Debug, PartialEq, Eq)]
+#[derive(Clone, Copy, Debug)]
 pub enum OutsidePlan {
     Password,
     Clock,
@@ -11,7 +11,7 @@ pub enum OutsidePlan {
 }
 
 /// What a step asks for that no Get shows, so that nothing can undo it.
-#[derive(Clone, Copy, Debug, PartialEq, Eq)]
+#[derive(Clone, Copy, Debug)]
 pub enum NoGet {
     /// A user's session limit.
     SessionLimit,
@@ -24,7 +24,7 @@ pub enum NoGet {
 }
 
 /// Why a step is none.
-#[derive(Clone, Copy, Debug, PartialEq, Eq)]
+#[derive(Clone, Copy, Debug)]
 pub enum StepFault {
     OutsidePlan(OutsidePlan),
     NoGet(NoGet),
@@ -34,7 +34,7 @@ pub enum StepFault {
 }
 
 /// Why a text is no plan.
-#[derive(Clone, Copy, Debug, PartialEq, Eq)]
+#[derive(Clone, Copy, Debug)]
 pub enum PlanFault {
     /// Memory ran out.
     Memory,

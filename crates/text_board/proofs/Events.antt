@@ -1,8 +1,9 @@
--- The flags and the events of a sensor that an item without a fault has.
-use Rattle.std.proofs.Common.{◌≡◌, ℕ, zero, suc, ◌*◌, ◌/◌, ◌%◌, ◌<◌, ◌==◌, ◌&&◌, nat_lt, true, Option, Some, None, refl, sym, ◌∙◌, ap, arith}
+-- The flags, the events and the thresholds of a sensor that an item without a fault has.
+use Rattle.std.proofs.Common.{◌≡◌, ℕ, zero, suc, ◌*◌, ◌/◌, ◌%◌, ◌<◌, ◌==◌, ◌&&◌, nat_lt, Bool, true, false, List, length, Option, Some, None, if◌then◌else◌, option_and_then, refl, sym, ◌∙◌, ap, arith}
 use Rattle.std.proofs.lemmas.Bool.{and_parts}
 use Rattle.std.proofs.lemmas.Bool.Decides.{nat_tests}
 use Rattle.std.proofs.lemmas.Option.{same_Some}
+use Rattle.std.specs.List.{list_all}
 use Rattle.record_base.specs.Masks.{has}
 use Rattle.record_base.specs.Sensor.EventEnable.{AreWithin, are_within, flags_byte}
 use Rattle.record_base.specs.EventLaws.{within_true}
@@ -11,7 +12,7 @@ use Rattle.text_fields.specs.declared.field.Field.{Field}
 use Rattle.text_fields.specs.declared.field.Field.TheVariants as field
 use Rattle.text_fields.specs.declared.row.Shape.TheVariants as shape
 use Rattle.text_fields.specs.declared.row.Need.TheVariants as need
-use Rattle.text_fields.specs.Trees.{in_field, natural, number_in, HasBelow}
+use Rattle.text_fields.specs.Trees.{in_field, natural, number_in, naturals_in, all_bytes, bytes_in, HasBelow, HasNumbers}
 use Rattle.text_fields.specs.Ranges.{passes, are_flags, are_supported}
 use Rattle.text_fields.proofs.Rows.{Sound, value_of}
 
@@ -94,3 +95,18 @@ pub supported_events : {tree : Members} {named : Field} (events supported : ℕ)
 supported_events events supported v is has_s =
     let same : v.events ≡ events = same_Some _ _ (sym v.found ∙ is) in
     rw (← same) (v.within supported has_s)
+
+-- ---- thresholds
+
+kept_where : (b : Bool) (ms ns : List ℕ) → (if b then Some ms else None) ≡ Some ns → Some ms ≡ Some ns
+kept_where true ms ns is = is
+kept_where false ms ns is = cc
+
+bytes_are : (o : Option (List ℕ)) (ns : List ℕ) → option_and_then all_bytes o ≡ Some ns → o ≡ Some ns
+bytes_are (Some ms) ns is = kept_where (list_all (λ n. nat_lt n 256) ms) ms ns is
+bytes_are None ns is = cc
+
+-- the item has the thresholds that were read from the field's value
+pub thresholds_held : (tree : Members) (d : Data) (values : List ℕ) → in_field field.Thresholds tree ≡ Some d → length values ≡ 6 → bytes_in 6 d ≡ Some values
+    → HasNumbers field.Thresholds tree values
+thresholds_held tree d values found six bytes = rw (six, found) (bytes_are (naturals_in 6 d) values bytes)

@@ -56,16 +56,33 @@ module _ {A : Type 0} (Holds : Data → A → Type 0) (item_at : ℕ → Item) (
       → item_faults item_at rows named seen (d ∷ ds) ≡ item_faults item_at rows named (seen ++ d ∷ []) ds
   sound_next seen ds d before n zip sound is none = rw (sound, taken seen before d n zip is ∙ none)
 
-module _ (vs : List Value) (i : ℕ) (v : Value) (within : i < length vs) (is : v ≡ get_or vs i v) {A : Type 0} (Holds : Data → A → Type 0) (item_at : ℕ → Item) (rows : Members → List Row) (named : Field) (number_of : A → ℕ) (numbered : (d : Data) (a : A) → Holds d a → number_in named (table_of d) ≡ Some (number_of a)) where
-  -- the faults of those that are left
-  pub next_left : (before : List A) (a : A) → AllZip Holds (map view (take i vs)) before → Holds (view v) a → field_faults (rows (table_of (view v))) (table_of (view v)) ≡ []
-      → list_any (λ (other : A). number_of other == number_of a) before ≡ false
-      → item_faults item_at rows named (map view (take i vs)) (map view (drop i vs))
-      ≡ item_faults item_at rows named (map view (take (i + 1) vs)) (map view (drop (i + 1) vs))
-  next_left before a zip holds sound none =
-      ap (item_faults item_at rows named (map view (take i vs))) (left_over vs i v within is)
-      ∙ sound_next Holds item_at rows named number_of numbered (map view (take i vs)) (map view (drop (i + 1) vs)) (view v) before (number_of a) zip sound (numbered (view v) a holds) none
-      ∙ ap (λ seen. item_faults item_at rows named seen (map view (drop (i + 1) vs))) (sym (taken_more vs i v within is))
+-- the faults of all are those of the ones from this place on, behind those before
+abbrev pub AreLeft : (ℕ → Item) → (Members → List Row) → Field → List Value → ℕ → Type 0
+AreLeft item_at rows named vs i =
+    item_faults item_at rows named [] (map view vs) ≡ item_faults item_at rows named (map view (take i vs)) (map view (drop i vs))
+
+-- behind the last there is none
+pub none_left : (i : ℕ) (vs : List Value) (item_at : ℕ → Item) (rows : Members → List Row) (named : Field) → drop i vs ≡ [] → AreLeft item_at rows named vs i
+    → item_faults item_at rows named [] (map view vs) ≡ []
+none_left i vs item_at rows named none left = left ∙ ap (λ more. item_faults item_at rows named (map view (take i vs)) (map view more)) none
+
+module _ (vs : List Value) (i : ℕ) (v : Value) (within : i < length vs) (is : v ≡ get_or vs i v) where
+  -- a fault that counts here counts among all
+  pub fault_here : (item_at : ℕ → Item) (rows : Members → List Row) (named : Field) (why : FileFault) → AreLeft item_at rows named vs i
+      → first (item_faults item_at rows named (map view (take i vs)) (view v ∷ map view (drop (i + 1) vs))) ≡ Some why
+      → first (item_faults item_at rows named [] (map view vs)) ≡ Some why
+  fault_here item_at rows named why left counts =
+      ap first (left ∙ ap (item_faults item_at rows named (map view (take i vs))) (left_over vs i v within is)) ∙ counts
+
+  module _ {A : Type 0} (Holds : Data → A → Type 0) (item_at : ℕ → Item) (rows : Members → List Row) (named : Field) (number_of : A → ℕ) (numbered : (d : Data) (a : A) → Holds d a → number_in named (table_of d) ≡ Some (number_of a)) where
+    -- the faults of those that are left
+    pub next_left : (before : List A) (a : A) → AllZip Holds (map view (take i vs)) before → Holds (view v) a → field_faults (rows (table_of (view v))) (table_of (view v)) ≡ []
+        → list_any (λ (other : A). number_of other == number_of a) before ≡ false → AreLeft item_at rows named vs i → AreLeft item_at rows named vs (i + 1)
+    next_left before a zip holds sound none left =
+        left
+        ∙ ap (item_faults item_at rows named (map view (take i vs))) (left_over vs i v within is)
+        ∙ sound_next Holds item_at rows named number_of numbered (map view (take i vs)) (map view (drop (i + 1) vs)) (view v) before (number_of a) zip sound (numbered (view v) a holds) none
+        ∙ ap (λ seen. item_faults item_at rows named seen (map view (drop (i + 1) vs))) (sym (taken_more vs i v within is))
 
 -- one more number, which none had
 pub next_differs : {A : Type 0} (number_of : A → ℕ) (before : List A) (a : A) → NamesDiffer number_of before → list_any (λ (other : A). number_of other == number_of a) before ≡ false

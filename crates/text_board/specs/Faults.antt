@@ -127,6 +127,24 @@ ids_in (d ∷ ds) = id_of (record_in d) ∷ ids_in ds
 abbrev pub record_faults : List Data → List FileFault
 record_faults ds = if has_twice (ids_in ds) then file.Twice (record { item = item.Top; field = field.Sdr }) ∷ [] else []
 
+-- the faults of a file's sensor data records and of its `[device]`
+unfoldable pub own_part_faults : Members → List FileFault
+own_part_faults tree = record_faults (members_in field.Sdr tree) ++ map (fault_at item.Device) (field_faults DEVICE (table_in field.Device tree))
+
+-- the faults of the items that IPMI reaches: of each `[[sensor]]`, of each `[[channel]]` and of each `[[lan]]`
+unfoldable pub ipmi_faults : Members → List FileFault
+ipmi_faults tree =
+    sensor_faults (members_in field.Sensor tree)
+    ++ (channel_faults (users_in tree) (members_in field.Channel tree)
+    ++ lan_faults tree)
+
+-- the faults of the items that PLDM reaches: of each `[[attribute]]`, of each `[[state]]` and of each `[[numeric]]`
+unfoldable pub pldm_faults : Members → List FileFault
+pldm_faults tree =
+    attribute_faults (members_in field.Attribute tree)
+    ++ (state_faults (members_in field.State tree)
+    ++ numeric_faults (members_in field.Numeric tree))
+
 -- the faults of a board file: those of its own fields, of its sensor data records, of `[device]`, of each `[[sensor]]`, of
 -- each `[[channel]]`, of each `[[lan]]`, of each `[[attribute]]`, of each `[[state]]` and of each `[[numeric]]`
 unfoldable pub board_faults : Members → List FileFault

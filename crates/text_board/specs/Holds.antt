@@ -22,6 +22,7 @@ use Rattle.record_base.specs.declared.user.UserAccess.{UserAccess}
 use Rattle.cfg_records.specs.declared.board_file.BoardFile.{BoardFile}
 use Rattle.text_fields.specs.declared.field.Field.{Field}
 use Rattle.text_fields.specs.declared.field.Field.TheVariants as field
+use Rattle.text_board.specs.declared.board.OwnParts.{OwnParts}
 use Rattle.text_board.specs.declared.fault.FileFault.{FileFault}
 use Rattle.text_board.specs.declared.fault.FileFault.TheVariants as file
 use Rattle.text_fields.specs.Trees.{members, natural, IsNaturalIn, number_in, table_of, table_in, members_in, or_none, HasNumber, HasNumbers}
@@ -180,6 +181,19 @@ pub record HoldsBoot (tree : Members) (boot : BootOptions) : Type 0 where
   pub clearing : HasNumber field.Boot3 tree boot.valid_bit_clearing
   pub acknowledge : HasNumber field.Boot4 tree boot.info_acknowledge
   pub flags : HasNumbers field.Boot5 tree (flag_bytes boot.flags)
+
+-- what a file's own fields and `[device]` say is in the tree
+pub record HoldsOwn (tree : Members) (own : OwnParts) : Type 0 where
+  pub terminus : HasNumber field.Tid tree own.tid
+  pub clock : HasNumber field.Clock tree own.clock
+  pub log : HasNumber field.Log tree own.log.records
+  pub enables : HasNumber field.Enables tree own.enables.byte
+  pub policy : HasNumber field.Policy tree own.policy.number
+  pub watchdog : HasNumbers field.Watchdog tree (settings own.watchdog)
+  pub sdr : AllZip IsRecordIn (members_in field.Sdr tree) own.sdr.items
+  pub users : AllZip IsNameIn (members_in field.Users tree) own.users.items
+  pub boot : HoldsBoot tree own.boot
+  pub device : HoldsDevice (table_in field.Device tree) own.device
 
 -- the tree holds a board
 pub record HoldsBoard (tree : Members) (board : BoardFile) : Type 0 where

@@ -5,23 +5,18 @@ ghost use Rattle.toml.specs.View.{view, table_view};
 ghost use Rattle.text_fields.specs.Trees.{members_in, HasNumber, HasNumbers};
 ghost use Rattle.text_fields.specs.Ranges.{record_in, settings};
 ghost use Rattle.text_fields.specs.Faults.{field_faults};
-ghost use Rattle.text_board.specs.Faults.{record_faults, IsFirstFault};
-ghost use Rattle.text_board.specs.Holds.{HoldsBoot, HoldsDevice, IsRecordIn, Answers, Reads};
+ghost use Rattle.text_board.specs.Faults.{record_faults, own_part_faults, IsFirstFault};
+ghost use Rattle.text_board.specs.Holds.{HoldsBoot, HoldsDevice, HoldsOwn, IsRecordIn, Answers, Reads};
 
-use crate::attribute_items::attributes;
-use crate::channel_items::file_channels;
 use crate::check::checked;
-use crate::effecters::numeric_effecters;
 use crate::fault::{FileFault, Item, Place};
-use crate::lan_items::lans;
-use crate::sensors::sensors;
-use crate::state_items::state_effecters;
+use crate::item_groups::{ipmi_items, pldm_items};
 use crate::tables::{DEVICE, TOP};
 use crate::users::users;
 use cfg_records::{
     BoardFile, Device, Distinct, LogCapacity, ManufacturerId, SdrRecord, SdrRecords,
 };
-use record_base::{BootOptions, GlobalEnables, PowerPolicy, Watchdog};
+use record_base::{BootOptions, GlobalEnables, PowerPolicy, Users, Watchdog};
 use std::alloc::Global;
 use text_fields::range::{boot_flags, digits, enables, record, watchdog};
 use text_fields::tree::members_of;
@@ -124,25 +119,34 @@ fn log_capacity(top: &Checked<'_>) -> LogCapacity
     LogCapacity::new(top.word(Field::Log)).unwrap()
 }
 
-/// The board that the tree holds whose own fields have no fault, or its first fault.
-fn board_in(alloc: Global, top: &Checked<'_>) -> Result<BoardFile, FileFault>
-    requires rows { top.now.rows.now ≡ TOP }
-    requires sound { field_faults TOP (table_view top.now.table.now) ≡ [] }
-    ensures { (result ≡ Err FileFault.Memory) ⊎ Answers (table_view top.now.table.now) result }
+/// What a file's own fields and `[device]` say.
+#[derive(Drop)]
+struct OwnParts {
+    tid: u8,
+    device: Device,
+    enables: GlobalEnables,
+    boot: BootOptions,
+    policy: PowerPolicy,
+    watchdog: Watchdog,
+    clock: u32,
+    log: LogCapacity,
+    sdr: SdrRecords,
+    users: Users,
+}
+
+/// What the file's own fields and `[device]` say.
+fn own_parts(alloc: Global, top: &Checked<'_>) -> Result<OwnParts, FileFault>
+    requires { top.now.rows.now ≡ TOP }
+    ensures sound { IfOk result (λ _. own_part_faults (table_view top.now.table.now) ≡ []) }
+    ensures held { IfOk result (HoldsOwn (table_view top.now.table.now)) }
+    ensures err { IfErr result (IsFirstFault (own_part_faults (table_view top.now.table.now))) }
 {
     let sdr = sdr(alloc, top)?;
     let board = checked(Item::Device, &DEVICE, top.table(Field::Device))?;
-    let sensors = sensors(alloc, top)?;
-    let file_channels = file_channels(alloc, top)?;
-    let lans = lans(alloc, top)?;
-    let attributes = attributes(alloc, top)?;
-    let state_effecters = state_effecters(alloc, top)?;
-    let numeric_effecters = numeric_effecters(alloc, top)?;
     let users = users(alloc, top)?;
-    Ok(BoardFile {
+    Ok(OwnParts {
         tid: top.byte(Field::Tid),
         device: device(&board),
-        sensors,
         enables: global_enables(top),
         boot: boot_options(top),
         policy: power_policy(top),
@@ -150,14 +154,38 @@ fn board_in(alloc: Global, top: &Checked<'_>) -> Result<BoardFile, FileFault>
         clock: top.number(Field::Clock),
         log: log_capacity(top),
         sdr,
-        numeric_effecters,
-        state_effecters,
         users,
-        channels: file_channels.channels,
-        sessionless: file_channels.sessionless,
-        user_accesses: file_channels.accesses,
-        attributes,
-        lans,
+    })
+}
+
+/// The board that the tree holds whose own fields have no fault, or its first fault.
+fn board_in(alloc: Global, top: &Checked<'_>) -> Result<BoardFile, FileFault>
+    requires rows { top.now.rows.now ≡ TOP }
+    requires sound { field_faults TOP (table_view top.now.table.now) ≡ [] }
+    ensures { (result ≡ Err FileFault.Memory) ⊎ Answers (table_view top.now.table.now) result }
+{
+    let own = own_parts(alloc, top)?;
+    let ipmi = ipmi_items(alloc, top)?;
+    let pldm = pldm_items(alloc, top)?;
+    Ok(BoardFile {
+        tid: own.tid,
+        device: own.device,
+        sensors: ipmi.sensors,
+        enables: own.enables,
+        boot: own.boot,
+        policy: own.policy,
+        watchdog: own.watchdog,
+        clock: own.clock,
+        log: own.log,
+        sdr: own.sdr,
+        numeric_effecters: pldm.numeric_effecters,
+        state_effecters: pldm.state_effecters,
+        users: own.users,
+        channels: ipmi.channels.channels,
+        sessionless: ipmi.channels.sessionless,
+        user_accesses: ipmi.channels.accesses,
+        attributes: pldm.attributes,
+        lans: ipmi.lans,
     })
 }
 

@@ -3,7 +3,7 @@ use std::fmt;
 use text_fields::Field;
 
 /// An item of a board file: a table of the file.
-#[derive(Clone, Copy, Debug, PartialEq, Eq)]
+#[derive(Clone, Copy, Debug)]
 pub enum Item {
     /// The file's own table.
     Top,
@@ -24,14 +24,14 @@ pub enum Item {
 }
 
 /// A field of an item.
-#[derive(Clone, Copy, Debug, PartialEq, Eq)]
+#[derive(Clone, Copy, Debug)]
 pub struct Place {
     pub item: Item,
     pub field: Field,
 }
 
 /// Why a text is no board file.
-#[derive(Clone, Copy, Debug, PartialEq, Eq)]
+#[derive(Clone, Copy, Debug)]
 pub enum FileFault {
     /// Memory ran out.
     Memory,

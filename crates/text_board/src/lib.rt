@@ -7,6 +7,7 @@ mod channel_items;
 mod check;
 mod effecters;
 mod fault;
+mod item_groups;
 mod items;
 mod lan_items;
 mod laws;

@@ -1,6 +1,7 @@
 -- Tests beside the facts that they stand for.
-use Rattle.std.proofs.Common.{◌≡◌, ℕ, List, length, Bool, true, false, ◌&&◌, ◌↔◌, Option, is_some, IsSome, refl, sym}
+use Rattle.std.proofs.Common.{◌≡◌, ℕ, List, length, Bool, true, false, ◌&&◌, ◌↔◌, Option, Some, None, is_some, IsSome, refl, sym}
 use Rattle.std.proofs.lemmas.Bool.{and_parts}
+use Rattle.std.specs.Option.{IfSome}
 use Rattle.record_base.specs.declared.thresholds.ThresholdMasks.{ThresholdMasks}
 use Rattle.record_base.specs.Sensor.Thresholds.{IsThresholds, is_clear, is_in_order}
 use Rattle.record_base.specs.ThresholdLaws.{tests_pass, value_is_clear, true_in_order}
@@ -32,3 +33,8 @@ tests_thresholds made masks values six holds =
     (λ passed.
     let (clear, ordered) = and_parts (is_clear masks values) (is_in_order masks values) (rw (same_words masks values) at passed) in
     holds.1 (tests_pass masks values six clear ordered))
+
+-- what holds of a value that there may be, by what else holds of it
+pub if_some : {T : Type 0} {P Q : T → Type 0} → (o : Option T) → ((t : T) → P t → Q t) → IfSome o P → IfSome o Q
+if_some (Some t) f holds = f t holds
+if_some None f holds = holds

@@ -3,7 +3,7 @@ use crate::field::Field;
 use std::fmt;
 
 /// What is wrong with a field of an item.
-#[derive(Clone, Copy, Debug, PartialEq, Eq)]
+#[derive(Clone, Copy, Debug)]
 pub enum FieldFault {
     /// The item lacks it.
     Missing(Field),

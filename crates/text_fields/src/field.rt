@@ -6,7 +6,7 @@ use crate::lan_field::LanField;
 use std::fmt;
 
 /// A field, by what names it in a file. Fields of several items that have one name are one.
-#[derive(Clone, Copy, Debug, PartialEq, Eq)]
+#[derive(Clone, Copy, Debug)]
 pub enum Field {
     Tid,
     Clock,

@@ -14,7 +14,7 @@ use record_base::{Ipv4Address, LanChange, LanParameter, VlanBytes};
 use toml::{Table, Value};
 
 /// The type of a field that has to do with LAN parameters, and its range.
-#[derive(Clone, Copy, PartialEq, Eq)]
+#[derive(Clone, Copy)]
 pub enum LanShape {
     /// The number of a channel that the file lists: whether it lists each of 0 to 15.
     Channel([bool; 16]),

@@ -10,7 +10,7 @@ use crate::tree::{has_text, in_field, lacks};
 use toml::Table;
 
 /// The type of a field, and its range.
-#[derive(Clone, Copy, PartialEq, Eq)]
+#[derive(Clone, Copy)]
 pub enum Shape {
     /// A whole number, from the first to the second.
     Number(u32, u32),
@@ -103,7 +103,7 @@ pub enum Shape {
 }
 
 /// When an item needs a field.
-#[derive(Clone, Copy, PartialEq, Eq)]
+#[derive(Clone, Copy)]
 pub enum Need {
     Always,
     Never,
@@ -138,7 +138,7 @@ impl Need {
 }
 
 /// A field of an item, with what it can hold and when it is needed.
-#[derive(Clone, Copy, PartialEq, Eq)]
+#[derive(Clone, Copy)]
 pub struct Row(pub Field, pub Shape, pub Need);
 
 /// A byte.

@@ -1,4 +1,5 @@
 use Rattle.std.proofs.Common.{◌≡◌, ◌++◌, ◌∷◌, [], is_some, sym, ap, ◌∙◌}
+use Rattle.std.proofs.lemmas.List.{take_all}
 use Rattle.toml.specs.View.{view}
 use Rattle.text_board.specs.Holds.{IsRecordIn}
 use Rattle.text_fields.specs.Ranges.{record_in}
@@ -7,6 +8,9 @@ use Rattle.text_board.proofs.board.records_of.Goals as goal
 
 pub unwrap-requires : goal.unwrap-requires
 unwrap-requires c = ap is_some c.record.ensures ∙ each_view (λ d. is_some (record_in d)) c.args.values.now c.loop-value.value-index c.value-item.result c.requires c.loop-value-test.true c.value-item.is
+
+pub returns-clause-held : goal.returns-clause-held
+returns-clause-held c = rw (take_all c.loop-value.value-index c.args.values.now c.loop-value-test.false) at c.loop-value.invariant
 
 pub loop-value-preserved : goal.loop-value-preserved
 loop-value-preserved c =

@@ -1,16 +1,17 @@
 use Rattle.std.proofs.Common.{◌≡◌, ◌+◌, ◌++◌, ◌∷◌, [], map, take, length, sym, ◌∙◌, ap, arith}
-use Rattle.std.proofs.lemmas.List.{append-nil, map-append, length-map}
+use Rattle.toml.specs.declared.value.Value.{Value}
+use Rattle.std.proofs.lemmas.List.{take_all, append-nil, map-append, length-map}
 use Rattle.std.proofs.lemmas.List.Elements.{filter-append}
 use Rattle.std.proofs.lemmas.List.Folds.{list_all-map}
 use Rattle.std.specs.List.{list_all}
 use Rattle.toml.specs.View.{view, table_view}
 use Rattle.text_fields.specs.declared.field.Field.TheVariants as field
 use Rattle.text_fields.specs.Trees.{table_of, number_in, members_in}
-use Rattle.text_fields.specs.Ranges.{may_do, or_zero}
+use Rattle.text_fields.specs.Ranges.{is_table, may_do, or_zero}
 use Rattle.text_fields.specs.Faults.{field_faults}
 use Rattle.text_board.specs.Faults.{has_sessions, channel_rows}
 use Rattle.text_board.specs.Holds.{parts_of, on_channel, accesses_in, serves, with_sessions}
-use Rattle.text_fields.proofs.Members.{taken_more}
+use Rattle.text_fields.proofs.Members.{each_passes, taken_more}
 use Rattle.text_board.proofs.ChannelLists.{accesses_more}
 use Rattle.text_board.proofs.ChannelFields.{number_below, with_rows, users_told, sound_at, kept, left_out}
 use Rattle.text_board.proofs.channel_items.accesses_of.Goals as goal
@@ -41,6 +42,13 @@ accesses_on-requires-clause-bytes c =
     let sound = ap (λ t. field_faults (channel_rows c.args.users t) t) table ∙ sound_at c.args.users c.args.values.now c.loop-value.value-index v c.requires.sound c.loop-value-test.true c.value-item.is in
     let told = users_told c.args.users tree (with_rows c.args.users tree (sym c.has_sessions.ensures ∙ c.if-has_sessions.true) sound) in
     sym (list_all-map may_do view c.members_in.result.now) ∙ ap (list_all may_do) c.members_in.ensures ∙ told.1
+
+pub table_at-table-requires : goal.table_at-table-requires
+table_at-table-requires c =
+    each_passes (λ (value : Value). is_table (view value)) c.args.values.now c.loop-value.value-index c.value-item.result c.requires.tables c.loop-value-test.true c.value-item.is
+
+pub returns-clause-held : goal.returns-clause-held
+returns-clause-held c = rw (take_all c.loop-value.value-index c.args.values.now c.loop-value-test.false) at c.loop-value.invariant
 
 pub loop-value-preserved : goal.loop-value-preserved
 loop-value-preserved c =

@@ -1,13 +1,15 @@
 use Rattle.std.proofs.Common.{◌≡◌, ◌+◌, ◌++◌, ◌∷◌, [], map, take, subst, sym, ◌∙◌, ap}
-use Rattle.std.proofs.lemmas.List.{append-nil}
+use Rattle.toml.specs.declared.value.Value.{Value}
+use Rattle.std.proofs.lemmas.List.{take_all, append-nil}
 use Rattle.std.proofs.lemmas.List.Elements.{filter-append}
 use Rattle.std.proofs.lemmas.Slice.Zip.{all_zipped_more}
+use Rattle.text_fields.specs.Ranges.{is_table}
 use Rattle.toml.specs.View.{view, table_view}
 use Rattle.text_fields.specs.Trees.{table_of}
 use Rattle.text_fields.specs.Faults.{field_faults}
 use Rattle.text_board.specs.Faults.{has_sessions, channel_rows}
 use Rattle.text_board.specs.Holds.{IsChannelIn, HoldsChannel, serves, with_sessions}
-use Rattle.text_fields.proofs.Members.{taken_more}
+use Rattle.text_fields.proofs.Members.{each_passes, taken_more}
 use Rattle.text_board.proofs.ChannelFields.{with_rows, sound_at, kept, left_out}
 use Rattle.text_board.proofs.channel_items.channels_of.Goals as goal
 use Rattle.text_board.proofs.channel_items.channels_of.Goals.{then-has_sessions+in-Ok, else-has_sessions}
@@ -20,6 +22,13 @@ channel-requires c =
     let sound = sound_at c.args.users values c.loop-value.value-index v c.requires.sound c.loop-value-test.true c.value-item.is in
     with_rows c.args.users (table_view c.table_at-table.result.now) (sym c.has_sessions.ensures ∙ c.if-has_sessions.true)
     (ap (λ t. field_faults (channel_rows c.args.users t) t) table ∙ sound)
+
+pub table_at-table-requires : goal.table_at-table-requires
+table_at-table-requires c =
+    each_passes (λ (value : Value). is_table (view value)) c.args.values.now c.loop-value.value-index c.value-item.result c.requires.tables c.loop-value-test.true c.value-item.is
+
+pub returns-clause-held : goal.returns-clause-held
+returns-clause-held c = rw (take_all c.loop-value.value-index c.args.values.now c.loop-value-test.false) at c.loop-value.invariant
 
 pub loop-value-preserved : goal.loop-value-preserved
 loop-value-preserved c =

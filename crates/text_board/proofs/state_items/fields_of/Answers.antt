@@ -1,4 +1,5 @@
 use Rattle.std.proofs.Common.{◌≡◌, ◌<◌, ◌++◌, ◌∷◌, [], length, take, arith}
+use Rattle.std.proofs.lemmas.List.{take_all}
 use Rattle.std.proofs.Math.Seq.{take-length}
 use Rattle.text_fields.specs.Ranges.{is_state_list}
 use Rattle.text_board.specs.Holds.{IsFieldIn, IsPresentIn}
@@ -35,6 +36,9 @@ loop-place-preserved c =
       held = next_zip lists i c.index-lists-place.result c.loop-place-test.true c.index-lists-place.is IsFieldIn before f c.loop-place.invariant.held c.in_ok-field.ensures.held;
       current = next_zip states i c.index-states-place.result inside c.index-states-place.is IsPresentIn before f c.loop-place.invariant.current c.in_ok-field.ensures.current;
     })
+
+pub returns-clause-held : goal.returns-clause-held
+returns-clause-held c = rw (take_all c.loop-place.place c.args.lists.now c.loop-place-test.false) at c.loop-place.invariant.held
 
 pub returns-clause-current : goal.returns-clause-current
 returns-clause-current c =

@@ -1,4 +1,5 @@
 use Rattle.std.proofs.Common.{◌≡◌, ◌++◌, ◌∷◌, []}
+use Rattle.std.proofs.lemmas.List.{take_all}
 use Rattle.text_fields.specs.Ranges.{is_state}
 use Rattle.text_fields.specs.Trees.{IsNaturalIn}
 use Rattle.text_fields.proofs.Members.{next_zip, each_view}
@@ -6,6 +7,9 @@ use Rattle.text_board.proofs.state_items.states_of.Goals as goal
 
 pub state-requires : goal.state-requires
 state-requires c = each_view is_state c.args.values.now c.loop-value.value-index c.value-item.result c.requires c.loop-value-test.true c.value-item.is
+
+pub returns-clause-held : goal.returns-clause-held
+returns-clause-held c = rw (take_all c.loop-value.value-index c.args.values.now c.loop-value-test.false) at c.loop-value.invariant
 
 pub loop-value-preserved : goal.loop-value-preserved
 loop-value-preserved c =

@@ -1,4 +1,5 @@
 use Rattle.std.proofs.Common.{◌≡◌, ◌<◌, ◌+◌, ◌++◌, ◌∷◌, [], length, is_some, ◌∙◌, ap, arith}
+use Rattle.std.proofs.lemmas.List.{take_all}
 use Rattle.text_fields.specs.Users.{name_of}
 use Rattle.text_board.specs.Holds.{IsNameIn}
 use Rattle.text_fields.proofs.Members.{next_zip, each_view, read_so_far}
@@ -19,6 +20,9 @@ next_user-user-requires-clause-few c =
 pub next_user-user-requires-clause-named : goal.next_user-user-requires-clause-named
 next_user-user-requires-clause-named c =
     each_view (λ d. is_some (name_of d)) c.args.values.now c.loop-value.value-index c.value-item.result c.requires.named c.loop-value-test.true c.value-item.is
+
+pub returns-clause-names : goal.returns-clause-names
+returns-clause-names c = rw (take_all c.loop-value.value-index c.args.values.now c.loop-value-test.false) at c.loop-value.invariant.names
 
 pub loop-value-preserved : goal.loop-value-preserved
 loop-value-preserved c =
