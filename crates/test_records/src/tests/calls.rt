@@ -89,8 +89,8 @@ fn a_change_is_asked(rt: HostRuntime) {
 fn a_request_is_read(rt: HostRuntime) {
     let set = Limits::set_asked(&UPPER_CRITICAL);
     let (command, body) = read_request(&set);
-    let thresholds = Command::Set(PlainKind::Thresholds);
-    expect(&rt, command == Ok(thresholds), "the command");
+    let is_set = matches!(command, Ok(Command::Set(PlainKind::Thresholds)));
+    expect(&rt, is_set, "the command");
     expect_bytes(&rt, body, &set_data(0x5A));
 }
 
