@@ -218,9 +218,7 @@ fn is_header_of(header: &Header, instance: Instance, kind: u8, command: u8) -> b
     ensures { result ≡ (header.now.instance == instance && header.now.pldm_type == kind
         && header.now.command == command) }
 {
-    header.instance == instance
-        && header.pldm_type.number() == kind
-        && header.command == command
+    header.instance == instance && header.pldm_type.number() == kind && header.command == command
 }
 
 /// Whether the code is one of a busy controller.

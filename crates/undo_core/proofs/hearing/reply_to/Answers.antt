@@ -1,12 +1,9 @@
-use Rattle.std.proofs.Common.{◌≡◌, ◌≤◌, ℕ, ◌-◌, ◌==◌, ◌&&◌, not, Bool, true, false, List, [], ◌∷◌, length, take, drop, Ok, Err, None, refl, sym, ◌∙◌, ap, subst, arith}
-use Rattle.std.specs.Prelude.{slice_index, IfOk, Result}
+use Rattle.std.proofs.Common.{◌≡◌, ◌≤◌, ℕ, ◌-◌, ◌==◌, ◌&&◌, not, Bool, List, [], ◌∷◌, length, take, drop, sym, ◌∙◌, ap, arith}
+use Rattle.std.specs.Prelude.{slice_index}
 use Rattle.std.proofs.Math.Seq.{take-length}
-use Rattle.record_base.specs.declared.message.Asked.{Asked}
-use Rattle.record_base.specs.declared.message.Asked.TheVariants.{Pldm}
 use Rattle.model_bus.specs.Bytes.{pldm_answers, is_busy_code}
 use Rattle.model_ports.specs.Wires.{bytes_of, answered_from}
 use Rattle.two_wire.specs.declared.Bus.TheVariants.{Smbus}
-use Rattle.undo_plans.specs.declared.names.Names.{Names}
 use Rattle.undo_core.specs.Shown.{own}
 use Rattle.undo_core.proofs.Heard.{pldm_by_fields}
 use Rattle.undo_core.proofs.hearing.reply_to.Goals as goal
@@ -26,9 +23,9 @@ returns-clause-some c =
     record {
       answer = ap (answered_from Smbus) (is ∙ ap (λ (l : List ℕ). 1 ∷ l) read.1.spelled) ∙ (λ i. record { code = r.code; body = sym c.as_slice.ensures.value i });
       tells = λ names on.
-      (λ i. pldm_answers (bytes_of c.args.instance (own names (c.in-Pldm.is i))) (is i))
-      ∙ pldm_by_fields names c.in-Pldm.from c.in-Pldm.kind c.in-Pldm.command c.args.instance c.in-Pldm.body r c.new.result (omega arith) read
-      ∙ ap (λ (b : Bool). b && not (is_busy_code r.code)) (ap (λ (k : ℕ). r.header.instance == c.args.instance && r.header.pldm_type == k && r.header.command == c.in-Pldm.command) (sym c.number-kind.ensures.value) ∙ sym c.is_header_of.ensures ∙ c.if-not-is_header_of.false);
+          (λ i. pldm_answers (bytes_of c.args.instance (own names (c.in-Pldm.is i))) (is i))
+          ∙ pldm_by_fields names c.in-Pldm.from c.in-Pldm.kind c.in-Pldm.command c.args.instance c.in-Pldm.body r c.new.result (omega arith) read
+          ∙ ap (λ (b : Bool). b && not (is_busy_code r.code)) (ap (λ (k : ℕ). r.header.instance == c.args.instance && r.header.pldm_type == k && r.header.command == c.in-Pldm.command) (sym c.number-kind.ensures.value) ∙ sym c.is_header_of.ensures ∙ c.if-not-is_header_of.false);
     }
 
 pub returns-then-not-is_header_of-clause-none : goal.returns-then-not-is_header_of-clause-none

@@ -1,4 +1,4 @@
-use Rattle.std.proofs.Common.{rules, Some, refl, sym, ap}
+use Rattle.std.proofs.Common.{rules, refl, sym, ap}
 use Rattle.undo_core.specs.Shown.{backs}
 use Rattle.undo_core.proofs.manager.Manager.open.Goals as goal
 
@@ -6,7 +6,7 @@ pub returns-clause-opened : goal.returns-clause-opened
 returns-clause-opened c = record {
   named = refl;
   is_named = refl;
-  listed = ap Some (sym c.copy.ensures);
+  listed = search rules;
   plan = refl;
   retries = search rules;
   stage = tt;

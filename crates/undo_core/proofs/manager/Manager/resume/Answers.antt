@@ -16,7 +16,7 @@ returns-clause-resumed c = record {
   resent = refl;
   undo = refl;
   counts = search rules;
-  sequence = omega (arith, c.number.ensures.value, c.number.ensures.below, c.from.ensures);
-  instance = omega (arith, c.number-2.ensures.value, c.number-2.ensures.below, c.from-2.ensures);
+  sequence = omega arith;
+  instance = omega arith;
   joined = sym c.in-Ok.ensures;
 }
