@@ -1,5 +1,5 @@
 -- What a manager hears is heard as the machine hears it.
-use Rattle.std.proofs.Common.{◌≡◌, ℕ, ◌+◌, ◌*◌, ◌/◌, ◌%◌, ◌<◌, ◌==◌, ◌&&◌, not, Bool, true, false, if◌then◌else◌, List, Option, Some, None, Result, Ok, Err, ◌↔◌, refl, sym, ◌∙◌, ap, subst, arith, inl, inr}
+use Rattle.std.proofs.Common.{◌≡◌, ℕ, ◌+◌, ◌*◌, ◌/◌, ◌%◌, ◌<◌, ◌==◌, ◌&&◌, not, Bool, true, false, if◌then◌else◌, List, ◌∷◌, Option, Some, None, Result, Ok, Err, ◌↔◌, refl, sym, ◌∙◌, ap, subst, arith, inl, inr}
 use Rattle.std.proofs.lemmas.Bool.{cases_Bool, eqb-true, eq-eqb, true≢false}
 use Rattle.two_wire.specs.declared.Bus.{Bus}
 use Rattle.two_wire.specs.declared.Bus.TheVariants.{Ipmb, Smbus}
@@ -10,12 +10,14 @@ use Rattle.ipmb_frame.specs.declared.fault.FrameFault.{FrameFault}
 use Rattle.mctp_net.specs.declared.fault.PacketFault.{PacketFault}
 use Rattle.record_base.specs.declared.op.Op.{Op}
 use Rattle.record_base.specs.declared.message.Asked.{Asked}
-use Rattle.record_base.specs.declared.message.Asked.TheVariants.{Ipmi}
+use Rattle.record_base.specs.declared.message.Asked.TheVariants.{Ipmi, Pldm}
 use Rattle.mctp_net.specs.declared.packet.Packet.{Packet}
 use Rattle.mctp_net.specs.declared.taken.DropCause.{DropCause}
 use Rattle.mctp_net.specs.declared.taken.Taken.{Taken}
 use Rattle.mctp_net.specs.declared.taken.Taken.TheVariants as taken
 use Rattle.mctp_net.specs.Assembly.{Assemblies, drop_cause, after as kept_after, message_of, IsTaken}
+use Rattle.pldm_base.specs.declared.message.PldmReply.{PldmReply}
+use Rattle.pldm_base.specs.Message.{IsReply}
 use Rattle.undo_plans.specs.declared.names.Names.{Names}
 use Rattle.undo_plans.specs.Requests.{RequestList}
 use Rattle.model_bus.specs.Bytes.{answers, ipmb_answers, pldm_answers, is_busy_code}
@@ -52,6 +54,10 @@ regroup true true c d = refl
 regroup true false c d = refl
 regroup false b c d = refl
 
+regroup_three : (a b c d : Bool) → (a && ((b && c) && d)) ≡ ((a && b && c) && d)
+regroup_three true b c d = refl
+regroup_three false b c d = refl
+
 pub ipmb_by_fields : (asked_fn lun asked_command sequence : ℕ) (body : List ℕ) (r : Response) → lun < 4 → r.header.requester.lun < 4 → r.header.responder.lun < 4 → (from : ℕ)
     → ipmb_answers (bytes_of sequence (Ipmi from asked_fn lun asked_command body)) (response_bytes r)
     ≡ ((r.header.net_fn == asked_fn && r.header.sequence == sequence && r.header.command == asked_command) && not (is_busy_code r.code))
@@ -62,6 +68,20 @@ ipmb_by_fields asked_fn lun asked_command sequence body r in_lun in_requester in
     && ((h.command == asked_command) && not (is_busy_code r.code)))
     ∙ ap (λ (b : Bool). (b && (h.sequence == sequence)) && ((h.command == asked_command) && not (is_busy_code r.code))) (same_next h.net_fn asked_fn)
     ∙ regroup (h.net_fn == asked_fn) (h.sequence == sequence) (h.command == asked_command) (not (is_busy_code r.code))
+
+-- the message of PLDM, behind whose type the bytes are read as the reply
+pub pldm_by_fields : (names : Names) (from kind command instance : ℕ) (body : List ℕ) (r : PldmReply) (bytes : List ℕ) → instance < 32 → IsReply r bytes
+    → pldm_answers (bytes_of instance (own names (Pldm from kind command body))) (1 ∷ bytes)
+    ≡ ((r.header.instance == instance && r.header.pldm_type == kind && r.header.command == command) && not (is_busy_code r.code))
+pldm_by_fields names from kind command instance body r bytes below is =
+    let h = r.header in
+    let spelled = is.1 in
+    let clear : (128 * 0 + 32 * is.0 + h.instance) / 64 ≡ 0 = omega (arith, spelled.bit, spelled.header.instance) in
+    let low : (128 * 0 + 32 * is.0 + h.instance) % 32 ≡ h.instance = omega (arith, spelled.header.instance) in
+    let opened : (128 + instance) % 32 ≡ instance = omega (arith, below) in
+    ap (λ (read : List ℕ). pldm_answers (bytes_of instance (own names (Pldm from kind command body))) (1 ∷ read)) spelled.spelled
+    ∙ (λ i. ((clear i == 0) && (low i == opened i)) && (((h.pldm_type == kind) && (h.command == command)) && not (is_busy_code r.code)))
+    ∙ regroup_three (h.instance == instance) (h.pldm_type == kind) (h.command == command) (not (is_busy_code r.code))
 
 -- ---- the open request
 

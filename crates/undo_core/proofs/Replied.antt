@@ -1,6 +1,7 @@
 -- What comes of the reply to a task's request, by the kind of the task.
-use Rattle.std.proofs.Common.{◌≡◌, ℕ, Bool, List, length, Some, refl, sym, ap, subst}
+use Rattle.std.proofs.Common.{◌≡◌, ◌==◌, ℕ, Bool, false, if◌then◌else◌, List, length, Some, refl, sym, ap, subst}
 use Rattle.std.specs.Prelude.{slice_get}
+use Rattle.two_wire.specs.Codes.{success}
 use Rattle.record_base.specs.declared.op.Op.{Op}
 use Rattle.record_kinds.specs.Series.{Series, set_whole}
 use Rattle.undo_plans.specs.declared.names.Names.{Names}
@@ -9,9 +10,12 @@ use Rattle.model_undo.specs.Machine as machine
 use Rattle.undo_core.specs.declared.entering.Reply.{Reply}
 use Rattle.undo_core.specs.declared.stage.Task.TheVariants as task
 use Rattle.undo_core.specs.declared.stage.Stage.{Stage}
+use Rattle.undo_core.specs.declared.stage.Stage.TheVariants as stage
+use Rattle.model_undo.specs.declared.phase.Why.TheVariants.{Refused, GetRefused}
 use Rattle.undo_core.specs.Joining.{AreJoined}
 use Rattle.undo_core.specs.Shown.{words_of, backs, answered_in, IsTask, IsGot, IsStage}
 use Rattle.undo_core.specs.Entered.{AfterTask}
+use Rattle.undo_core.proofs.Going.{refused_stage}
 
 module _ (plan : List Op) (stopped : Bool) (step parts : ℕ) (reply : Reply) (old new : RequestList) (r : Stage) where
   -- of a Get, which leaves the requests that undo
@@ -73,3 +77,20 @@ module _ (plan : List Op) (stopped : Bool) (step parts : ℕ) (reply : Reply) (o
     undo names (machine.Gets place op) part is many = absurd is
     undo names (machine.Sets place op back) part is many = absurd is
     undo names (machine.Undoes first rest) part is many = refl
+
+module _ (plan : List Op) (stopped : Bool) (step parts : ℕ) (reply : Reply) (old : RequestList) (code : ℕ) (any : List ℕ) where
+  -- of a Get that was refused
+  pub get_refused : reply.code ≡ code → (reply.code == success) ≡ false → AfterTask plan stopped (task.Gets step) parts reply old old any any (stage.AtHalt step (GetRefused code))
+  get_refused same fails = got plan stopped step parts reply old old (stage.AtHalt step (GetRefused code)) any any refl (λ names op part there many shown.
+      subst (IsStage names plan old any (stage.AtHalt step (GetRefused code))) (sym (refused_stage names stopped plan (answered_in reply) (machine.Gets step op) part fails))
+      (refl, ap GetRefused same))
+
+  -- of a Set that was refused
+  pub set_refused : reply.code ≡ code → (reply.code == success) ≡ false → AfterTask plan stopped (task.Sets step) parts reply old old any any (stage.AtHalt step (Refused code))
+  set_refused same fails = set plan stopped step parts reply old old (stage.AtHalt step (Refused code)) (λ names op back part replies there waits many.
+      subst (IsStage names plan old replies (stage.AtHalt step (Refused code))) (sym (refused_stage names stopped plan (answered_in reply) (machine.Sets step op back) part fails))
+      (refl, ap Refused same))
+      (λ names op back part there waits many.
+      ap (λ (b : Bool). if b then machine.undo_with (words_of names) back (machine.next_asked (words_of names) (answered_in reply) (machine.Sets step op back) part) (backs old.members)
+      else backs old.members) fails)
+      any

@@ -1,5 +1,5 @@
 //! Frames that come to a manager.
-ghost use Rattle.std.specs.Prelude.{◌≡◌, ◌≤◌, length, None, IfSome, false};
+ghost use Rattle.std.specs.Prelude.{◌≡◌, ◌≤◌, ◌==◌, ◌&&◌, length, None, IfSome, false};
 ghost use Rattle.two_wire.specs.Sizes.{most_message_bytes};
 ghost use Rattle.undo_core.specs.Shown.{Takes, answered_in, TellsButForBusy, TellsMessage, IsReplyTo, IsTakenIf, IsJoinedIf, HearsResponse, HearsPacket, HearsMessage, HearsResponseIn, HearsPacketIn, StaysSilent, IsNoResponse, IsNoPacket};
 ghost use Rattle.model_undo.specs.Words.{is_busy as is_busy_code};
@@ -15,7 +15,7 @@ use cfg_records::Asked;
 use ipmb_frame::{Msg, Response, Sequence, read_frame};
 use mctp_net::{Packet, Taken, read_packet};
 use model_bus::PLDM_MESSAGE_TYPE;
-use pldm_base::{Instance, PldmBytes, read_pldm_reply};
+use pldm_base::{Header, Instance, PldmBytes, read_pldm_reply};
 use two_wire::size::MOST_MESSAGE_BYTES;
 use two_wire::{Bus, Bytes, code};
 use undo_plans::NextNumbers;
@@ -204,17 +204,21 @@ fn reply_to<'a>(asked: &Asked, instance: Instance, message: &'a [u8]) -> Option<
     let Ok(reply) = read_pldm_reply(&PldmBytes::new(bytes)) else {
         return None;
     };
-    let header = reply.header;
-    if header.instance != instance
-        || header.pldm_type.number() != kind
-        || header.command != *command
-    {
+    if !is_header_of(&reply.header, instance, kind, *command) {
         return None;
     }
     Some(Reply {
         code: reply.code,
         body: reply.body.as_slice(),
     })
+}
+
+/// Whether the header has this instance, type and command.
+fn is_header_of(header: &Header, instance: Instance, kind: u8, command: u8) -> bool
+    ensures { result ≡ (header.now.instance == instance && header.now.pldm_type == kind
+        && header.now.command == command) }
+{
+    header.instance == instance && header.pldm_type.number() == kind && header.command == command
 }
 
 /// Whether the code is one of a busy controller.

@@ -15,6 +15,9 @@ use Rattle.undo_core.specs.declared.stage.Task.TheVariants.{Sets}
 use Rattle.undo_core.proofs.Replied as replied
 use Rattle.undo_core.proofs.entering.after_set.Goals as goal
 
+pub returns-in-Some-clause-after : goal.returns-in-Some-clause-after
+returns-in-Some-clause-after c any = replied.set_refused c.args.steps.now c.args.stopped c.args.step c.args.parts c.args.reply c.args.requests.now c.in-Some.code any (search rules) (search rules)
+
 pub returns-in-Some-set_next-clause-after : goal.returns-in-Some-set_next-clause-after
 returns-in-Some-set_next-clause-after c = replied.set c.args.steps.now c.args.stopped c.args.step c.args.parts c.args.reply c.args.requests.now c.args.requests.now (Opened true (Sets c.args.step) (c.args.parts + 1) c.in-Some-set_next.asked)
     (λ names op back part replies there waits many.

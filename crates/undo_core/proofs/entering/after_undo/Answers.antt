@@ -1,4 +1,4 @@
-use Rattle.std.proofs.Common.{rules, ◌≡◌, ◌==◌, ◌+◌, Some, None, true, false, sym, ◌∙◌}
+use Rattle.std.proofs.Common.{rules, ◌≡◌, ◌==◌, ◌+◌, length, Some, None, true, false, sym, ◌∙◌, arith}
 use Rattle.std.specs.Prelude.{slice_get}
 use Rattle.bios_attr.specs.EntryParts.{request_at}
 use Rattle.undo_plans.specs.Requests.{meant}
@@ -34,3 +34,12 @@ returns-in-None-clause-after c plan stopped = replied.undid plan stopped c.args.
     let made : request_at (meant c.unwrap-member.result) (c.args.parts + 1) ≡ None = sym c.request.ensures.request ∙ c.in-None.is in
     undo_ends names plan stopped c.args.requests.now replies c.args.step c.args.parts a (meant c.unwrap-member.result) c.undo_stage.result first rest part there is many done made
     (c.undo_stage.ensures.stage names plan replies))
+
+pub returns-in-Some-clause-left : goal.returns-in-Some-clause-left
+returns-in-Some-clause-left c plan any = omega (arith, c.requires.parts)
+
+pub returns-in-Some-request-clause-left : goal.returns-in-Some-request-clause-left
+returns-in-Some-request-clause-left c plan any = omega (arith, c.requires.parts)
+
+pub returns-in-None-clause-left : goal.returns-in-None-clause-left
+returns-in-None-clause-left c plan any = omega (arith, c.requires.parts, c.undo_stage.ensures.left (length plan) (length any.members))

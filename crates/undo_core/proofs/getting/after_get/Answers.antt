@@ -1,4 +1,4 @@
-use Rattle.std.proofs.Common.{rules, ◌≡◌, ◌+◌, ◌++◌, ◌∷◌, [], Bool, true, false, if◌then◌else◌, List, ℕ, Some, None, refl, sym, ◌∙◌, ap, subst}
+use Rattle.std.proofs.Common.{rules, ◌≡◌, ◌+◌, ◌++◌, ◌∷◌, [], Bool, true, false, if◌then◌else◌, List, ℕ, length, Some, None, refl, sym, ◌∙◌, ap, subst, arith}
 use Rattle.std.proofs.lemmas.Option.{same_Some}
 use Rattle.bios_attr.specs.EntryParts.{joined}
 use Rattle.record_kinds.specs.Limits.{key_of, inverse}
@@ -13,6 +13,26 @@ use Rattle.undo_core.proofs.JoinedBodies.{are_joined}
 use Rattle.undo_core.proofs.Going.{one_more, next_got, more_stage, last_stage}
 use Rattle.undo_core.proofs.Replied as replied
 use Rattle.undo_core.proofs.getting.after_get.Goals as goal
+
+-- a reply that came first shows its own body
+alone : (before : List (List ℕ)) (body : List ℕ) → length before ≡ 0 → joined (before ++ body ∷ []) ≡ body
+alone [] body none = refl
+alone (first ∷ others) body some = absurd (omega (arith, some))
+
+pub returns-in-Some-clause-after : goal.returns-in-Some-clause-after
+returns-in-Some-clause-after c = replied.get_refused c.args.steps.now c.args.stopped c.args.step c.args.parts c.args.reply c.args.requests.now c.in-Some.code c.args.replies.now (search rules) (search rules)
+
+pub returns-then-parts-eq0-clause-after : goal.returns-then-parts-eq0-clause-after
+returns-then-parts-eq0-clause-after c = replied.got c.args.steps.now c.args.stopped c.args.step c.args.parts c.args.reply c.args.requests.now c.got_stage.new.requests c.got_stage.result c.args.replies.now c.args.replies.now c.got_stage.ensures.members (λ names op part there many got.
+    let a : Answered = record { code = c.args.reply.code; body = c.args.reply.body.now } in
+    let is_op : c.unwrap-op.result ≡ op = same_Some c.unwrap-op.result op (sym c.unwrap-op.ensures ∙ c.get.ensures ∙ there) in
+    let done : c.args.reply.code ≡ 0 = search rules in
+    let last : get_after_reply (key_of op) (c.args.parts + 1) a.body ≡ None =
+    (λ i. get_after_reply ((ap key_of (sym is_op) ∙ sym c.key.ensures) i) (c.args.parts + 1) a.body) ∙ sym c.next_part.ensures ∙ c.in_default-next_part.is in
+    subst (IsStage names c.args.steps.now c.got_stage.new.requests c.args.replies.now c.got_stage.result)
+    (ap (λ (l : List ℕ). machine.set_stage (words_of names) c.args.stopped c.args.step op (inverse op l)) (sym (alone part.before a.body (many ∙ c.if-parts-eq0.true)))
+    ∙ sym (last_stage names c.args.stopped c.args.steps.now a (machine.Gets c.args.step op) part _ done (next_got names (key_of op) part.before a.body c.args.parts many) last))
+    (c.got_stage.ensures.stage names op c.args.replies.now there))
 
 pub returns-clause-after : goal.returns-clause-after
 returns-clause-after c = replied.got c.args.steps.now c.args.stopped c.args.step c.args.parts c.args.reply c.args.requests.now c.got_stage-2.new.requests c.got_stage-2.result c.args.replies.now c.end.new.self c.got_stage-2.ensures.members (λ names op part there many got.

@@ -1,4 +1,4 @@
-use Rattle.std.proofs.Common.{rules, ◌≡◌, Some, true, false, refl, sym, ◌∙◌, ap, subst, arith}
+use Rattle.std.proofs.Common.{rules, ◌≡◌, Some, None, true, false, refl, sym, ◌∙◌, ap, subst, arith}
 use Rattle.std.specs.Prelude.{slice_get}
 use Rattle.std.proofs.lemmas.Option.{same_Some}
 use Rattle.record_base.specs.declared.op.Op.{Op}
@@ -6,13 +6,26 @@ use Rattle.bios_attr.specs.EntryParts.{first_request}
 use Rattle.record_kinds.specs.Limits.{set_asked, inverse}
 use Rattle.record_kinds.specs.Series.{set_whole}
 use Rattle.model_undo.specs.Machine as machine
-use Rattle.undo_core.specs.declared.stage.Stage.TheVariants.{Opened}
+use Rattle.model_undo.specs.declared.phase.Why.TheVariants.{Stop, NotRestorable}
+use Rattle.undo_core.specs.declared.stage.Stage.TheVariants.{Opened, AtHalt}
 use Rattle.undo_core.specs.declared.stage.Task.TheVariants.{Sets}
 use Rattle.undo_core.specs.Shown.{words_of, own, IsStage}
 use Rattle.undo_core.specs.Room.{most_data}
 use Rattle.undo_core.proofs.Rooms.{begins_with, same_kind, place_for, bytes_for_one, room_left}
 use Rattle.undo_core.proofs.ShortValues.{short_undo}
 use Rattle.undo_core.proofs.getting.got_stage.Goals as goal
+
+pub returns-in_default-clause-stage : goal.returns-in_default-clause-stage
+returns-in_default-clause-stage c names op replies there =
+    let is_op : c.unwrap-op.result ≡ op = same_Some c.unwrap-op.result op (sym c.unwrap-op.ensures ∙ c.get.ensures ∙ there) in
+    let none : inverse op c.args.shown.now ≡ None = ap (λ (o : Op). inverse o c.args.shown.now) (sym is_op) ∙ sym c.inverse.ensures ∙ c.in_default.is in
+    subst (IsStage names c.args.steps.now c.args.requests.now replies (AtHalt c.args.step NotRestorable)) (sym (λ i. machine.set_stage (words_of names) c.args.stopped c.args.step op (none i))) (refl, refl)
+
+pub returns-then-stopped-clause-stage : goal.returns-then-stopped-clause-stage
+returns-then-stopped-clause-stage c names op replies there =
+    let is_op : c.unwrap-op.result ≡ op = same_Some c.unwrap-op.result op (sym c.unwrap-op.ensures ∙ c.get.ensures ∙ there) in
+    let made : inverse op c.args.shown.now ≡ Some c.in-Some.back = ap (λ (o : Op). inverse o c.args.shown.now) (sym is_op) ∙ sym c.in-Some.ensures in
+    subst (IsStage names c.args.steps.now c.args.requests.now replies (AtHalt c.args.step Stop)) (sym (λ i. machine.set_stage (words_of names) (c.if-stopped.true i) c.args.step op (made i))) (refl, refl)
 
 pub returns-clause-stage : goal.returns-clause-stage
 returns-clause-stage c names op replies there =

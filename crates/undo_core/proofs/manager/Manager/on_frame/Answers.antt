@@ -18,6 +18,25 @@ use Rattle.undo_core.proofs.Heard.{response_read, packet_read, is_packet_read}
 use Rattle.undo_core.proofs.manager.Manager.on_frame.Goals as goal
 use Rattle.undo_core.proofs.manager.Manager.on_frame.Goals.{in_default-via-in-Ok+in_default, in_default-via-in_default}
 
+-- what was read is a response
+read_as : (c : goal.After-on_response) → IsMessage (msg.Response c.in-Ok-Response.response) c.args.bytes.now
+read_as c =
+    let read : c.read_frame.result ≡ Ok (msg.Response c.in-Ok-Response.response) = search rules in
+    subst (λ (x : Result Msg FrameFault). IfOk x (λ message. IsMessage message c.args.bytes.now)) read c.read_frame.ensures.read
+
+-- what was read is no response
+other : (c : goal.In_default) (r : Response) → c.read_frame.result ≡ Ok (msg.Response r) → ⊥
+other c r = elim c.in_default.branch [
+  | in_default-via-in-Ok+in_default w ↦ λ same. search rules
+  | in_default-via-in_default w ↦ λ same. let both : Err w.in_default.field-0 ≡ Ok (msg.Response r) = sym w.in_default.is ∙ same in cc both
+]
+
+pub returns-in-Ok-Response-clause-no_response : goal.returns-in-Ok-Response-clause-no_response
+returns-in-Ok-Response-clause-no_response c on none = absurd (none c.in-Ok-Response.response (read_as c))
+
+pub returns-in_default-clause-response : goal.returns-in_default-clause-response
+returns-in_default-clause-response c on r is names s shows = absurd (other c r (c.read_frame.ensures.whole (msg.Response r) is))
+
 pub returns-in-Ok-Response-clause-response : goal.returns-in-Ok-Response-clause-response
 returns-in-Ok-Response-clause-response c on r is names s shows =
     let read : c.read_frame.result ≡ Ok (msg.Response c.in-Ok-Response.response) = search rules in
@@ -37,19 +56,13 @@ returns-in-Err-clause-packet c on p is names s shows = absurd (true≢false (ap 
 
 pub returns-in-Ok-Response-clause-heard : goal.returns-in-Ok-Response-clause-heard
 returns-in-Ok-Response-clause-heard c names s shows =
-    let read : c.read_frame.result ≡ Ok (msg.Response c.in-Ok-Response.response) = search rules in
-    let is : IsMessage (msg.Response c.in-Ok-Response.response) c.args.bytes.now = subst (λ (x : Result Msg FrameFault). IfOk x (λ message. IsMessage message c.args.bytes.now)) read c.read_frame.ensures.read in
     subst (λ (on : Bus). Comes names (Hears on c.args.bytes.now) s c.on_response.new.self c.on_response.result) (sym c.in-Ipmb.is)
-    (value_comes names s c.on_response.new.self c.on_response.result Ipmb c.args.bytes.now (Tells c.in-Ok-Response.response) is (c.on_response.ensures names s shows))
+    (value_comes names s c.on_response.new.self c.on_response.result Ipmb c.args.bytes.now (Tells c.in-Ok-Response.response) (read_as c) (c.on_response.ensures names s shows))
 
 pub returns-in_default-clause-heard : goal.returns-in_default-clause-heard
 returns-in_default-clause-heard c names s shows =
-    let other : (r : Response) → c.read_frame.result ≡ Ok (msg.Response r) → ⊥ = λ r. elim c.in_default.branch [
-      | in_default-via-in-Ok+in_default w ↦ λ same. search rules
-      | in_default-via-in_default w ↦ λ same. let both : Err w.in_default.field-0 ≡ Ok (msg.Response r) = sym w.in_default.is ∙ same in cc both
-    ] in
     subst (λ (on : Bus). Comes names (Hears on c.args.bytes.now) s c.args.self.now None) (sym c.in-Ipmb.is)
-    (no_response_comes names s c.args.self.now None c.args.bytes.now c.read_frame.result c.read_frame.ensures.read c.read_frame.ensures.whole other (shows, tt))
+    (no_response_comes names s c.args.self.now None c.args.bytes.now c.read_frame.result c.read_frame.ensures.read c.read_frame.ensures.whole (other c) (shows, tt))
 
 pub returns-in-Ok-clause-heard : goal.returns-in-Ok-clause-heard
 returns-in-Ok-clause-heard c names s shows =

@@ -44,3 +44,14 @@ returns c names s shows =
       instance = shows.instance;
       joined = sym kept;
     }))
+
+pub invariant_of-self : goal.invariant_of-self
+invariant_of-self c = record {
+  planned = c.args.self.now.planned;
+  kept = c.args.self.now.kept;
+  few = c.args.self.now.few;
+  counted = c.args.self.now.counted;
+  roomy = c.args.self.now.roomy;
+  parted = c.args.self.now.parted;
+  filled = c.args.self.now.filled;
+}

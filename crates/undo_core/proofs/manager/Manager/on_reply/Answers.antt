@@ -1,14 +1,33 @@
-use Rattle.std.proofs.Common.{rules, ◌≡◌, true, false, refl, ◌∙◌, ap}
-use Rattle.std.proofs.Common.{Bool}
+use Rattle.std.proofs.Common.{rules, ◌≡◌, ◌≤◌, ◌+◌, Bool, true, false, refl, ◌∙◌, ap, subst, arith}
 use Rattle.two_wire.specs.declared.Bus.{Bus}
 use Rattle.model_ports.specs.Wires.{bus_of}
 use Rattle.model_bus.specs.Answered.{Answered}
 use Rattle.model_undo.specs.Words.{is_busy}
 use Rattle.model_undo.specs.Machine.{one_answered}
+use Rattle.undo_core.specs.declared.stage.Stage.{Stage}
 use Rattle.undo_core.specs.declared.stage.Stage.TheVariants.{Opened}
+use Rattle.undo_core.specs.Bounds.{left_at, left_of, most_replies}
 use Rattle.undo_core.specs.Counted.{counts_of}
 use Rattle.undo_core.proofs.Replies.{took_reply}
 use Rattle.undo_core.proofs.manager.Manager.on_reply.Goals as goal
+
+pub invariant_of-self : goal.invariant_of-self
+invariant_of-self c =
+    let self = c.args.self.now in
+    let task = c.in-Opened-true-default-default-default.task in
+    let parts = c.in-Opened-true-default-default-default.parts in
+    let asked = c.in-Opened-true-default-default-default.asked in
+    let left : self.counts.ipmb + self.counts.smbus + left_of self.steps self.undo.requests task parts ≤ most_replies =
+    subst (λ (s : Stage). self.counts.ipmb + self.counts.smbus + left_at self.steps self.undo.requests s ≤ most_replies) c.in-Opened-true-default-default-default.is self.counted in
+    record {
+      planned = c.stage_after-self.ensures.planned;
+      kept = c.stage_after-self.ensures.kept;
+      few = c.stage_after-self.ensures.few;
+      counted = omega (arith, left, c.after-counts.ensures.sum, c.stage_after-self.ensures.left);
+      roomy = c.stage_after-self.ensures.room;
+      parted = c.stage_after-self.ensures.parted;
+      filled = c.stage_after-self.ensures.filled;
+    }
 
 pub returns : goal.returns
 returns c names s shows =
