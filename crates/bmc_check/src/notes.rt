@@ -23,19 +23,27 @@ struct Spot<'a> {
     place: usize,
 }
 
+/// What a table of the group is called.
+fn table_name(group: Group) -> &'static str {
+    match group {
+        Group::Top | Group::Plan => "top",
+        Group::Device => "device",
+        Group::Sensor => "sensor",
+        Group::Channel => "channel",
+        Group::Lan => "lan",
+        Group::Attribute => "attribute",
+        Group::State => "state",
+        Group::Numeric => "numeric",
+        Group::Step => "step",
+    }
+}
+
 impl fmt::Display for Spot<'_> {
     fn fmt<W: fmt::Write>(&self, f: &mut fmt::Formatter<W>) -> fmt::Result {
-        let Spot { name, place, .. } = self;
+        write!(f, "{}: {}", self.name, table_name(self.group))?;
         match self.group {
-            Group::Top | Group::Plan => write!(f, "{name}: top"),
-            Group::Device => write!(f, "{name}: device"),
-            Group::Sensor => write!(f, "{name}: sensor {place}"),
-            Group::Channel => write!(f, "{name}: channel {place}"),
-            Group::Lan => write!(f, "{name}: lan {place}"),
-            Group::Attribute => write!(f, "{name}: attribute {place}"),
-            Group::State => write!(f, "{name}: state {place}"),
-            Group::Numeric => write!(f, "{name}: numeric {place}"),
-            Group::Step => write!(f, "{name}: step {place}"),
+            Group::Top | Group::Plan | Group::Device => Ok(()),
+            _ => write!(f, " {}", self.place),
         }
     }
 }
@@ -158,6 +166,35 @@ fn tell_array(
     tell_values(alloc, text, name, group, members_in(tree, array))
 }
 
+/// The arrays of tables of a board file.
+const ARRAYS: [(Group, Field); 6] = [
+    (Group::Sensor, Field::Sensor),
+    (Group::Channel, Field::Channel),
+    (Group::Lan, Field::Lan(LanField::Lan)),
+    (Group::Attribute, Field::Attribute),
+    (Group::State, Field::State),
+    (Group::Numeric, Field::Numeric),
+];
+
+/// Tells of the tables that a file has in these arrays.
+fn tell_arrays(
+    alloc: Global,
+    text: &mut String,
+    name: &str,
+    arrays: &[(Group, Field)],
+    tree: &Table,
+) -> Result<bool, AllocError>
+    ensures { IfOk result (λ told. told ≡ list_any (λ array. is_told_in array.0 array.1 (table_view tree.now)) arrays.now) }
+{
+    let mut told = false;
+    for (group, array) in arrays {
+        if tell_array(alloc, text, name, *group, *array, tree)? {
+            told = true;
+        }
+    }
+    Ok(told)
+}
+
 /// Tells of the file's own table.
 fn tell_own(
     alloc: Global,
@@ -207,14 +244,8 @@ pub(crate) fn tell_board(
 {
     let own = tell_own(alloc, text, name, Group::Top, tree)?;
     let device = tell_device(alloc, text, name, tree)?;
-    let sensors = tell_array(alloc, text, name, Group::Sensor, Field::Sensor, tree)?;
-    let channels = tell_array(alloc, text, name, Group::Channel, Field::Channel, tree)?;
-    let lan = Field::Lan(LanField::Lan);
-    let lans = tell_array(alloc, text, name, Group::Lan, lan, tree)?;
-    let attributes = tell_array(alloc, text, name, Group::Attribute, Field::Attribute, tree)?;
-    let states = tell_array(alloc, text, name, Group::State, Field::State, tree)?;
-    let numerics = tell_array(alloc, text, name, Group::Numeric, Field::Numeric, tree)?;
-    Ok(own || device || sensors || channels || lans || attributes || states || numerics)
+    let arrays = tell_arrays(alloc, text, name, &ARRAYS, tree)?;
+    Ok(own || device || arrays)
 }
 
 /// Tells of the keys of a plan that are unknown or not used, a line each, and whether there is one.

@@ -24,39 +24,61 @@ fn push_count(text: &mut String, count: usize, called: &str) -> Result<(), Alloc
     }
 }
 
-/// Adds the line of a board.
-fn push_board(text: &mut String, name: &str, file: &BoardFile) -> Result<(), AllocError> {
-    write!(text, "{name}: board")?;
-    push_count(text, file.sensors.items.as_slice().len(), "sensor")?;
-    push_count(text, file.users.items.as_slice().len(), "user")?;
+/// What a board file holds: how many of each sort, and what they are called.
+fn held_by(file: &BoardFile) -> [(usize, &'static str); 7] {
     let channels = file.channels.items.as_slice().len();
     let sessionless = file.sessionless.items.as_slice().len();
-    push_count(text, channels.saturating_add(sessionless), "channel")?;
-    push_count(text, file.attributes.items.as_slice().len(), "attribute")?;
-    push_count(
-        text,
-        file.state_effecters.items.as_slice().len(),
-        "state effecter",
-    )?;
-    push_count(
-        text,
-        file.numeric_effecters.items.as_slice().len(),
-        "numeric effecter",
-    )?;
-    push_count(text, file.sdr.items.as_slice().len(), "sensor data record")?;
+    [
+        (file.sensors.items.as_slice().len(), "sensor"),
+        (file.users.items.as_slice().len(), "user"),
+        (channels.saturating_add(sessionless), "channel"),
+        (file.attributes.items.as_slice().len(), "attribute"),
+        (
+            file.state_effecters.items.as_slice().len(),
+            "state effecter",
+        ),
+        (
+            file.numeric_effecters.items.as_slice().len(),
+            "numeric effecter",
+        ),
+        (file.sdr.items.as_slice().len(), "sensor data record"),
+    ]
+}
+
+/// Adds the line of a file of a sort that holds these.
+fn push_held(
+    text: &mut String,
+    name: &str,
+    sort: &str,
+    held: &[(usize, &str)],
+) -> Result<(), AllocError> {
+    write!(text, "{name}: {sort}")?;
+    for (count, called) in held {
+        push_count(text, *count, called)?;
+    }
     text.push_str("\n")
 }
 
-/// Adds the line of a board that isn't used any more.
-fn push_last(text: &mut String, name: &str, file: BoardFile) -> Result<(), AllocError> {
-    push_board(text, name, &file)
+/// Adds the line of a board, whose file isn't used any more.
+fn push_board(text: &mut String, name: &str, file: BoardFile) -> Result<(), AllocError> {
+    let held = held_by(&file);
+    drop(file);
+    push_held(text, name, "board", &held)
 }
 
-/// Adds the line of a plan.
-fn push_plan(text: &mut String, name: &str, plan: &Plan) -> Result<(), AllocError> {
+/// Adds the line of a plan that isn't used any more.
+fn push_plan(text: &mut String, name: &str, plan: Plan) -> Result<(), AllocError> {
+    let steps = plan.steps.len();
+    let retries = plan.retries.number();
+    drop(plan);
     write!(text, "{name}: plan")?;
-    push_count(text, plan.steps.len(), "step")?;
-    writeln!(text, ", retries {}", plan.retries.number())
+    push_count(text, steps, "step")?;
+    writeln!(text, ", retries {retries}")
+}
+
+/// Adds that a file of a sort is refused for its line of this number.
+fn refuse_line(text: &mut String, name: &str, sort: &str, line: usize) -> Result<(), AllocError> {
+    writeln!(text, "{name}: {sort} refused, line {line}")
 }
 
 /// Adds where a text is no TOML, and why not.
@@ -145,7 +167,7 @@ fn checked_board(
 {
     match read_board(alloc, file) {
         Ok(board) => {
-            push_last(text, name, board)?;
+            push_board(text, name, board)?;
             let told = told_board(alloc, text, name, file)?;
             Ok(read_outcome(told))
         }
@@ -168,7 +190,7 @@ fn checked_plan(
 {
     match read_plan(alloc, file) {
         Ok(plan) => {
-            push_plan(text, name, &plan)?;
+            push_plan(text, name, plan)?;
             let told = told_plan(alloc, text, name, file)?;
             Ok(read_outcome(told))
         }
@@ -191,14 +213,14 @@ fn checked_schedule(
 {
     match read_schedule(alloc, file) {
         Ok(events) => {
-            write!(text, "{name}: schedule")?;
-            push_count(text, events.as_slice().len(), "event")?;
-            text.push_str("\n")?;
+            let count = events.as_slice().len();
+            drop(events);
+            push_held(text, name, "schedule", &[(count, "event")])?;
             Ok(Outcome::Fine)
         }
         Err(ScheduleFault::Memory) => Err(AllocError),
         Err(ScheduleFault::Line(line)) => {
-            writeln!(text, "{name}: schedule refused, line {line}")?;
+            refuse_line(text, name, "schedule", line)?;
             Ok(Outcome::Refused)
         }
     }
@@ -215,14 +237,14 @@ fn checked_undo(
 {
     match read_undo(alloc, file) {
         Ok(list) => {
-            write!(text, "{name}: undo text")?;
-            push_count(text, list.requests.len(), "request")?;
-            text.push_str("\n")?;
+            let count = list.requests.len();
+            drop(list);
+            push_held(text, name, "undo text", &[(count, "request")])?;
             Ok(Outcome::Fine)
         }
         Err(UndoFault::Memory) => Err(AllocError),
         Err(UndoFault::Line(line)) => {
-            writeln!(text, "{name}: undo text refused, line {line}")?;
+            refuse_line(text, name, "undo text", line)?;
             Ok(Outcome::Refused)
         }
     }
