@@ -1,19 +1,25 @@
 -- What a seat's list keeps of an answer that the board gave where the request was looked at.
-use Rattle.std.specs.Prelude.{Result, Ok, Err, IfOk, ◌∷◌, [], ◌++◌}
-use Rattle.std.proofs.Common.{◌≡◌, ℕ, List, length, drop, refl, sym, ◌∙◌, ap, subst}
+use Rattle.std.specs.Prelude.{Result, Ok, Err, true, IfOk, OnOk, OnErr, ◌∷◌, [], ◌++◌}
+use Rattle.std.proofs.Common.{◌≡◌, ◌+◌, ◌≤◌, ◌<◌, ℕ, List, length, drop, refl, sym, ◌∙◌, ap, subst, arith, length-append}
+use Rattle.two_wire.specs.Sizes.{most_pldm_reply_data}
 use Rattle.record_base.specs.declared.message.Asked.{Asked}
 use Rattle.record_base.specs.declared.message.Answered.{Answered}
+use Rattle.record_base.specs.Meaning.{room_for}
 use Rattle.cfg_records.specs.declared.board_file.BoardFile.{BoardFile}
 use Rattle.bmc_board.specs.declared.board.Board.{Board}
+use Rattle.bmc_board.specs.Gives.{Gives}
 use Rattle.bmc_carry.specs.declared.asked.AskedHere.{AskedHere}
 use Rattle.bmc_carry.specs.Asking.{meant}
 use Rattle.bmc_carry.specs.Carrying.{code_given}
 use Rattle.bmc_history.specs.declared.event.Call.{Call}
 use Rattle.bmc_history.specs.declared.event.Call.TheVariants.{Exchanged}
 use Rattle.bmc_history.specs.declared.event.Event.{Event}
+use Rattle.bmc_history.specs.declared.held.PeriodFull.{PeriodFull}
 use Rattle.bmc_history.specs.Entries.{exchanged}
 use Rattle.bmc_history.specs.Calls.{GainsCall, ExchangesHere, KeepsHere}
-use Rattle.bmc_history.proofs.Here.{call_is}
+use Rattle.bmc_history.proofs.Here.{room_is, call_is}
+use Rattle.bmc_shared.specs.declared.seat.Seat.{Seat}
+use Rattle.bmc_shared.specs.Seated.{LeavesSeat}
 
 -- the call of an answer in a value of its own is the one that was kept
 pub kept_as : (calls kept : List Call) (asked question : Asked) (given : Result (Unit {0}) ℕ) (old new : List ℕ) (a : Answered) → asked ≡ question
@@ -44,3 +50,52 @@ pub keeps_here : {S : Type 0} {E : Type 0} {g h : _} (setup : BoardFile) (before
 keeps_here setup before after events later seat calls kept asked told result old new shown same done gained taken =
     subst (λ r. IfOk r (λ given. KeepsHere calls kept (meant asked) given old new)) (sym same)
     (kept_by setup before after events later seat calls kept asked result old new shown done gained taken)
+
+-- what is given stands behind the bytes that were there, and is no longer than the answer's data
+behind : (given : Result (Unit {0}) ℕ) (old new : List ℕ) (a : Answered) → Gives given old new a
+    → (length old ≤ length new) × (length new ≤ length old + length a.body)
+behind (Ok done) old new a gives =
+    let all : length new ≡ length old + length a.body = ap (λ (xs : List ℕ). length xs) gives.1 ∙ length-append old a.body in (omega (arith, all), omega (arith, all))
+behind (Err code) old new a gives = let all : length new ≡ length old = ap (λ (xs : List ℕ). length xs) gives.1 in (omega (arith, all), omega (arith, all))
+
+-- the reply is as long as what was there, or longer
+pub starts_within : {S : Type 0} {E : Type 0} {g h : _} (setup : BoardFile) (before after : Board S g h) (events later : List Event) (seat : ℕ)
+    (asked : Asked) (result : Result (Result (Unit {0}) ℕ) E) (start old new : List ℕ) → start ≡ old
+    → IfOk result (λ given. ExchangesHere setup before after events later seat asked given old new) → OnOk result (length start ≤ length new)
+starts_within setup before after events later seat asked (Ok given) start old new first done =
+    subst (λ (xs : List ℕ). length xs ≤ length new) (sym first) (behind given old new done.answered done.gives).0
+starts_within setup before after events later seat asked (Err why) start old new first done = tt
+
+-- what was appended is no longer than any reply's data
+pub fits_behind : {S : Type 0} {E : Type 0} {g h : _} (setup : BoardFile) (before after : Board S g h) (events later : List Event) (seat : ℕ)
+    (asked : Asked) (result : Result (Result (Unit {0}) ℕ) E) (start old new : List ℕ) → start ≡ old
+    → IfOk result (λ given. ExchangesHere setup before after events later seat asked given old new)
+    → OnOk result (length new ≤ length start + most_pldm_reply_data)
+fits_behind setup before after events later seat asked (Ok given) start old new first done =
+    let most : length new ≤ length old + length done.answered.body = (behind given old new done.answered done.gives).1 in
+    let few : length done.answered.body ≤ room_for asked = done.fits in
+    let room : room_for asked ≤ 251 = room_is asked in
+    subst (λ (xs : List ℕ). length new ≤ length xs + most_pldm_reply_data) (sym first) (omega (arith, most, few, room))
+fits_behind setup before after events later seat asked (Err why) start old new first done = tt
+
+-- where the history had a place, so has the seat's list
+pub has_place : {A : Type 0} {E : Type 0} (result : Result A E) (calls amount room most : ℕ) → calls ≡ amount → room ≡ most
+    → OnOk result (amount < most) → OnOk result (calls < room)
+has_place (Ok given) calls amount room most counted roomy place = omega (arith, counted, roomy, place)
+has_place (Err why) calls amount room most counted roomy place = tt
+
+-- the seat's share counts what its list gained
+pub still_counted : {A : Type 0} {E : Type 0} (result : Result A E) (calls kept : List Call) (call : A → Call) (amount later : ℕ) → length calls ≡ amount
+    → IfOk result (λ given. GainsCall calls kept (call given)) → OnErr result (kept ≡ calls)
+    → OnOk result (later ≡ amount + 1) → OnErr result (later ≡ amount) → length kept ≡ later
+still_counted (Ok given) calls kept call amount later counted gained same more none =
+    let all : length kept ≡ length calls + 1 = ap (λ (xs : List Call). length xs) gained ∙ length-append calls (call given ∷ []) in omega (arith, all, counted, more)
+still_counted (Err why) calls kept call amount later counted gained same more none =
+    let all : length kept ≡ length calls = ap (λ (xs : List Call). length xs) same in omega (arith, all, counted, none)
+
+-- the seat is left so, whichever of two equal results says it
+pub leaves_seat : {J A : Type 0} {g h : _} (told result : Result A PeriodFull) (before : Seat J g) (after : Seat J h) → told ≡ result
+    → OnOk result (after.refused ≡ before.refused) → OnErr result (after.calls.items ≡ before.calls.items) → OnErr result (after.refused ≡ true)
+    → after.number ≡ before.number → LeavesSeat told before after
+leaves_seat told result before after same mark list marked number =
+    subst (λ r. LeavesSeat r before after) (sym same) (record { mark = mark; same_list = list; marked = marked; number = number })

@@ -1,5 +1,5 @@
 //! A board that threads share, and its seats.
-ghost use Rattle.std.specs.Prelude.{◌≡◌, ◌+◌, ◌≤◌, ◌<◌, ◌^◌, ◌↔◌, true, IsTrue, IfOk, IfErr, IsOk, IsErr, IfSome, OnOk, OnErr, length};
+ghost use Rattle.std.specs.Prelude.{◌≡◌, ◌+◌, ◌≤◌, ◌<◌, ◌^◌, ◌↔◌, true, IsTrue, IfOk, IfErr, IsOk, IsErr, IfSome, OnOk, OnErr, length, drop};
 ghost use Rattle.two_wire.specs.Sizes.{most_pldm_reply_data};
 ghost use Rattle.record_base.specs.Meaning.{room_for};
 ghost use Rattle.bmc_board.specs.State.{state_of};
@@ -47,20 +47,23 @@ pub enum CloseFault {
     Count,
 }
 
-/// Puts on a seat's list what the board answered to a request, or marks the seat as refused.
+/// Puts on a seat's list what the board answered to a request, whose data begin at `start` of the
+/// reply, or marks the seat as refused.
 #[inline(always)]
-fn keep(
+fn keep<B: Reply>(
     calls: &mut Calls,
     refused: &mut bool,
     asked: &AskedHere<'_>,
     given: Result<Result<(), Code>, PeriodFull>,
-    body: &[u8],
+    reply: &B,
+    start: usize,
 ) -> Result<Result<(), Code>, PeriodFull>
     requires room { OnOk given (length calls.old.items < calls.old.room) }
-    requires fits { OnOk given (length body.now ≤ most_pldm_reply_data) }
+    requires start { OnOk given (start ≤ length (B.bytes reply.now)) }
+    requires fits { OnOk given (length (B.bytes reply.now) ≤ start + most_pldm_reply_data) }
     ensures given { result ≡ given }
     ensures kept { IfOk given (λ done. GainsCall calls.old.items calls.new.items
-        (exchanged asked.now (code_given done) body.now)) }
+        (exchanged asked.now (code_given done) (drop start (B.bytes reply.now)))) }
     ensures mark { OnOk given (refused.new ≡ refused.old) }
     ensures same_list { OnErr given (calls.new.items ≡ calls.old.items) }
     ensures marked { OnErr given (refused.new ≡ true) }
@@ -68,6 +71,7 @@ fn keep(
 {
     match given {
         Ok(done) => {
+            let body = &reply.as_slice()[start..];
             calls.gain_exchange(asked, code_of(&done), body);
             Ok(done)
         }
@@ -145,7 +149,7 @@ impl<J: Opening, S: Store> Locked<J, S> {
         } = seat;
         let start = reply.as_slice().len();
         let given = self.answer(*number, share, asked, reply);
-        keep(calls, refused, asked, given, &reply.as_slice()[start..])
+        keep(calls, refused, asked, given, reply, start)
     }
 
     /// The board's answer to a request, which the history and the seat's list gain. Where the
@@ -305,7 +309,7 @@ impl<J: Opening, S: Store + Drop> Shared<J, S> {
         } = seat;
         let start = reply.as_slice().len();
         let given = self.lock.lock(rt).answer(*number, share, asked, reply);
-        keep(calls, refused, asked, given, &reply.as_slice()[start..])
+        keep(calls, refused, asked, given, reply, start)
     }
 
     /// Waits for the lock, and has something happen on the board beside requests. What it answers
