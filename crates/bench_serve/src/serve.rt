@@ -70,6 +70,21 @@ fn leave(out: &Out, reply: &mut Slot)
     }
 }
 
+/// Hands the frames in turn, so many times over and once more, and leaves the first frame that was sent at last to each.
+fn serve_rounds<S: Store>(
+    port: &mut Port,
+    board: &mut Board<S>,
+    frames: &[Slot],
+    rounds: u64,
+    replies: &mut [Slot],
+) {
+    let mut out = Out::new();
+    for _ in 0..rounds {
+        serve_round(port, board, frames, &mut out);
+    }
+    leave_round(port, board, frames, replies, &mut out);
+}
+
 /// Hands the frames in turn, so many times over and once more, to a fresh port of the board at 20h (EID 0Ah), with one `Out` for all of
 /// them, and leaves the first frame that it sent at last to each. The bus is 0 for IPMB and 1 for the System Management Bus.
 pub fn serve<S: Store>(
@@ -85,10 +100,6 @@ pub fn serve<S: Store>(
         eid: EndpointId::new(CONTROLLER_EID).unwrap(),
     };
     let mut port = Port::new(alloc, bus_of(bus), at)?;
-    let mut out = Out::new();
-    for _ in 0..rounds {
-        serve_round(&mut port, &mut board, frames, &mut out);
-    }
-    leave_round(&mut port, &mut board, frames, replies, &mut out);
+    serve_rounds(&mut port, &mut board, frames, rounds, replies);
     Ok(())
 }

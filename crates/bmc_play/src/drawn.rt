@@ -30,7 +30,11 @@ fn noted<'a>(
         NotesPlayOf file plan.steps plan.retries events.now stopped notes.new.items) }
 {
     match parts_of(play_noted(alloc, file, plan, events, notes)) {
-        Ok(ended) => Ok(ended.stopped),
+        Ok(ended) => {
+            let stopped = ended.stopped;
+            drop(ended);
+            Ok(stopped)
+        }
         Err(AllocError) => Err(AllocError),
     }
 }

@@ -43,11 +43,18 @@ pub fn read_inputs(
     };
     let plan = match read_plan(alloc, plan) {
         Ok(plan) => plan,
-        Err(why) => return Err(InputFault::Plan(why)),
+        Err(why) => {
+            drop(file);
+            return Err(InputFault::Plan(why));
+        }
     };
     match read_schedule(alloc, schedule) {
         Ok(events) => Ok(Inputs { file, plan, events }),
-        Err(why) => Err(InputFault::Schedule(why)),
+        Err(why) => {
+            drop(file);
+            drop(plan);
+            Err(InputFault::Schedule(why))
+        }
     }
 }
 

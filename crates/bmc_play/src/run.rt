@@ -68,7 +68,9 @@ fn played_report(
     match parts_of(play(alloc, file, plan, events.as_slice())) {
         Ok(ended) => {
             let account = account_of(&ended.played, ended.stopped);
-            account_report(alloc, frames, premises, &account)
+            let report = account_report(alloc, frames, premises, &account);
+            drop(ended);
+            report
         }
         Err(AllocError) => Err(AllocError),
     }

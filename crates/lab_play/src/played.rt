@@ -114,7 +114,11 @@ impl Played {
                 Ok(lab) => Ok(Played { start, lab, watch }),
                 Err(why) => Err(why),
             },
-            Err(why) => Err(why),
+            Err(why) => {
+                drop(file);
+                drop(plan);
+                Err(why)
+            }
         }
     }
 
@@ -129,7 +133,10 @@ impl Played {
                 place,
                 played: self,
             }),
-            Err(_) => Err(LabFault::Memory),
+            Err(_) => {
+                drop(self);
+                Err(LabFault::Memory)
+            }
         }
     }
 }

@@ -82,22 +82,51 @@ fn opened_smbus(alloc: Global) -> Result<SmbusPort, AllocError>
     SmbusPort::new(alloc, At { wire, eid })
 }
 
+/// What a lab has beside its board: the controller's ports and a manager.
+#[derive(Drop)]
+struct Ends {
+    ipmb: IpmbPort,
+    smbus: SmbusPort,
+    manager: Manager,
+}
+
+/// The ports and a manager of a plan, as they begin.
+fn opened_ends(alloc: Global, plan: Plan) -> Result<Ends, AllocError>
+    ensures ipmb { IfOk result (λ ends. BeginsOnIpmb ends.ipmb) }
+    ensures smbus { IfOk result (λ ends. BeginsOnSmbus ends.smbus) }
+    ensures manager { IfOk result (λ ends.
+        manager.Shows the_names ends.manager (opened_with the_names plan.steps plan.retries)) }
+{
+    Ok(Ends {
+        ipmb: opened_ipmb(alloc)?,
+        smbus: opened_smbus(alloc)?,
+        manager: opened_manager(alloc, plan, lab_names())?,
+    })
+}
+
 impl Lab {
     /// A lab as it begins.
     pub fn open(alloc: Global, file: BoardFile, plan: Plan) -> Result<Lab, AllocError>
         ensures shows { IfOk result (Begins file plan.steps plan.retries) }
         ensures never { IfOk result (λ lab. ForgotNone lab.idles) }
     {
-        Ok(Lab {
-            board: Board::of_file(alloc, file)?,
-            ipmb: opened_ipmb(alloc)?,
-            smbus: opened_smbus(alloc)?,
-            manager: opened_manager(alloc, plan, lab_names())?,
-            names: lab_names(),
-            frames: Frames::new(alloc),
-            idles: Idles { ipmb: 0, smbus: 0 },
-            out: Out::new(),
-        })
+        let ends = opened_ends(alloc, plan)?;
+        match Board::of_file(alloc, file) {
+            Ok(board) => Ok(Lab {
+                board,
+                ipmb: ends.ipmb,
+                smbus: ends.smbus,
+                manager: ends.manager,
+                names: lab_names(),
+                frames: Frames::new(alloc),
+                idles: Idles { ipmb: 0, smbus: 0 },
+                out: Out::new(),
+            }),
+            Err(error) => {
+                drop(ends);
+                Err(error)
+            }
+        }
     }
 
     /// What tells which frames are too old.

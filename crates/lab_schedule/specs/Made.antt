@@ -1,15 +1,18 @@
 -- A schedule that is made of a plan on a board.
-use Rattle.std.specs.Prelude.{◌≡◌, ℕ, Bool, true, false, List}
+use Rattle.std.specs.Prelude.{◌≡◌, ◌≤◌, ℕ, Bool, true, false, List, length}
 use Rattle.std.specs.List.{AllByRecursion}
 use Rattle.cfg_records.specs.declared.board_file.BoardFile.{BoardFile}
 use Rattle.record_base.specs.declared.op.Op.{Op}
 use Rattle.text_schedule.specs.declared.event.Event.{Event}
+use Rattle.undo_plans.specs.Steps.{most_steps}
 use Rattle.schedule_writer.specs.Written.{has_line}
 use Rattle.model_lab.specs.Lab.{opening}
 use Rattle.model_lab.specs.Meaning.{lab_names}
 use Rattle.model_lab.specs.Played.{plans, Told, Whole, IsPlayed}
 use Rattle.model_headline.specs.Plays.{AllKeepPremise}
 use Rattle.model_headline.specs.CleanPlays.{StartsClean, UndoesClean}
+use Rattle.lab_schedule.specs.Drawn as drawn
+use Rattle.lab_schedule.specs.declared.drawing.Drawing.{Drawing}
 use Rattle.lab_schedule.specs.declared.make.Links.{Links}
 use Rattle.lab_schedule.specs.declared.make.Links.TheVariants.{Clean, Drawn}
 use Rattle.lab_schedule.specs.declared.make.Wanted.{Wanted}
@@ -34,3 +37,9 @@ pub record IsMade (file : BoardFile) (steps : List Op) (retries : ℕ) (wanted :
   pub lines : AllByRecursion (λ e. has_line e ≡ true) events
   pub kept : joins_late wanted.links ≡ false → AllKeepPremise file events (opening plans file lab_names steps retries)
   pub clean : IsCleanFor file steps retries wanted.links wanted.undo events
+
+-- in an empty drawing of a plan's lab a clean schedule comes about, which undoes the plan where that is wanted
+abbrev pub MakesClean : Bool → Drawing → Drawing → Type 0
+MakesClean undo old new =
+    (file : BoardFile) (steps : List Op) (retries : ℕ) → length steps ≤ most_steps → drawn.Drawn file (opening plans file lab_names steps retries) old
+    → IsMade file steps retries (record { links = Clean; undo = undo }) new.events.items

@@ -1,8 +1,8 @@
 //! Clean schedules: each frame is delivered once, as soon as it was sent.
-ghost use Rattle.std.specs.Prelude.{◌≤◌, ◌<◌, ◌+◌, length, IfOk, OnOk};
+ghost use Rattle.std.specs.Prelude.{◌≡◌, ◌≤◌, ◌<◌, ◌+◌, [], true, length, IfOk, OnOk};
 ghost use Rattle.model_lab.specs.Faults.{most_frames};
 ghost use Rattle.lab_schedule.specs.Drawn.{Carries, DeliversAll, HasFew};
-ghost use Rattle.lab_schedule.specs.Made.{IsMade};
+ghost use Rattle.lab_schedule.specs.Made.{IsMade, MakesClean};
 ghost use Rattle.lab_schedule.specs.declared.make.Links.TheVariants as links;
 
 use crate::drawing::{Drawing, Offer, delivery};
@@ -60,6 +60,20 @@ impl Drawing {
             Offer::LeftOut => Ok(()),
         }
     }
+
+    /// The plan is started and, where that is wanted, undone.
+    fn run_cleanly(&mut self, undo: bool) -> Result<(), AllocError>
+        requires few { HasFew self.old }
+        requires empty { self.old.events.items ≡ [] }
+        requires late { self.old.late ≡ true }
+        ensures { OnOk result (MakesClean undo self.old self.new) }
+    {
+        self.carry_out(Call::Start)?;
+        if undo {
+            self.carry_out(Call::Undo)?;
+        }
+        Ok(())
+    }
 }
 
 /// The events of a clean schedule.
@@ -75,9 +89,11 @@ pub(crate) fn clean_events(
 {
     let _steps = plan.steps.len();
     let mut drawing = Drawing::open(alloc, file, plan, true)?;
-    drawing.carry_out(Call::Start)?;
-    if undo {
-        drawing.carry_out(Call::Undo)?;
+    match drawing.run_cleanly(undo) {
+        Ok(()) => Ok(drawing.into_events()),
+        Err(error) => {
+            drop(drawing);
+            Err(error)
+        }
     }
-    Ok(drawing.events)
 }

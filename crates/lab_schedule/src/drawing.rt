@@ -86,6 +86,14 @@ impl Drawing {
         })
     }
 
+    /// The events that happened.
+    pub fn into_events(self) -> Vec<Event>
+        ensures { result.items ≡ self.events.items }
+    {
+        let Drawing { events, .. } = self;
+        events
+    }
+
     /// The event happens, where the lab takes it and the premise on packets stays kept, and else nothing does.
     pub fn offer(&mut self, event: Event) -> Result<Offer, AllocError>
         requires few { HasFew self.old }

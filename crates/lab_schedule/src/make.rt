@@ -38,8 +38,8 @@ fn is_full(offer: Offer) -> bool {
     matches!(offer, Offer::Faulty(Fault::Room))
 }
 
-/// What is drawn is offered to the lab, until nothing is open or the lab has no more room.
-fn draw(alloc: Global, drawing: &mut Drawing, traffic: &mut Traffic) -> Result<(), AllocError>
+/// What the traffic draws is offered to the lab, until nothing is open or the lab has no more room.
+fn draw(alloc: Global, drawing: &mut Drawing, mut traffic: Traffic) -> Result<(), AllocError>
     requires few { HasFew drawing.old }
     requires empty { drawing.old.events.items ≡ [] }
     ensures stays { OnOk result (StaysDrawn drawing.old drawing.new) }
@@ -69,9 +69,13 @@ fn drawn_events(
         (record { links = Links.Drawn chances; undo = undo }) events.items) }
 {
     let mut drawing = Drawing::open(alloc, file, plan, chances.late_joins)?;
-    let mut traffic = Traffic::new(alloc, undo, chances);
-    draw(alloc, &mut drawing, &mut traffic)?;
-    Ok(drawing.events)
+    match draw(alloc, &mut drawing, Traffic::new(alloc, undo, chances)) {
+        Ok(()) => Ok(drawing.into_events()),
+        Err(error) => {
+            drop(drawing);
+            Err(error)
+        }
+    }
 }
 
 /// The schedule that is wanted of a plan on a board. A play takes each of its events. No packet joins one that waits too long, unless that is

@@ -210,11 +210,15 @@ fn run_made<F: WritesFiles, P: io::Write, R: Net>(
     ensures told { MayTellWay P.contents ready.kinds.items ready.manager progress.old progress.new }
 {
     let Some(ends) = ready_ends(rt, words) else {
+        drop(ready);
         return Err(Untold::Stopped);
     };
     let ran = run_on(alloc, files, beside, ready, ends, words, progress);
-    match keep(alloc, files, beside, &ran) {
-        Ok(kept) => Ok(Outcome::Ran(ran.phase, kept)),
+    let kept = keep(alloc, files, beside, &ran);
+    let phase = ran.phase;
+    drop(ran);
+    match kept {
+        Ok(kept) => Ok(Outcome::Ran(phase, kept)),
         Err(_) => Err(Untold::Memory),
     }
 }
@@ -249,8 +253,14 @@ fn carry_out<F: WritesFiles, P: io::Write, R: Net>(
     };
     match beside.put_list(alloc, files, ready.manager.undo_list()) {
         Ok(Ok(())) => run_made(rt, alloc, files, &beside, ready, words, progress),
-        Ok(Err(Unwritten)) => Ok(Outcome::Unmade),
-        Err(AllocError) => Err(Untold::Memory),
+        Ok(Err(Unwritten)) => {
+            drop(ready);
+            Ok(Outcome::Unmade)
+        }
+        Err(AllocError) => {
+            drop(ready);
+            Err(Untold::Memory)
+        }
     }
 }
 

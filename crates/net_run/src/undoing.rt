@@ -136,7 +136,9 @@ fn undone_report<P: io::Write, R: Net>(
         → MayTellUndo P.contents list progress.old progress.new }
 {
     let undone = undo_on(rt, alloc, manager, steps, words, progress)?;
-    Ok(phase_report(alloc, undone.phase)?)
+    let phase = undone.phase;
+    drop(undone);
+    Ok(phase_report(alloc, phase)?)
 }
 
 /// What is said of a list that is undone, or that has other names.

@@ -6,8 +6,8 @@ pub returns-in-Ok-clause-comes : goal.returns-in-Ok-clause-comes
 returns-in-Ok-clause-comes g c word before is shows =
     (c.run_on-ran.result.manager, c.run_on-ran.new.files, c.run_on-ran.ensures.runs word before is shows, c.in-Ok.ensures.kept word is)
 
-pub returns-clause-comes : goal.returns-clause-comes
-returns-clause-comes g c word before is shows =
+pub returns-in-Err-clause-comes : goal.returns-in-Err-clause-comes
+returns-in-Err-clause-comes g c word before is shows =
     let kept = c.in-Err.ensures.memory in (
       c.run_on-ran.result.manager,
       c.run_on-ran.result.phase,
