@@ -8,10 +8,36 @@ mod texts;
 use bmc_lab::Console;
 use bmc_net::Progress;
 use std::alloc::Global;
+use std::process::Abort;
 
 /// Writers in memory.
-pub(crate) fn new_paper(alloc: Global) -> Console<Vec<u8>, Vec<u8>> {
+pub(crate) type Paper = Console<Vec<u8>, Vec<u8>>;
+
+/// Writers that hold nothing yet.
+pub(crate) fn new_paper(alloc: Global) -> Paper {
     Console::new(Vec::new(alloc), Vec::new(alloc))
+}
+
+/// How a call ends: its status, and what is then on standard output and on standard error.
+#[derive(Clone, Copy)]
+pub(crate) struct End<'a> {
+    pub status: u8,
+    pub out: &'a [u8],
+    pub err: &'a [u8],
+}
+
+/// The call that gave this status, and wrote this, ended so.
+pub(crate) fn expect_end(rt: &impl Abort, status: u8, paper: Paper, end: End) {
+    assert_eq!(rt; status, end.status);
+    assert_eq!(rt; paper.out.as_slice(), end.out);
+    assert_eq!(rt; paper.err.as_slice(), end.err);
+    drop(paper);
+}
+
+/// The line of a run's progress has these bytes.
+pub(crate) fn expect_line(rt: &impl Abort, line: Progress<Vec<u8>>, told: &[u8]) {
+    assert_eq!(rt; line.writer.as_slice(), told);
+    drop(line);
 }
 
 /// The line of a run's progress, in memory.

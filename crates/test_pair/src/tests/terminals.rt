@@ -1,10 +1,11 @@
 //! What a run and an undo tell on a terminal of how far they are.
 use super::files::FakeFiles;
 use super::texts::{TWO_STEPS, UNDO};
-use super::{new_line, new_paper};
+use super::{End, expect_end, expect_line, new_line, new_paper};
 use bmc_net::{RunWords, UndoWords, run, undo};
 use std::alloc::{AllocError, Global};
-use std::test::Fail;
+use std::net::Net;
+use std::process::Abort;
 
 /// The words `run --wait 1 PLAN 9 9 TURNS out.txt`.
 fn run_words(alloc: Global, plan: &str, turns: u32) -> Result<RunWords, AllocError> {
@@ -31,38 +32,51 @@ fn undo_words(alloc: Global, undo: &str, turns: u32) -> Result<UndoWords, AllocE
     })
 }
 
-#[test]
-fn a_run_that_nobody_answers_tells_its_retries(rt: HostRuntime) -> Result<(), Fail> {
-    let mut files = FakeFiles::new(rt.alloc(), &[("plan.toml", TWO_STEPS)]);
-    let mut paper = new_paper(rt.alloc());
-    let mut line = new_line(rt.alloc(), true);
-    let words = run_words(rt.alloc(), "plan.toml", 9)?;
-    let told =
-        "\rstep 1 of 2: get power-policy\u{1b}[K\rstep 1 of 2: get power-policy, retry 1\u{1b}[K\
-\rstep 1 of 2: no reply, retry 1\u{1b}[K\n";
-    assert_eq!(rt;
-        run(&rt, rt.alloc(), &mut files, &words, &mut line, &mut paper),
-        0
-    );
-    assert_eq!(rt; line.writer.as_slice(), told.as_bytes());
-    assert_eq!(rt; paper.out.as_slice(), b"phase Unsettled 0\n".as_slice());
-    assert!(rt; paper.err.is_empty());
-    Ok(())
+/// A run of a plan of two steps tells this on its line, and ends so.
+fn expect_run(rt: &(impl Abort + Net), alloc: Global, told: &str, end: End) {
+    let words = run_words(alloc, "plan.toml", 9).expect(rt, "memory");
+    let mut files = FakeFiles::new(alloc, &[("plan.toml", TWO_STEPS)]);
+    let mut paper = new_paper(alloc);
+    let mut line = new_line(alloc, true);
+    let status = run(rt, alloc, &mut files, &words, &mut line, &mut paper);
+    drop(files);
+    drop(words);
+    expect_line(rt, line, told.as_bytes());
+    expect_end(rt, status, paper, end);
+}
+
+/// An undo of a list of one request tells this on its line, and ends so.
+fn expect_undo(rt: &(impl Abort + Net), alloc: Global, told: &str, end: End) {
+    let words = undo_words(alloc, "list.txt", 0).expect(rt, "memory");
+    let files = FakeFiles::new(alloc, &[("list.txt", UNDO)]);
+    let mut paper = new_paper(alloc);
+    let mut line = new_line(alloc, true);
+    let status = undo(rt, alloc, &files, &words, &mut line, &mut paper);
+    drop(files);
+    drop(words);
+    expect_line(rt, line, told.as_bytes());
+    expect_end(rt, status, paper, end);
 }
 
 #[test]
-fn an_undo_that_has_no_turns_tells_its_first_step(rt: HostRuntime) -> Result<(), Fail> {
-    let files = FakeFiles::new(rt.alloc(), &[("list.txt", UNDO)]);
-    let mut paper = new_paper(rt.alloc());
-    let mut line = new_line(rt.alloc(), true);
-    let words = undo_words(rt.alloc(), "list.txt", 0)?;
-    let told = "\rundoing step 1 of 1\u{1b}[K\n";
-    assert_eq!(rt;
-        undo(&rt, rt.alloc(), &files, &words, &mut line, &mut paper),
-        0
-    );
-    assert_eq!(rt; line.writer.as_slice(), told.as_bytes());
-    assert_eq!(rt; paper.out.as_slice(), b"phase Undoing 0\n".as_slice());
-    assert!(rt; paper.err.is_empty());
-    Ok(())
+fn a_run_that_nobody_answers_tells_its_retries(rt: HostRuntime) {
+    let told =
+        "\rstep 1 of 2: get power-policy\u{1b}[K\rstep 1 of 2: get power-policy, retry 1\u{1b}[K\
+\rstep 1 of 2: no reply, retry 1\u{1b}[K\n";
+    let end = End {
+        status: 0,
+        out: b"phase Unsettled 0\n",
+        err: &[],
+    };
+    expect_run(&rt, rt.alloc(), told, end);
+}
+
+#[test]
+fn an_undo_that_has_no_turns_tells_its_first_step(rt: HostRuntime) {
+    let end = End {
+        status: 0,
+        out: b"phase Undoing 0\n",
+        err: &[],
+    };
+    expect_undo(&rt, rt.alloc(), "\rundoing step 1 of 1\u{1b}[K\n", end);
 }
