@@ -184,7 +184,8 @@ fn tell_arrays(
     arrays: &[(Group, Field)],
     tree: &Table,
 ) -> Result<bool, AllocError>
-    ensures { IfOk result (λ told. told ≡ list_any (λ array. is_told_in array.0 array.1 (table_view tree.now)) arrays.now) }
+    ensures { IfOk result (λ told.
+        told ≡ list_any (λ array. is_told_in array.0 array.1 (table_view tree.now)) arrays.now) }
 {
     let mut told = false;
     for (group, array) in arrays {
