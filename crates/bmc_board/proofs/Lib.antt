@@ -21,3 +21,4 @@ pub mod ShownAgain
 pub mod Undone
 pub mod BiosTableFacts
 pub mod AttributeValues
+mod AttributeSets

@@ -1,6 +1,5 @@
 -- The faults of a board file.
-use Rattle.std.proofs.Common.{◌≡◌, ◌++◌, [], map, Some, refl}
-use Rattle.std.proofs.lemmas.List.{append_assoc}
+use Rattle.std.proofs.Common.{◌≡◌, [], map, Some, refl}
 use Rattle.toml.specs.Data.{Members}
 use Rattle.text_fields.proofs.First.{first-append}
 use Rattle.text_fields.proofs.Rows.{both_empty}
@@ -71,22 +70,22 @@ no_pldm_faults tree attributes states effecters = rw (attributes, states) effect
 -- ---- the whole file
 
 module _ (tree : Members) where
-  -- a file's faults are these four lists
-  four_lists : board_faults tree ≡ map (fault_at item.Top) (field_faults TOP tree) ++ (own_part_faults tree ++ (ipmi_faults tree ++ pldm_faults tree))
-  unfolding board_faults own_part_faults ipmi_faults pldm_faults
-  four_lists = simp append_assoc
-
   pub top_first : (why : FileFault) → first (map (fault_at item.Top) (field_faults TOP tree)) ≡ Some why → first (board_faults tree) ≡ Some why
-  top_first why is = rw four_lists (first-append _ _ why is)
+  unfolding board_faults
+  top_first why is = first-append _ _ why is
 
   pub own_first : (why : FileFault) → field_faults TOP tree ≡ [] → first (own_part_faults tree) ≡ Some why → first (board_faults tree) ≡ Some why
-  own_first why top is = rw (four_lists, top) (first-append _ _ why is)
+  unfolding board_faults
+  own_first why top is = rw top (first-append _ _ why is)
 
   pub ipmi_first : (why : FileFault) → field_faults TOP tree ≡ [] → own_part_faults tree ≡ [] → first (ipmi_faults tree) ≡ Some why → first (board_faults tree) ≡ Some why
-  ipmi_first why top own is = rw (four_lists, top, own) (first-append _ _ why is)
+  unfolding board_faults
+  ipmi_first why top own is = rw (top, own) (first-append _ _ why is)
 
   pub pldm_first : (why : FileFault) → field_faults TOP tree ≡ [] → own_part_faults tree ≡ [] → ipmi_faults tree ≡ [] → first (pldm_faults tree) ≡ Some why → first (board_faults tree) ≡ Some why
-  pldm_first why top own ipmi is = rw (four_lists, top, own, ipmi) is
+  unfolding board_faults
+  pldm_first why top own ipmi is = rw (top, own, ipmi) is
 
   pub no_faults : field_faults TOP tree ≡ [] → own_part_faults tree ≡ [] → ipmi_faults tree ≡ [] → pldm_faults tree ≡ [] → board_faults tree ≡ []
-  no_faults top own ipmi pldm = rw (four_lists, top, own, ipmi) pldm
+  unfolding board_faults
+  no_faults top own ipmi pldm = rw (top, own, ipmi) pldm

@@ -145,16 +145,7 @@ pldm_faults tree =
     ++ (state_faults (members_in field.State tree)
     ++ numeric_faults (members_in field.Numeric tree))
 
--- the faults of a board file: those of its own fields, of its sensor data records, of `[device]`, of each `[[sensor]]`, of
--- each `[[channel]]`, of each `[[lan]]`, of each `[[attribute]]`, of each `[[state]]` and of each `[[numeric]]`
+-- the faults of a board file: those of its own fields, of its sensor data records and `[device]`, of the items that IPMI
+-- reaches, and of those that PLDM reaches
 unfoldable pub board_faults : Members → List FileFault
-board_faults tree =
-    map (fault_at item.Top) (field_faults TOP tree)
-    ++ (record_faults (members_in field.Sdr tree)
-    ++ (map (fault_at item.Device) (field_faults DEVICE (table_in field.Device tree))
-    ++ (sensor_faults (members_in field.Sensor tree)
-    ++ (channel_faults (users_in tree) (members_in field.Channel tree)
-    ++ (lan_faults tree
-    ++ (attribute_faults (members_in field.Attribute tree)
-    ++ (state_faults (members_in field.State tree)
-    ++ numeric_faults (members_in field.Numeric tree))))))))
+board_faults tree = map (fault_at item.Top) (field_faults TOP tree) ++ (own_part_faults tree ++ (ipmi_faults tree ++ pldm_faults tree))

@@ -4,3 +4,4 @@ pub mod Faults
 pub mod Items
 pub mod AttributeItems
 pub mod Holds
+mod HoldsItems

@@ -1,12 +1,8 @@
 //! The items of a board file but its users, by the protocol that reaches them.
 ghost use Rattle.std.specs.Prelude.{◌≡◌, [], IfOk, IfErr};
-ghost use Rattle.std.specs.List.{AllZip};
 ghost use Rattle.toml.specs.View.{table_view};
-ghost use Rattle.text_fields.specs.Trees.{members_in};
-ghost use Rattle.text_board.specs.AttributeItems.{IsAttributeIn};
 ghost use Rattle.text_board.specs.Faults.{ipmi_faults, pldm_faults, IsFirstFault};
-ghost use Rattle.text_board.specs.Holds.{IsSensorIn, IsStateIn, IsNumericIn, HoldChannels};
-ghost use Rattle.text_board.specs.LanItems.{lans_in, IsLanIn};
+ghost use Rattle.text_board.specs.HoldsItems.{HoldsIpmi, HoldsPldm};
 
 use crate::attribute_items::attributes;
 use crate::channel_items::{FileChannels, file_channels};
@@ -34,14 +30,7 @@ pub struct IpmiItems {
 pub fn ipmi_items(alloc: Global, top: &Checked<'_>) -> Result<IpmiItems, FileFault>
     requires { top.now.rows.now ≡ TOP }
     ensures sound { IfOk result (λ _. ipmi_faults (table_view top.now.table.now) ≡ []) }
-    ensures sensors { IfOk result (λ items. AllZip IsSensorIn
-        (members_in Field.Sensor (table_view top.now.table.now)) items.sensors.items) }
-    ensures channels { IfOk result (λ items.
-        HoldChannels (members_in Field.Channel (table_view top.now.table.now))
-        items.channels.channels.items items.channels.sessionless.items
-        items.channels.accesses.items) }
-    ensures lans { IfOk result (λ items.
-        AllZip IsLanIn (lans_in (table_view top.now.table.now)) items.lans.items) }
+    ensures held { IfOk result (HoldsIpmi (table_view top.now.table.now)) }
     ensures err { IfErr result (IsFirstFault (ipmi_faults (table_view top.now.table.now))) }
 {
     let sensors = sensors(alloc, top)?;
@@ -66,12 +55,7 @@ pub struct PldmItems {
 pub fn pldm_items(alloc: Global, top: &Checked<'_>) -> Result<PldmItems, FileFault>
     requires { top.now.rows.now ≡ TOP }
     ensures sound { IfOk result (λ _. pldm_faults (table_view top.now.table.now) ≡ []) }
-    ensures attributes { IfOk result (λ items. AllZip IsAttributeIn
-        (members_in Field.Attribute (table_view top.now.table.now)) items.attributes.items) }
-    ensures states { IfOk result (λ items. AllZip IsStateIn
-        (members_in Field.State (table_view top.now.table.now)) items.state_effecters.items) }
-    ensures numbers { IfOk result (λ items. AllZip IsNumericIn
-        (members_in Field.Numeric (table_view top.now.table.now)) items.numeric_effecters.items) }
+    ensures held { IfOk result (HoldsPldm (table_view top.now.table.now)) }
     ensures err { IfErr result (IsFirstFault (pldm_faults (table_view top.now.table.now))) }
 {
     let attributes = attributes(alloc, top)?;

@@ -39,7 +39,7 @@ invariant_of-result c =
     let tree = table_view c.args.top.now.table.now in
     let users = c.in_ok-own.own.users.items in
     let channels = c.in_ok-ipmi.ipmi.channels in
-    let held = c.in_ok-ipmi.ensures.channels in
+    let held = c.in_ok-ipmi.ensures.held.channels in
     let long : users_in tree ≡ length users = sym (AllZip-long IsNameIn (members_in field.Users tree) users c.in_ok-own.ensures.held.users) in
     let sound = ap (λ n. channel_faults n (members_in field.Channel tree)) (sym long) ∙ no_channel_faults tree c.in_ok-ipmi.ensures.sound in
     record {
@@ -51,6 +51,8 @@ invariant_of-result c =
 pub returns : goal.returns
 returns c =
     let own = c.in_ok-own.ensures.held in
+    let ipmi = c.in_ok-ipmi.ensures.held in
+    let pldm = c.in_ok-pldm.ensures.held in
     inr (
       no_faults (table_view c.args.top.now.table.now) c.requires.sound c.in_ok-own.ensures.sound c.in_ok-ipmi.ensures.sound c.in_ok-pldm.ensures.sound,
       record {
@@ -63,12 +65,12 @@ returns c =
         policy = own.policy;
         watchdog = own.watchdog;
         device = own.device;
-        sensors = c.in_ok-ipmi.ensures.sensors;
-        states = c.in_ok-pldm.ensures.states;
-        effecters = c.in_ok-pldm.ensures.numbers;
+        sensors = ipmi.sensors;
+        states = pldm.states;
+        effecters = pldm.effecters;
         users = own.users;
-        channels = c.in_ok-ipmi.ensures.channels;
-        attributes = c.in_ok-pldm.ensures.attributes;
-        lans = c.in_ok-ipmi.ensures.lans;
+        channels = ipmi.channels;
+        attributes = pldm.attributes;
+        lans = ipmi.lans;
       },
     )

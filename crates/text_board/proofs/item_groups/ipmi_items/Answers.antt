@@ -30,3 +30,11 @@ returns-in_err-lans-clause-err c =
 
 pub returns-clause-sound : goal.returns-clause-sound
 returns-clause-sound c = no_ipmi_faults (table_view c.args.top.now.table.now) c.in_ok-sensors.ensures.sound c.in_ok-channels.ensures.sound c.in_ok-lans.ensures.sound
+
+pub returns-clause-held : goal.returns-clause-held
+returns-clause-held c =
+    record {
+      sensors = c.in_ok-sensors.ensures.held;
+      channels = c.in_ok-channels.ensures.held;
+      lans = c.in_ok-lans.ensures.held;
+    }

@@ -30,3 +30,11 @@ returns-in_err-numeric_effecters-clause-err c =
 
 pub returns-clause-sound : goal.returns-clause-sound
 returns-clause-sound c = no_pldm_faults (table_view c.args.top.now.table.now) c.in_ok-attributes.ensures.sound c.in_ok-state_effecters.ensures.sound c.in_ok-numeric_effecters.ensures.sound
+
+pub returns-clause-held : goal.returns-clause-held
+returns-clause-held c =
+    record {
+      attributes = c.in_ok-attributes.ensures.held;
+      states = c.in_ok-state_effecters.ensures.held;
+      effecters = c.in_ok-numeric_effecters.ensures.held;
+    }
