@@ -13,7 +13,7 @@ use Rattle.ipmb_frame.specs.Grammar.{IsRequest, IsResponse, IsMessage}
 use Rattle.ipmb_frame.proofs.Places.{request_is, response_is}
 
 -- what no fault rules out
-none-faultless : (bytes : List ℕ) → find (has_fault bytes) faults ≡ None → IsFaultless bytes
+pub none-faultless : (bytes : List ℕ) → find (has_fault bytes) faults ≡ None → IsFaultless bytes
 none-faultless bytes none = record {
   least = grind (arith, nat_tests);
   has_code = λ odd. grind (arith, nat_tests);

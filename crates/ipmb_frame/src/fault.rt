@@ -1,6 +1,6 @@
 //! What is wrong with bytes that are no frame.
-ghost use Rattle.std.specs.Prelude.{◌≡◌, ◌/◌, ◌%◌, ◌↔◌, find, IsTrue, IfNone};
-ghost use Rattle.ipmb_frame.specs.Fault.{has_fault, faults, IsFaultless};
+ghost use Rattle.std.specs.Prelude.{◌≡◌, ◌/◌, ◌%◌, ◌↔◌, find, IsTrue};
+ghost use Rattle.ipmb_frame.specs.Fault.{has_fault, faults};
 ghost use Rattle.ipmb_frame.specs.declared.fault.FrameFault.TheVariants.{Short};
 
 use std::error::Error;
@@ -51,8 +51,7 @@ impl Error for FrameFault {}
 
 /// The first fault of the bytes.
 pub(crate) fn fault_of(bytes: &[u8]) -> Option<FrameFault>
-    ensures first { result ≡ find (has_fault bytes.now) faults }
-    ensures faultless { IfNone result (IsFaultless bytes.now) }
+    ensures { result ≡ find (has_fault bytes.now) faults }
 {
     if is_short(bytes) {
         return Some(FrameFault::Short);
@@ -73,7 +72,7 @@ pub(crate) fn fault_of(bytes: &[u8]) -> Option<FrameFault>
 }
 
 fn is_short(bytes: &[u8]) -> bool
-    ensures { IsTrue result ↔ IsTrue (has_fault bytes.now Short) }
+    ensures { result ≡ has_fault bytes.now Short }
 {
     bytes.len() < SHORTEST || bytes.len() == SHORTEST && is_of_response(bytes[1])
 }

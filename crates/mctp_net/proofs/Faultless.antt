@@ -1,5 +1,5 @@
 -- Bytes without a fault are a packet.
-use Rattle.std.proofs.Common.{◌≡◌, ℕ, zero, suc, ◌-◌, ◌/◌, ◌%◌, ◌==◌, ◌<◌, not, List, [], ◌∷◌, length, take, drop, get_or, refl, sym, arith, find, Option, Some, None, inl, inr, ◌⊎◌}
+use Rattle.std.proofs.Common.{◌≡◌, ℕ, zero, suc, ◌-◌, ◌/◌, ◌%◌, ◌==◌, ◌<◌, not, List, [], ◌∷◌, length, take, drop, get_or, refl, sym, subst, arith, find, Option, Some, None, inl, inr, ◌⊎◌}
 use Rattle.std.specs.Prelude.{All, bit_and}
 use Rattle.std.proofs.lemmas.Bool.Decides.{nat_tests}
 use Rattle.std.proofs.lemmas.Nat.{and_le_r}
@@ -50,6 +50,31 @@ faultless-packet bytes none small =
     refl (sym kind) (grind (arith, nat_tests)) (omega arith)
     (grind (arith, nat_tests)) (small 4) refl refl
     (flags_is (get_or bytes 7 0) (small 7)) refl
+
+-- and so are a packet's fields that are read from them
+pub fields-packet : (bytes : List ℕ) (p : Packet) → find (has_fault bytes) faults ≡ None → ((i : ℕ) → get_or bytes i 0 < 256)
+    → p.envelope.destination ≡ get_or bytes 0 0 → p.envelope.source ≡ get_or bytes 3 0 - 1
+    → p.envelope.destination_eid ≡ get_or bytes 5 0 → p.envelope.source_eid ≡ get_or bytes 6 0
+    → p.envelope.tag_owner ≡ not (bit_and (get_or bytes 7 0) 8 == 0) → p.envelope.tag ≡ get_or bytes 7 0 % tags
+    → p.start ≡ not (bit_and (get_or bytes 7 0) 128 == 0) → p.end ≡ not (bit_and (get_or bytes 7 0) 64 == 0)
+    → p.sequence ≡ bit_and (get_or bytes 7 0 / 16) 3 → p.payload ≡ take (length bytes - 1 - 8) (drop 8 bytes) → IsPacket p bytes
+fields-packet bytes p none small to from to_eid from_eid owner tag start end sequence payload =
+    let same : p ≡ packet_at bytes =
+    λ i. record {
+      envelope = record {
+        destination = to i;
+        source = from i;
+        destination_eid = to_eid i;
+        source_eid = from_eid i;
+        tag_owner = owner i;
+        tag = tag i;
+      };
+      start = start i;
+      end = end i;
+      sequence = sequence i;
+      payload = payload i;
+    } in
+    subst (λ (q : Packet). IsPacket q bytes) (sym same) (faultless-packet bytes none small)
 
 -- bytes have a fault or are a packet
 pub fault-or-packet : (bytes : List ℕ) → All (λ b. b < 256) bytes → HasFault bytes ⊎ ((p : Packet) × IsPacket p bytes)

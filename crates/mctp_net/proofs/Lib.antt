@@ -12,3 +12,4 @@ pub mod ComingBack
 pub mod OneCut
 pub mod NamesAlone
 pub mod Faultless
+pub mod Taking

@@ -7,8 +7,8 @@ ghost use Rattle.mctp_net.specs.Assembly.{nothing, drop_cause, after, message_of
 ghost use Rattle.mctp_net.specs.Places.{seen};
 
 use crate::place::{Place, close_all, free_places, place_of};
-use crate::placing::{drop_cause, end, keep, let_go};
-use crate::{DropCause, Message, Packet, SomeData, Taken};
+use crate::placing::{drop_cause, drop_for, end, keep};
+use crate::{Message, Packet, SomeData, Taken};
 use std::alloc::{AllocError, Global};
 use std::marker::Model;
 
@@ -60,9 +60,7 @@ impl Assembler {
         self.made = None;
         match drop_cause(own, self.places.as_slice(), place, packet) {
             Some(cause) => {
-                if !matches!(cause, DropCause::NotOurs | DropCause::NoStart) {
-                    let_go(&mut self.places, place, packet);
-                }
+                drop_for(cause, &mut self.places, place, packet);
                 Taken::Dropped(cause)
             }
             None if packet.end => {

@@ -97,18 +97,28 @@ impl Endpoint {
         if *kind != 0x00 || numbers >> 6 != 2 {
             return None;
         }
+        Some(self.reply(numbers % INSTANCES, *command, content))
+    }
+
+    // The body of the reply to a request of this instance.
+    fn reply(&mut self, instance: u8, command: u8, content: &[u8]) -> ControlReply
+        ensures reply { result
+            ≡ reply_to self.old
+            (record { instance = instance; command = command; content = content.now }) }
+        ensures after { self.new ≡ eid_after self.old command content.now }
+    {
         let mut reply = ControlReply::new();
         reply.push(0x00);
-        reply.push(numbers % INSTANCES);
-        reply.push(*command);
-        match self.answer(*command, content) {
+        reply.push(instance);
+        reply.push(command);
+        match self.answer(command, content) {
             Ok(shown) => {
                 reply.push(0x00);
                 reply.extend_from_slice(shown.as_slice());
             }
             Err(fault) => reply.push(fault as u8),
         }
-        Some(reply)
+        reply
     }
 
     // What is shown for a command with these data.

@@ -1,6 +1,6 @@
 //! What a packet does to the places.
 ghost use Rattle.std.specs.Prelude.{◌≡◌, ◌<◌, ◌≤◌, Some, None, true, false, IfSome, length};
-ghost use Rattle.mctp_net.specs.Assembly.{name_of, open_beside, drop_cause, closed, ended, kept_with};
+ghost use Rattle.mctp_net.specs.Assembly.{name_of, open_beside, drop_cause, after_where, closed, ended, kept_with};
 ghost use Rattle.mctp_net.specs.Places.{assemblies_in, AreSound, IsPlaceOf, IsRoomFor, open_in, under_in};
 ghost use Rattle.mctp_net.specs.Sound.{Fits};
 ghost use Rattle.mctp_net.specs.Sizes.{unit_size, most_assemblies};
@@ -78,8 +78,27 @@ fn used_count(places: &[Place]) -> usize
     places.iter().filter(|place| place.is_used()).count()
 }
 
+/// Drops the packet for this cause: most close the assembly of its name.
+pub(crate) fn drop_for(
+    cause: DropCause,
+    places: &mut Vec<Place>,
+    place: Option<usize>,
+    packet: &Packet<'_>,
+)
+    requires sound { AreSound places.old.items }
+    requires place { IsPlaceOf (Some (name_of packet.now.envelope)) places.old.items place }
+    ensures sound { AreSound places.new.items }
+    ensures after { assemblies_in places.new.items None
+        ≡ after_where (Some cause) packet.now (assemblies_in places.old.items None) }
+{
+    match cause {
+        DropCause::NotOurs | DropCause::NoStart => {}
+        _ => let_go(places, place, packet),
+    }
+}
+
 /// Closes the assembly of the packet's name.
-pub(crate) fn let_go(places: &mut Vec<Place>, place: Option<usize>, packet: &Packet<'_>)
+fn let_go(places: &mut Vec<Place>, place: Option<usize>, packet: &Packet<'_>)
     requires sound { AreSound places.old.items }
     requires place { IsPlaceOf (Some (name_of packet.now.envelope)) places.old.items place }
     ensures sound { AreSound places.new.items }

@@ -1,4 +1,4 @@
-use Rattle.std.proofs.Common.{Some, None, subst}
+use Rattle.std.proofs.Common.{Some, subst}
 use Rattle.mctp_net.specs.Assembly.{name_of}
 use Rattle.mctp_net.specs.Places.{IsPlaceOf}
 use Rattle.mctp_net.proofs.Placed.{lets-go, stays-closed}
