@@ -1,5 +1,5 @@
 -- Events of a timetable, one after another.
-use Rattle.std.proofs.Common.{◌≡◌, ◌≢◌, ◌+◌, ◌++◌, ◌<◌, ◌≤◌, ℕ, List, [], ◌∷◌, length, take, drop, get_or, refl, sym, ◌∙◌, ap, subst, arith}
+use Rattle.std.proofs.Common.{◌≡◌, ◌≢◌, ◌+◌, ◌++◌, ◌<◌, ℕ, List, [], ◌∷◌, length, take, drop, get_or, refl, sym, ◌∙◌, ap, subst, arith}
 use Rattle.std.proofs.Math.Seq.{take-add}
 use Rattle.std.proofs.lemmas.List.{take_more, append_assoc, append-nil, length-append, length-drop, drop-drop, get_or-drop}
 use Rattle.std.proofs.lemmas.Slice.Zip.{all_zipped_more}
@@ -8,7 +8,7 @@ use Rattle.bmc_history.specs.declared.event.Call.{Call}
 use Rattle.bmc_shared.specs.declared.seat.Seat.{Seat}
 use Rattle.bmc_ports.specs.declared.timed.Timed.{Timed}
 use Rattle.bmc_ports.specs.declared.timed.TimedEnd.{TimedEnd}
-use Rattle.bmc_ports.specs.declared.timed.TimedEnd.TheVariants.{Over, Full}
+use Rattle.bmc_ports.specs.declared.timed.TimedEnd.TheVariants.{Full}
 use Rattle.bmc_ports.specs.Scanning.{Happens}
 use Rattle.bmc_ports.specs.Timing.{Gains, IsPlayed}
 
@@ -66,16 +66,6 @@ played_again list from mid to seat next after one end room begins then = record 
   mark = λ found. then.mark found ∙ begins.mark room;
   over = then.over;
   gains = gains_both list from mid to seat.calls.items next.calls.items after.calls.items begins.gains then.gains;
-}
-
--- where nothing is left, nothing happens
-pub played_none : {J : Type 0} {g : _} (list : List Timed) (from : ℕ) (seat : Seat J g) → length list ≤ from → IsPlayed list from from seat seat Over
-played_none list from seat over = record {
-  number = refl;
-  marked = λ full. cc full;
-  mark = λ room. refl;
-  over = (λ is. over, λ is. refl);
-  gains = gains_none list from seat.calls.items;
 }
 
 -- the same, where the list and the place are the same

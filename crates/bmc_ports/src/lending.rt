@@ -34,23 +34,18 @@ fn give_back<J: Opening, A: Drop, B: Drop>(
     workers: Both<J, A, B>,
     played: Played<J>,
 ) -> Sliced<J, A, B>
-    requires first { workers.first.seat.number ≡ 0 }
-    requires second { workers.second.seat.number ≡ 1 }
+    requires first { workers.0.0.seat.number ≡ 0 }
+    requires second { workers.1.0.seat.number ≡ 1 }
     requires third { played.seat.number ≡ 2 }
-    ensures first { (result.seats.first ≡ workers.first.seat)
-        × (result.lanes.first ≡ workers.first.lane) }
-    ensures second { (result.seats.second ≡ workers.second.seat)
-        × (result.lanes.second ≡ workers.second.lane) }
+    ensures first { (result.seats.first ≡ workers.0.0.seat)
+        × (result.lanes.first ≡ workers.0.0.lane) }
+    ensures second { (result.seats.second ≡ workers.1.0.seat)
+        × (result.lanes.second ≡ workers.1.0.lane) }
     ensures scanner { (result.seats.scanner ≡ played.seat) × (result.next ≡ played.next) }
-    ensures ends { (result.first_end ≡ workers.first_end)
-        × (result.second_end ≡ workers.second_end) × (result.scanner_end ≡ played.end) }
+    ensures ends { (result.first_end ≡ workers.0.1)
+        × (result.second_end ≡ workers.1.1) × (result.scanner_end ≡ played.end) }
 {
-    let Both {
-        first,
-        second,
-        first_end,
-        second_end,
-    } = workers;
+    let ((first, first_end), (second, second_end)) = workers;
     Sliced {
         seats: Seats {
             first: first.seat,
@@ -114,7 +109,7 @@ where
         table,
     };
     match run_beside(rt, shared, first, second, script, gate, &bell) {
-        Ok((workers, played)) => Ok(give_back(workers, played)),
+        Ok((played, workers)) => Ok(give_back(workers, played)),
         Err(why) => Err(why),
     }
 }

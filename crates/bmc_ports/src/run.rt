@@ -2,7 +2,7 @@
 ghost use Rattle.std.specs.Prelude.{IfOk};
 ghost use Rattle.bmc_ports.specs.Seated.{ComesBack, AllComeBack};
 
-use crate::at_once::{NoThread, run_at_once};
+use crate::at_once::{NoThread, joined, run_at_once, run_both};
 use crate::scanner::scan;
 use bmc_board::{Bench, Records};
 use bmc_core::Port;
@@ -45,6 +45,7 @@ fn serve<J: Opening, L: Link, G: Gate, R: Wait>(
         link,
     } = side;
     let end = serve_port(rt, shared, &mut seat, &mut port, link, gate, turns);
+    drop(port);
     (seat, end)
 }
 
@@ -62,7 +63,7 @@ fn happen<J: Opening, R: Wait>(
     (seat, end)
 }
 
-/// Runs a worker and the scanner: where nothing is to happen one after the other, and else the worker in a thread of its own.
+/// Runs a worker and the scanner: at once, where something is to happen, and else one after the other.
 fn run_beside_scanner<J, L, G, R>(
     rt: &R,
     shared: &Shared<J, Records>,
@@ -80,12 +81,9 @@ where
     ensures worker { IfOk result (λ run. ComesBack side.entry.seat run.0.0 run.0.1) }
     ensures scanner { IfOk result (λ run. ComesBack scanner run.1.0 run.1.1) }
 {
-    if bench.is_empty() {
-        let worker = serve(rt, shared, side, gate, turns);
-        return Ok((worker, happen(rt, shared, scanner, bench, turns)));
-    }
-    run_at_once(
+    run_both(
         rt,
+        !bench.is_empty(),
         SeatOf(Snapshot::of(&side.seat)),
         move || serve(rt, shared, side, gate, turns),
         move || happen(rt, shared, scanner, bench, turns),
@@ -102,25 +100,23 @@ fn run_sides<J, A, B, G, R>(
     bench: &[Bench],
     gate: &G,
     turns: u32,
-) -> Result<((Seat<J>, End), (Seat<J>, End), (Seat<J>, End)), NoThread>
+) -> Result<((Seat<J>, End), ((Seat<J>, End), (Seat<J>, End))), NoThread>
 where
     J: Opening + Send + Sync,
     A: Link + Send,
     B: Link + Send,
     G: Gate + Sync,
     R: Threads + Wait + Sync,
-    ensures first { IfOk result (λ run. ComesBack first.entry.seat run.0.0 run.0.1) }
-    ensures second { IfOk result (λ run. ComesBack second.entry.seat run.1.0 run.1.1) }
-    ensures scanner { IfOk result (λ run. ComesBack scanner run.2.0 run.2.1) }
+    ensures second { IfOk result (λ run. ComesBack second.entry.seat run.0.0 run.0.1) }
+    ensures first { IfOk result (λ run. ComesBack first.entry.seat run.1.0.0 run.1.0.1) }
+    ensures scanner { IfOk result (λ run. ComesBack scanner run.1.1.0 run.1.1.1) }
 {
-    let (second, others) = run_at_once(
+    joined(run_at_once(
         rt,
         SeatOf(Snapshot::of(&second.seat)),
         move || serve(rt, shared, second, gate, turns),
         move || run_beside_scanner(rt, shared, first, scanner, bench, gate, turns),
-    )?;
-    let (first, scanner) = others?;
-    Ok((first, second, scanner))
+    ))
 }
 
 /// Serves both ports of a board at once and has events happen on it, until all three end. One of the three runs in the caller's thread, and the
@@ -161,7 +157,7 @@ where
         port: second_port,
         link: second_link,
     };
-    let ((first, first_end), (second, second_end), (scanner, scanner_end)) = run_sides(
+    let ((second, second_end), ((first, first_end), (scanner, scanner_end))) = run_sides(
         rt, shared, first, second, scanner, bench, gate, turns,
     )?;
     let seats = Seats {

@@ -3,7 +3,7 @@ ghost use Rattle.std.specs.Prelude.{IfOk};
 ghost use Rattle.bmc_ports.specs.Slices.{GivesBack};
 ghost use Rattle.bmc_ports.specs.Timing.{Plays};
 
-use crate::at_once::{NoThread, run_at_once};
+use crate::at_once::{NoThread, joined, run_both};
 use crate::bell::Bell;
 use crate::slices::{Both, Lent, run_lent};
 use crate::timed::{TimedEnd, Timetable, happen_in_time};
@@ -43,27 +43,24 @@ impl<'a, J: Opening> Promise<Played<J>> for PlayedOf<'a, J> {
 fn play<J: Opening, R: Wait + Clock>(
     rt: &R,
     shared: &Shared<J, Records>,
-    script: Script<'_, J>,
+    mut script: Script<'_, J>,
     bell: &Bell,
 ) -> Played<J>
     ensures { Plays script.entry result }
 {
-    let Script {
-        mut seat,
-        mut table,
-    } = script;
-    let end = happen_in_time(rt, shared, &mut seat, &mut table, bell.stops());
+    let Script { seat, table } = &mut script;
+    let end = happen_in_time(rt, shared, seat, table, bell.stops());
     if end == TimedEnd::Full {
         bell.ring();
     }
     Played {
-        seat,
-        next: table.next,
+        next: script.table.next,
+        seat: script.seat,
         end,
     }
 }
 
-/// Runs both workers, and the scanner beside them where something is left for it.
+/// Runs both workers, and the scanner beside them where something is left for it, and else before them.
 pub(crate) fn run_beside<J, A, B, G, R>(
     rt: &R,
     shared: &Shared<J, Records>,
@@ -72,33 +69,22 @@ pub(crate) fn run_beside<J, A, B, G, R>(
     script: Script<'_, J>,
     gate: &G,
     bell: &Bell,
-) -> Result<(Both<J, A, B>, Played<J>), NoThread>
+) -> Result<(Played<J>, Both<J, A, B>), NoThread>
 where
     J: Opening + Send + Sync,
     A: Link + Send + Drop,
     B: Link + Send + Drop,
     G: Gate + Sync,
     R: Threads + Wait + Clock + Sync,
-    ensures first { IfOk result (λ run.
-        GivesBack A.counts_of first run.0.first run.0.first_end) }
-    ensures second { IfOk result (λ run.
-        GivesBack B.counts_of second run.0.second run.0.second_end) }
-    ensures scanner { IfOk result (λ run. Plays script.entry run.1) }
+    ensures scanner { IfOk result (λ run. Plays script.entry run.0) }
+    ensures first { IfOk result (λ run. GivesBack A.counts_of first run.1.0.0 run.1.0.1) }
+    ensures second { IfOk result (λ run. GivesBack B.counts_of second run.1.1.0 run.1.1.1) }
 {
-    if script.table.is_over() {
-        let played = Played {
-            seat: script.seat,
-            next: script.table.next,
-            end: TimedEnd::Over,
-        };
-        let workers = run_lent(rt, shared, first, second, gate, bell)?;
-        return Ok((workers, played));
-    }
-    let (played, workers) = run_at_once(
+    joined(run_both(
         rt,
+        !script.table.is_over(),
         PlayedOf(Snapshot::of(&script)),
         move || play(rt, shared, script, bell),
         move || run_lent(rt, shared, first, second, gate, bell),
-    )?;
-    Ok((workers?, played))
+    ))
 }

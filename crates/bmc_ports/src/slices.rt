@@ -25,13 +25,7 @@ pub(crate) struct Lent<J: Opening, L> {
 }
 
 /// What two workers give back, and why each ended.
-#[derive(Drop)]
-pub(crate) struct Both<J: Opening, A, B> {
-    pub first: Lent<J, A>,
-    pub second: Lent<J, B>,
-    pub first_end: End,
-    pub second_end: End,
-}
+pub(crate) type Both<J, A, B> = ((Lent<J, A>, End), (Lent<J, B>, End));
 
 /// What a thread gives back: what it was lent, once it worked with it, and why it ended.
 #[derive(Drop)]
@@ -118,15 +112,15 @@ fn serve_slices<J: Opening, S: Store + Drop, L: Link, G: Gate, R: Wait>(
 fn serve_lent<J: Opening, L: Link + Drop, G: Gate, R: Wait>(
     rt: &R,
     shared: &Shared<J, Records>,
-    lent: Lent<J, L>,
+    mut lent: Lent<J, L>,
     gate: &G,
     rope: Rope<'_>,
 ) -> (Lent<J, L>, End)
     ensures { GivesBack L.counts_of lent result.0 result.1 }
 {
-    let Lent { mut seat, mut lane } = lent;
-    let end = serve_slices(rt, shared, &mut seat, &mut lane, gate, &rope);
-    (Lent { seat, lane }, end)
+    let Lent { seat, lane } = &mut lent;
+    let end = serve_slices(rt, shared, seat, lane, gate, &rope);
+    (lent, end)
 }
 
 /// Runs both workers at once, and says once both ended.
@@ -144,8 +138,8 @@ where
     B: Link + Send + Drop,
     G: Gate + Sync,
     R: Threads + Wait + Sync,
-    ensures first { IfOk result (λ run. GivesBack A.counts_of first run.first run.first_end) }
-    ensures second { IfOk result (λ run. GivesBack B.counts_of second run.second run.second_end) }
+    ensures first { IfOk result (λ run. GivesBack A.counts_of first run.0.0 run.0.1) }
+    ensures second { IfOk result (λ run. GivesBack B.counts_of second run.1.0 run.1.1) }
 {
     let run = run_at_once(
         rt,
@@ -154,11 +148,5 @@ where
         move || serve_lent(rt, shared, second, gate, bell.second()),
     );
     bell.end();
-    let ((first, first_end), (second, second_end)) = run?;
-    Ok(Both {
-        first,
-        second,
-        first_end,
-        second_end,
-    })
+    run
 }

@@ -1,5 +1,9 @@
 -- What the seats of a board hold together.
-use Rattle.std.specs.Prelude.{◌≡◌, ◌+◌, ℕ, List, [], true, false, length, Result, OnOk, OnErr}
+use Rattle.std.specs.Prelude.{◌≡◌, ◌+◌, ℕ, List, [], true, false, length, drop, Result, IfOk, OnOk, OnErr}
+use Rattle.bmc_carry.specs.declared.asked.AskedHere.{AskedHere}
+use Rattle.bmc_carry.specs.Carrying.{code_given}
+use Rattle.bmc_history.specs.Calls.{GainsCall}
+use Rattle.bmc_history.specs.Entries.{CallList, exchanged}
 use Rattle.bmc_history.specs.declared.event.Event.{Event}
 use Rattle.bmc_history.specs.declared.held.PeriodFull.{PeriodFull}
 use Rattle.bmc_history.specs.Matching.{Matches}
@@ -17,6 +21,11 @@ pub record LeavesSeat {J A : Type 0} {g h : _} (result : Result A PeriodFull) (b
   pub same_list : OnErr result (after.calls.items ≡ before.calls.items)
   pub marked : OnErr result (after.refused ≡ true)
   pub number : after.number ≡ before.number
+
+-- where an answer was given, the list gained the request with its code, and with the data that begin at this place of the reply
+abbrev pub KeepsGiven : {E : Type 0} → Result (Result (Unit {0}) ℕ) E → (before after : CallList) → AskedHere → (start : ℕ) → (reply : List ℕ) → Type 0
+KeepsGiven given before after asked start reply =
+    IfOk given (λ done. GainsCall before.items after.items (exchanged asked (code_given done) (drop start reply)))
 
 -- the seat's list is the history's of this number; where it was refused, the history is full
 abbrev pub SeatMatches : {J : Type 0} {g : _} → ℕ → List Event → ℕ → Seat J g → Type 0

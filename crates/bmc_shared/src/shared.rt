@@ -1,16 +1,15 @@
 //! A board that threads share, and its seats.
-ghost use Rattle.std.specs.Prelude.{◌≡◌, ◌+◌, ◌≤◌, ◌<◌, ◌^◌, ◌↔◌, true, IsTrue, IfOk, IfErr, IsOk, IsErr, IfSome, OnOk, OnErr, length, drop};
+ghost use Rattle.std.specs.Prelude.{◌≡◌, ◌+◌, ◌≤◌, ◌<◌, ◌^◌, ◌↔◌, true, IsTrue, IfOk, IfErr, IsOk, IsErr, IfSome, OnOk, OnErr, length};
 ghost use Rattle.two_wire.specs.Sizes.{most_pldm_reply_data};
 ghost use Rattle.record_base.specs.Meaning.{room_for};
 ghost use Rattle.bmc_board.specs.State.{state_of};
 ghost use Rattle.bmc_carry.specs.Asking.{meant};
-ghost use Rattle.bmc_carry.specs.Carrying.{code_given};
-ghost use Rattle.bmc_history.specs.Entries.{IsBlank, exchanged};
+ghost use Rattle.bmc_history.specs.Entries.{IsBlank};
 ghost use Rattle.bmc_history.specs.Replay.{Replays, IsRoom};
 ghost use Rattle.bmc_history.specs.Calls.{IsRow, IsReply, IsHappening, GainsEvent, GainsCall, ExchangesHere, KeepsHere};
 ghost use Rattle.bmc_history.specs.declared.event.Call.TheVariants.{Exchanged, Benched};
 ghost use Rattle.bmc_history.specs.declared.held.OpenFault.TheVariants.{Room};
-ghost use Rattle.bmc_shared.specs.Seated.{IsFresh, LeavesSeat, SeatMatches, AllMatch, calls_made};
+ghost use Rattle.bmc_shared.specs.Seated.{IsFresh, KeepsGiven, LeavesSeat, SeatMatches, AllMatch, calls_made};
 ghost use Rattle.bmc_shared.specs.declared.shared.CloseFault.TheVariants.{Mismatch};
 
 use crate::seat::{Seat, Seats};
@@ -62,8 +61,7 @@ fn keep<B: Reply>(
     requires start { OnOk given (start ≤ length (B.bytes reply.now)) }
     requires fits { OnOk given (length (B.bytes reply.now) ≤ start + most_pldm_reply_data) }
     ensures given { result ≡ given }
-    ensures kept { IfOk given (λ done. GainsCall calls.old.items calls.new.items
-        (exchanged asked.now (code_given done) (drop start (B.bytes reply.now)))) }
+    ensures kept { KeepsGiven given calls.old calls.new asked.now start (B.bytes reply.now) }
     ensures mark { OnOk given (refused.new ≡ refused.old) }
     ensures same_list { OnErr given (calls.new.items ≡ calls.old.items) }
     ensures marked { OnErr given (refused.new ≡ true) }
@@ -363,16 +361,15 @@ impl<J: Opening, S: Store + Drop> Locked<J, S> {
         let matches = self.matches(&seats);
         let Locked { held, mut book } = self;
         let calls = count_calls(&mut book, seats);
-        let fault = if matches {
-            CloseFault::Count
-        } else {
-            CloseFault::Mismatch
-        };
-        if matches && held.len() == calls {
-            Ok(held.into_parts())
-        } else {
-            Err(fault)
+        if !matches {
+            drop(held);
+            return Err(CloseFault::Mismatch);
         }
+        if held.len() != calls {
+            drop(held);
+            return Err(CloseFault::Count);
+        }
+        Ok(held.into_parts())
     }
 
     /// Whether each seat's list is the history's of that seat, and the history is full where a seat

@@ -3,8 +3,11 @@ use Rattle.bmc_history.specs.declared.event.Call.{Call}
 use Rattle.bmc_history.specs.declared.event.Call.TheVariants.{Benched}
 use Rattle.bmc_ports.specs.declared.timed.Timed.{Timed}
 use Rattle.bmc_ports.specs.Timing.{Gains}
-use Rattle.bmc_ports.proofs.Timing.{gains_more}
+use Rattle.bmc_ports.proofs.Timing.{gains_more, gains_none}
 use Rattle.bmc_ports.proofs.timed.happen_in_time.Goals as goal
+
+pub loop-place-init : goal.loop-place-init
+loop-place-init g c = (gains_none c.args.table.now.list.now c.args.table.now.next c.args.seat.now.calls.items, refl, refl, refl, refl, refl)
 
 pub loop-place-preserved : goal.loop-place-preserved
 loop-place-preserved g c =

@@ -47,7 +47,7 @@ pub returns-clause-kept : goal.returns-clause-kept
 returns-clause-kept g c =
     keeps_here g.J.Opening.setup c.args.self.now.held.board c.answer-given.new.self.held.board c.args.self.now.held.history.items c.answer-given.new.self.held.history.items
     c.args.seat.now.number c.args.seat.now.calls.items c.keep.new.calls.items c.args.asked.now c.keep.result c.answer-given.result (g.B.Buffer.bytes c.args.reply.now)
-    (g.B.Buffer.bytes c.answer-given.new.reply) _ c.keep.ensures.given c.answer-given.ensures.exchanged c.keep.ensures.kept
+    (g.B.Buffer.bytes c.answer-given.new.reply) (drop (length c.as_slice-start.result.now) (g.B.Buffer.bytes c.answer-given.new.reply)) c.keep.ensures.given c.answer-given.ensures.exchanged c.keep.ensures.kept
     (ap (λ (xs : List ℕ). drop (length xs) (g.B.Buffer.bytes c.answer-given.new.reply)) c.as_slice-start.ensures)
 
 pub returns-clause-seat : goal.returns-clause-seat
