@@ -25,13 +25,32 @@ fn open_port(alloc: Global, bus: Bus) -> Result<Port, AllocError> {
     Port::new(alloc, bus, At { wire, eid })
 }
 
+/// A fresh port for each bus.
+fn open_ports(alloc: Global) -> Result<(Port, Port), AllocError> {
+    let ipmb = open_port(alloc, Bus::Ipmb)?;
+    match open_port(alloc, Bus::Smbus) {
+        Ok(smbus) => Ok((ipmb, smbus)),
+        Err(refused) => {
+            drop(ipmb);
+            Err(refused)
+        }
+    }
+}
+
 /// Fresh ports. Requests come from 2Ch.
 pub fn open_around(alloc: Global) -> Result<Around, AllocError> {
-    Ok(Around {
-        ipmb: open_port(alloc, Bus::Ipmb)?,
-        smbus: open_port(alloc, Bus::Smbus)?,
-        out: Out::new(),
-        from: 0x2C,
-        windows: open_windows(alloc)?,
-    })
+    let windows = open_windows(alloc)?;
+    match open_ports(alloc) {
+        Ok((ipmb, smbus)) => Ok(Around {
+            ipmb,
+            smbus,
+            out: Out::new(),
+            from: 0x2C,
+            windows,
+        }),
+        Err(refused) => {
+            drop(windows);
+            Err(refused)
+        }
+    }
 }

@@ -7,24 +7,37 @@ use cfg_records::{Answered, Asked, Store};
 use std::alloc::{AllocError, Global};
 use two_wire::Below;
 
-/// The completion code and the data of a reply.
-fn reply_text(alloc: Global, reply: &Answered) -> Result<String, AllocError> {
-    let mut text = hex::encode_upper(alloc, [reply.code].as_slice())?;
-    text.push_str(" ")?;
-    push_digits(alloc, &mut text, reply.body.as_slice())?;
-    Ok(text)
+/// Appends the completion code and the data of a reply.
+fn push_reply(alloc: Global, came: &mut String, reply: &Answered) -> Result<(), AllocError> {
+    push_digits(alloc, came, [reply.code].as_slice())?;
+    came.push_str(" ")?;
+    push_digits(alloc, came, reply.body.as_slice())
 }
 
-/// What the board replies to the request.
-pub fn reply_of<S: Store>(
+/// Appends what the board replies to the request.
+pub fn push_answer<S: Store>(
     alloc: Global,
     board: &mut Board<S>,
     asked: &Asked,
-) -> Result<String, AllocError> {
-    reply_text(alloc, &board.answer(asked))
+    came: &mut String,
+) -> Result<(), AllocError> {
+    push_reply(alloc, came, &board.answer(asked))
 }
 
 /// `ipmi 10 27 05` or `pldm 02 32 0400`: what the board replies.
+pub fn replies<S: Store>(
+    alloc: Global,
+    board: &mut Board<S>,
+    (from, over, digits): (u8, &str, &str),
+    came: &mut String,
+) -> Result<(), AllocError> {
+    match asked_over(alloc, from, over, digits)? {
+        Some(asked) => push_answer(alloc, board, &asked, came),
+        None => came.push_str("no request"),
+    }
+}
+
+/// What the board replies to the request over IPMI or PLDM that the digits tell.
 pub fn asks<S: Store>(
     alloc: Global,
     board: &mut Board<S>,
@@ -32,76 +45,85 @@ pub fn asks<S: Store>(
     over: &str,
     digits: &str,
 ) -> Result<String, AllocError> {
-    match asked_over(alloc, from, over, digits)? {
-        Some(asked) => reply_of(alloc, board, &asked),
-        None => String::from_str(alloc, "no request"),
+    let mut came = String::new(alloc);
+    match replies(alloc, board, (from, over, digits), &mut came) {
+        Ok(()) => Ok(came),
+        Err(refused) => Err(refused),
     }
 }
 
-/// The bytes that the store keeps of the record that the Get names.
-fn kept_by(alloc: Global, board: &Board<Records>, asked: &Asked) -> Result<String, AllocError> {
+/// Appends the bytes that the store keeps of the record that the Get names.
+fn push_kept(
+    alloc: Global,
+    board: &Board<Records>,
+    asked: &Asked,
+    came: &mut String,
+) -> Result<(), AllocError> {
     let Some(key) = key_of(asked) else {
-        return String::from_str(alloc, "no record");
+        return came.push_str("no record");
     };
     match board.store().get(&key) {
-        Some(bytes) => hex::encode_upper(alloc, bytes),
-        None => String::from_str(alloc, "none"),
+        Some(bytes) => push_digits(alloc, came, bytes),
+        None => came.push_str("none"),
     }
 }
 
 /// `kept ipmi 10 27 05`: what the store keeps of the record that this Get shows.
-pub fn kept(alloc: Global, board: &Board<Records>, rest: &str) -> Result<String, AllocError> {
+pub fn kept(
+    alloc: Global,
+    board: &Board<Records>,
+    rest: &str,
+    came: &mut String,
+) -> Result<(), AllocError> {
     match asked_in(alloc, 0x2C, rest)? {
-        Some(asked) => kept_by(alloc, board, &asked),
-        None => String::from_str(alloc, "no request"),
+        Some(asked) => push_kept(alloc, board, &asked, came),
+        None => came.push_str("no request"),
     }
 }
 
 /// `marked ipmi 10 26`: whether the request is a setting one.
-pub fn marked(alloc: Global, rest: &str) -> Result<String, AllocError> {
-    let word = match asked_in(alloc, 0x2C, rest)? {
+pub fn marked(alloc: Global, rest: &str, came: &mut String) -> Result<(), AllocError> {
+    came.push_str(match asked_in(alloc, 0x2C, rest)? {
         Some(asked) if is_changing(&asked) => "sets",
         Some(_) => "gets",
         None => "no request",
-    };
-    String::from_str(alloc, word)
-}
-
-/// `from 40`: who asks from now on.
-pub fn comes_from(alloc: Global, around: &mut Around, rest: &str) -> Result<String, AllocError> {
-    match text_lines::byte(rest) {
-        Some(from) => {
-            around.from = from;
-            Ok(String::new(alloc))
-        }
-        None => String::from_str(alloc, "no requester"),
-    }
-}
-
-/// The sensor's reading.
-fn reading_of(bytes: &[u8]) -> Option<Bench> {
-    let [sensor, raw] = bytes else {
-        return None;
-    };
-    Some(Bench::Reading {
-        sensor: *sensor,
-        raw: *raw,
     })
 }
 
-/// The chassis bits.
-fn chassis_of(bytes: &[u8]) -> Option<Bench> {
-    let [bits] = bytes else {
-        return None;
-    };
-    if *bits >= 32 {
-        return None;
+/// `from 40`: who asks from now on.
+pub fn comes_from(around: &mut Around, rest: &str, came: &mut String) -> Result<(), AllocError> {
+    match text_lines::byte(rest) {
+        Some(from) => {
+            around.from = from;
+            Ok(())
+        }
+        None => came.push_str("no requester"),
     }
-    Some(Bench::Chassis(Below::new(*bits)))
+}
+
+/// What happens on the bench.
+#[derive(Clone, Copy)]
+pub enum Happening {
+    /// A sensor gives a reading.
+    Reading,
+    /// The chassis bits become others.
+    Chassis,
+}
+
+/// What happens so, by these bytes.
+fn event_of(happening: Happening, bytes: &[u8]) -> Option<Bench> {
+    match (happening, bytes) {
+        (Happening::Reading, [sensor, raw]) => Some(Bench::Reading {
+            sensor: *sensor,
+            raw: *raw,
+        }),
+        (Happening::Chassis, [bits]) if *bits < 32 => Some(Bench::Chassis(Below::new(*bits))),
+        _ => None,
+    }
 }
 
 /// What happens comes to the board: `none` where it has no such sensor.
-fn happens(board: &mut Board<Records>, event: Option<Bench>) -> &'static str {
+fn come_to(board: &mut Board<Records>, event: Option<Bench>) -> &'static str {
     match event {
         None => "no event",
         Some(event) => match board.bench(event) {
@@ -111,26 +133,18 @@ fn happens(board: &mut Board<Records>, event: Option<Bench>) -> &'static str {
     }
 }
 
-/// `reads 05 60`: sensor 5 gives the reading 60h.
-pub fn reads(alloc: Global, board: &mut Board<Records>, rest: &str) -> Result<String, AllocError> {
-    let event = match bytes_of(alloc, rest)? {
-        Some(bytes) => reading_of(bytes.as_slice()),
-        None => None,
-    };
-    String::from_str(alloc, happens(board, event))
-}
-
-/// `chassis 15`: bits 4:0 of the chassis status become these.
-pub fn chassis(
+/// `reads 05 60`: sensor 5 gives the reading 60h. `chassis 15`: bits 4:0 of the chassis status become these.
+pub fn happens(
     alloc: Global,
     board: &mut Board<Records>,
-    rest: &str,
-) -> Result<String, AllocError> {
-    let event = match bytes_of(alloc, rest)? {
-        Some(bytes) => chassis_of(bytes.as_slice()),
+    (happening, digits): (Happening, &str),
+    came: &mut String,
+) -> Result<(), AllocError> {
+    let event = match bytes_of(alloc, digits)? {
+        Some(bytes) => event_of(happening, bytes.as_slice()),
         None => None,
     };
-    String::from_str(alloc, happens(board, event))
+    came.push_str(come_to(board, event))
 }
 
 /// So many tenths of a second go by.
@@ -149,12 +163,12 @@ fn tenths_of(rest: &str) -> Option<u32> {
 }
 
 /// `tick`, or `tick 9`: tenths of a second go by.
-pub fn ticks(alloc: Global, board: &mut Board<Records>, rest: &str) -> Result<String, AllocError> {
+pub fn ticks(board: &mut Board<Records>, rest: &str, came: &mut String) -> Result<(), AllocError> {
     match tenths_of(rest) {
         Some(tenths) => {
             pass(board, tenths);
-            Ok(String::new(alloc))
+            Ok(())
         }
-        None => String::from_str(alloc, "no number"),
+        None => came.push_str("no number"),
     }
 }

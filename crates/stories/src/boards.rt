@@ -1,6 +1,5 @@
 //! The boards that stories are told of.
-use cfg_records::{BoardFile, Sensors, sample_board};
-use record_base::Attributes;
+use cfg_records::{BoardFile, sample_board};
 use std::alloc::{AllocError, Global};
 use text_board::{FileFault, TOP, read_board};
 
@@ -17,7 +16,7 @@ boot3 = 0
 boot4 = 0
 boot5 = [0, 0, 0, 0, 0]";
 
-/// The sample board's tables but its sensors and attributes.
+/// The sample board's tables.
 const SAMPLE_TABLES: &str = "[device]
 id = 0x20
 revision = 1
@@ -27,12 +26,64 @@ support = 0x07
 manufacturer = 0xABCD
 product = 0x1234
 
+[[sensor]]
+number = 5
+type = 1
+readable = 0x3F
+settable = 0x3F
+thresholds = [0x14, 0x0A, 0x05, 0x50, 0x5F, 0x6E]
+hysteresis = [2, 2]
+supported = 0xFFF
+flags = 0xC0
+assert = 0x200
+deassert = 0
+
+[[sensor]]
+number = 7
+type = 4
+readable = 0x18
+settable = 0x38
+thresholds = [0, 0, 0, 0x90, 0xA0, 0xB0]
+hysteresis = [0, 0]
+supported = 0xFC0
+flags = 0
+assert = 0
+deassert = 0
+
 [[channel]]
 number = 1
 sessions = true
 access = [2, 2]
 limit = [4, 4]
-users = [0x14, 0x14]";
+users = [0x14, 0x14]
+
+[[attribute]]
+name = \"Quiet\"
+kind = \"enumeration\"
+values = [\"off\", \"on\"]
+default = [0]
+current = [0]
+readonly = false
+
+[[attribute]]
+name = \"Asset\"
+kind = \"string\"
+string_type = 1
+least = 0
+most = 200
+default = \"\"
+current = \"rack-1\"
+readonly = false
+
+[[attribute]]
+name = \"Delay\"
+kind = \"integer\"
+lower = 0
+upper = 300
+increment = 10
+default = 30
+current = 30
+readonly = false";
 
 /// What stands behind a line's word, where the line is one of the board's.
 fn board_line(line: &str) -> Option<&str> {
@@ -41,7 +92,12 @@ fn board_line(line: &str) -> Option<&str> {
 
 /// Whether a board file has a field of this name.
 fn is_field(name: &str) -> bool {
-    TOP.iter().any(|row| row.0.word() == name)
+    for row in TOP.iter() {
+        if row.0.word() == name {
+            return true;
+        }
+    }
+    false
 }
 
 /// Whether what stands behind `board` gives a field of a board file, or goes on with a list that a line before began.
@@ -106,15 +162,24 @@ fn push_tables(file: &mut String, story: &str) -> Result<(), AllocError> {
     Ok(())
 }
 
+/// Appends the lines that the story gives, and the sample board's fields and tables but those that it gives. Gives whether there are any.
+fn push_board(file: &mut String, story: &str) -> Result<bool, AllocError> {
+    if !push_given(file, story)? {
+        return Ok(false);
+    }
+    push_fields(file, story)?;
+    push_tables(file, story)?;
+    Ok(true)
+}
+
 /// The text of the story's board, if it gives any line of one.
 fn board_text(alloc: Global, story: &str) -> Result<Option<String>, AllocError> {
     let mut file = String::new(alloc);
-    if !push_given(&mut file, story)? {
-        return Ok(None);
+    match push_board(&mut file, story) {
+        Ok(true) => Ok(Some(file)),
+        Ok(false) => Ok(None),
+        Err(refused) => Err(refused),
     }
-    push_fields(&mut file, story)?;
-    push_tables(&mut file, story)?;
-    Ok(Some(file))
 }
 
 /// The sample board.
@@ -125,42 +190,17 @@ fn sample_of(alloc: Global) -> Result<BoardFile, FileFault> {
     }
 }
 
-/// The sensors and attributes of the sample board.
-fn filling_of(alloc: Global) -> Result<(Sensors, Attributes), FileFault> {
-    let BoardFile {
-        sensors,
-        attributes,
-        ..
-    } = sample_of(alloc)?;
-    Ok((sensors, attributes))
-}
-
-/// Gives the board the sensors and the attributes where the story gives none.
-fn fill_up(file: &mut BoardFile, sensors: Sensors, attributes: Attributes, story: &str) {
-    if !is_given(story, "sensor") {
-        file.sensors = sensors;
-    }
-    if !is_given(story, "attribute") {
-        file.attributes = attributes;
-    }
-}
-
-/// The board of this text, with what the sample board fills up.
-fn filled_up(alloc: Global, story: &str, text: &str) -> Result<BoardFile, FileFault> {
-    let (sensors, attributes) = filling_of(alloc)?;
-    match read_board(alloc, text) {
-        Ok(mut file) => {
-            fill_up(&mut file, sensors, attributes, story);
-            Ok(file)
-        }
-        Err(fault) => Err(fault),
-    }
+/// The board of this text.
+fn board_in(alloc: Global, text: String) -> Result<BoardFile, FileFault> {
+    let board = read_board(alloc, text.as_str());
+    drop(text);
+    board
 }
 
 /// The board of the story's lines `board FIELD = VALUE`: the sample board, with these fields in place of its own.
 pub fn board_of(alloc: Global, story: &str) -> Result<BoardFile, FileFault> {
     match board_text(alloc, story) {
-        Ok(Some(text)) => filled_up(alloc, story, text.as_str()),
+        Ok(Some(text)) => board_in(alloc, text),
         Ok(None) => sample_of(alloc),
         Err(_) => Err(FileFault::Memory),
     }

@@ -5,7 +5,9 @@ use std::alloc::{AllocError, Global};
 fn push_word(alloc: Global, bytes: &mut Vec<u8>, word: &str) -> Result<bool, AllocError> {
     match text_lines::bytes(alloc, word)? {
         Some(part) => {
-            bytes.extend_from_slice(part.as_slice())?;
+            let pushed = bytes.extend_from_slice(part.as_slice());
+            drop(part);
+            pushed?;
             Ok(true)
         }
         None => Ok(false),
@@ -31,11 +33,9 @@ pub fn push_digits(alloc: Global, text: &mut String, bytes: &[u8]) -> Result<(),
 
 /// Appends the word: its bytes, where it stands for bytes, and else as it is written.
 fn push_plain(alloc: Global, text: &mut String, word: &str) -> Result<(), AllocError> {
-    let mut bytes = Vec::new(alloc);
-    if push_word(alloc, &mut bytes, word)? {
-        push_digits(alloc, text, bytes.as_slice())
-    } else {
-        text.push_str(word)
+    match text_lines::bytes(alloc, word)? {
+        Some(bytes) => push_digits(alloc, text, bytes.as_slice()),
+        None => text.push_str(word),
     }
 }
 

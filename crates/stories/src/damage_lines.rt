@@ -1,62 +1,42 @@
 //! Lines of frames that come damaged.
 use crate::around::Around;
-use crate::heard_lines::heard_in;
-use crate::port_lines::{hear, port_of};
+use crate::port_lines::{hear, heard_in, port_of};
 use bmc_board::{Board, Records};
 use bmc_core::{Done, Out, Port};
 use std::alloc::{AllocError, Global};
 
+/// How a frame is damaged.
+#[derive(Clone, Copy)]
+pub enum Damage {
+    /// It is cut off.
+    Cut,
+    /// A byte is another one.
+    Changed,
+}
+
 /// How often a port did each thing, in the order in which it first did it.
-#[derive(Drop)]
-struct Counts {
-    counts: Vec<(Done, u32)>,
-}
+type Counts = Vec<(Done, u32)>;
 
-impl Counts {
-    fn new(alloc: Global) -> Counts {
-        Counts {
-            counts: Vec::new(alloc),
+/// The port did this once more.
+fn count(counts: &mut Counts, done: Done) -> Result<(), AllocError> {
+    for (known, count) in counts.iter_mut() {
+        if *known == done {
+            *count = count.wrapping_add(1);
+            return Ok(());
         }
     }
-
-    /// The port did this once more.
-    fn add(&mut self, done: Done) -> Result<(), AllocError> {
-        for (known, count) in self.counts.iter_mut() {
-            if *known == done {
-                *count = count.wrapping_add(1);
-                return Ok(());
-            }
-        }
-        self.counts.push((done, 1)).map_err(AllocError::from)
-    }
-
-    /// Each number with its name.
-    fn text(&self, alloc: Global) -> Result<String, AllocError> {
-        let mut text = String::new(alloc);
-        for (done, count) in self.counts.as_slice() {
-            write!(text, "{count} {done:?} ")?;
-        }
-        Ok(text)
+    match counts.push((done, 1)) {
+        Ok(()) => Ok(()),
+        Err(_) => Err(AllocError),
     }
 }
 
-/// `cuts ipmb 2018C82C0001D3`: what the port did with the first 0, 1, .. bytes, but for all of them, and how often.
-pub fn cuts(
-    alloc: Global,
-    board: &mut Board<Records>,
-    around: &mut Around,
-    rest: &str,
-) -> Result<String, AllocError> {
-    let Some((bus, bytes)) = heard_in(alloc, rest)? else {
-        return String::from_str(alloc, "no bytes");
-    };
-    let (port, out) = port_of(around, bus);
-    let mut counts = Counts::new(alloc);
-    for end in 0..bytes.len() {
-        hear(board, port, bytes.as_slice().split_at(end).0, out);
-        counts.add(out.done)?;
+/// Appends each number with its name.
+fn push_counts(came: &mut String, counts: &[(Done, u32)]) -> Result<(), AllocError> {
+    for (done, count) in counts {
+        write!(came, "{count} {done:?} ")?;
     }
-    counts.text(alloc)
+    Ok(())
 }
 
 /// The byte at the place becomes the next one.
@@ -67,7 +47,7 @@ fn change_byte(bytes: &mut [u8], place: usize) {
 }
 
 /// The port hears the bytes with each of the 255 other values at the place, and the bytes are as they were then.
-fn hear_at(
+fn hear_changed(
     (board, port, out): (&mut Board<Records>, &mut Port, &mut Out),
     bytes: &mut [u8],
     place: usize,
@@ -76,31 +56,59 @@ fn hear_at(
     for _ in 0..255u8 {
         change_byte(bytes, place);
         hear(board, port, bytes, out);
-        counts.add(out.done)?;
+        count(counts, out.done)?;
     }
     change_byte(bytes, place);
     Ok(())
 }
 
-/// `changed ipmb 2018C82C0001D3`: what the port did with the frame with each of the 255 other values at each place, and how often.
-pub fn changed(
+/// The port hears the bytes damaged at each place.
+fn hear_damaged(
+    board: &mut Board<Records>,
+    (port, out): (&mut Port, &mut Out),
+    damage: Damage,
+    bytes: &mut [u8],
+    counts: &mut Counts,
+) -> Result<(), AllocError> {
+    for place in 0..bytes.len() {
+        match damage {
+            Damage::Cut => {
+                hear(board, port, bytes.split_at(place).0, out);
+                count(counts, out.done)?;
+            }
+            Damage::Changed => {
+                hear_changed((&mut *board, &mut *port, &mut *out), bytes, place, counts)?;
+            }
+        }
+    }
+    Ok(())
+}
+
+/// `cuts ipmb 2018C82C0001D3`: what the port did with the first 0, 1, .. bytes, but for all of them, and how often. `changed ipmb ..`: what
+/// it did with the frame with each of the 255 other values at each place.
+pub fn damaged(
     alloc: Global,
     board: &mut Board<Records>,
     around: &mut Around,
-    rest: &str,
-) -> Result<String, AllocError> {
-    let Some((bus, mut bytes)) = heard_in(alloc, rest)? else {
-        return String::from_str(alloc, "no bytes");
+    (damage, words): (Damage, &str),
+    came: &mut String,
+) -> Result<(), AllocError> {
+    let Some((bus, mut bytes)) = heard_in(alloc, words)? else {
+        return came.push_str("no bytes");
     };
-    let (port, out) = port_of(around, bus);
-    let mut counts = Counts::new(alloc);
-    for place in 0..bytes.len() {
-        hear_at(
-            (&mut *board, &mut *port, &mut *out),
-            bytes.as_mut_slice(),
-            place,
-            &mut counts,
-        )?;
-    }
-    counts.text(alloc)
+    let mut counts = Vec::new(alloc);
+    let heard = hear_damaged(
+        board,
+        port_of(around, bus),
+        damage,
+        bytes.as_mut_slice(),
+        &mut counts,
+    );
+    drop(bytes);
+    let told = match heard {
+        Ok(()) => push_counts(came, counts.as_slice()),
+        Err(refused) => Err(refused),
+    };
+    drop(counts);
+    told
 }

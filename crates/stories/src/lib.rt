@@ -8,7 +8,6 @@ mod boards;
 mod bytes;
 mod change_lines;
 mod damage_lines;
-mod heard_lines;
 mod lan;
 mod line;
 mod port_lines;

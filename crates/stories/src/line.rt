@@ -1,7 +1,7 @@
 //! The first words of lines.
 
 /// What a line begins with: what comes to the board or to a port of its.
-#[derive(Clone, Copy, PartialEq, Eq)]
+#[derive(Clone, Copy)]
 pub enum Word {
     /// A line of the board's file.
     Board,
@@ -24,9 +24,8 @@ pub enum Word {
     Change,
     /// What undoes a Set, by what a Get replied.
     Undo,
-    /// A port hears a frame.
-    Ipmb,
-    Smbus,
+    /// A port hears a frame: the name of its bus.
+    Frame,
     /// A port hears a frame that is cut off, at each place.
     Cuts,
     /// A port hears a frame with each other byte at each place.
@@ -56,8 +55,7 @@ impl Word {
             "chassis" => Word::Chassis,
             "change" => Word::Change,
             "undo" => Word::Undo,
-            "ipmb" => Word::Ipmb,
-            "smbus" => Word::Smbus,
+            "ipmb" | "smbus" => Word::Frame,
             "cuts" => Word::Cuts,
             "changed" => Word::Changed,
             "idle" => Word::Idle,

@@ -1,24 +1,73 @@
 //! Lines of the ports.
+ghost use Rattle.std.specs.Prelude.{◌≡◌};
+ghost use Rattle.bmc_core.specs.Port.{bus_of, bus_asked};
+
 use crate::around::Around;
 use crate::bytes::{bytes_of, push_digits};
 use bmc_board::{Board, Records};
-use bmc_core::{Out, Port};
+use bmc_core::{Out, Pending, Port, Step};
 use std::alloc::{AllocError, Global};
 use two_wire::Bus;
 
-/// What a port did, and the frames that it sent.
-pub fn done_text(alloc: Global, out: &Out) -> Result<String, AllocError> {
-    let mut text = format!(in alloc; "{:?}", out.done)?;
-    let mut between = " ";
-    for frame in out.frames.as_slice() {
-        text.push_str(between)?;
-        push_digits(alloc, &mut text, frame.as_slice())?;
-        between = " | ";
-    }
-    Ok(text)
+/// What comes of a request that a port hears.
+#[derive(Clone, Copy)]
+pub enum Heard {
+    /// The port has the board answer it.
+    Served,
+    /// The board answers it, and the port is told.
+    Told,
+    /// Nobody answers it.
+    Dropped,
 }
 
-/// The port hears the bytes.
+/// The bus and the bytes that the words tell, as `ipmb 2018C82C0001D3`.
+pub fn heard_in(alloc: Global, words: &str) -> Result<Option<(Bus, Vec<u8>)>, AllocError> {
+    let (bus, digits) = words.split_once(' ').unwrap_or((words, ""));
+    let Some(bus) = Bus::named(bus) else {
+        return Ok(None);
+    };
+    Ok(match bytes_of(alloc, digits)? {
+        Some(bytes) => Some((bus, bytes)),
+        None => None,
+    })
+}
+
+/// Appends what a port did, and the frames that it sent.
+fn push_done(alloc: Global, came: &mut String, out: &Out) -> Result<(), AllocError> {
+    write!(came, "{:?}", out.done)?;
+    let mut between = " ";
+    for frame in out.frames.as_slice() {
+        came.push_str(between)?;
+        push_digits(alloc, came, frame.as_slice())?;
+        between = " | ";
+    }
+    Ok(())
+}
+
+/// Whether the bytes are a request that is to be carried out. It is dropped.
+fn is_asked(port: &mut Port, bytes: &[u8], out: &mut Out) -> bool {
+    match port.hear(bytes, out) {
+        Step::Ask(_) => true,
+        Step::Done => false,
+    }
+}
+
+/// The board carries the request out, and the port is told.
+fn tell(board: &mut Board<Records>, port: &mut Port, pending: Pending, out: &mut Out)
+    requires { bus_asked pending ≡ bus_of port.old }
+{
+    let answered = board.answer(&pending.asked());
+    port.answer(pending, &answered, out);
+}
+
+/// The port hears the bytes, and is told the answer where they are a request that is to be carried out.
+fn hear_told(board: &mut Board<Records>, port: &mut Port, bytes: &[u8], out: &mut Out) {
+    if let Step::Ask(pending) = port.hear(bytes, out) {
+        tell(board, port, pending, out);
+    }
+}
+
+/// The port hears the bytes, which the board answers where they are a request that is to be carried out.
 pub fn hear(board: &mut Board<Records>, port: &mut Port, bytes: &[u8], out: &mut Out) {
     port.on_frame(board, bytes, out);
 }
@@ -31,20 +80,45 @@ pub fn port_of(around: &mut Around, bus: Bus) -> (&mut Port, &mut Out) {
     }
 }
 
-/// `ipmb 2018C82C0001D3` or `smbus ..`: what the port did with the frame, and the frames that it sent.
+/// The port of the bus hears the bytes. Gives whether they are a request that nobody answers.
+fn hear_as(
+    board: &mut Board<Records>,
+    around: &mut Around,
+    heard: Heard,
+    (bus, bytes): (Bus, &[u8]),
+) -> bool {
+    let (port, out) = port_of(around, bus);
+    match heard {
+        Heard::Served => {
+            hear(board, port, bytes, out);
+            false
+        }
+        Heard::Told => {
+            hear_told(board, port, bytes, out);
+            false
+        }
+        Heard::Dropped => is_asked(port, bytes, out),
+    }
+}
+
+/// `ipmb 2018C82C0001D3` or `smbus ..`: what the port did with the frame, and the frames that it sent. So with `told` before it, where the
+/// port asks and is told the board's answer. With `dropped` before it: `asked`, where the frame is a request that is to be carried out.
 pub fn hears(
     alloc: Global,
     board: &mut Board<Records>,
     around: &mut Around,
-    bus: Bus,
-    digits: &str,
-) -> Result<String, AllocError> {
-    let Some(bytes) = bytes_of(alloc, digits)? else {
-        return String::from_str(alloc, "no bytes");
+    (heard, words): (Heard, &str),
+    came: &mut String,
+) -> Result<(), AllocError> {
+    let Some((bus, bytes)) = heard_in(alloc, words)? else {
+        return came.push_str("no bytes");
     };
-    let (port, out) = port_of(around, bus);
-    hear(board, port, bytes.as_slice(), out);
-    done_text(alloc, &around.out)
+    let is_left = hear_as(board, around, heard, (bus, bytes.as_slice()));
+    drop(bytes);
+    if is_left {
+        return came.push_str("asked");
+    }
+    push_done(alloc, came, &around.out)
 }
 
 /// Whether the port had a window for the requester, which it forgets.
@@ -55,12 +129,11 @@ fn forget(around: &mut Around, bus: &str, requester: &str) -> Option<bool> {
 }
 
 /// `idle ipmb 40`: whether the port had a window for the requester.
-pub fn idle(alloc: Global, around: &mut Around, rest: &str) -> Result<String, AllocError> {
+pub fn idle(around: &mut Around, rest: &str, came: &mut String) -> Result<(), AllocError> {
     let (bus, requester) = rest.split_once(' ').unwrap_or((rest, ""));
-    let word = match forget(around, bus, requester) {
+    came.push_str(match forget(around, bus, requester) {
         Some(true) => "yes",
         Some(false) => "no",
         None => "no requester",
-    };
-    String::from_str(alloc, word)
+    })
 }

@@ -1,20 +1,18 @@
 //! The scene of stories of a controller.
 use crate::around::{Around, open_around};
-use crate::board_lines::{asks, chassis, comes_from, kept, marked, reads, ticks};
+use crate::board_lines::{Happening, comes_from, happens, kept, marked, replies, ticks};
 use crate::boards::{board_of, is_of_board};
 use crate::bytes::is_told;
 use crate::change_lines::{change, undo};
-use crate::damage_lines::{changed, cuts};
-use crate::heard_lines::{dropped, told};
+use crate::damage_lines::{Damage, damaged};
 use crate::line::Word;
-use crate::port_lines::{hears, idle};
+use crate::port_lines::{Heard, hears, idle};
 use crate::window_lines::window;
 use bmc_board::{Board, Records};
 use cfg_records::{BoardFile, sample_board};
 use std::alloc::{AllocError, Global};
 use story_lines::{NoOutcome, NoScene, Scene, report_of};
 use text_board::FileFault;
-use two_wire::Bus;
 
 /// A board, and what is around it.
 #[derive(Drop)]
@@ -26,60 +24,85 @@ struct Controller {
 /// A controller of a fresh board of the file.
 fn open_controller(alloc: Global, file: BoardFile) -> Result<Controller, AllocError> {
     let board = Board::of_file(alloc, file)?;
-    let around = open_around(alloc)?;
-    Ok(Controller { board, around })
+    match open_around(alloc) {
+        Ok(around) => Ok(Controller { board, around }),
+        Err(refused) => {
+            drop(board);
+            Err(refused)
+        }
+    }
 }
 
-/// What comes of a line of this word to the board and to what is around it.
-fn found(
+/// Why the lines of a story say no board.
+fn no_scene(alloc: Global, fault: FileFault) -> NoScene {
+    match fault {
+        FileFault::Memory => NoScene::Memory,
+        fault => match format!(in alloc; "{fault:?}") {
+            Ok(text) => NoScene::Fault(text),
+            Err(_) => NoScene::Memory,
+        },
+    }
+}
+
+/// Appends what comes of a line to the board and to what is around it: of its first word, and of what is behind that.
+fn tell(
     alloc: Global,
     board: &mut Board<Records>,
     around: &mut Around,
-    (word, rest): (Word, &str),
-) -> Result<String, AllocError> {
+    (word, line, rest): (Word, &str, &str),
+    came: &mut String,
+) -> Result<(), AllocError> {
     match word {
-        Word::Board => String::from_str(alloc, if is_of_board(rest) { "" } else { "no field" }),
-        Word::Ipmi => asks(alloc, board, around.from, "ipmi", rest),
-        Word::Pldm => asks(alloc, board, around.from, "pldm", rest),
-        Word::From => comes_from(alloc, around, rest),
-        Word::Kept => kept(alloc, board, rest),
-        Word::Marked => marked(alloc, rest),
-        Word::Reads => reads(alloc, board, rest),
-        Word::Tick => ticks(alloc, board, rest),
-        Word::Chassis => chassis(alloc, board, rest),
-        Word::Change => change(alloc, board, rest),
-        Word::Undo => undo(alloc, rest),
-        Word::Ipmb => hears(alloc, board, around, Bus::Ipmb, rest),
-        Word::Smbus => hears(alloc, board, around, Bus::Smbus, rest),
-        Word::Cuts => cuts(alloc, board, around, rest),
-        Word::Changed => changed(alloc, board, around, rest),
-        Word::Idle => idle(alloc, around, rest),
-        Word::Dropped => dropped(alloc, around, rest),
-        Word::Told => told(alloc, board, around, rest),
-        Word::Window => window(alloc, &mut around.windows, rest),
+        Word::Board => came.push_str(if is_of_board(rest) { "" } else { "no field" }),
+        Word::Ipmi => replies(alloc, board, (around.from, "ipmi", rest), came),
+        Word::Pldm => replies(alloc, board, (around.from, "pldm", rest), came),
+        Word::From => comes_from(around, rest, came),
+        Word::Kept => kept(alloc, board, rest, came),
+        Word::Marked => marked(alloc, rest, came),
+        Word::Reads => happens(alloc, board, (Happening::Reading, rest), came),
+        Word::Tick => ticks(board, rest, came),
+        Word::Chassis => happens(alloc, board, (Happening::Chassis, rest), came),
+        Word::Change => change(alloc, board, rest, came),
+        Word::Undo => undo(alloc, rest, came),
+        Word::Frame => hears(alloc, board, around, (Heard::Served, line), came),
+        Word::Cuts => damaged(alloc, board, around, (Damage::Cut, rest), came),
+        Word::Changed => damaged(alloc, board, around, (Damage::Changed, rest), came),
+        Word::Idle => idle(around, rest, came),
+        Word::Dropped => hears(alloc, board, around, (Heard::Dropped, rest), came),
+        Word::Told => hears(alloc, board, around, (Heard::Told, rest), came),
+        Word::Window => window(alloc, &mut around.windows, rest, came),
     }
 }
 
 impl Scene for Controller {
     fn open(alloc: Global, lines: &str) -> Result<Controller, NoScene> {
         match board_of(alloc, lines) {
-            Ok(file) => Ok(open_controller(alloc, file)?),
-            Err(FileFault::Memory) => Err(NoScene::Memory),
-            Err(fault) => Err(NoScene::Fault(format!(in alloc; "{fault:?}")?)),
+            Ok(file) => match open_controller(alloc, file) {
+                Ok(controller) => Ok(controller),
+                Err(_) => Err(NoScene::Memory),
+            },
+            Err(fault) => Err(no_scene(alloc, fault)),
         }
     }
 
     fn come(&mut self, alloc: Global, words: &str, came: &mut String) -> Result<(), NoOutcome> {
         let (word, rest) = words.split_once(' ').unwrap_or((words, ""));
-        let word = Word::of(word).ok_or(NoOutcome::Unread)?;
-        let found = found(alloc, &mut self.board, &mut self.around, (word, rest))?;
-        came.push_str(found.as_str())?;
-        Ok(())
+        let Some(word) = Word::of(word) else {
+            return Err(NoOutcome::Unread);
+        };
+        let (board, around) = (&mut self.board, &mut self.around);
+        match tell(alloc, board, around, (word, words, rest), came) {
+            Ok(()) => Ok(()),
+            Err(_) => Err(NoOutcome::Memory),
+        }
     }
 
     /// However the bytes in both are written.
     fn is_told(alloc: Global, came: &str, told: &str) -> Result<bool, NoOutcome> {
-        Ok(is_told(alloc, came, told)?)
+        match is_told(alloc, came, told) {
+            Ok(is_told) => Ok(is_told),
+            Err(_) => Err(NoOutcome::Memory),
+        }
     }
 }
 

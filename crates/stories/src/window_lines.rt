@@ -13,10 +13,14 @@ pub struct BothWindows {
 
 /// Windows in which nothing is kept.
 pub fn open_windows(alloc: Global) -> Result<BothWindows, AllocError> {
-    Ok(BothWindows {
-        ipmb: Windows::new(alloc)?,
-        pldm: Windows::new(alloc)?,
-    })
+    let ipmb = Windows::new(alloc)?;
+    match Windows::new(alloc) {
+        Ok(pldm) => Ok(BothWindows { ipmb, pldm }),
+        Err(refused) => {
+            drop(ipmb);
+            Err(refused)
+        }
+    }
 }
 
 /// The request of these bytes: its requester, its number, and at least one byte of its own.
@@ -35,18 +39,18 @@ fn request_in<const NUMBERS: u8>(bytes: &[u8]) -> Option<Request<'_, NUMBERS>> {
     })
 }
 
-/// What is found, with the reply that was kept.
-fn found_text<const CAP: usize>(
+/// Appends what is found, with the reply that was kept.
+fn push_found<const CAP: usize>(
     alloc: Global,
     found: &Found<'_, CAP>,
-) -> Result<String, AllocError> {
+    came: &mut String,
+) -> Result<(), AllocError> {
     match found {
-        Found::New => String::from_str(alloc, "New"),
-        Found::Busy => String::from_str(alloc, "Busy"),
+        Found::New => came.push_str("New"),
+        Found::Busy => came.push_str("Busy"),
         Found::Repeats(reply) => {
-            let mut text = String::from_str(alloc, "Repeats ")?;
-            push_digits(alloc, &mut text, reply.as_slice())?;
-            Ok(text)
+            came.push_str("Repeats ")?;
+            push_digits(alloc, came, reply.as_slice())
         }
     }
 }
@@ -56,10 +60,11 @@ fn find<const NUMBERS: u8, const CAP: usize>(
     alloc: Global,
     windows: &Windows<NUMBERS, CAP>,
     bytes: &[u8],
-) -> Result<String, AllocError> {
+    came: &mut String,
+) -> Result<(), AllocError> {
     match request_in::<NUMBERS>(bytes) {
-        Some(request) => found_text(alloc, &windows.find(&request)),
-        None => String::from_str(alloc, "no request"),
+        Some(request) => push_found(alloc, &windows.find(&request), came),
+        None => came.push_str("no request"),
     }
 }
 
@@ -67,21 +72,21 @@ fn find<const NUMBERS: u8, const CAP: usize>(
 fn keep<const NUMBERS: u8, const CAP: usize>(
     alloc: Global,
     windows: &mut Windows<NUMBERS, CAP>,
-    bytes: &[u8],
-    reply: &[u8],
-) -> Result<String, AllocError> {
+    (bytes, reply): (&[u8], &[u8]),
+    came: &mut String,
+) -> Result<(), AllocError> {
     let Some(request) = request_in::<NUMBERS>(bytes) else {
-        return String::from_str(alloc, "no request");
+        return came.push_str("no request");
     };
     if request.rest.len() > CAP || reply.len() > CAP {
-        return String::from_str(alloc, "too long");
+        return came.push_str("too long");
     }
     match windows.find(&request) {
         Found::New => {
             windows.keep(&request, reply);
-            String::from_str(alloc, "New")
+            came.push_str("New")
         }
-        found => found_text(alloc, &found),
+        found => push_found(alloc, &found, came),
     }
 }
 
@@ -100,32 +105,67 @@ fn forget<const NUMBERS: u8, const CAP: usize>(
     }
 }
 
+/// What comes of the bytes at these windows, by the word before them.
+fn comes_by<const NUMBERS: u8, const CAP: usize>(
+    alloc: Global,
+    windows: &mut Windows<NUMBERS, CAP>,
+    word: &str,
+    (request, reply): (&[u8], &[u8]),
+    came: &mut String,
+) -> Result<(), AllocError> {
+    match word {
+        "finds" => find(alloc, windows, request, came),
+        "keeps" => keep(alloc, windows, (request, reply), came),
+        "idles" => came.push_str(forget(windows, request)),
+        _ => came.push_str("no line"),
+    }
+}
+
+/// The bytes of a request and of its reply.
+fn bytes_in(alloc: Global, words: &str) -> Result<Option<(Vec<u8>, Vec<u8>)>, AllocError> {
+    let (request, reply) = words.split_once(" : ").unwrap_or((words, ""));
+    let Some(request) = bytes_of(alloc, request)? else {
+        return Ok(None);
+    };
+    match bytes_of(alloc, reply) {
+        Ok(Some(reply)) => Ok(Some((request, reply))),
+        Ok(None) => Ok(None),
+        Err(refused) => Err(refused),
+    }
+}
+
 /// What comes of the words at these windows.
 fn comes<const NUMBERS: u8, const CAP: usize>(
     alloc: Global,
     windows: &mut Windows<NUMBERS, CAP>,
     words: &str,
-) -> Result<String, AllocError> {
-    let (what, words) = words.split_once(' ').unwrap_or((words, ""));
-    let (request, reply) = words.split_once(" : ").unwrap_or((words, ""));
-    let (Some(request), Some(reply)) = (bytes_of(alloc, request)?, bytes_of(alloc, reply)?) else {
-        return String::from_str(alloc, "no bytes");
-    };
-    match what {
-        "finds" => find(alloc, windows, request.as_slice()),
-        "keeps" => keep(alloc, windows, request.as_slice(), reply.as_slice()),
-        "idles" => String::from_str(alloc, forget(windows, request.as_slice())),
-        _ => String::from_str(alloc, "no line"),
+    came: &mut String,
+) -> Result<(), AllocError> {
+    let (word, words) = words.split_once(' ').unwrap_or((words, ""));
+    match bytes_in(alloc, words)? {
+        Some((request, reply)) => {
+            let both = (request.as_slice(), reply.as_slice());
+            let told = comes_by(alloc, windows, word, both, came);
+            drop(reply);
+            drop(request);
+            told
+        }
+        None => came.push_str("no bytes"),
     }
 }
 
 /// `window ipmb keeps 40 05 4200 : 07` or `window pldm ..`: what is found for requester 40h's request of number 05h, which is kept with
 /// the reply where it's new. With `finds` it's looked up alone; `idles 40` forgets the requester, and gives whether it had a window.
-pub fn window(alloc: Global, both: &mut BothWindows, rest: &str) -> Result<String, AllocError> {
+pub fn window(
+    alloc: Global,
+    both: &mut BothWindows,
+    rest: &str,
+    came: &mut String,
+) -> Result<(), AllocError> {
     let (of, words) = rest.split_once(' ').unwrap_or((rest, ""));
     match of {
-        "ipmb" => comes(alloc, &mut both.ipmb, words),
-        "pldm" => comes(alloc, &mut both.pldm, words),
-        _ => String::from_str(alloc, "no windows"),
+        "ipmb" => comes(alloc, &mut both.ipmb, words, came),
+        "pldm" => comes(alloc, &mut both.pldm, words, came),
+        _ => came.push_str("no windows"),
     }
 }
