@@ -16,7 +16,7 @@ use cfg_records::Sensors;
 use record_base::lan_item::Lans;
 use record_base::{Attributes, NumericEffecters, StateEffecters};
 use std::alloc::Global;
-use text_fields::{Checked, Field};
+use text_fields::Checked;
 
 /// The items that IPMI reaches.
 #[derive(Drop)]

@@ -1,5 +1,4 @@
-use Rattle.std.proofs.Common.{◌≡◌, List, ℕ, Result, subst, sym}
-use Rattle.bmc_board.specs.Request.{Request}
+use Rattle.std.proofs.Common.{subst, sym}
 use Rattle.bmc_board.specs.Serves.{Fits, Serves}
 use Rattle.bmc_board.proofs.AttributeSets.{asks_whole, asks_part}
 use Rattle.bmc_board.proofs.board.Board.set_attribute.Goals as goal
