@@ -1,46 +1,17 @@
 //! A plan of two steps on the sample board, over IPMB.
 use super::expect_equal;
+use super::text::push_lines;
 use bmc_board::Records;
-use bmc_core::{At, Board, Out, Port};
+use bmc_core::{Board, Out, Port};
+use bmc_lab::controller_place;
 use cfg_records::{Store, sample_board};
-use mctp_net::EndpointId;
+use model_lab::lab_names;
 use plan_file::read_plan;
-use std::alloc::{AllocError, Global};
+use std::alloc::Global;
 use std::process::Abort;
 use text_undo::{read_undo, write_undo};
-use two_wire::{Address, Bus};
+use two_wire::Bus;
 use undo_core::{Manager, OpenFault, Phase, ResumeFault, Sent, Why};
-use undo_plans::{Names, Plan};
-
-/// The sample board.
-fn sample(rt: &impl Abort, alloc: Global) -> Board<Records> {
-    let file = sample_board(alloc).expect(rt, "memory");
-    Board::of_file(alloc, file).expect(rt, "memory")
-}
-
-/// The port on IPMB of a controller at address 20h and with the identifier 0Ah.
-fn open_port(rt: &impl Abort, alloc: Global) -> Port {
-    let wire = Address::new(0x20).expect(rt, "an address");
-    let eid = EndpointId::new(0x0A).expect(rt, "an identifier");
-    Port::new(alloc, Bus::Ipmb, At { wire, eid }).expect(rt, "memory")
-}
-
-/// The port hears the bytes.
-fn hear(board: &mut Board<Records>, port: &mut Port, bytes: &[u8], out: &mut Out) {
-    port.on_frame(board, bytes, out);
-}
-
-fn names(rt: &impl Abort) -> Names {
-    let peer = Address::new(0x20).expect(rt, "an address");
-    Names {
-        own_address: Address::new(0x2C).expect(rt, "an address"),
-        peer_address: peer,
-        own_wire: Address::new(0x30).expect(rt, "an address"),
-        peer_wire: peer,
-        own_eid: 0x08,
-        peer_eid: 0x0A,
-    }
-}
 
 /// Upper non-critical 4Bh and upper critical 5Ah of sensor 5; then upper critical 5Ch and upper non-recoverable 64h.
 const PLAN: &str = "[[step]]
@@ -70,48 +41,46 @@ ipmb 10260530000000005A6E
 ipmb 10260518000000505F00
 ";
 
-fn plan(rt: &impl Abort, alloc: Global) -> Plan {
-    read_plan(alloc, PLAN).expect(rt, "a plan")
+/// The frame that undoes the second step.
+const FIRST_UNDO: [u8; 15] = [
+    0x20, 0x10, 0xD0, 0x2C, 0x10, 0x26, 0x05, 0x30, 0x00, 0x00, 0x00, 0x00, 0x5A, 0x6E, 0xA1,
+];
+
+/// A manager of the plan, with so many retries.
+fn open(rt: &impl Abort, alloc: Global, retries: u8) -> Result<Manager, OpenFault> {
+    let plan = read_plan(alloc, PLAN).expect(rt, "a plan");
+    Manager::open(alloc, plan, lab_names(), retries)
 }
 
-/// A manager of the plan.
-fn open_manager(rt: &impl Abort, alloc: Global) -> Manager {
-    Manager::open(alloc, plan(rt, alloc), names(rt), 3).expect(rt, "a manager")
-}
-
-/// A manager that undoes what the undo list's text says.
-fn resumed(rt: &impl Abort, alloc: Global, text: &str) -> Manager {
+/// A manager with this identifier that undoes what the undo list's text says.
+fn resume(rt: &impl Abort, alloc: Global, text: &str, own_eid: u8) -> Result<Manager, ResumeFault> {
     let list = read_undo(alloc, text).expect(rt, "an undo list");
-    Manager::resume(alloc, list, names(rt), 3).expect(rt, "a manager")
+    let mut names = lab_names();
+    names.own_eid = own_eid;
+    Manager::resume(alloc, list, names, 3)
 }
 
 /// The one frame that is sent on IPMB.
 fn frame_of<'a>(rt: &impl Abort, sent: &'a Sent) -> &'a [u8] {
     expect_equal(rt, sent.bus, Bus::Ipmb);
-    assert_eq!(rt; sent.frames.as_slice().len(), 1);
+    expect_equal(rt, sent.frames.as_slice().len(), 1);
     sent.frames.as_slice()[0].as_slice()
 }
 
-/// The reply comes to the manager. What that sends then.
-fn take(manager: &mut Manager, reply: &[u8]) -> Option<Sent> {
-    manager.on_frame(Bus::Ipmb, reply)
-}
-
-/// The frames come to the port, and its reply comes to the manager. What that sends then.
+/// The frame comes to the port, and its reply comes to the manager. What that sends then.
 fn exchange(
     rt: &impl Abort,
     board: &mut Board<Records>,
     port: &mut Port,
     manager: &mut Manager,
-    sent: &Sent,
+    frame: &[u8],
 ) -> Option<Sent> {
     let mut out = Out::new();
-    hear(board, port, frame_of(rt, sent), &mut out);
+    port.on_frame(board, frame, &mut out);
     let [reply] = out.frames.as_slice() else {
-        assert!(rt; false, "one frame is a response on IPMB");
-        return None;
+        panic!(rt; "one frame is a response on IPMB");
     };
-    take(manager, reply.as_slice())
+    manager.on_frame(Bus::Ipmb, reply.as_slice())
 }
 
 /// More requests than any run here sends.
@@ -131,7 +100,7 @@ fn drive(
         let Some(sent) = open else {
             return requests;
         };
-        open = exchange(rt, board, port, manager, &sent);
+        open = exchange(rt, board, port, manager, frame_of(rt, &sent));
     }
     MOST_REQUESTS
 }
@@ -165,48 +134,40 @@ fn carry_out(
     port: &mut Port,
     manager: &mut Manager,
 ) {
-    assert!(rt; is_as_in_its_file(rt, alloc, board));
+    expect_equal(rt, is_as_in_its_file(rt, alloc, board), true);
     let first = manager.start().expect(rt, "the phase of a start");
     expect_equal(rt, drive(rt, board, port, manager, first), 4);
-    assert!(rt; !is_as_in_its_file(rt, alloc, board));
+    expect_equal(rt, is_as_in_its_file(rt, alloc, board), false);
     expect_list(rt, alloc, manager, Phase::Done, UNDO);
 }
 
-/// The first frames that the manager sends to undo the plan: this one.
-fn first_of_undo(rt: &impl Abort, alloc: Global, manager: &mut Manager) -> Option<Sent> {
-    let first = manager.undo().expect(rt, "the phase of an undo")?;
-    let digits = hex::encode_upper(alloc, frame_of(rt, &first)).expect(rt, "memory");
-    expect_equal(rt, digits.as_str(), "2010D02C10260530000000005A6EA1");
-    drop(digits);
-    Some(first)
-}
-
 /// The undo begins with its frame, and leaves every record as it was.
-fn undone(
+fn undo(
     rt: &impl Abort,
     alloc: Global,
     board: &mut Board<Records>,
     port: &mut Port,
     manager: &mut Manager,
 ) {
-    let first = first_of_undo(rt, alloc, manager);
-    assert!(rt; first.is_some());
+    let first = manager.undo().expect(rt, "the phase of an undo");
+    let sent = first.as_ref().expect(rt, "a request");
+    expect_equal(rt, frame_of(rt, sent), FIRST_UNDO.as_slice());
     expect_equal(rt, drive(rt, board, port, manager, first), 2);
     expect_equal(rt, manager.phase(), Phase::Undone);
-    assert!(rt; is_as_in_its_file(rt, alloc, board));
+    expect_equal(rt, is_as_in_its_file(rt, alloc, board), true);
 }
 
 /// Another manager goes on from what the text of an undo list says, and undoes the plan.
-fn undone_by_another(
+fn undo_by_another(
     rt: &impl Abort,
     alloc: Global,
     board: &mut Board<Records>,
     port: &mut Port,
     text: &str,
 ) {
-    let mut manager = resumed(rt, alloc, text);
+    let mut manager = resume(rt, alloc, text, 0x08).expect(rt, "a manager");
     expect_list(rt, alloc, &manager, Phase::Halted(2, Why::Stop), text);
-    undone(rt, alloc, board, port, &mut manager);
+    undo(rt, alloc, board, port, &mut manager);
     drop(manager);
 }
 
@@ -218,74 +179,61 @@ fn run_both_ways(
     port: &mut Port,
     by_another: Option<&str>,
 ) {
-    let mut manager = open_manager(rt, alloc);
+    let mut manager = open(rt, alloc, 3).expect(rt, "a manager");
     carry_out(rt, alloc, board, port, &mut manager);
     match by_another {
-        Some(text) => undone_by_another(rt, alloc, board, port, text),
-        None => undone(rt, alloc, board, port, &mut manager),
+        Some(text) => undo_by_another(rt, alloc, board, port, text),
+        None => undo(rt, alloc, board, port, &mut manager),
     }
     drop(manager);
 }
 
 /// The same on a fresh board.
 fn expect_undone(rt: &impl Abort, alloc: Global, by_another: Option<&str>) {
-    let mut board = sample(rt, alloc);
-    let mut port = open_port(rt, alloc);
+    let file = sample_board(alloc).expect(rt, "memory");
+    let mut board = Board::of_file(alloc, file).expect(rt, "memory");
+    let mut port = Port::new(alloc, Bus::Ipmb, controller_place()).expect(rt, "memory");
     run_both_ways(rt, alloc, &mut board, &mut port, by_another);
     drop(port);
     drop(board);
 }
 
 #[test]
-fn a_plan_is_carried_out_and_undone_by_its_manager(rt: HostRuntime) {
+fn a_plan_is_carried_out_and_undone_by_its_manager_or_another(rt: HostRuntime) {
     expect_undone(&rt, rt.alloc(), None);
-}
-
-#[test]
-fn a_plan_is_carried_out_and_undone_by_another_manager(rt: HostRuntime) {
     expect_undone(&rt, rt.alloc(), Some(UNDO));
     expect_undone(&rt, rt.alloc(), Some(NAMELESS));
 }
 
 #[test]
 fn a_list_is_undone_under_its_own_names_alone(rt: HostRuntime) {
-    let list = read_undo(rt.alloc(), UNDO).expect(&rt, "an undo list");
-    let mut other = names(&rt);
-    other.own_eid = 0x09;
-    let refused = Manager::resume(rt.alloc(), list, other, 3);
-    expect_equal(&rt, refused.err(), Some(ResumeFault::OtherNames));
+    let refused = resume(&rt, rt.alloc(), UNDO, 0x09).err();
+    expect_equal(&rt, refused, Some(ResumeFault::OtherNames));
 }
 
-/// Appends as many requests as a list can have, of which each sets the power restore policy.
-fn push_many_requests(text: &mut String) -> Result<(), AllocError> {
-    text.push_str("undo 1\nnext ipmb 4 smbus 0\n")?;
-    for _ in 0..256 {
-        text.push_str("ipmb 000601\n")?;
-    }
-    Ok(())
-}
-
-/// The manager, which took over the requests of the text, begins with the last.
-fn expect_last_first(rt: &impl Abort, alloc: Global, manager: &mut Manager, text: &str) {
-    expect_list(rt, alloc, manager, Phase::Halted(256, Why::Stop), text);
+/// A manager takes over the requests of the text, and begins with the last.
+fn expect_last_first(rt: &impl Abort, alloc: Global, text: &str) {
+    let mut manager = resume(rt, alloc, text, 0x08).expect(rt, "a manager");
+    expect_list(rt, alloc, &manager, Phase::Halted(256, Why::Stop), text);
     let first = manager.undo().expect(rt, "the phase of an undo");
-    assert!(rt; first.is_some());
+    expect_equal(rt, first.is_some(), true);
     drop(first);
     expect_equal(rt, manager.phase(), Phase::Undoing(255));
+    drop(manager);
 }
 
 #[test]
 fn a_manager_takes_over_256_requests(rt: HostRuntime) {
     let mut text = String::new(rt.alloc());
-    push_many_requests(&mut text).expect(&rt, "memory");
-    let mut manager = resumed(&rt, rt.alloc(), text.as_str());
-    expect_last_first(&rt, rt.alloc(), &mut manager, text.as_str());
-    drop(manager);
+    push_lines(&mut text, "undo 1 / next ipmb 4 smbus 0").expect(&rt, "memory");
+    // Each sets the power restore policy.
+    push_lines(&mut text, "256 x ipmb 000601").expect(&rt, "memory");
+    expect_last_first(&rt, rt.alloc(), text.as_str());
     drop(text);
 }
 
 #[test]
 fn a_manager_has_at_most_15_retries(rt: HostRuntime) {
-    let opened = Manager::open(rt.alloc(), plan(&rt, rt.alloc()), names(&rt), 16);
-    expect_equal(&rt, opened.err(), Some(OpenFault::Retries));
+    let refused = open(&rt, rt.alloc(), 16).err();
+    expect_equal(&rt, refused, Some(OpenFault::Retries));
 }
