@@ -1,10 +1,6 @@
 //! A plan of two steps on the sample board, over IPMB.
-use super::expect_equal;
 use super::text::push_lines;
-use bmc_board::Records;
-use bmc_core::{Board, Out, Port};
-use bmc_lab::controller_place;
-use cfg_records::{Store, sample_board};
+use super::{expect_equal, expect_told};
 use model_lab::lab_names;
 use plan_file::read_plan;
 use std::alloc::Global;
@@ -41,10 +37,46 @@ ipmb 10260530000000005A6E
 ipmb 10260518000000505F00
 ";
 
-/// The frame that undoes the second step.
-const FIRST_UNDO: [u8; 15] = [
-    0x20, 0x10, 0xD0, 0x2C, 0x10, 0x26, 0x05, 0x30, 0x00, 0x00, 0x00, 0x00, 0x5A, 0x6E, 0xA1,
-];
+/// The plan is carried out on the board, and undone: each record is as it was. Below stand the frames that go to and fro.
+const PLAYED: &str = "story a plan of two steps is carried out and undone
+board sample
+plan
+  [[step]] / kind = \"thresholds\" / sensor = 5 / unc = 0x4B / uc = 0x5A
+  [[step]] / kind = \"thresholds\" / sensor = 5 / uc = 0x5C / unr = 0x64
+lines -> 0 out: phase Fresh / frames 0 / undo 0 / records same
+schedule
+  start
+  4 x to-bmc {0+2} / to-mgr {1+2}
+lines -> 0 out
+  phase Done
+  frames 8
+  undo 2
+  ipmb 10260530000000005A6E
+  ipmb 10260518000000505F00
+  records changed 1
+then
+  undo
+  2 x to-bmc {8+2} / to-mgr {9+2}
+frames -> 0 out
+  phase Undone
+  frames 12
+  undo 2
+  ipmb 10260530000000005A6E
+  ipmb 10260518000000505F00
+  records same
+  frame 0 mgr ipmb 2010D02C002705A8
+  frame 1 bmc ipmb 2C14C0200027003F140A05505F6E3A
+  frame 2 mgr ipmb 2010D02C042605180000004B5A00E8
+  frame 3 bmc ipmb 2C14C020042600B6
+  frame 4 mgr ipmb 2010D02C082705A0
+  frame 5 bmc ipmb 2C14C0200827003F140A054B5A6E3C
+  frame 6 mgr ipmb 2010D02C0C260530000000005C64AD
+  frame 7 bmc ipmb 2C14C0200C2600AE
+  frame 8 mgr ipmb 2010D02C10260530000000005A6EA1
+  frame 9 bmc ipmb 2C14C020102600AA
+  frame 10 mgr ipmb 2010D02C14260518000000505F00CE
+  frame 11 bmc ipmb 2C14C020142600A6
+";
 
 /// A manager of the plan, with so many retries.
 fn open(rt: &impl Abort, alloc: Global, retries: u8) -> Result<Manager, OpenFault> {
@@ -60,49 +92,41 @@ fn resume(rt: &impl Abort, alloc: Global, text: &str, own_eid: u8) -> Result<Man
     Manager::resume(alloc, list, names, 3)
 }
 
-/// The one frame that is sent on IPMB.
-fn frame_of<'a>(rt: &impl Abort, sent: &'a Sent) -> &'a [u8] {
+/// What is sent is this one frame on IPMB.
+fn expect_sent(rt: &impl Abort, sent: &Option<Sent>, bytes: &[u8]) {
+    let sent = sent.as_ref().expect(rt, "a frame");
     expect_equal(rt, sent.bus, Bus::Ipmb);
     expect_equal(rt, sent.frames.as_slice().len(), 1);
-    sent.frames.as_slice()[0].as_slice()
+    expect_equal(rt, sent.frames.as_slice()[0].as_slice(), bytes);
 }
 
-/// The frame comes to the port, and its reply comes to the manager. What that sends then.
-fn exchange(
+/// The frame of a line goes to and fro: the manager sends it, or it comes to the manager. What is sent from then on.
+fn pass(
     rt: &impl Abort,
-    board: &mut Board<Records>,
-    port: &mut Port,
+    alloc: Global,
     manager: &mut Manager,
-    frame: &[u8],
+    sent: Option<Sent>,
+    line: &str,
 ) -> Option<Sent> {
-    let mut out = Out::new();
-    port.on_frame(board, frame, &mut out);
-    let [reply] = out.frames.as_slice() else {
-        panic!(rt; "one frame is a response on IPMB");
+    let (who, digits) = line.split_once(" ipmb ").expect(rt, "a frame's line");
+    let bytes = hex::decode(alloc, digits).ok().expect(rt, "a frame");
+    let next = if who.ends_with("mgr") {
+        expect_sent(rt, &sent, bytes.as_slice());
+        sent
+    } else {
+        manager.on_frame(Bus::Ipmb, bytes.as_slice())
     };
-    manager.on_frame(Bus::Ipmb, reply.as_slice())
+    drop(bytes);
+    next
 }
 
-/// More requests than any run here sends.
-const MOST_REQUESTS: usize = 16;
-
-/// A clean link: each frame that the manager sends comes to the port, and each that the port sends comes to the manager. How many
-/// requests were sent.
-fn drive(
-    rt: &impl Abort,
-    board: &mut Board<Records>,
-    port: &mut Port,
-    manager: &mut Manager,
-    first: Option<Sent>,
-) -> usize {
-    let mut open = first;
-    for requests in 0..MOST_REQUESTS {
-        let Some(sent) = open else {
-            return requests;
-        };
-        open = exchange(rt, board, port, manager, frame_of(rt, &sent));
+/// The manager sends these frames to and fro, and then nothing.
+fn follow(rt: &impl Abort, alloc: Global, manager: &mut Manager, first: Option<Sent>, lines: &str) {
+    let mut sent = first;
+    for line in lines.lines() {
+        sent = pass(rt, alloc, manager, sent, line);
     }
-    MOST_REQUESTS
+    expect_equal(rt, sent.is_none(), true);
 }
 
 /// The manager is in the phase, and this is the text of its undo list.
@@ -113,96 +137,43 @@ fn expect_list(rt: &impl Abort, alloc: Global, manager: &Manager, phase: Phase, 
     drop(text);
 }
 
-/// Whether each record of the board is as in its file.
-fn is_as_in_its_file(rt: &impl Abort, alloc: Global, board: &Board<Records>) -> bool {
-    let file = sample_board(alloc).expect(rt, "memory");
-    let records = file.records(alloc).expect(rt, "memory");
-    drop(file);
-    let mut is_same = true;
-    for (key, value) in records.as_slice() {
-        is_same = is_same && board.store().get(key) == Some(value.as_slice());
-    }
-    drop(records);
-    is_same
-}
-
-/// The manager carries the plan out on the board.
-fn carry_out(
-    rt: &impl Abort,
-    alloc: Global,
-    board: &mut Board<Records>,
-    port: &mut Port,
-    manager: &mut Manager,
-) {
-    expect_equal(rt, is_as_in_its_file(rt, alloc, board), true);
-    let first = manager.start().expect(rt, "the phase of a start");
-    expect_equal(rt, drive(rt, board, port, manager, first), 4);
-    expect_equal(rt, is_as_in_its_file(rt, alloc, board), false);
-    expect_list(rt, alloc, manager, Phase::Done, UNDO);
-}
-
-/// The undo begins with its frame, and leaves every record as it was.
-fn undo(
-    rt: &impl Abort,
-    alloc: Global,
-    board: &mut Board<Records>,
-    port: &mut Port,
-    manager: &mut Manager,
-) {
+/// The manager undoes the plan by these frames.
+fn undo(rt: &impl Abort, alloc: Global, manager: &mut Manager, frames: &str) {
     let first = manager.undo().expect(rt, "the phase of an undo");
-    let sent = first.as_ref().expect(rt, "a request");
-    expect_equal(rt, frame_of(rt, sent), FIRST_UNDO.as_slice());
-    expect_equal(rt, drive(rt, board, port, manager, first), 2);
+    follow(rt, alloc, manager, first, frames);
     expect_equal(rt, manager.phase(), Phase::Undone);
-    expect_equal(rt, is_as_in_its_file(rt, alloc, board), true);
 }
 
-/// Another manager goes on from what the text of an undo list says, and undoes the plan.
-fn undo_by_another(
-    rt: &impl Abort,
-    alloc: Global,
-    board: &mut Board<Records>,
-    port: &mut Port,
-    text: &str,
-) {
+/// A manager carries the plan out by the first of these frames, and undoes it by the others.
+fn expect_undone(rt: &impl Abort, alloc: Global, run: &str, back: &str) {
+    let mut manager = open(rt, alloc, 3).expect(rt, "a manager");
+    let first = manager.start().expect(rt, "the phase of a start");
+    follow(rt, alloc, &mut manager, first, run);
+    expect_list(rt, alloc, &manager, Phase::Done, UNDO);
+    undo(rt, alloc, &mut manager, back);
+    drop(manager);
+}
+
+/// Another manager goes on from what the text of an undo list says, and undoes the plan by these frames.
+fn expect_undone_by_another(rt: &impl Abort, alloc: Global, text: &str, back: &str) {
     let mut manager = resume(rt, alloc, text, 0x08).expect(rt, "a manager");
     expect_list(rt, alloc, &manager, Phase::Halted(2, Why::Stop), text);
-    undo(rt, alloc, board, port, &mut manager);
+    undo(rt, alloc, &mut manager, back);
     drop(manager);
-}
-
-/// The plan is carried out on the board, and undone by its manager or by another that goes on from this text.
-fn run_both_ways(
-    rt: &impl Abort,
-    alloc: Global,
-    board: &mut Board<Records>,
-    port: &mut Port,
-    by_another: Option<&str>,
-) {
-    let mut manager = open(rt, alloc, 3).expect(rt, "a manager");
-    carry_out(rt, alloc, board, port, &mut manager);
-    match by_another {
-        Some(text) => undo_by_another(rt, alloc, board, port, text),
-        None => undo(rt, alloc, board, port, &mut manager),
-    }
-    drop(manager);
-}
-
-/// The same on a fresh board.
-fn expect_undone(rt: &impl Abort, alloc: Global, by_another: Option<&str>) {
-    let file = sample_board(alloc).expect(rt, "memory");
-    let mut board = Board::of_file(alloc, file).expect(rt, "memory");
-    let mut port = Port::new(alloc, Bus::Ipmb, controller_place()).expect(rt, "memory");
-    run_both_ways(rt, alloc, &mut board, &mut port, by_another);
-    drop(port);
-    drop(board);
 }
 
 #[test]
 fn a_plan_is_carried_out_and_undone_by_its_manager_or_another(rt: HostRuntime) {
-    expect_undone(&rt, rt.alloc(), None);
-    expect_undone(&rt, rt.alloc(), Some(UNDO));
-    expect_undone(&rt, rt.alloc(), Some(NAMELESS));
+    expect_told(&rt, rt.alloc(), PLAYED);
+    let (_, frames) = PLAYED
+        .split_once("records same\n  frame")
+        .expect(&rt, "the frames");
+    let (run, back) = frames
+        .split_once("\n  frame 8")
+        .expect(&rt, "those of the undo");
+    expect_undone(&rt, rt.alloc(), run, back);
+    expect_undone_by_another(&rt, rt.alloc(), UNDO, back);
+    expect_undone_by_another(&rt, rt.alloc(), NAMELESS, back);
 }
 
 #[test]
