@@ -96,8 +96,10 @@ fn resume(rt: &impl Abort, alloc: Global, text: &str, own_eid: u8) -> Result<Man
 fn expect_sent(rt: &impl Abort, sent: &Option<Sent>, bytes: &[u8]) {
     let sent = sent.as_ref().expect(rt, "a frame");
     expect_equal(rt, sent.bus, Bus::Ipmb);
-    expect_equal(rt, sent.frames.as_slice().len(), 1);
-    expect_equal(rt, sent.frames.as_slice()[0].as_slice(), bytes);
+    let [frame] = sent.frames.as_slice() else {
+        panic!(rt; "no single frame");
+    };
+    expect_equal(rt, frame.as_slice(), bytes);
 }
 
 /// The frame of a line goes to and fro: the manager sends it, or it comes to the manager. What is sent from then on.
