@@ -9,7 +9,7 @@ mod frames;
 mod host_files;
 mod lines;
 mod long_texts;
-mod parts;
+mod paper;
 mod parts_text;
 mod player;
 mod plays;
@@ -21,9 +21,7 @@ mod schedules;
 mod steps;
 mod text;
 mod told_wrong;
-mod trouble;
 mod two_steps;
-mod writers;
 
 use parts_text::SHARED;
 use player::expect_otherwise;

@@ -16,13 +16,9 @@ fn is_live(on: Bus, begun: usize) -> (bool, bool) {
 }
 
 #[test]
-fn a_frame_is_live_for_eight_requests_on_smbus(rt: HostRuntime) {
+fn a_frame_is_live_for_eight_requests_on_smbus_and_thirty_two_on_ipmb(rt: HostRuntime) {
     expect_equal(&rt, is_live(Bus::Smbus, 11), (true, true));
     expect_equal(&rt, is_live(Bus::Smbus, 12), (false, false));
-}
-
-#[test]
-fn a_frame_is_live_for_thirty_two_requests_on_ipmb(rt: HostRuntime) {
     expect_equal(&rt, is_live(Bus::Ipmb, 35), (true, true));
     expect_equal(&rt, is_live(Bus::Ipmb, 36), (false, false));
 }
@@ -36,6 +32,8 @@ fn no_frame_outlives_the_window(rt: HostRuntime) {
     };
     let again = Mark { idles: 1, ..frame };
     let forgotten = Known { begun: 1, idles: 1 };
-    assert!(rt; !frame.is_live(forgotten) && !frame.reply(0).is_live(forgotten));
-    assert!(rt; again.is_live(forgotten) && again.reply(1).is_live(forgotten));
+    let old = (frame.is_live(forgotten), frame.reply(0).is_live(forgotten));
+    expect_equal(&rt, old, (false, false));
+    let new = (again.is_live(forgotten), again.reply(1).is_live(forgotten));
+    expect_equal(&rt, new, (true, true));
 }

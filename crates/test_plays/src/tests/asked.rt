@@ -1,157 +1,121 @@
 //! What the words of a command line ask for, as a line.
 use super::runs::words_of;
-use super::trouble::Trouble;
+use super::text::parted;
 use bmc_host::words::read;
-use bmc_host::{CheckWords, FrameWords, PlayWords, ScheduleWords, Words};
-use bmc_lab::AskedFrame;
+use bmc_host::{ScheduleWords, Words};
+use bmc_lab::{AskedFrame, Status, asked_frame};
 use bmc_play::Shown;
 use host_base::Refusal;
-use schedule_run::{Chances, Links};
+use schedule_run::Links;
 use std::alloc::{AllocError, Global};
-use two_wire::Bus;
-
-/// Appends the word, behind a space where it isn't the first.
-fn push_word(text: &mut String, word: &str) -> Result<(), AllocError> {
-    if !text.is_empty() {
-        text.push_str(" ")?;
-    }
-    text.push_str(word)
-}
-
-/// Appends the words.
-fn push_words(text: &mut String, words: &[&str]) -> Result<(), AllocError> {
-    for word in words {
-        push_word(text, word)?;
-    }
-    Ok(())
-}
-
-/// Appends the number behind what it is called.
-fn push_number(text: &mut String, name: &str, number: u64) -> Result<(), AllocError> {
-    push_word(text, name)?;
-    write!(text, " {number}")
-}
-
-/// What a bus is called.
-fn bus_name(bus: Bus) -> &'static str {
-    match bus {
-        Bus::Ipmb => "ipmb",
-        Bus::Smbus => "smbus",
-    }
-}
 
 /// Appends a frame's bus and its bytes.
-fn push_bytes(alloc: Global, text: &mut String, frame: &AskedFrame) -> Result<(), AllocError> {
+fn push_frame(alloc: Global, text: &mut String, frame: &AskedFrame) -> Result<(), AllocError> {
     let digits = hex::encode_upper(alloc, frame.bytes.as_slice())?;
-    let pushed = push_words(text, &[bus_name(frame.bus), digits.as_str()]);
+    let pushed = write!(text, "{} {}", frame.bus.name(), digits.as_str());
     drop(digits);
     pushed
-}
-
-/// Appends a frame, and the board file's word where there is one.
-fn push_frame(alloc: Global, text: &mut String, words: &FrameWords) -> Result<(), AllocError> {
-    push_bytes(alloc, text, &words.frame)?;
-    match &words.board {
-        Some(board) => push_word(text, board.as_str()),
-        None => Ok(()),
-    }
-}
-
-/// How a play in lines is shown.
-fn lines_name(frames: bool, premises: bool) -> &'static str {
-    match (frames, premises) {
-        (false, false) => "lines",
-        (true, false) => "frames",
-        (false, true) => "premises",
-        (true, true) => "frames and premises",
-    }
 }
 
 /// How a play is shown.
 fn shown_name(shown: Shown) -> &'static str {
     match shown {
-        Shown::Lines { frames, premises } => lines_name(frames, premises),
         Shown::Chart => "chart",
+        Shown::Lines { frames, premises } => match (frames, premises) {
+            (false, false) => "lines",
+            (true, false) => "frames",
+            (false, true) => "premises",
+            (true, true) => "frames and premises",
+        },
     }
-}
-
-/// Appends a play: how it is shown, and its files' words.
-fn push_play(text: &mut String, words: &PlayWords) -> Result<(), AllocError> {
-    push_word(text, shown_name(words.shown))?;
-    push_word(text, words.board.as_str())?;
-    push_word(text, words.plan.as_str())?;
-    push_word(text, words.schedule.as_str())
-}
-
-/// Appends what is drawn, of which chances.
-fn push_chances(text: &mut String, chances: &Chances) -> Result<(), AllocError> {
-    push_number(text, "lose", chances.lose.number().into())?;
-    push_number(text, "repeat", chances.repeat.number().into())?;
-    push_number(text, "delay", chances.delay.number().into())?;
-    push_number(text, "others", chances.others.number().into())?;
-    push_number(text, "seed", chances.seed)?;
-    if chances.late_joins {
-        push_word(text, "late")?;
-    }
-    Ok(())
 }
 
 /// Appends what the buses do.
 fn push_links(text: &mut String, links: &Links) -> Result<(), AllocError> {
     match links {
-        Links::Clean => push_word(text, "clean"),
-        Links::Drawn(chances) => push_chances(text, chances),
+        Links::Clean => text.push_str("clean"),
+        Links::Drawn(chances) => {
+            let (lose, repeat) = (chances.lose.number(), chances.repeat.number());
+            let (delay, others) = (chances.delay.number(), chances.others.number());
+            write!(
+                text,
+                "lose {lose} repeat {repeat} delay {delay} others {others}"
+            )?;
+            let late = if chances.late_joins { " late" } else { "" };
+            write!(text, " seed {}{late}", chances.seed)
+        }
     }
 }
 
 /// Appends a schedule: what the buses do, whether the plan is undone, and its files' words.
 fn push_schedule(text: &mut String, words: &ScheduleWords) -> Result<(), AllocError> {
     push_links(text, &words.wanted.links)?;
-    if words.wanted.undo {
-        push_word(text, "undo")?;
-    }
-    push_word(text, words.board.as_str())?;
-    push_word(text, words.plan.as_str())
+    let undo = if words.wanted.undo { " undo" } else { "" };
+    write!(
+        text,
+        "{undo} {} {}",
+        words.board.as_str(),
+        words.plan.as_str()
+    )
 }
 
-/// Appends files to check: their words.
-fn push_check(text: &mut String, words: &CheckWords) -> Result<(), AllocError> {
-    push_word(text, "check")?;
-    for file in words.files.iter() {
-        push_word(text, file.as_str())?;
+/// Appends the words of files to check.
+fn push_files(text: &mut String, files: &[String]) -> Result<(), AllocError> {
+    text.push_str("check")?;
+    for file in files {
+        write!(text, " {}", file.as_str())?;
     }
     Ok(())
 }
 
 /// Appends what is asked for, or how the words are refused.
-fn push_asked(
+fn push_words(
     alloc: Global,
     text: &mut String,
     asked: &Result<Words, Refusal>,
 ) -> Result<(), AllocError> {
     match asked {
-        Ok(Words::Frame(frame)) => push_frame(alloc, text, frame),
-        Ok(Words::Play(play)) => push_play(text, play),
-        Ok(Words::Schedule(schedule)) => push_schedule(text, schedule),
-        Ok(Words::Check(check)) => push_check(text, check),
-        Err(Refusal::Words(_)) => push_word(text, "refused"),
-        Err(Refusal::Memory) => push_word(text, "memory"),
+        Ok(Words::Frame(words)) => {
+            push_frame(alloc, text, &words.frame)?;
+            match &words.board {
+                Some(board) => write!(text, " {}", board.as_str()),
+                None => Ok(()),
+            }
+        }
+        Ok(Words::Play(words)) => {
+            let (board, plan) = (words.board.as_str(), words.plan.as_str());
+            let shown = shown_name(words.shown);
+            write!(text, "{shown} {board} {plan} {}", words.schedule.as_str())
+        }
+        Ok(Words::Schedule(words)) => push_schedule(text, words),
+        Ok(Words::Check(words)) => push_files(text, words.files.as_slice()),
+        Err(Refusal::Words(_)) => text.push_str("refused"),
+        Err(Refusal::Memory) => text.push_str("memory"),
     }
 }
 
-/// Appends what the words of the line ask for, or how they are refused.
-fn push_line(alloc: Global, text: &mut String, line: &str) -> Result<(), AllocError> {
+/// Appends what the words of the line ask for, or how they are refused, as a line.
+pub fn push_asked(alloc: Global, text: &mut String, line: &str) -> Result<(), AllocError> {
     let words = words_of(alloc, line)?;
     let asked = read(alloc, words.as_slice());
     drop(words);
-    let pushed = push_asked(alloc, text, &asked);
+    let pushed = push_words(alloc, text, &asked);
     drop(asked);
-    pushed
+    pushed?;
+    text.push_str("\n")
 }
 
-/// What the words ask for, or how they are refused.
-pub fn asked_text(alloc: Global, line: &str) -> Result<String, Trouble> {
-    let mut text = String::new(alloc);
-    push_line(alloc, &mut text, line)?;
-    Ok(text)
+/// Appends the frame that the words BUS and HEX name, or how they are refused, as a line.
+pub fn push_named(alloc: Global, text: &mut String, words: &str) -> Result<(), AllocError> {
+    let (bus, digits) = parted(words);
+    match asked_frame(alloc, Some(bus), digits) {
+        Ok(frame) => {
+            let pushed = push_frame(alloc, text, &frame);
+            drop(frame);
+            pushed?;
+        }
+        Err(Status::RefusedWords) => text.push_str("refused")?,
+        Err(_) => text.push_str("memory")?,
+    }
+    text.push_str("\n")
 }

@@ -190,11 +190,7 @@ fn the_event_that_has_a_fault_is_told_last(rt: HostRuntime) {
 }
 
 #[test]
-fn others_are_answered_and_noise_changes_nothing(rt: HostRuntime) {
+fn others_are_answered_and_texts_are_refused(rt: HostRuntime) {
     expect_told(&rt, rt.alloc(), OTHERS);
-}
-
-#[test]
-fn the_first_text_that_is_refused_is_named(rt: HostRuntime) {
     expect_told(&rt, rt.alloc(), REFUSED);
 }

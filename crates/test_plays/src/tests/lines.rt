@@ -329,9 +329,5 @@ asks bmclab frame --bus smbus 0x20 -> refused
 #[test]
 fn a_run_does_what_its_line_asks_for(rt: HostRuntime) {
     expect_told(&rt, rt.alloc(), LINES);
-}
-
-#[test]
-fn words_ask_for_a_frame_a_play_or_a_check(rt: HostRuntime) {
     expect_told(&rt, rt.alloc(), ASKS);
 }

@@ -125,7 +125,7 @@ swap most = 200 => most = 1024
 plan
   [[step]] / kind = \"bios-attribute\" / handle = 1 / text = \"{1024*a}\"
   [[step]] / kind = \"bios-attribute\" / handle = 1 / text = \"b\"
-make --undo board.toml plan.toml
+make bmclab schedule --undo board.toml plan.toml
 premises -> 0 out
   phase Undone
   frames 90
@@ -140,10 +140,10 @@ story an entry of 206 bytes goes in two parts
 board sample
 swap most = 200 => most = 1024
 plan: [[step]] / kind = \"bios-attribute\" / handle = 1 / text = \"{200*a}\"
-make --undo board.toml plan.toml
+make bmclab schedule --undo board.toml plan.toml
 lines -> 0 out: phase Undone / frames 9 / undo 1 / smbus 0307000000000501000106007261636B2D31 / records same
 plan: [[step]] / kind = \"bios-attribute\" / handle = 1 / text = \"{201*a}\"
-make --undo board.toml plan.toml
+make bmclab schedule --undo board.toml plan.toml
 lines -> 0 out: phase Undone / frames 11 / undo 1 / smbus 0307000000000501000106007261636B2D31 / records same
 
 # The attribute takes 300 bytes at most, so the first part is refused.
@@ -151,9 +151,9 @@ story a text that is too long is refused by its first part
 board sample
 swap most = 200 => most = 300
 plan: [[step]] / kind = \"bios-attribute\" / handle = 1 / text = \"{301*a}\"
-make --undo board.toml plan.toml
+make bmclab schedule --undo board.toml plan.toml
 lines -> 0 out: phase Undone / frames 7 / undo 0 / records same
-make board.toml plan.toml
+make bmclab schedule board.toml plan.toml
 lines -> 0 out: phase Halted 0 Refused 02 / frames 7 / undo 0 / records same
 ";
 

@@ -184,16 +184,8 @@ pldm 02 31 040002E903 -> 02
 ";
 
 #[test]
-fn frames_come_to_a_port_on_ipmb(rt: HostRuntime) {
+fn frames_come_to_the_ports_of_a_board(rt: HostRuntime) {
     expect_played(&rt, rt.alloc(), IPMB);
-}
-
-#[test]
-fn packets_come_to_a_port_on_smbus(rt: HostRuntime) {
     expect_played(&rt, rt.alloc(), SMBUS);
-}
-
-#[test]
-fn effecters_of_a_file_are_set(rt: HostRuntime) {
     expect_played(&rt, rt.alloc(), EFFECTERS);
 }

@@ -1,42 +1,35 @@
 //! The runs that a story's lines ask for.
+use super::asked::{push_asked, push_named};
+use super::paper::{Paper, push_ending};
 use super::scene::Scene;
-use super::trouble::Trouble;
+use super::text::parted;
 use bmc_host::run_line;
-use bmc_lab::{Console, frame_run};
-use bmc_play::{chart_run, play_run};
+use bmc_lab::{Ending, Report, frame_of_file, frame_run};
+use bmc_play::{PlayFiles, Shown, chart_run, play_of_files, play_run, show};
+use host_base::{Refusal, refuse};
+use schedule_run::{
+    Chances, Links, Percent, ScheduleFiles, Wanted, schedule_of_files, schedule_run,
+};
 use std::alloc::{AllocError, Global};
+use story_lines::NoOutcome;
 use two_wire::Bus;
 
-/// What a run writes to.
-pub type Paper = Console<Vec<u8>, Vec<u8>>;
-
-/// An empty paper.
-pub fn new_paper(alloc: Global) -> Paper {
-    Console::new(Vec::new(alloc), Vec::new(alloc))
-}
-
-/// A play in lines.
-fn play(
-    alloc: Global,
-    scene: &Scene,
-    frames: bool,
-    premises: bool,
-    paper: &mut Paper,
-) -> Result<u8, Trouble> {
-    let (Some(board), Some(plan), Some(schedule)) = (scene.board(), scene.plan(), scene.schedule())
-    else {
-        return Err(Trouble::Unread);
+/// A play of the story's texts: in lines, with its frames, with the premise on packets, drawn, or as a call of `show` does it.
+fn play(alloc: Global, scene: &Scene, shown: &str, paper: &mut Paper) -> Result<u8, NoOutcome> {
+    let (Ok(board), Ok(plan), Ok(schedule)) = (
+        scene.file("board.toml"),
+        scene.file("plan.toml"),
+        scene.file("schedule.txt"),
+    ) else {
+        return Err(NoOutcome::Unread);
     };
-    Ok(play_run(alloc, frames, premises, board, plan, schedule, paper))
-}
-
-/// A play that is drawn.
-fn draw(alloc: Global, scene: &Scene, paper: &mut Paper) -> Result<u8, Trouble> {
-    let (Some(board), Some(plan), Some(schedule)) = (scene.board(), scene.plan(), scene.schedule())
-    else {
-        return Err(Trouble::Unread);
-    };
-    Ok(chart_run(alloc, board, plan, schedule, paper))
+    let frames = shown == "frames";
+    let premises = shown == "premises";
+    Ok(match shown {
+        "chart" => chart_run(alloc, board, plan, schedule, paper),
+        "show" => show(alloc, Shown::Chart, board, plan, schedule, paper),
+        _ => play_run(alloc, frames, premises, board, plan, schedule, paper),
+    })
 }
 
 /// A frame to the story's board, or to the sample board.
@@ -46,39 +39,98 @@ fn send(
     bus: Bus,
     digits: &str,
     paper: &mut Paper,
-) -> Result<u8, Trouble> {
+) -> Result<u8, NoOutcome> {
+    let board = scene.file("board.toml").ok();
     match hex::decode(alloc, digits) {
-        Ok(bytes) => Ok(frame_run(alloc, bus, scene.board(), bytes.as_slice(), paper)),
-        Err(_) => Err(Trouble::Unread),
+        Ok(bytes) => Ok(frame_run(alloc, bus, board, bytes.as_slice(), paper)),
+        Err(_) => Err(NoOutcome::Unread),
     }
 }
 
-/// Appends the letters, in which `~` stands for a space.
-fn push_letters(text: &mut String, letters: &str) -> Result<(), AllocError> {
-    for letter in letters.chars() {
-        text.push(if letter == '~' { ' ' } else { letter })?;
+/// The schedule by which the plan is undone and where packets may join late ones, drawn from this seed.
+fn draw_late(alloc: Global, scene: &Scene, seed: &str, paper: &mut Paper) -> Result<u8, NoOutcome> {
+    let chances = Chances {
+        lose: Percent::new(10),
+        repeat: Percent::new(30),
+        delay: Percent::new(50),
+        others: Percent::new(5),
+        seed: seed.parse::<u64>()?,
+        late_joins: true,
+    };
+    let wanted = Wanted {
+        links: Links::Drawn(chances),
+        undo: true,
+    };
+    match (scene.file("board.toml"), scene.file("plan.toml")) {
+        (Ok(board), Ok(plan)) => Ok(schedule_run(alloc, wanted, board, plan, paper)),
+        _ => Err(NoOutcome::Unread),
     }
-    Ok(())
 }
 
-/// The word: `''` is an empty one, and `~` stands for a space.
-fn word_of(alloc: Global, word: &str) -> Result<String, AllocError> {
-    let mut text = String::new(alloc);
-    push_letters(&mut text, if word == "''" { "" } else { word })?;
-    Ok(text)
+/// A call over the story's files: a frame to the board of one, a play that is drawn, or the clean schedule of a plan that is undone.
+fn call(alloc: Global, scene: &Scene, name: &str, paper: &mut Paper) -> Result<u8, NoOutcome> {
+    let board = "board.toml";
+    let plan = "plan.toml";
+    let schedule = "schedule.txt";
+    match name {
+        "frame_of_file" => {
+            // Get Device ID.
+            let get = [0x20u8, 0x18, 0xC8, 0x2C, 0x00, 0x01, 0xD3];
+            Ok(frame_of_file(alloc, scene, Bus::Ipmb, Some(board), &get, paper))
+        }
+        "play_of_files" => {
+            let files = PlayFiles {
+                board,
+                plan,
+                schedule,
+            };
+            Ok(play_of_files(alloc, scene, Shown::Chart, files, paper))
+        }
+        "schedule_of_files" => {
+            let files = ScheduleFiles { board, plan };
+            let wanted = Wanted {
+                links: Links::Clean,
+                undo: true,
+            };
+            Ok(schedule_of_files(alloc, scene, wanted, files, paper))
+        }
+        _ => Err(NoOutcome::Unread),
+    }
 }
 
-/// The words of a command line: the program's name, and those that the line has.
+/// A refusal by itself: of a file, of memory for a report or for words, or of words, with a text.
+fn refuse_by(alloc: Global, what: &str, paper: &mut Paper) -> Result<u8, NoOutcome> {
+    match parted(what) {
+        ("file", word) => {
+            let report = Report::of_file(alloc, word);
+            let ended = Ending::of(&report).write(paper);
+            drop(report);
+            Ok(u8::from(ended))
+        }
+        ("report", _) => Ok(u8::from(Ending::of(&Err(AllocError)).write(paper))),
+        ("memory", _) => Ok(refuse(&Refusal::Memory, paper)),
+        ("words", text) => {
+            let why = Refusal::Words(format!(in alloc; "{text}\n")?);
+            let ended = refuse(&why, paper);
+            drop(why);
+            Ok(ended)
+        }
+        _ => Err(NoOutcome::Unread),
+    }
+}
+
+/// The words of a command line: `''` is an empty one, and `~` stands for a space.
 pub fn words_of(alloc: Global, line: &str) -> Result<Vec<String>, AllocError> {
     let mut words = Vec::new(alloc);
     for word in line.split(' ') {
-        words.push(word_of(alloc, word)?)?;
+        let word = if word == "''" { "" } else { word };
+        words.push(word.replace(alloc, "~", " ")?)?;
     }
     Ok(words)
 }
 
 /// A run of a command line, with the story's files.
-fn run_words(alloc: Global, scene: &Scene, line: &str, paper: &mut Paper) -> Result<u8, Trouble> {
+fn run_words(alloc: Global, scene: &Scene, line: &str, paper: &mut Paper) -> Result<u8, NoOutcome> {
     let words = words_of(alloc, line)?;
     let ended = run_line(alloc, scene, words.as_slice(), paper);
     drop(words);
@@ -86,16 +138,41 @@ fn run_words(alloc: Global, scene: &Scene, line: &str, paper: &mut Paper) -> Res
 }
 
 /// The run that the line asks for, and its status.
-pub fn run(alloc: Global, scene: &Scene, line: &str, paper: &mut Paper) -> Result<u8, Trouble> {
-    let (word, rest) = line.split_once(' ').unwrap_or((line, ""));
+fn run(alloc: Global, scene: &Scene, line: &str, paper: &mut Paper) -> Result<u8, NoOutcome> {
+    let (word, rest) = parted(line);
     match word {
-        "lines" => play(alloc, scene, false, false, paper),
-        "frames" => play(alloc, scene, true, false, paper),
-        "premises" => play(alloc, scene, false, true, paper),
-        "chart" => draw(alloc, scene, paper),
+        "lines" | "frames" | "premises" | "chart" | "show" => play(alloc, scene, word, paper),
         "ipmb" => send(alloc, scene, Bus::Ipmb, rest, paper),
         "smbus" => send(alloc, scene, Bus::Smbus, rest, paper),
         "bmclab" => run_words(alloc, scene, line, paper),
-        _ => Err(Trouble::Unread),
+        "late" => draw_late(alloc, scene, rest, paper),
+        "call" => call(alloc, scene, rest, paper),
+        "refuse" => refuse_by(alloc, rest, paper),
+        _ => Err(NoOutcome::Unread),
+    }
+}
+
+/// Appends how the run that the line asks for ends, and what it writes.
+fn push_run(alloc: Global, scene: &Scene, line: &str, came: &mut String) -> Result<(), NoOutcome> {
+    let mut paper = scene.paper();
+    let pushed = match run(alloc, scene, line, &mut paper) {
+        Ok(status) => push_ending(came, status, &paper),
+        Err(why) => Err(why),
+    };
+    drop(paper);
+    pushed
+}
+
+/// Appends what comes of the line: what its words ask for, or how a run ends, and what it writes.
+pub fn push_came(
+    alloc: Global,
+    scene: &Scene,
+    line: &str,
+    came: &mut String,
+) -> Result<(), NoOutcome> {
+    match parted(line) {
+        ("asks", words) => Ok(push_asked(alloc, came, words)?),
+        ("names", words) => Ok(push_named(alloc, came, words)?),
+        _ => push_run(alloc, scene, line, came),
     }
 }

@@ -1,6 +1,5 @@
 //! Schedules that `bmclab schedule` writes, and their plays.
 use super::expect_told;
-use std::alloc::{AllocError, Global};
 
 /// Clean schedules, files that are refused, and where a schedule ends.
 const SCHEDULES: &str = "story a clean schedule delivers each frame as soon as it was sent
@@ -10,10 +9,10 @@ bmclab schedule board.toml plan.toml -> 0 out
   start / to-bmc 0 / to-mgr 1 / to-bmc 2 / to-mgr 3
 bmclab schedule --undo board.toml plan.toml -> 0 out
   start / to-bmc 0 / to-mgr 1 / to-bmc 2 / to-mgr 3 / undo / to-bmc 4 / to-mgr 5
-make board.toml plan.toml
+make bmclab schedule board.toml plan.toml
 premises -> 0 out
   phase Done / frames 4 / undo 1 / ipmb 102805E080000000 / records changed 1 / premises kept
-make --undo board.toml plan.toml
+make bmclab schedule --undo board.toml plan.toml
 premises -> 0 out
   phase Undone / frames 6 / undo 1 / ipmb 102805E080000000 / records same / premises kept
 
@@ -33,7 +32,7 @@ plan
 bmclab schedule --undo board.toml plan.toml -> 0 out
   start / to-bmc 0 / to-mgr 1 / to-bmc 2 / to-mgr 3 / to-bmc 4 / to-mgr 5 / to-bmc 6 / to-mgr 7
   undo / to-bmc 8 / to-mgr 9 / to-bmc 10 / to-mgr 11
-make --undo board.toml plan.toml
+make bmclab schedule --undo board.toml plan.toml
 premises -> 0 out
   phase Undone / frames 12 / undo 2 / ipmb 10260530000000005A6E / ipmb 10260518000000505F00 / records same / premises kept
 
@@ -48,7 +47,7 @@ bmclab schedule board.toml plan.toml -> 0 out
   start / to-bmc 0 / to-mgr 1 / to-bmc 2 / to-mgr 3 / to-bmc 4 / to-mgr 5 / to-bmc 6 / to-mgr 7
 bmclab schedule --undo board.toml plan.toml -> 0 out
   start / to-bmc 0 / to-mgr 1 / to-bmc 2 / to-mgr 3 / to-bmc 4 / to-mgr 5 / to-bmc 6 / to-mgr 7 / undo / to-bmc 8 / to-mgr 9
-make --undo board.toml plan.toml
+make bmclab schedule --undo board.toml plan.toml
 lines -> 0 out
   phase Undone / frames 10 / undo 1 / ipmb 102405FF0202 / records same
 
@@ -65,13 +64,13 @@ plan
   [[step]] / kind = \"bios-attribute\" / handle = 1 / text = \"{200*a}\"
 bmclab schedule --undo board.toml plan.toml -> 0 out
   start / to-bmc 0 / to-mgr 1 / to-bmc 2 / to-bmc 3 / to-bmc 4 / to-bmc 5 / to-mgr 6 / undo / to-bmc 7 / to-mgr 8
-make --undo board.toml plan.toml
+make bmclab schedule --undo board.toml plan.toml
 premises -> 0 out: phase Undone / frames 9 / ..records same / premises kept
 
 story nothing is delivered where all is lost, and all room is used
 board sample
 plan events
-make --lose 100 board.toml plan.toml
+make bmclab schedule --lose 100 board.toml plan.toml
 premises -> 0 out
   phase Getting 0 / frames 65536 / undo 0 / records same / premises kept
 
@@ -155,39 +154,62 @@ asks bmclab schedule --lose 256 a b -> refused
 asks bmclab schedule --board a b -> refused
 ";
 
-/// The schedules of so many seeds are played, from 0 on.
-const SEEDS: u32 = 20;
-
-/// The story of the schedule that is drawn from a seed: a play of it takes each event, keeps the premises, and ends where it began.
-fn seed_story(alloc: Global, seed: u32) -> Result<String, AllocError> {
-    format!(in alloc;
-        "story seed {seed}
+/// Schedules that are drawn from twenty seeds: a play takes each event, keeps the premises, and ends where it began.
+const DRAWN: &str = "story drawn schedules are taken and undone
 board sample
 plan
   [[step]] / kind = \"hysteresis\" / sensor = 5 / positive = 4 / negative = 4
-  [[step]] / kind = \"bios-attribute\" / handle = 1 / text = \"{{200*a}}\"
+  [[step]] / kind = \"bios-attribute\" / handle = 1 / text = \"{200*a}\"
   [[step]] / kind = \"thresholds\" / sensor = 5 / uc = 0x5C
-make --lose 20 --repeat 20 --delay 20 --others 20 --seed {seed} --undo board.toml plan.toml
+make bmclab schedule --lose 20 --repeat 20 --delay 20 --others 20 --seed 0 --undo board.toml plan.toml
 premises -> 0 out: phase Undone / ..records same / premises kept
-"
-    )
-}
+make bmclab schedule --lose 20 --repeat 20 --delay 20 --others 20 --seed 1 --undo board.toml plan.toml
+premises -> 0 out: phase Undone / ..records same / premises kept
+make bmclab schedule --lose 20 --repeat 20 --delay 20 --others 20 --seed 2 --undo board.toml plan.toml
+premises -> 0 out: phase Undone / ..records same / premises kept
+make bmclab schedule --lose 20 --repeat 20 --delay 20 --others 20 --seed 3 --undo board.toml plan.toml
+premises -> 0 out: phase Undone / ..records same / premises kept
+make bmclab schedule --lose 20 --repeat 20 --delay 20 --others 20 --seed 4 --undo board.toml plan.toml
+premises -> 0 out: phase Undone / ..records same / premises kept
+make bmclab schedule --lose 20 --repeat 20 --delay 20 --others 20 --seed 5 --undo board.toml plan.toml
+premises -> 0 out: phase Undone / ..records same / premises kept
+make bmclab schedule --lose 20 --repeat 20 --delay 20 --others 20 --seed 6 --undo board.toml plan.toml
+premises -> 0 out: phase Undone / ..records same / premises kept
+make bmclab schedule --lose 20 --repeat 20 --delay 20 --others 20 --seed 7 --undo board.toml plan.toml
+premises -> 0 out: phase Undone / ..records same / premises kept
+make bmclab schedule --lose 20 --repeat 20 --delay 20 --others 20 --seed 8 --undo board.toml plan.toml
+premises -> 0 out: phase Undone / ..records same / premises kept
+make bmclab schedule --lose 20 --repeat 20 --delay 20 --others 20 --seed 9 --undo board.toml plan.toml
+premises -> 0 out: phase Undone / ..records same / premises kept
+make bmclab schedule --lose 20 --repeat 20 --delay 20 --others 20 --seed 10 --undo board.toml plan.toml
+premises -> 0 out: phase Undone / ..records same / premises kept
+make bmclab schedule --lose 20 --repeat 20 --delay 20 --others 20 --seed 11 --undo board.toml plan.toml
+premises -> 0 out: phase Undone / ..records same / premises kept
+make bmclab schedule --lose 20 --repeat 20 --delay 20 --others 20 --seed 12 --undo board.toml plan.toml
+premises -> 0 out: phase Undone / ..records same / premises kept
+make bmclab schedule --lose 20 --repeat 20 --delay 20 --others 20 --seed 13 --undo board.toml plan.toml
+premises -> 0 out: phase Undone / ..records same / premises kept
+make bmclab schedule --lose 20 --repeat 20 --delay 20 --others 20 --seed 14 --undo board.toml plan.toml
+premises -> 0 out: phase Undone / ..records same / premises kept
+make bmclab schedule --lose 20 --repeat 20 --delay 20 --others 20 --seed 15 --undo board.toml plan.toml
+premises -> 0 out: phase Undone / ..records same / premises kept
+make bmclab schedule --lose 20 --repeat 20 --delay 20 --others 20 --seed 16 --undo board.toml plan.toml
+premises -> 0 out: phase Undone / ..records same / premises kept
+make bmclab schedule --lose 20 --repeat 20 --delay 20 --others 20 --seed 17 --undo board.toml plan.toml
+premises -> 0 out: phase Undone / ..records same / premises kept
+make bmclab schedule --lose 20 --repeat 20 --delay 20 --others 20 --seed 18 --undo board.toml plan.toml
+premises -> 0 out: phase Undone / ..records same / premises kept
+make bmclab schedule --lose 20 --repeat 20 --delay 20 --others 20 --seed 19 --undo board.toml plan.toml
+premises -> 0 out: phase Undone / ..records same / premises kept
+";
 
 #[test]
-fn schedules_are_written_and_played(rt: HostRuntime) {
+fn schedules_are_written_or_refused_and_played(rt: HostRuntime) {
     expect_told(&rt, rt.alloc(), SCHEDULES);
-}
-
-#[test]
-fn refused_words_say_why_there_is_no_schedule(rt: HostRuntime) {
     expect_told(&rt, rt.alloc(), REFUSED);
 }
 
 #[test]
 fn drawn_schedules_are_taken_and_undone(rt: HostRuntime) {
-    for seed in 0..SEEDS {
-        let story = seed_story(rt.alloc(), seed).expect(&rt, "memory");
-        expect_told(&rt, rt.alloc(), story.as_str());
-        drop(story);
-    }
+    expect_told(&rt, rt.alloc(), DRAWN);
 }

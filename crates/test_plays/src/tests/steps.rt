@@ -415,22 +415,10 @@ lines -> 0 out
 ";
 
 #[test]
-fn plans_on_attributes_are_undone(rt: HostRuntime) {
+fn plans_are_undone_or_halt(rt: HostRuntime) {
     expect_told(&rt, rt.alloc(), ATTRIBUTES);
-}
-
-#[test]
-fn plans_on_effecters_are_undone_or_halt(rt: HostRuntime) {
     expect_told(&rt, rt.alloc(), EFFECTERS);
-}
-
-#[test]
-fn plans_on_users_are_undone_or_halt(rt: HostRuntime) {
     expect_told(&rt, rt.alloc(), USERS);
-}
-
-#[test]
-fn plans_on_lan_parameters_are_undone_or_halt(rt: HostRuntime) {
     expect_told(&rt, rt.alloc(), LAN);
 }
 

@@ -16,8 +16,13 @@ ipmb 2018C82C0001D3 -> 0 out: 2C1CB820000100200101050207CDAB003412F0
 smbus 2018C82C0001D3 -> 1 out: ignored NotMctp
 bmclab frame 2018C82C0001D3 -> 3
 asks bmclab frame 2018 -> smbus 2018
-swap id = 0x20 => id = 0x21
-same ipmb 2018C82C0001D3
+names ipmb 2018 -> smbus 2018
+show -> 0 out: event
+call schedule_of_files -> 0 out: start
+refuse memory -> 5 out: memory
+fails out 1
+ipmb 2018C82C0001D3 -> 6 out: 2C1CB82
+late 4 -> 6 out: start
 unreadable plan
 lines -> 0 out: phase Fresh / frames 0 / undo 0 / records same
 bmclab play board.toml plan.toml schedule.txt -> 0
@@ -33,7 +38,13 @@ lines -> 0 out: phase Done
 part events
 swap nothing => something
 unreadable file
+fails in 0
+fails out none
+make refuse memory
+make late x
 line -> 0
+call run_line -> 0
+refuse nothing -> 0
 ipmb 201 -> 0
 ipmb 2018C82C0001D3
 # A remark has no lines.
@@ -43,42 +54,92 @@ board sample
 ";
 
 /// What is said of each.
-const NOTICED: &str =
-    "every run is told wrong, line 3: status 0, out \"phase Fresh\\nframes 0\\nundo 0\\nrecords same\\n\", err \"\"
-every run is told wrong, line 4: status 0, out \"phase Fresh\\nframes 0\\nundo 0\\nrecords same\\n\", err \"\"
-every run is told wrong, line 5: can't be read
-every run is told wrong, line 6: status 0, out \"phase Fresh\\nframes 0\\nundo 0\\nrecords same\\n\", err \"\"
-every run is told wrong, line 7: status 0, out \"phase Fresh\\nframes 0\\nundo 0\\nrecords same\\n\", err \"\"
-every run is told wrong, line 8: status 0, out \"phase Fresh\\nframes 0\\nundo 0\\nrecords same\\n\", err \"\"
-every run is told wrong, line 9: status 0, out \"event mgr  |comes             sends            |bmc     phase\\n\", err \"\"
-every run is told wrong, line 10: status 0, out \"phase Fresh\\nframes 0\\nundo 0\\nrecords same\\npremises kept\\n\", err \"\"
-every run is told wrong, line 11: status 0, out \"2C1CB820000100200101050207CDAB003412F1\\n\", err \"\"
-every run is told wrong, line 12: status 1, out \"ignored Short\\n\", err \"\"
-every run is told wrong, line 13: status 0, out \"2C1CB820000100200101050207CDAB003412F1\\n\", err \"\"
-every run is told wrong, line 14: ipmb 2018
-every run is told wrong, line 16: status 0, out \"2C1CB820000100210101050207CDAB003412F0\\n\", err \"\"
-every run is told wrong, line 18: can't be read
-every run is told wrong, line 19: status 3, out \"\", err \"file plan.toml\\n\"
-every run is told wrong, line 21: status 5, out \"\", err \"memory\\n\"
-a story's texts are told wrong, line 24: can't be read
-a story's texts are told wrong, line 25: can't be read
-a story's texts are told wrong, line 28: can't be read
+const NOTICED: &str = "every run is told wrong, line 3: came 0 out
+phase Fresh
+frames 0
+undo 0
+records same
+every run is told wrong, line 4: came 0 out
+phase Fresh
+frames 0
+undo 0
+records same
+every run is told wrong, line 5: came 0 out
+phase Fresh
+frames 0
+undo 0
+records same
+every run is told wrong, line 6: came 0 out
+phase Fresh
+frames 0
+undo 0
+records same
+every run is told wrong, line 7: came 0 out
+phase Fresh
+frames 0
+undo 0
+records same
+every run is told wrong, line 8: came 0 out
+phase Fresh
+frames 0
+undo 0
+records same
+every run is told wrong, line 9: came 0 out
+event mgr  |comes             sends            |bmc     phase
+every run is told wrong, line 10: came 0 out
+phase Fresh
+frames 0
+undo 0
+records same
+premises kept
+every run is told wrong, line 11: came 0 out
+2C1CB820000100200101050207CDAB003412F1
+every run is told wrong, line 12: came 1 out
+ignored Short
+every run is told wrong, line 13: came 0 out
+2C1CB820000100200101050207CDAB003412F1
+every run is told wrong, line 14: came ipmb 2018
+every run is told wrong, line 15: came ipmb 2018
+every run is told wrong, line 16: came 0 out
+event mgr  |comes             sends            |bmc     phase
+every run is told wrong, line 17: came 0 out
+start
+undo
+every run is told wrong, line 18: came 5 err
+memory
+every run is told wrong, line 20: came 6 out cut
+2C1CB82
+every run is told wrong, line 21: came 6 out cut
+start
+u
+every run is told wrong, line 23: can't be read
+every run is told wrong, line 24: came 3 err
+file plan.toml
+every run is told wrong, line 26: came 5 err
+memory
 a story's texts are told wrong, line 29: can't be read
 a story's texts are told wrong, line 30: can't be read
-a story's texts are told wrong, line 31: can't be read
-a story's texts are told wrong, line 32: can't be read
 a story's texts are told wrong, line 33: can't be read
 a story's texts are told wrong, line 34: can't be read
 a story's texts are told wrong, line 35: can't be read
-nothing is played of this one, line 39: nothing was played
+a story's texts are told wrong, line 36: can't be read
+a story's texts are told wrong, line 37: can't be read
+a story's texts are told wrong, line 38: can't be read
+a story's texts are told wrong, line 39: came 5 err
+memory
+a story's texts are told wrong, line 40: can't be read
+a story's texts are told wrong, line 41: can't be read
+a story's texts are told wrong, line 42: can't be read
+a story's texts are told wrong, line 43: can't be read
+a story's texts are told wrong, line 44: can't be read
+a story's texts are told wrong, line 45: came 0 out
+2C1CB820000100200101050207CDAB003412F1
+a story's texts are told wrong, line 46: can't be read
+nothing is played of this one, line 50: nothing was played
 ";
 
 #[test]
 fn stories_that_are_told_wrong_are_noticed(rt: HostRuntime) {
     expect_noticed(&rt, rt.alloc(), WRONG, NOTICED);
-}
-
-#[test]
-fn a_text_without_a_story_is_noticed(rt: HostRuntime) {
     expect_noticed(&rt, rt.alloc(), "", ", line 1: nothing was played\n");
 }
