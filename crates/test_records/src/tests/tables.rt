@@ -1,5 +1,5 @@
 //! Tables of attributes, by their bytes, and the calls that make and read them.
-use super::{expect, expect_bytes, expect_text};
+use super::{expect_bytes, expect_each, expect_equal};
 use bios_attr::attribute_entry::{KindFields, attribute_at};
 use bios_attr::string_entry::string_at;
 use bios_attr::table_entry::entry_at;
@@ -39,7 +39,20 @@ entry attributes 0000 00 0000 01 0100 02 00 -> None
 entry attributes 0000 81 0000 01 0000 0900 0000 -> Some(12)
 entry values 0000 80 01 00 09 -> Some(5)
 entry values 0000 00 03 00 09 -> None
-entry values 0000 02 01 00 09 -> None";
+entry values 0000 02 01 00 09 -> None
+# The length field alone bounds a value: no request carries a text of 300 bytes whole. Of the second a byte is missing.
+entry values 0700 01 2C01 6161616161616161616161616161616161616161616161616161616161616161616161616161616161616161616161616161 \
+6161616161616161616161616161616161616161616161616161616161616161616161616161616161616161616161616161 \
+6161616161616161616161616161616161616161616161616161616161616161616161616161616161616161616161616161 \
+6161616161616161616161616161616161616161616161616161616161616161616161616161616161616161616161616161 \
+6161616161616161616161616161616161616161616161616161616161616161616161616161616161616161616161616161 \
+6161616161616161616161616161616161616161616161616161616161616161616161616161616161616161616161616161 -> Some(305)
+entry values 0700 01 2C01 6161616161616161616161616161616161616161616161616161616161616161616161616161616161616161616161616161 \
+6161616161616161616161616161616161616161616161616161616161616161616161616161616161616161616161616161 \
+6161616161616161616161616161616161616161616161616161616161616161616161616161616161616161616161616161 \
+6161616161616161616161616161616161616161616161616161616161616161616161616161616161616161616161616161 \
+6161616161616161616161616161616161616161616161616161616161616161616161616161616161616161616161616161 \
+61616161616161616161616161616161616161616161616161616161616161616161616161616161616161616161616161 -> None";
 
 /// Lines that are told wrong: each comes otherwise.
 const WRONG: &str = "table strings -> Ok(1)
@@ -116,22 +129,14 @@ fn found(alloc: Global, what: &str) -> Result<String, AllocError> {
     }
 }
 
-/// Appends the line with what came.
-fn push_row(report: &mut String, line: &str, came: &str) -> Result<(), AllocError> {
-    report.push_str(line)?;
-    report.push_str(": ")?;
-    report.push_str(came)?;
-    report.push_str("\n")
-}
-
-/// Appends the line, where it comes otherwise than told.
+/// Appends the line with what came, where that isn't what is told.
 fn push_otherwise(alloc: Global, report: &mut String, line: &str) -> Result<(), AllocError> {
     let (what, want) = line.split_once(" -> ").unwrap_or((line, ""));
     let came = found(alloc, what)?;
     if came.as_str() == want || line.starts_with("#") {
         return Ok(());
     }
-    push_row(report, line, came.as_str())
+    writeln!(report, "{line}: {}", came.as_str())
 }
 
 /// The lines that come otherwise than told, with what came.
@@ -146,37 +151,14 @@ fn otherwise(alloc: Global, lines: &str) -> Result<String, AllocError> {
 /// This comes otherwise than the lines tell.
 fn expect_otherwise(rt: &impl Abort, alloc: Global, lines: &str, said: &str) {
     let report = otherwise(alloc, lines).expect(rt, "memory");
-    expect_text(rt, report.as_str(), said);
+    expect_equal(rt, report.as_str(), said);
     drop(report);
 }
 
 #[test]
-fn tables_and_entries_are_read_from_their_bytes(rt: HostRuntime) {
+fn tables_and_entries_are_read_and_lines_told_wrong_are_noticed(rt: HostRuntime) {
     expect_otherwise(&rt, rt.alloc(), READ, "");
-}
-
-#[test]
-fn lines_that_are_told_wrong_are_noticed(rt: HostRuntime) {
     expect_otherwise(&rt, rt.alloc(), WRONG, SAID);
-}
-
-/// The entry of a text of 300 bytes, which no request carries whole.
-fn long_entry(alloc: Global) -> Result<Vec<u8>, AllocError> {
-    let mut bytes = Vec::new(alloc);
-    bytes.extend_from_slice(&[7, 0, 1, 0x2C, 0x01])?;
-    bytes.extend_from_slice(&[0x61; 300])?;
-    Ok(bytes)
-}
-
-#[test]
-fn the_length_field_alone_bounds_a_value(rt: HostRuntime) {
-    let bytes = long_entry(rt.alloc()).expect(&rt, "memory");
-    let whole = first_length(BiosTable::Values, bytes.as_slice());
-    expect(&rt, whole == Some(305), "the whole entry");
-    let (_, shorter) = bytes.as_slice().split_last().expect(&rt, "a byte");
-    let part = first_length(BiosTable::Values, shorter);
-    expect(&rt, part.is_none(), "a byte is missing");
-    drop(bytes);
 }
 
 /// The strings of an attribute and its possible values.
@@ -186,14 +168,6 @@ const STRINGS: [u8; 18] = [
 
 /// The attribute: an enumeration of two values.
 const ATTRIBUTE: [u8; 13] = [0, 0, 0, 0, 0, 2, 1, 0, 2, 0, 1, 0, 1];
-
-#[test]
-fn a_string_is_shown_where_it_lies(rt: HostRuntime) {
-    let (entry, rest) = string_at(&STRINGS).expect(&rt, "a string");
-    expect(&rt, entry.handle == 0, "the handle");
-    expect_bytes(&rt, entry.text.as_slice(), b"Quiet");
-    expect_bytes(&rt, rest.as_slice(), &STRINGS[9..]);
-}
 
 /// An enumeration of two values, of which the first is its default.
 fn expect_enumeration(rt: &impl Abort, kind: &KindFields<'_>) {
@@ -207,10 +181,14 @@ fn expect_enumeration(rt: &impl Abort, kind: &KindFields<'_>) {
 }
 
 #[test]
-fn an_attribute_is_shown_where_it_lies(rt: HostRuntime) {
+fn a_string_and_an_attribute_are_shown_where_they_lie(rt: HostRuntime) {
+    let (entry, rest) = string_at(&STRINGS).expect(&rt, "a string");
+    expect_equal(&rt, entry.handle, 0);
+    expect_bytes(&rt, entry.text.as_slice(), b"Quiet");
+    expect_bytes(&rt, rest.as_slice(), &STRINGS[9..]);
     let (entry, rest) = attribute_at(&ATTRIBUTE).expect(&rt, "an attribute");
-    expect(&rt, entry.attribute == 0 && entry.name == 0, "the handles");
-    expect(&rt, !entry.read_only, "it can be set");
+    let hold = [entry.attribute == 0, entry.name == 0, !entry.read_only];
+    expect_each(&rt, &hold, "the attribute, its name, it can be set");
     expect_bytes(&rt, rest.as_slice(), &[1]);
     expect_enumeration(&rt, &entry.kind);
 }
@@ -259,17 +237,15 @@ fn sample_tables(rt: &impl Abort, alloc: Global) -> Tables {
 fn expect_whole(rt: &impl Abort, tables: &Tables, table: BiosTable, length: usize, entries: usize) {
     let given = tables.part(table, GET_FIRST_PART, 9).ok();
     let part = given.expect(rt, "a part");
-    expect(rt, part.next == 0, "the last part");
-    expect(rt, part.flag == TransferFlag::StartAndEnd, "the only part");
-    expect(rt, part.bytes.len() == length, "its length");
+    let hold = [
+        part.next == 0,
+        part.flag == TransferFlag::StartAndEnd,
+        tables.part(table, GET_NEXT_PART, 192).is_err(),
+    ];
+    expect_each(rt, &hold, "the last part, the only part, no part follows");
+    expect_equal(rt, part.bytes.len(), length);
     expect_bytes(rt, part.bytes, tables.table(table));
-    let more = tables.part(table, GET_NEXT_PART, 192);
-    expect(rt, more.is_err(), "no part follows");
-    expect(
-        rt,
-        count_table(table, part.bytes) == Ok(entries),
-        "its entries",
-    );
+    expect_equal(rt, count_table(table, part.bytes), Ok(entries));
 }
 
 #[test]
