@@ -10,7 +10,7 @@ use record_base::{
     SetUserName, SetWatchdog, SixBits,
 };
 use record_kinds::{Limits, PlainKind};
-use std::alloc::{AllocError, Global};
+use std::alloc::Global;
 use std::process::Abort;
 use two_wire::{Bytes, Lun, NetFn};
 
@@ -85,59 +85,30 @@ fn a_change_is_undone(rt: HostRuntime) {
     expect_bytes(&rt, Limits::set_data(&undo).as_slice(), &set_data(0x5F));
 }
 
-/// Of the lengths from 0 on, those that the command takes: `+` for each, and `.` for each other.
-fn allowed(alloc: Global, lengths: Lengths) -> Result<String, AllocError> {
+/// The command takes these of the lengths from 0 on: `+` stands for each, and `.` for each other.
+fn expect_allowed(rt: &impl Abort, lengths: Lengths, want: &str) {
     let body = [3; 30];
-    let mut text = String::new(alloc);
+    let mut marks = [b'.'; 30];
     for length in 0..30 {
-        let allows = lengths.allow(&body[..length]);
-        text.push_str(if allows { "+" } else { "." })?;
+        if lengths.allow(&body[..length]) {
+            marks[length] = b'+';
+        }
     }
-    Ok(text)
-}
-
-/// The command takes these lengths.
-fn expect_allowed(rt: &impl Abort, alloc: Global, lengths: Lengths, want: &str) {
-    let allowed = allowed(alloc, lengths).expect(rt, "memory");
-    expect_equal(rt, allowed.as_str(), want);
-    drop(allowed);
+    expect_bytes(rt, &marks, want.as_bytes());
 }
 
 #[test]
 fn a_command_takes_the_lengths_of_its_line(rt: HostRuntime) {
-    let alloc = rt.alloc();
-    expect_allowed(
-        &rt,
-        alloc,
-        Lengths::Exactly(4),
-        "....+.........................",
-    );
-    expect_allowed(
-        &rt,
-        alloc,
-        Lengths::Between(2, 6),
-        "..+++++.......................",
-    );
-    expect_allowed(
-        &rt,
-        alloc,
-        Lengths::AtLeast(1),
-        ".+++++++++++++++++++++++++++++",
-    );
-    // Set User Password.
-    expect_allowed(
-        &rt,
-        alloc,
-        Lengths::OneOf(2, 18, 22),
-        "..+...............+...+.......",
-    );
-    // Set State Effecter States, with three fields.
-    expect_allowed(
-        &rt,
-        alloc,
-        Lengths::PairsCountedAt(2),
-        ".........+....................",
-    );
+    let exactly = "....+.........................";
+    expect_allowed(&rt, Lengths::Exactly(4), exactly);
+    let between = "..+++++.......................";
+    expect_allowed(&rt, Lengths::Between(2, 6), between);
+    let at_least = ".+++++++++++++++++++++++++++++";
+    expect_allowed(&rt, Lengths::AtLeast(1), at_least);
+    let password = "..+...............+...+.......";
+    expect_allowed(&rt, Lengths::OneOf(2, 18, 22), password);
+    let three_states = ".........+....................";
+    expect_allowed(&rt, Lengths::PairsCountedAt(2), three_states);
 }
 
 /// The request of the change has these data, in hexadecimal.

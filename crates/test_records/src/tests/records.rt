@@ -12,7 +12,7 @@ use record_base::{
     BootFlags, BootOptions, BootParameter, EventEnable, EventMasks, Hysteresis, ThresholdMasks,
     Thresholds,
 };
-use std::alloc::{AllocError, Global};
+use std::alloc::Global;
 use std::process::Abort;
 use two_wire::{Below, Bytes, Lun, NetFn, code};
 
@@ -40,26 +40,15 @@ BiosAttribute(1) 06007261636B2D31
 BiosAttribute(2) 1E00000000000000
 ";
 
-/// Appends the line of a record.
-fn push_record(
-    alloc: Global,
-    text: &mut String,
-    key: &Key,
-    value: &StartValue,
-) -> Result<(), AllocError> {
-    write!(text, "{key:?} ")?;
-    let digits = hex::encode_upper(alloc, value.as_slice())?;
-    text.push_str(digits.as_str())?;
-    text.push_str("\n")
-}
-
 /// The records, a line for each.
-fn spelt(alloc: Global, pairs: &[(Key, StartValue)]) -> Result<String, AllocError> {
+fn spelt(rt: &impl Abort, alloc: Global, pairs: &[(Key, StartValue)]) -> String {
     let mut text = String::new(alloc);
     for (key, value) in pairs {
-        push_record(alloc, &mut text, key, value)?;
+        let digits = hex::encode_upper(alloc, value.as_slice()).expect(rt, "memory");
+        writeln!(text, "{key:?} {}", digits.as_str()).expect(rt, "memory");
+        drop(digits);
     }
-    Ok(text)
+    text
 }
 
 /// The records of the sample board, a line for each. Its terminus is 5.
@@ -68,7 +57,7 @@ fn spelt_sample(rt: &impl Abort, alloc: Global) -> String {
     expect_equal(rt, file.tid, 5);
     let pairs = file.records(alloc).expect(rt, "memory");
     drop(file);
-    let text = spelt(alloc, pairs.as_slice()).expect(rt, "memory");
+    let text = spelt(rt, alloc, pairs.as_slice());
     drop(pairs);
     text
 }

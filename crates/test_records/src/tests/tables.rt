@@ -7,7 +7,7 @@ use bios_attr::{BiosTable, CurrentValues, Tables, count_table};
 use cfg_records::sample_board;
 use pldm_base::{GET_FIRST_PART, GET_NEXT_PART, TransferFlag, crc32};
 use record_base::attribute_sizes::MOST_VALUE;
-use std::alloc::{AllocError, Global};
+use std::alloc::Global;
 use std::process::Abort;
 use two_wire::Bytes;
 
@@ -82,15 +82,11 @@ fn table_of(name: &str) -> Option<BiosTable> {
 }
 
 /// The bytes of the digits, between which blanks may stand.
-fn bytes_of(alloc: Global, digits: &str) -> Result<Option<Vec<u8>>, AllocError> {
-    let mut bytes = Vec::new(alloc);
-    for word in digits.split(' ') {
-        match text_lines::bytes(alloc, word)? {
-            Some(part) => bytes.extend_from_slice(part.as_slice())?,
-            None => return Ok(None),
-        }
-    }
-    Ok(Some(bytes))
+fn bytes_of(rt: &impl Abort, alloc: Global, digits: &str) -> Option<Vec<u8>> {
+    let digits = digits.replace(alloc, " ", "").expect(rt, "memory");
+    let bytes = text_lines::bytes(alloc, digits.as_str());
+    drop(digits);
+    bytes.expect(rt, "memory")
 }
 
 /// How many bytes the first entry has, if there is one.
@@ -101,56 +97,54 @@ fn first_length(table: BiosTable, bytes: &[u8]) -> Option<usize> {
 
 /// What is read of the bytes.
 fn read(
+    rt: &impl Abort,
     alloc: Global,
     word: &str,
     table: BiosTable,
     bytes: &mut Vec<u8>,
-) -> Result<String, AllocError> {
+) -> String {
     if word == "table" {
-        bytes.extend_from_slice(&crc32(bytes.as_slice()).to_le_bytes())?;
+        let check = crc32(bytes.as_slice()).to_le_bytes();
+        bytes.extend_from_slice(&check).expect(rt, "memory");
     }
-    match word {
+    let read = match word {
         "table" | "whole" => format!(in alloc; "{:?}", count_table(table, bytes.as_slice())),
         "entry" => format!(in alloc; "{:?}", first_length(table, bytes.as_slice())),
         _ => String::from_str(alloc, "no line"),
-    }
+    };
+    read.expect(rt, "memory")
 }
 
 /// What comes of the line's first part.
-fn found(alloc: Global, what: &str) -> Result<String, AllocError> {
+fn found(rt: &impl Abort, alloc: Global, what: &str) -> String {
     let (word, rest) = what.split_once(' ').unwrap_or((what, ""));
     let (name, digits) = rest.split_once(' ').unwrap_or((rest, ""));
-    let Some(table) = table_of(name) else {
-        return String::from_str(alloc, "no line");
-    };
-    match bytes_of(alloc, digits)? {
-        Some(mut bytes) => read(alloc, word, table, &mut bytes),
-        None => String::from_str(alloc, "no line"),
+    if let Some(table) = table_of(name) {
+        if let Some(mut bytes) = bytes_of(rt, alloc, digits) {
+            let read = read(rt, alloc, word, table, &mut bytes);
+            drop(bytes);
+            return read;
+        }
     }
+    String::from_str(alloc, "no line").expect(rt, "memory")
 }
 
 /// Appends the line with what came, where that isn't what is told.
-fn push_otherwise(alloc: Global, report: &mut String, line: &str) -> Result<(), AllocError> {
+fn push_otherwise(rt: &impl Abort, alloc: Global, report: &mut String, line: &str) {
     let (what, want) = line.split_once(" -> ").unwrap_or((line, ""));
-    let came = found(alloc, what)?;
-    if came.as_str() == want || line.starts_with("#") {
-        return Ok(());
+    let came = found(rt, alloc, what);
+    if came.as_str() != want && !line.starts_with("#") {
+        writeln!(report, "{line}: {}", came.as_str()).expect(rt, "memory");
     }
-    writeln!(report, "{line}: {}", came.as_str())
-}
-
-/// The lines that come otherwise than told, with what came.
-fn otherwise(alloc: Global, lines: &str) -> Result<String, AllocError> {
-    let mut report = String::new(alloc);
-    for line in lines.lines() {
-        push_otherwise(alloc, &mut report, line)?;
-    }
-    Ok(report)
+    drop(came);
 }
 
 /// This comes otherwise than the lines tell.
 fn expect_otherwise(rt: &impl Abort, alloc: Global, lines: &str, said: &str) {
-    let report = otherwise(alloc, lines).expect(rt, "memory");
+    let mut report = String::new(alloc);
+    for line in lines.lines() {
+        push_otherwise(rt, alloc, &mut report, line);
+    }
     expect_equal(rt, report.as_str(), said);
     drop(report);
 }
