@@ -225,7 +225,7 @@ fn a_requester_has_what_it_staged_until_it_ends(rt: HostRuntime) {
     let ended = stagings.ended(0x0B, 192, &[9; 13], &mut place).ok();
     let op = ended.expect(&rt, "what is staged stays");
     expect(&rt, op.attribute == 1 && op.attribute_type == 1, "a string");
-    expect_equal(&rt, op.value.as_slice().len(), 202);
+    assert!(rt; op.value.as_slice().len() == 202);
     expect_bytes(&rt, &op.value.as_slice()[189..], &[9; 13]);
     stagings.end(0x0B);
     let ended = stagings.ended(0x0B, 192, &[9; 13], &mut place);
