@@ -103,7 +103,7 @@ fn extended(rt: &impl Abort, alloc: Global, file: &str, head: &str, lines: &str)
 
 /// Whether this comes of the text.
 fn is_told(rt: &impl Abort, alloc: Global, form: Form, text: &str, told: &str) -> bool {
-    let came = came_of(alloc, form, text).expect(rt, "memory");
+    let came = came_of(rt, alloc, form, text);
     let is_told = came.is(told);
     drop(came);
     is_told
@@ -156,7 +156,7 @@ impl<'s> Player<'s> {
         text: &str,
     ) {
         self.is_silent = false;
-        let came = came_of(alloc, form, text).expect(rt, "memory");
+        let came = came_of(rt, alloc, form, text);
         if !came.is(told) {
             writeln!(self.otherwise, "{lines} => {}", came.text.as_str()).expect(rt, "memory");
         }
