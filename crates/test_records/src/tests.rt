@@ -29,22 +29,38 @@ use stories::play;
 /// This is said of the stories: of each line that comes otherwise than it is told, what came.
 pub(crate) fn expect_report(rt: &impl Abort, alloc: Global, stories: &str, told: &str) {
     let report = play(alloc, stories).expect(rt, "memory");
-    expect_text(rt, report.as_str(), told);
+    expect_equal(rt, report.as_str(), told);
     drop(report);
 }
 
-/// Each line of the stories comes as it is told.
-pub(crate) fn expect_told(rt: &impl Abort, alloc: Global, stories: &str) {
-    expect_report(rt, alloc, stories, "");
+/// The stories of each theme.
+const THEMES: [&str; 15] = [
+    attributes::ATTRIBUTES,
+    bench::BENCH,
+    commands::COMMANDS,
+    commands::MARKED,
+    effecters::EFFECTERS,
+    lan::REFUSED,
+    lan::SHOWN,
+    lan::CHANGES,
+    log::LOG,
+    long_strings::LONG,
+    string_parts::PARTS,
+    undo::UNDONE,
+    users::REFUSED,
+    users::PASSWORDS,
+    users::CHANGES,
+];
+
+#[test]
+fn each_line_of_the_stories_comes_as_it_is_told(rt: HostRuntime) {
+    for stories in THEMES {
+        expect_report(&rt, rt.alloc(), stories, "");
+    }
 }
 
 /// The bytes are these.
 pub(crate) fn expect_bytes(rt: &impl Abort, came: &[u8], told: &[u8]) {
-    expect_equal(rt, came, told);
-}
-
-/// The text is this.
-pub(crate) fn expect_text(rt: &impl Abort, came: &str, told: &str) {
     expect_equal(rt, came, told);
 }
 
@@ -56,4 +72,12 @@ pub(crate) fn expect_equal<T: Copy + Debug + PartialEq>(rt: &impl Abort, value: 
 /// So it is. What that says comes where it isn't so.
 pub(crate) fn expect(rt: &impl Abort, holds: bool, what: &str) {
     assert!(rt; holds, "{what}");
+}
+
+/// So it is in each case. The name of a case where it isn't so comes: of the names, which have `, ` between two, the one in its place.
+pub(crate) fn expect_each(rt: &impl Abort, hold: &[bool], names: &str) {
+    let mut names = names.split(", ");
+    for holds in hold {
+        expect(rt, *holds, names.next().unwrap_or("no name"));
+    }
 }

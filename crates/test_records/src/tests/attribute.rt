@@ -29,33 +29,25 @@ pub(crate) fn asset(lengths: TextLengths) -> AttributeLimits
 }
 
 #[test]
-fn a_reply_shows_the_entry(rt: HostRuntime) {
+fn a_set_gives_its_value_and_a_reply_shows_the_entry(rt: HostRuntime) {
     let lengths = TextLengths::new(0, 200).expect(&rt, "lengths");
+    let asset = asset(lengths);
+    let set = SetBiosAttribute::of(1, 1, &VALUE);
+    let mut new = Value::new();
+    let done = asset.apply(&set, &[0, 0], &mut new);
+    expect(&rt, done.is_ok(), "it is carried out");
+    expect_bytes(&rt, new.as_slice(), &VALUE);
     let mut reply = RecordData::new();
-    asset(lengths).show(&VALUE, &mut reply);
+    asset.show(&VALUE, &mut reply);
     expect_bytes(&rt, reply.as_slice(), &SHOWN);
 }
 
 #[test]
-fn a_set_is_undone_by_the_whole_entry(rt: HostRuntime) {
-    let any_op = SetBiosAttribute::of(0, 0, &[]);
-    let undo = AttributeLimits::inverse(&any_op, &SHOWN).expect(&rt, "a reply");
-    expect_bytes(&rt, AttributeLimits::set_data(&undo).as_slice(), &SHOWN);
-}
-
-#[test]
-fn a_set_gives_its_value(rt: HostRuntime) {
-    let lengths = TextLengths::new(0, 200).expect(&rt, "lengths");
-    let set = SetBiosAttribute::of(1, 1, &VALUE);
-    let mut new = Value::new();
-    let done = asset(lengths).apply(&set, &[0, 0], &mut new);
-    expect(&rt, done.is_ok(), "it is carried out");
-    expect_bytes(&rt, new.as_slice(), &VALUE);
-}
-
-#[test]
-fn the_data_of_a_request_are_read(rt: HostRuntime) {
+fn the_data_of_a_request_are_read_and_a_set_is_undone_by_the_whole_entry(rt: HostRuntime) {
     let op = attribute_in(&SHOWN).ok().expect(&rt, "a request");
     expect(&rt, op.attribute == 1 && op.attribute_type == 1, "a string");
     expect_bytes(&rt, op.value.as_slice(), &VALUE);
+    let any_op = SetBiosAttribute::of(0, 0, &[]);
+    let undo = AttributeLimits::inverse(&any_op, &SHOWN).expect(&rt, "a reply");
+    expect_bytes(&rt, AttributeLimits::set_data(&undo).as_slice(), &SHOWN);
 }

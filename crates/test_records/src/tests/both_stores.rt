@@ -1,5 +1,5 @@
 //! The same requests to a board over each of the two stores.
-use super::{expect, expect_bytes, expect_text};
+use super::{expect_bytes, expect_equal};
 use bmc_board::Board;
 use cfg_records::{BoardFile, Key, PlainStore, StartValue, Store};
 use packed_store::PackedStore;
@@ -75,17 +75,12 @@ fn packed(rt: &impl Abort, alloc: Global) -> Board<PackedStore> {
     Board::open(alloc, file, store).expect(rt, "memory")
 }
 
-/// What the board replies to the request of these words.
-fn reply<S: Store>(rt: &impl Abort, alloc: Global, board: &mut Board<S>, words: &str) -> String {
-    let (over, digits) = words.split_once(' ').unwrap_or((words, ""));
-    asks(alloc, board, 0x2C, over, digits).expect(rt, "memory")
-}
-
 /// The line's request has its reply.
 fn expect_reply<S: Store>(rt: &impl Abort, alloc: Global, board: &mut Board<S>, line: &str) {
     let (words, told) = line.split_once(" -> ").unwrap_or((line, ""));
-    let came = reply(rt, alloc, board, words);
-    expect_text(rt, came.as_str().trim_end(), told);
+    let (over, digits) = words.split_once(' ').unwrap_or((words, ""));
+    let came = asks(alloc, board, 0x2C, over, digits).expect(rt, "memory");
+    expect_equal(rt, came.as_str().trim_end(), told);
     drop(came);
 }
 
@@ -136,8 +131,11 @@ fn expect_alike(
 ) {
     expect_replies(rt, alloc, plain, lines);
     expect_replies(rt, alloc, packed, lines);
-    let changed = changed(rt, plain.store(), packed.store(), start);
-    expect(rt, changed == differ, "so many differ");
+    expect_equal(
+        rt,
+        changed(rt, plain.store(), packed.store(), start),
+        differ,
+    );
 }
 
 /// The records of the sample board with effecters.

@@ -1,5 +1,5 @@
 //! Calls of a board, of its tables of commands, and of the kinds of record.
-use super::{expect, expect_bytes, expect_text};
+use super::{expect, expect_bytes, expect_equal};
 use bmc_board::{Bench, Board, Command, Lengths, NoSensor, Records, is_changing, read_request};
 use cfg_records::{Asked, Key, Op, RecordKind, Store, sample_board};
 use record_base::{
@@ -10,7 +10,7 @@ use record_base::{
     SetUserName, SetWatchdog, SixBits,
 };
 use record_kinds::{Limits, PlainKind};
-use std::alloc::{AllocError, Global};
+use std::alloc::Global;
 use std::process::Abort;
 use two_wire::{Bytes, Lun, NetFn};
 
@@ -30,35 +30,28 @@ fn sample(rt: &impl Abort, alloc: Global) -> Board<Records> {
 /// The board carries the request out, and replies so.
 fn expect_reply(rt: &impl Abort, board: &mut Board<Records>, asked: &Asked, data: &[u8]) {
     let reply = board.answer(asked);
-    expect(rt, reply.code == 0, "it is carried out");
+    expect_equal(rt, reply.code, 0);
     expect_bytes(rt, reply.body.as_slice(), data);
 }
 
 #[test]
-fn a_board_answers_a_set_and_a_get_and_keeps_the_record(rt: HostRuntime) {
+fn a_board_answers_and_keeps_the_record_and_the_bench_reaches_it(rt: HostRuntime) {
     let mut board = sample(&rt, rt.alloc());
     expect_reply(&rt, &mut board, &Limits::set_asked(&UPPER_CRITICAL), &[]);
     let get = Limits::get_asked(&Key::Thresholds(5));
     let shown = [0x3F, 0x14, 0x0A, 0x05, 0x50, 0x5A, 0x6E];
     expect_reply(&rt, &mut board, &get, &shown);
-    let kept = board
-        .store()
-        .get(&Key::Thresholds(5))
-        .expect(&rt, "a record");
-    expect_bytes(&rt, kept, &shown[1..]);
-    drop(board);
-}
-
-#[test]
-fn what_happens_at_the_bench_reaches_a_board(rt: HostRuntime) {
-    let mut board = sample(&rt, rt.alloc());
+    let kept = board.store().get(&Key::Thresholds(5));
+    expect_bytes(&rt, kept.expect(&rt, "a record"), &shown[1..]);
     let reading = Bench::Reading {
         sensor: 9,
         raw: 0x60,
     };
-    expect(&rt, board.bench(reading) == Err(NoSensor), "no such sensor");
-    expect(&rt, board.bench(Bench::Tick) == Ok(()), "a tick");
+    let no_sensor = board.bench(reading);
+    let tick = board.bench(Bench::Tick);
     drop(board);
+    expect_equal(&rt, no_sensor, Err(NoSensor));
+    expect_equal(&rt, tick, Ok(()));
 }
 
 /// The data of the request that makes upper critical of sensor 5 this.
@@ -67,12 +60,8 @@ fn set_data(upper_critical: u8) -> [u8; 8] {
 }
 
 #[test]
-fn a_change_is_asked(rt: HostRuntime) {
-    expect(
-        &rt,
-        Limits::key(&UPPER_CRITICAL) == Key::Thresholds(5),
-        "the key",
-    );
+fn a_change_is_asked_and_read(rt: HostRuntime) {
+    expect_equal(&rt, Limits::key(&UPPER_CRITICAL), Key::Thresholds(5));
     let set = Limits::set_asked(&UPPER_CRITICAL);
     let asked = Asked::Ipmi {
         from: 0,
@@ -83,11 +72,6 @@ fn a_change_is_asked(rt: HostRuntime) {
     };
     expect(&rt, set.is(&asked), "the request");
     expect(&rt, is_changing(&set), "it changes records");
-}
-
-#[test]
-fn a_request_is_read(rt: HostRuntime) {
-    let set = Limits::set_asked(&UPPER_CRITICAL);
     let (command, body) = read_request(&set);
     let is_set = matches!(command, Ok(Command::Set(PlainKind::Thresholds)));
     expect(&rt, is_set, "the command");
@@ -101,66 +85,37 @@ fn a_change_is_undone(rt: HostRuntime) {
     expect_bytes(&rt, Limits::set_data(&undo).as_slice(), &set_data(0x5F));
 }
 
-/// Of the lengths from 0 on, those that the command takes: `+` for each, and `.` for each other.
-fn allowed(alloc: Global, lengths: Lengths) -> Result<String, AllocError> {
+/// The command takes these of the lengths from 0 on: `+` stands for each, and `.` for each other.
+fn expect_allowed(rt: &impl Abort, lengths: Lengths, want: &str) {
     let body = [3; 30];
-    let mut text = String::new(alloc);
+    let mut marks = [b'.'; 30];
     for length in 0..30 {
-        let allows = lengths.allow(&body[..length]);
-        text.push_str(if allows { "+" } else { "." })?;
+        if lengths.allow(&body[..length]) {
+            marks[length] = b'+';
+        }
     }
-    Ok(text)
-}
-
-/// The command takes these lengths.
-fn expect_allowed(rt: &impl Abort, alloc: Global, lengths: Lengths, want: &str) {
-    let allowed = allowed(alloc, lengths).expect(rt, "memory");
-    expect_text(rt, allowed.as_str(), want);
-    drop(allowed);
+    expect_bytes(rt, &marks, want.as_bytes());
 }
 
 #[test]
 fn a_command_takes_the_lengths_of_its_line(rt: HostRuntime) {
-    let alloc = rt.alloc();
-    expect_allowed(
-        &rt,
-        alloc,
-        Lengths::Exactly(4),
-        "....+.........................",
-    );
-    expect_allowed(
-        &rt,
-        alloc,
-        Lengths::Between(2, 6),
-        "..+++++.......................",
-    );
-    expect_allowed(
-        &rt,
-        alloc,
-        Lengths::AtLeast(1),
-        ".+++++++++++++++++++++++++++++",
-    );
-    // Set User Password.
-    expect_allowed(
-        &rt,
-        alloc,
-        Lengths::OneOf(2, 18, 22),
-        "..+...............+...+.......",
-    );
-    // Set State Effecter States, with three fields.
-    expect_allowed(
-        &rt,
-        alloc,
-        Lengths::PairsCountedAt(2),
-        ".........+....................",
-    );
+    let exactly = "....+.........................";
+    expect_allowed(&rt, Lengths::Exactly(4), exactly);
+    let between = "..+++++.......................";
+    expect_allowed(&rt, Lengths::Between(2, 6), between);
+    let at_least = ".+++++++++++++++++++++++++++++";
+    expect_allowed(&rt, Lengths::AtLeast(1), at_least);
+    let password = "..+...............+...+.......";
+    expect_allowed(&rt, Lengths::OneOf(2, 18, 22), password);
+    let three_states = ".........+....................";
+    expect_allowed(&rt, Lengths::PairsCountedAt(2), three_states);
 }
 
 /// The request of the change has these data, in hexadecimal.
 fn expect_data(rt: &impl Abort, alloc: Global, op: Op<'_>, want: &str) {
     let data = Limits::set_data(&op);
     let digits = hex::encode_upper(alloc, data.as_slice()).expect(rt, "memory");
-    expect_text(rt, digits.as_str(), want);
+    expect_equal(rt, digits.as_str(), want);
     drop(digits);
 }
 

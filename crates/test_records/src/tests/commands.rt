@@ -1,8 +1,7 @@
 //! Commands: each refusal, in the order of the checks, what is answered, and which commands are setting ones.
-use super::expect_told;
 
 /// Commands of a board.
-const COMMANDS: &str = "story each check of a command has its code
+pub(crate) const COMMANDS: &str = "story each check of a command has its code
 ipmi 11 26 0510000000005A -> C2
 ipmi 11 2B 0510000000005A -> C2
 ipmi 10 2B 0510000000005A -> C1
@@ -136,13 +135,8 @@ ipmi 10 25 FEFF -> 00 1F01
 ipmi 10 29 FE -> 00 801F000000
 ";
 
-#[test]
-fn each_check_of_a_command_has_its_code(rt: HostRuntime) {
-    expect_told(&rt, rt.alloc(), COMMANDS);
-}
-
 /// Which commands are setting ones.
-const MARKED: &str = "story setting commands are marked
+pub(crate) const MARKED: &str = "story setting commands are marked
 marked ipmi 00 01 -> gets
 marked ipmi 00 06 -> sets
 marked ipmi 10 24 -> sets
@@ -191,8 +185,3 @@ marked pldm 03 07 00000000050200032800000000000000 -> sets
 marked pldm 03 08 00000000010200 -> gets
 marked pldm 03 01 000000000100 -> gets
 ";
-
-#[test]
-fn setting_commands_are_marked(rt: HostRuntime) {
-    expect_told(&rt, rt.alloc(), MARKED);
-}

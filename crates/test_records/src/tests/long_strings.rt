@@ -1,5 +1,5 @@
 //! Strings of up to 1,024 bytes, over PLDM.
-use super::{expect, expect_told};
+use super::expect;
 use cfg_records::{Asked, Key, Op};
 use record_base::SetBiosAttribute;
 use record_kinds::Limits;
@@ -7,7 +7,7 @@ use std::process::Abort;
 use two_wire::Below;
 
 /// An entry of over 205 bytes is shown in parts of 192 bytes, and one of over 247 can be set in parts alone.
-const LONG: &str = "story a long string is set in parts and shown in parts
+pub(crate) const LONG: &str = "story a long string is set in parts and shown in parts
 board attribute = [
 board { name = \"Quiet\", kind = \"enumeration\", values = [\"off\", \"on\"], default = [0], current = [0], readonly = false },
 board { name = \"Asset\", kind = \"string\", string_type = 1, least = 0, most = 1024, default = \"\", current = \"rack-1\", readonly = false },
@@ -191,11 +191,6 @@ undo pldm 03 07 0000000005 000001 0100 62 : 0000000005 000001 0004 61*1024 -> 00
 undo pldm 03 07 0000000005 000001 0100 62 : 0000000005 000001 0104 61*1025 -> none
 undo pldm 03 07 0000000005 000001 0100 62 : C000000001 000001 9001 61*187 -> none
 ";
-
-#[test]
-fn long_strings_are_set_and_shown_in_parts(rt: HostRuntime) {
-    expect_told(&rt, rt.alloc(), LONG);
-}
 
 /// The change has this request as the part of this number.
 fn expect_part(rt: &impl Abort, set: &Op<'_>, part: u8, wanted: &Asked) {

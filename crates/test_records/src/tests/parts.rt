@@ -1,6 +1,6 @@
 //! Parts of boards, made by their calls: effecters, what users may do, attributes and sensor data records.
-use super::{expect, expect_bytes};
-use cfg_records::{Items, Key, SdrRecord};
+use super::{expect, expect_bytes, expect_each, expect_equal};
+use cfg_records::{Items, Key, SdrRecord, StartValue};
 use record_base::{
     Attribute, AttributeKind, AttributeRange, ChannelAccess, EnumerationAttribute, Indexes,
     IntegerAttribute, IntegerSteps, NumericEffecter, NumericRange, NumericSize, PossibleValues,
@@ -10,38 +10,30 @@ use record_base::{
 use std::alloc::Global;
 use std::process::Abort;
 
-#[test]
-fn a_channel_has_an_access(rt: HostRuntime) {
-    let access = ChannelAccess::new(0x3A, 3).expect(&rt, "an access");
-    expect(
-        &rt,
-        access.access == 0x3A && access.limit == 3,
-        "the access",
-    );
-    expect(&rt, ChannelAccess::new(0x3A, 6).is_none(), "no limit");
+/// The record has this key and this value.
+fn expect_pair(rt: &impl Abort, (key, value): (Key, StartValue), wanted: Key, bytes: &[u8]) {
+    expect_equal(rt, key, wanted);
+    expect_bytes(rt, value.as_slice(), bytes);
+    drop(value);
 }
 
 #[test]
-fn users_have_access_to_channels(rt: HostRuntime) {
+fn channels_have_an_access_and_users_have_one_to_them(rt: HostRuntime) {
     let on = UserOnChannel::of(2, 1);
-    expect(&rt, on.user == UserNumber::of(1), "the user");
+    let access = ChannelAccess::new(0x3A, 3).expect(&rt, "an access");
+    let hold = [
+        access.access == 0x3A && access.limit == 3,
+        ChannelAccess::new(0x3A, 6).is_none(),
+        on.user == UserNumber::of(1),
+        UserAccess::new(on, 0x76).is_none(),
+    ];
+    expect_each(
+        &rt,
+        &hold,
+        "the access, no limit, the user, no limit of a user",
+    );
     let access = UserAccess::new(on, 0x71).expect(&rt, "a user's access");
-    let (key, value) = access.pair();
-    expect(&rt, key == Key::UserAccess(on), "the key");
-    expect_bytes(&rt, value.as_slice(), &[0x71]);
-    drop(value);
-    expect(&rt, UserAccess::new(on, 0x76).is_none(), "no limit");
-}
-
-// From -2 to 1, and -1, in two's complement.
-#[test]
-fn a_numeric_effecter_has_a_number(rt: HostRuntime) {
-    let range = NumericRange::new(NumericSize::S8, 0xFE, 1).expect(&rt, "a range");
-    let effecter = NumericEffecter::new(5, true, range, 0xFF).expect(&rt, "an effecter");
-    let (key, value) = effecter.pair();
-    expect(&rt, key == Key::NumericEffecter(5), "the key");
-    expect_bytes(&rt, value.as_slice(), &[0xFF]);
-    drop(value);
+    expect_pair(&rt, access.pair(), Key::UserAccess(on), &[0x71]);
 }
 
 /// An effecter of one field, of two states.
@@ -52,14 +44,16 @@ fn state_effecter(rt: &impl Abort, alloc: Global) -> StateEffecter {
     StateEffecter::new(9, true, fields).expect(rt, "an effecter")
 }
 
+// The numeric one goes from -2 to 1, and is at -1, in two's complement.
 #[test]
-fn a_state_effecter_has_states(rt: HostRuntime) {
-    let effecter = state_effecter(&rt, rt.alloc());
-    let (key, value) = effecter.pair();
-    expect(&rt, key == Key::StateEffecter(9), "the key");
-    expect_bytes(&rt, value.as_slice(), &[2]);
-    drop(value);
-    drop(effecter);
+fn effecters_have_a_number_and_states(rt: HostRuntime) {
+    let range = NumericRange::new(NumericSize::S8, 0xFE, 1).expect(&rt, "a range");
+    let numeric = NumericEffecter::new(5, true, range, 0xFF).expect(&rt, "an effecter");
+    expect_pair(&rt, numeric.pair(), Key::NumericEffecter(5), &[0xFF]);
+    let states = state_effecter(&rt, rt.alloc());
+    let pair = states.pair();
+    drop(states);
+    expect_pair(&rt, pair, Key::StateEffecter(9), &[2]);
 }
 
 /// An attribute that is off or on.
@@ -68,15 +62,6 @@ fn quiet(rt: &impl Abort, alloc: Global) -> EnumerationAttribute {
     let values = names.expect(rt, "memory");
     let (off, on) = (Indexes::from_slice(&[0]), Indexes::from_slice(&[1]));
     EnumerationAttribute::new(values, off, on).expect(rt, "an enumeration")
-}
-
-#[test]
-fn an_enumeration_has_the_range_of_its_values(rt: HostRuntime) {
-    let kind = AttributeKind::Enumeration(quiet(&rt, rt.alloc()));
-    let two = PossibleValues::new(2).expect(&rt, "values");
-    let wanted = AttributeRange::Enumeration(two);
-    expect(&rt, kind.range() == wanted, "two values");
-    drop(kind);
 }
 
 /// A text of at most 200 bytes.
@@ -92,40 +77,38 @@ fn asset(rt: &impl Abort, alloc: Global) -> Attribute {
     }
 }
 
-#[test]
-fn an_attribute_has_its_record(rt: HostRuntime) {
-    let asset = asset(&rt, rt.alloc());
-    let record = asset.pair(rt.alloc());
-    drop(asset);
-    let (key, value) = record.expect(&rt, "memory");
-    expect(&rt, key == Key::BiosAttribute(1), "the key");
-    expect_bytes(&rt, value.as_slice(), &[2, 0, 0x61, 0x62]);
-    drop(value);
-}
-
-#[test]
-fn an_integer_goes_by_its_steps(rt: HostRuntime) {
+/// Which integers go by their steps, and which bytes are a record.
+fn steps_and_records() -> [bool; 3] {
     let steps = IntegerSteps {
         lower: 0,
         upper: 300,
         increment: 10,
     };
-    expect(
-        &rt,
+    [
         IntegerAttribute::new(steps, 30, 40).is_some(),
-        "on its steps",
-    );
-    expect(
-        &rt,
         IntegerAttribute::new(steps, 30, 45).is_none(),
-        "between them",
-    );
+        SdrRecord::new(&[1, 0, 0x51, 0xC0, 2, 0]).is_none(),
+    ]
 }
 
 #[test]
-fn a_record_has_the_bytes_that_it_counts(rt: HostRuntime) {
+fn attributes_and_records_have_what_they_count(rt: HostRuntime) {
+    let kind = AttributeKind::Enumeration(quiet(&rt, rt.alloc()));
+    let range = kind.range();
+    drop(kind);
+    let two = PossibleValues::new(2).expect(&rt, "values");
+    let is_of_two = range == AttributeRange::Enumeration(two);
+    expect(&rt, is_of_two, "two values");
+    let asset = asset(&rt, rt.alloc());
+    let pair = asset.pair(rt.alloc());
+    drop(asset);
+    let pair = pair.expect(&rt, "memory");
+    expect_pair(&rt, pair, Key::BiosAttribute(1), &[2, 0, 0x61, 0x62]);
     let record = SdrRecord::new(&[1, 0, 0x51, 0xC0, 1, 0]).expect(&rt, "a record");
     expect_bytes(&rt, record.as_slice(), &[1, 0, 0x51, 0xC0, 1, 0]);
-    let short = SdrRecord::new(&[1, 0, 0x51, 0xC0, 2, 0]);
-    expect(&rt, short.is_none(), "a byte is missing");
+    expect_each(
+        &rt,
+        &steps_and_records(),
+        "on its steps, between them, a record of which a byte is missing",
+    );
 }

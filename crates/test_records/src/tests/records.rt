@@ -2,7 +2,7 @@
 ghost use Rattle.std.specs.Prelude.{◌<◌, IsTrue, length};
 ghost use Rattle.record_base.specs.Keys.{is_length};
 
-use super::{expect, expect_bytes, expect_equal, expect_text};
+use super::{expect, expect_bytes, expect_each, expect_equal};
 use cfg_records::{
     Answered, Asked, Key, Live, NoKey, PlainStore, Sensor, Sensors, StartValue, Store, StoreFault,
     sample_board,
@@ -12,7 +12,7 @@ use record_base::{
     BootFlags, BootOptions, BootParameter, EventEnable, EventMasks, Hysteresis, ThresholdMasks,
     Thresholds,
 };
-use std::alloc::{AllocError, Global};
+use std::alloc::Global;
 use std::process::Abort;
 use two_wire::{Below, Bytes, Lun, NetFn, code};
 
@@ -40,50 +40,33 @@ BiosAttribute(1) 06007261636B2D31
 BiosAttribute(2) 1E00000000000000
 ";
 
-/// Appends the line of a record.
-fn push_record(
-    alloc: Global,
-    text: &mut String,
-    key: &Key,
-    value: &StartValue,
-) -> Result<(), AllocError> {
-    write!(text, "{key:?} ")?;
-    let digits = hex::encode_upper(alloc, value.as_slice())?;
-    text.push_str(digits.as_str())?;
-    text.push_str("\n")
-}
-
 /// The records, a line for each.
-fn spelt(alloc: Global, pairs: &[(Key, StartValue)]) -> Result<String, AllocError> {
+fn spelt(rt: &impl Abort, alloc: Global, pairs: &[(Key, StartValue)]) -> String {
     let mut text = String::new(alloc);
     for (key, value) in pairs {
-        push_record(alloc, &mut text, key, value)?;
+        let digits = hex::encode_upper(alloc, value.as_slice()).expect(rt, "memory");
+        writeln!(text, "{key:?} {}", digits.as_str()).expect(rt, "memory");
+        drop(digits);
     }
-    Ok(text)
+    text
 }
 
-/// The records of the sample board, a line for each.
+/// The records of the sample board, a line for each. Its terminus is 5.
 fn spelt_sample(rt: &impl Abort, alloc: Global) -> String {
     let file = sample_board(alloc).expect(rt, "memory");
+    expect_equal(rt, file.tid, 5);
     let pairs = file.records(alloc).expect(rt, "memory");
     drop(file);
-    let text = spelt(alloc, pairs.as_slice()).expect(rt, "memory");
+    let text = spelt(rt, alloc, pairs.as_slice());
     drop(pairs);
     text
 }
 
 #[test]
-fn the_sample_board_begins_with_its_records(rt: HostRuntime) {
+fn the_sample_board_has_a_terminus_and_begins_with_its_records(rt: HostRuntime) {
     let spelt = spelt_sample(&rt, rt.alloc());
-    expect_text(&rt, spelt.as_str(), RECORDS);
+    expect_equal(&rt, spelt.as_str(), RECORDS);
     drop(spelt);
-}
-
-#[test]
-fn the_sample_board_has_a_terminus(rt: HostRuntime) {
-    let file = sample_board(rt.alloc()).expect(&rt, "memory");
-    expect(&rt, file.tid == 5, "the terminus");
-    drop(file);
 }
 
 /// The store has this record.
@@ -119,52 +102,45 @@ fn sample_store(rt: &impl Abort, alloc: Global) -> PlainStore {
 }
 
 #[test]
-fn a_store_has_what_was_put(rt: HostRuntime) {
+fn a_store_has_what_was_put_and_nothing_where_there_is_no_record(rt: HostRuntime) {
     let mut store = sample_store(&rt, rt.alloc());
     let key = Key::Hysteresis(7);
     expect_put(&rt, &mut store, &key, &[3, 1]);
     let place = store.find(&key);
     expect_written(&rt, &mut store, &key, &[3, 1], &[4, 2]);
-    expect(
-        &rt,
-        store.find(&key) == place,
-        "the record stays in its place",
-    );
-    drop(store);
-}
-
-#[test]
-fn nothing_is_put_where_there_is_no_record(rt: HostRuntime) {
-    let mut store = sample_store(&rt, rt.alloc());
+    let is_same = store.find(&key) == place;
     let missing = Key::Hysteresis(9);
-    expect(&rt, store.put(&missing, &[3, 1]) == Err(NoKey), "no record");
-    expect(&rt, store.get(&missing).is_none(), "none is made");
+    let put = store.put(&missing, &[3, 1]);
+    let is_none = store.get(&missing).is_none();
     drop(store);
+    expect_equal(&rt, put, Err(NoKey));
+    expect_each(
+        &rt,
+        &[is_same, is_none],
+        "the record stays in its place, none is made",
+    );
 }
 
-/// Why neither store is made of the pairs.
-fn faults_of(alloc: Global, pairs: &[(Key, StartValue)]) -> Option<(StoreFault, StoreFault)> {
-    let plain = PlainStore::new(alloc, pairs).err()?;
-    let packed = PackedStore::new(alloc, pairs).err()?;
-    Some((plain, packed))
+/// A record whose value is too short.
+fn short() -> (Key, StartValue) {
+    (Key::Hysteresis(5), StartValue::few(&[1]))
+}
+
+/// Neither store is made of these pairs, by this fault.
+fn expect_fault(rt: &impl Abort, alloc: Global, pairs: Vec<(Key, StartValue)>, fault: StoreFault) {
+    let plain = PlainStore::new(alloc, pairs.as_slice()).err();
+    let packed = PackedStore::new(alloc, pairs.as_slice()).err();
+    drop(pairs);
+    expect_equal(rt, (plain, packed), (Some(fault), Some(fault)));
 }
 
 #[test]
 fn a_store_refuses_a_key_twice_before_a_bad_value(rt: HostRuntime) {
-    let pair = || (Key::Hysteresis(5), StartValue::few(&[1]));
-    let bad = vec![in rt.alloc(); pair()].expect(&rt, "memory");
-    let faults = faults_of(rt.alloc(), bad.as_slice());
-    drop(bad);
-    expect(
-        &rt,
-        faults == Some((StoreFault::BadValue, StoreFault::BadValue)),
-        "a bad value",
-    );
-    let twice = vec![in rt.alloc(); pair(), pair()].expect(&rt, "memory");
-    let faults = faults_of(rt.alloc(), twice.as_slice());
-    drop(twice);
-    let same = StoreFault::TwiceTheSameKey;
-    expect(&rt, faults == Some((same, same)), "a key twice");
+    let alloc = rt.alloc();
+    let bad = vec![in alloc; short()].expect(&rt, "memory");
+    expect_fault(&rt, alloc, bad, StoreFault::BadValue);
+    let twice = vec![in alloc; short(), short()].expect(&rt, "memory");
+    expect_fault(&rt, alloc, twice, StoreFault::TwiceTheSameKey);
 }
 
 /// A packed store of a delay and a policy.
@@ -184,12 +160,9 @@ fn a_packed_store_has_its_pairs(rt: HostRuntime) {
     expect_record(&rt, &store, &delay, &[3, 1, 4, 1, 5, 9, 2, 6]);
     expect_put(&rt, &mut store, &Key::PowerPolicy, &[1]);
     expect_put(&rt, &mut store, &delay, &[2, 7]);
-    expect(
-        &rt,
-        store.put(&Key::Watchdog, &[0; 5]) == Err(NoKey),
-        "no such key",
-    );
+    let put = store.put(&Key::Watchdog, &[0; 5]);
     drop(store);
+    expect_equal(&rt, put, Err(NoKey));
 }
 
 /// No event.
@@ -214,33 +187,27 @@ fn bare(number: u8) -> Option<Sensor>
     })
 }
 
-/// Sensors with these numbers, without thresholds and events, and the first of them once more where it is asked for.
-fn bare_sensors(rt: &impl Abort, alloc: Global, count: u8, again: bool) -> Vec<Sensor> {
+/// Whether a board has so many sensors, and the first of them once more in the place of the last where it is asked for.
+fn are_sensors(rt: &impl Abort, alloc: Global, count: u8, again: bool) -> bool {
     let mut sensors = Vec::new(alloc);
     for number in 0..count {
-        let number = if again && number + 1 == count {
-            0
-        } else {
-            number
-        };
-        let sensor = bare(number).expect(rt, "a sensor");
+        let is_again = again && number + 1 == count;
+        let sensor = bare(if is_again { 0 } else { number }).expect(rt, "a sensor");
         sensors.push(sensor).expect(rt, "memory");
     }
-    sensors
-}
-
-/// Whether a board has so many sensors, and the first of them once more where it is asked for.
-fn are_sensors(rt: &impl Abort, alloc: Global, count: u8, again: bool) -> bool {
-    Sensors::new(bare_sensors(rt, alloc, count, again)).is_some()
+    Sensors::new(sensors).is_some()
 }
 
 #[test]
 fn a_board_has_at_most_32_sensors_with_numbers_of_their_own(rt: HostRuntime) {
     let alloc = rt.alloc();
-    expect(&rt, are_sensors(&rt, alloc, 2, false), "2");
-    expect(&rt, !are_sensors(&rt, alloc, 2, true), "one number twice");
-    expect(&rt, are_sensors(&rt, alloc, 32, false), "32");
-    expect(&rt, !are_sensors(&rt, alloc, 33, false), "33");
+    let hold = [
+        are_sensors(&rt, alloc, 2, false),
+        !are_sensors(&rt, alloc, 2, true),
+        are_sensors(&rt, alloc, 32, false),
+        !are_sensors(&rt, alloc, 33, false),
+    ];
+    expect_each(&rt, &hold, "2, one number twice, 32, 33");
 }
 
 #[test]
@@ -254,13 +221,14 @@ fn boot_parameter_3_has_five_bits(rt: HostRuntime) {
     };
     let boot = BootOptions::new(0x1F, 0xFF, flags).expect(&rt, "boot options");
     let (key, value) = boot.pair(BootParameter::Flags);
-    expect(&rt, key == Key::BootParam(BootParameter::Flags), "the key");
+    expect_equal(&rt, key, Key::BootParam(BootParameter::Flags));
     expect_bytes(&rt, value.as_slice(), &[0, 1, 2, 3, 4, 5]);
+    drop(value);
     expect(&rt, BootOptions::new(0x20, 0, flags).is_none(), "six bits");
 }
 
 #[test]
-fn requests_are_compared_whole(rt: HostRuntime) {
+fn requests_and_replies_are_compared_whole(rt: HostRuntime) {
     let asked = Asked::Ipmi {
         from: 0x2C,
         net_fn: NetFn::new(4),
@@ -274,22 +242,28 @@ fn requests_are_compared_whole(rt: HostRuntime) {
         command: 0x27,
         body: Bytes::from_slice(&[5]),
     };
-    expect(&rt, asked.copy().is(&asked), "a copy");
-    expect(&rt, !asked.is(&other), "another bus");
-}
-
-#[test]
-fn replies_are_compared_whole(rt: HostRuntime) {
     let done = Answered::done(&[1]);
     let refused = Answered::refused(code::NOT_PRESENT);
-    expect(&rt, done.copy().is(&done), "a copy");
-    expect(&rt, !done.is(&refused), "another code");
+    let hold = [
+        asked.copy().is(&asked),
+        !asked.is(&other),
+        done.copy().is(&done),
+        !done.is(&refused),
+    ];
+    expect_each(
+        &rt,
+        &hold,
+        "a copy of a request, another bus, a copy of a reply, another code",
+    );
 }
 
 #[test]
 fn a_board_begins_with_its_watchdog_stopped(rt: HostRuntime) {
     let live = Live::opening();
-    expect(&rt, live.chassis.number() == 0, "no chassis bits");
-    expect(&rt, !live.running && live.countdown == 0, "stopped");
-    expect(&rt, live.expired == 0, "no flag");
+    let hold = [
+        live.chassis.number() == 0,
+        !live.running && live.countdown == 0,
+        live.expired == 0,
+    ];
+    expect_each(&rt, &hold, "no chassis bits, stopped, no flag");
 }

@@ -1,12 +1,12 @@
 //! Calls of a sensor's records: thresholds, hysteresis and readings.
 ghost use Rattle.std.specs.Prelude.{◌≡◌, ◌<◌};
 
-use super::{expect, expect_bytes};
+use super::{expect_bytes, expect_equal};
 use cfg_records::{Live, RecordData, RecordKind, Value};
 use record_base::{EventMasks, Hysteresis, SetHysteresis, SetThresholds, ThresholdMasks};
 use sensor_recs::{Compared, Event, HysteresisLimits, ThresholdLimits};
 use std::process::Abort;
-use two_wire::code::INVALID_DATA_FIELD;
+use two_wire::code::{Code, INVALID_DATA_FIELD};
 
 /// The thresholds of a temperature sensor.
 const THRESHOLDS: [u8; 6] = [0x14, 0x0A, 0x05, 0x50, 0x5F, 0x6E];
@@ -21,33 +21,22 @@ fn limits(rt: &impl Abort) -> ThresholdLimits
     }
 }
 
-/// A Set of upper critical.
-fn upper_critical(value: u8) -> SetThresholds {
-    SetThresholds {
+/// A Set of upper critical to this value is carried out or refused so, and leaves these bytes.
+fn expect_set(rt: &impl Abort, value: u8, done: Result<(), Code>, kept: &[u8]) {
+    let set = SetThresholds {
         sensor: 5,
         mask: 0x10,
         values: [0, 0, 0, 0, value, 0],
-    }
+    };
+    let mut new = Value::from_slice(&[0xEE]);
+    expect_equal(rt, limits(rt).apply(&set, &THRESHOLDS, &mut new), done);
+    expect_bytes(rt, new.as_slice(), kept);
 }
 
 #[test]
-fn thresholds_out_of_order_are_refused(rt: HostRuntime) {
-    let mut new = Value::from_slice(&[0xEE]);
-    let refused = limits(&rt).apply(&upper_critical(0x70), &THRESHOLDS, &mut new);
-    expect(
-        &rt,
-        refused == Err(INVALID_DATA_FIELD),
-        "above upper non-recoverable",
-    );
-    expect_bytes(&rt, new.as_slice(), &[0xEE]);
-}
-
-#[test]
-fn thresholds_in_order_are_set(rt: HostRuntime) {
-    let mut new = Value::from_slice(&[0xEE]);
-    let set = limits(&rt).apply(&upper_critical(0x60), &THRESHOLDS, &mut new);
-    expect(&rt, set.is_ok(), "in order");
-    expect_bytes(&rt, new.as_slice(), &[0x14, 0x0A, 0x05, 0x50, 0x60, 0x6E]);
+fn thresholds_in_order_are_set_and_others_are_refused(rt: HostRuntime) {
+    expect_set(&rt, 0x70, Err(INVALID_DATA_FIELD), &[0xEE]);
+    expect_set(&rt, 0x60, Ok(()), &[0x14, 0x0A, 0x05, 0x50, 0x60, 0x6E]);
 }
 
 #[test]
@@ -103,11 +92,7 @@ fn expect_reading(rt: &impl Abort, beyond: &mut [bool; 6], raw: u8, event: Event
 
 #[test]
 fn upper_critical_rises_and_falls(rt: HostRuntime) {
-    expect(
-        &rt,
-        crossed(false).offset() == 9,
-        "the offset of upper critical",
-    );
+    expect_equal(&rt, crossed(false).offset(), 9);
     let mut beyond = [false; 6];
     let both = [false, false, false, true, true, false];
     expect_reading(&rt, &mut beyond, 0x60, crossed(false), both);

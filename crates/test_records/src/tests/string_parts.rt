@@ -1,6 +1,6 @@
 //! Strings that are set in parts, over PLDM.
 use super::attribute::asset;
-use super::{expect, expect_bytes, expect_told};
+use super::{expect, expect_bytes, expect_equal};
 use attribute_parts::{Entry, SetPart, Stagings, part_in};
 use record_base::TextLengths;
 use std::alloc::Global;
@@ -8,7 +8,7 @@ use std::process::Abort;
 use two_wire::code::{PLDM_INVALID_DATA, PLDM_INVALID_LENGTH};
 
 /// A text of 200 bytes has an entry of 205: a first part of 192 and a last one of 13. Every code stands in the order of the rules.
-const PARTS: &str = "story a string is set in parts and shown
+pub(crate) const PARTS: &str = "story a string is set in parts and shown
 pldm 03 08 00000000010100 -> 00 0000000005 010001 0600 7261636B2D31
 pldm 03 07 0000000001 010001 C800 61*187 -> 00 C0000000
 # Nothing is shown of it before the last part.
@@ -189,11 +189,6 @@ pldm 03 07 C000000004 6A -> 00 00000000
 pldm 03 08 00000000010100 -> 00 0000000005 010001 BC00 68*187 6A
 ";
 
-#[test]
-fn strings_are_set_in_parts_and_refused_in_order(rt: HostRuntime) {
-    expect_told(&rt, rt.alloc(), PARTS);
-}
-
 /// The data of a first part: of a text of 200 bytes for attribute 1, which has 187 bytes 00h so far.
 fn first_part() -> [u8; 197] {
     let mut body = [0; 197];
@@ -214,25 +209,21 @@ fn staged(rt: &impl Abort, alloc: Global) -> Stagings {
     stagings
 }
 
-#[test]
-fn a_middle_part_that_ends_the_entry_is_refused(rt: HostRuntime) {
-    let mut stagings = staged(&rt, rt.alloc());
+/// A middle part that ends the entry is refused, and so is one of a requester that staged nothing.
+fn expect_refused(rt: &impl Abort, stagings: &mut Stagings) {
     let long = stagings.add(0x0B, 192, &[0; 192]);
-    expect(&rt, long == Err(PLDM_INVALID_LENGTH), "too long");
+    expect_equal(rt, long, Err(PLDM_INVALID_LENGTH));
     let other = stagings.add(0x0C, 192, &[0; 192]);
-    expect(&rt, other == Err(PLDM_INVALID_DATA), "nothing is staged");
-    let mut place = Entry::new();
-    let ended = stagings.ended(0x0B, 192, &[9; 13], &mut place);
-    expect(&rt, ended.is_ok(), "what is staged stays");
-    drop(stagings);
+    expect_equal(rt, other, Err(PLDM_INVALID_DATA));
 }
 
 #[test]
 fn a_requester_has_what_it_staged_until_it_ends(rt: HostRuntime) {
     let mut stagings = staged(&rt, rt.alloc());
+    expect_refused(&rt, &mut stagings);
     let mut place = Entry::new();
     let ended = stagings.ended(0x0B, 192, &[9; 13], &mut place).ok();
-    let op = ended.expect(&rt, "an operation");
+    let op = ended.expect(&rt, "what is staged stays");
     expect(&rt, op.attribute == 1 && op.attribute_type == 1, "a string");
     assert!(rt; op.value.as_slice().len() == 202);
     expect_bytes(&rt, &op.value.as_slice()[189..], &[9; 13]);

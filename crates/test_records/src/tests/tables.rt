@@ -1,5 +1,5 @@
 //! Tables of attributes, by their bytes, and the calls that make and read them.
-use super::{expect, expect_bytes, expect_text};
+use super::{expect_bytes, expect_each, expect_equal};
 use bios_attr::attribute_entry::{KindFields, attribute_at};
 use bios_attr::string_entry::string_at;
 use bios_attr::table_entry::entry_at;
@@ -7,7 +7,7 @@ use bios_attr::{BiosTable, CurrentValues, Tables, count_table};
 use cfg_records::sample_board;
 use pldm_base::{GET_FIRST_PART, GET_NEXT_PART, TransferFlag, crc32};
 use record_base::attribute_sizes::MOST_VALUE;
-use std::alloc::{AllocError, Global};
+use std::alloc::Global;
 use std::process::Abort;
 use two_wire::Bytes;
 
@@ -39,7 +39,20 @@ entry attributes 0000 00 0000 01 0100 02 00 -> None
 entry attributes 0000 81 0000 01 0000 0900 0000 -> Some(12)
 entry values 0000 80 01 00 09 -> Some(5)
 entry values 0000 00 03 00 09 -> None
-entry values 0000 02 01 00 09 -> None";
+entry values 0000 02 01 00 09 -> None
+# The length field alone bounds a value: no request carries a text of 300 bytes whole. Of the second a byte is missing.
+entry values 0700 01 2C01 6161616161616161616161616161616161616161616161616161616161616161616161616161616161616161616161616161 \
+6161616161616161616161616161616161616161616161616161616161616161616161616161616161616161616161616161 \
+6161616161616161616161616161616161616161616161616161616161616161616161616161616161616161616161616161 \
+6161616161616161616161616161616161616161616161616161616161616161616161616161616161616161616161616161 \
+6161616161616161616161616161616161616161616161616161616161616161616161616161616161616161616161616161 \
+6161616161616161616161616161616161616161616161616161616161616161616161616161616161616161616161616161 -> Some(305)
+entry values 0700 01 2C01 6161616161616161616161616161616161616161616161616161616161616161616161616161616161616161616161616161 \
+6161616161616161616161616161616161616161616161616161616161616161616161616161616161616161616161616161 \
+6161616161616161616161616161616161616161616161616161616161616161616161616161616161616161616161616161 \
+6161616161616161616161616161616161616161616161616161616161616161616161616161616161616161616161616161 \
+6161616161616161616161616161616161616161616161616161616161616161616161616161616161616161616161616161 \
+61616161616161616161616161616161616161616161616161616161616161616161616161616161616161616161616161 -> None";
 
 /// Lines that are told wrong: each comes otherwise.
 const WRONG: &str = "table strings -> Ok(1)
@@ -69,15 +82,11 @@ fn table_of(name: &str) -> Option<BiosTable> {
 }
 
 /// The bytes of the digits, between which blanks may stand.
-fn bytes_of(alloc: Global, digits: &str) -> Result<Option<Vec<u8>>, AllocError> {
-    let mut bytes = Vec::new(alloc);
-    for word in digits.split(' ') {
-        match text_lines::bytes(alloc, word)? {
-            Some(part) => bytes.extend_from_slice(part.as_slice())?,
-            None => return Ok(None),
-        }
-    }
-    Ok(Some(bytes))
+fn bytes_of(rt: &impl Abort, alloc: Global, digits: &str) -> Option<Vec<u8>> {
+    let digits = digits.replace(alloc, " ", "").expect(rt, "memory");
+    let bytes = text_lines::bytes(alloc, digits.as_str());
+    drop(digits);
+    bytes.expect(rt, "memory")
 }
 
 /// How many bytes the first entry has, if there is one.
@@ -88,95 +97,62 @@ fn first_length(table: BiosTable, bytes: &[u8]) -> Option<usize> {
 
 /// What is read of the bytes.
 fn read(
+    rt: &impl Abort,
     alloc: Global,
     word: &str,
     table: BiosTable,
     bytes: &mut Vec<u8>,
-) -> Result<String, AllocError> {
+) -> String {
     if word == "table" {
-        bytes.extend_from_slice(&crc32(bytes.as_slice()).to_le_bytes())?;
+        let check = crc32(bytes.as_slice()).to_le_bytes();
+        bytes.extend_from_slice(&check).expect(rt, "memory");
     }
-    match word {
+    let read = match word {
         "table" | "whole" => format!(in alloc; "{:?}", count_table(table, bytes.as_slice())),
         "entry" => format!(in alloc; "{:?}", first_length(table, bytes.as_slice())),
         _ => String::from_str(alloc, "no line"),
-    }
+    };
+    read.expect(rt, "memory")
 }
 
 /// What comes of the line's first part.
-fn found(alloc: Global, what: &str) -> Result<String, AllocError> {
+fn found(rt: &impl Abort, alloc: Global, what: &str) -> String {
     let (word, rest) = what.split_once(' ').unwrap_or((what, ""));
     let (name, digits) = rest.split_once(' ').unwrap_or((rest, ""));
-    let Some(table) = table_of(name) else {
-        return String::from_str(alloc, "no line");
-    };
-    match bytes_of(alloc, digits)? {
-        Some(mut bytes) => read(alloc, word, table, &mut bytes),
-        None => String::from_str(alloc, "no line"),
+    if let Some(table) = table_of(name) {
+        if let Some(mut bytes) = bytes_of(rt, alloc, digits) {
+            let read = read(rt, alloc, word, table, &mut bytes);
+            drop(bytes);
+            return read;
+        }
     }
+    String::from_str(alloc, "no line").expect(rt, "memory")
 }
 
-/// Appends the line with what came.
-fn push_row(report: &mut String, line: &str, came: &str) -> Result<(), AllocError> {
-    report.push_str(line)?;
-    report.push_str(": ")?;
-    report.push_str(came)?;
-    report.push_str("\n")
-}
-
-/// Appends the line, where it comes otherwise than told.
-fn push_otherwise(alloc: Global, report: &mut String, line: &str) -> Result<(), AllocError> {
+/// Appends the line with what came, where that isn't what is told.
+fn push_otherwise(rt: &impl Abort, alloc: Global, report: &mut String, line: &str) {
     let (what, want) = line.split_once(" -> ").unwrap_or((line, ""));
-    let came = found(alloc, what)?;
-    if came.as_str() == want || line.starts_with("#") {
-        return Ok(());
+    let came = found(rt, alloc, what);
+    if came.as_str() != want && !line.starts_with("#") {
+        writeln!(report, "{line}: {}", came.as_str()).expect(rt, "memory");
     }
-    push_row(report, line, came.as_str())
-}
-
-/// The lines that come otherwise than told, with what came.
-fn otherwise(alloc: Global, lines: &str) -> Result<String, AllocError> {
-    let mut report = String::new(alloc);
-    for line in lines.lines() {
-        push_otherwise(alloc, &mut report, line)?;
-    }
-    Ok(report)
+    drop(came);
 }
 
 /// This comes otherwise than the lines tell.
 fn expect_otherwise(rt: &impl Abort, alloc: Global, lines: &str, said: &str) {
-    let report = otherwise(alloc, lines).expect(rt, "memory");
-    expect_text(rt, report.as_str(), said);
+    let mut report = String::new(alloc);
+    for line in lines.lines() {
+        push_otherwise(rt, alloc, &mut report, line);
+    }
+    expect_equal(rt, report.as_str(), said);
     drop(report);
 }
 
 #[test]
-fn tables_and_entries_are_read_from_their_bytes(rt: HostRuntime) {
+fn tables_and_entries_are_read_and_lines_told_wrong_are_noticed(rt: HostRuntime) {
     expect_otherwise(&rt, rt.alloc(), READ, "");
-}
-
-#[test]
-fn lines_that_are_told_wrong_are_noticed(rt: HostRuntime) {
     expect_otherwise(&rt, rt.alloc(), WRONG, SAID);
-}
-
-/// The entry of a text of 300 bytes, which no request carries whole.
-fn long_entry(alloc: Global) -> Result<Vec<u8>, AllocError> {
-    let mut bytes = Vec::new(alloc);
-    bytes.extend_from_slice(&[7, 0, 1, 0x2C, 0x01])?;
-    bytes.extend_from_slice(&[0x61; 300])?;
-    Ok(bytes)
-}
-
-#[test]
-fn the_length_field_alone_bounds_a_value(rt: HostRuntime) {
-    let bytes = long_entry(rt.alloc()).expect(&rt, "memory");
-    let whole = first_length(BiosTable::Values, bytes.as_slice());
-    expect(&rt, whole == Some(305), "the whole entry");
-    let (_, shorter) = bytes.as_slice().split_last().expect(&rt, "a byte");
-    let part = first_length(BiosTable::Values, shorter);
-    expect(&rt, part.is_none(), "a byte is missing");
-    drop(bytes);
 }
 
 /// The strings of an attribute and its possible values.
@@ -186,14 +162,6 @@ const STRINGS: [u8; 18] = [
 
 /// The attribute: an enumeration of two values.
 const ATTRIBUTE: [u8; 13] = [0, 0, 0, 0, 0, 2, 1, 0, 2, 0, 1, 0, 1];
-
-#[test]
-fn a_string_is_shown_where_it_lies(rt: HostRuntime) {
-    let (entry, rest) = string_at(&STRINGS).expect(&rt, "a string");
-    expect(&rt, entry.handle == 0, "the handle");
-    expect_bytes(&rt, entry.text.as_slice(), b"Quiet");
-    expect_bytes(&rt, rest.as_slice(), &STRINGS[9..]);
-}
 
 /// An enumeration of two values, of which the first is its default.
 fn expect_enumeration(rt: &impl Abort, kind: &KindFields<'_>) {
@@ -207,10 +175,14 @@ fn expect_enumeration(rt: &impl Abort, kind: &KindFields<'_>) {
 }
 
 #[test]
-fn an_attribute_is_shown_where_it_lies(rt: HostRuntime) {
+fn a_string_and_an_attribute_are_shown_where_they_lie(rt: HostRuntime) {
+    let (entry, rest) = string_at(&STRINGS).expect(&rt, "a string");
+    expect_equal(&rt, entry.handle, 0);
+    expect_bytes(&rt, entry.text.as_slice(), b"Quiet");
+    expect_bytes(&rt, rest.as_slice(), &STRINGS[9..]);
     let (entry, rest) = attribute_at(&ATTRIBUTE).expect(&rt, "an attribute");
-    expect(&rt, entry.attribute == 0 && entry.name == 0, "the handles");
-    expect(&rt, !entry.read_only, "it can be set");
+    let hold = [entry.attribute == 0, entry.name == 0, !entry.read_only];
+    expect_each(&rt, &hold, "the attribute, its name, it can be set");
     expect_bytes(&rt, rest.as_slice(), &[1]);
     expect_enumeration(&rt, &entry.kind);
 }
@@ -259,17 +231,15 @@ fn sample_tables(rt: &impl Abort, alloc: Global) -> Tables {
 fn expect_whole(rt: &impl Abort, tables: &Tables, table: BiosTable, length: usize, entries: usize) {
     let given = tables.part(table, GET_FIRST_PART, 9).ok();
     let part = given.expect(rt, "a part");
-    expect(rt, part.next == 0, "the last part");
-    expect(rt, part.flag == TransferFlag::StartAndEnd, "the only part");
-    expect(rt, part.bytes.len() == length, "its length");
+    let hold = [
+        part.next == 0,
+        part.flag == TransferFlag::StartAndEnd,
+        tables.part(table, GET_NEXT_PART, 192).is_err(),
+    ];
+    expect_each(rt, &hold, "the last part, the only part, no part follows");
+    expect_equal(rt, part.bytes.len(), length);
     expect_bytes(rt, part.bytes, tables.table(table));
-    let more = tables.part(table, GET_NEXT_PART, 192);
-    expect(rt, more.is_err(), "no part follows");
-    expect(
-        rt,
-        count_table(table, part.bytes) == Ok(entries),
-        "its entries",
-    );
+    expect_equal(rt, count_table(table, part.bytes), Ok(entries));
 }
 
 #[test]

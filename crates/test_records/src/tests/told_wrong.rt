@@ -100,12 +100,8 @@ no line comes: no line
 ";
 
 #[test]
-fn a_story_that_is_told_wrong_is_noticed(rt: HostRuntime) {
+fn a_story_that_is_told_wrong_and_a_text_without_one_are_noticed(rt: HostRuntime) {
     expect_report(&rt, rt.alloc(), WRONG, SAID);
-}
-
-#[test]
-fn a_text_without_a_story_is_noticed(rt: HostRuntime) {
     expect_report(&rt, rt.alloc(), "", "no story\n");
     expect_report(&rt, rt.alloc(), "# A remark.\ntick", "no story\n");
     expect_report(&rt, rt.alloc(), "story", "no story\n");

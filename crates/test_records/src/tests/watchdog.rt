@@ -1,7 +1,7 @@
 //! Calls of the power restore policy and of the watchdog.
 ghost use Rattle.std.specs.Prelude.{◌≤◌};
 
-use super::{expect, expect_bytes};
+use super::{expect, expect_bytes, expect_each, expect_equal};
 use cfg_records::{Asked, Live, RecordData, RecordKind, Value, there_and_back};
 use record_base::{SetPowerPolicy, SetWatchdog};
 use std::process::Abort;
@@ -32,45 +32,18 @@ fn running() -> Live {
     }
 }
 
-/// What a Set of this policy makes of the value 1, if it is carried out.
-fn set_policy(policy: u8) -> Option<Value> {
+/// A Set of this policy is carried out or not, and leaves these bytes, where the record is 1.
+fn expect_policy(rt: &impl Abort, policy: u8, is_done: bool, kept: &[u8]) {
     let mut new = Value::from_slice(&[9, 9]);
-    match PowerPolicyLimits.apply(&SetPowerPolicy { policy }, &[1], &mut new) {
-        Ok(()) => Some(new),
-        Err(_) => None,
-    }
+    let done = PowerPolicyLimits.apply(&SetPowerPolicy { policy }, &[1], &mut new);
+    expect_equal(rt, done.is_ok(), is_done);
+    expect_bytes(rt, new.as_slice(), kept);
 }
 
 #[test]
 fn a_policy_of_3_changes_nothing_and_one_of_4_is_refused(rt: HostRuntime) {
-    let kept = set_policy(3).expect(&rt, "the value");
-    expect_bytes(&rt, kept.as_slice(), &[1]);
-    expect(&rt, set_policy(4).is_none(), "4");
-}
-
-#[test]
-fn a_policy_that_is_refused_leaves_what_was_there(rt: HostRuntime) {
-    let mut new = Value::from_slice(&[9, 9]);
-    let refused = PowerPolicyLimits.apply(&SetPowerPolicy { policy: 4 }, &[1], &mut new);
-    expect(&rt, refused.is_err(), "4");
-    expect_bytes(&rt, new.as_slice(), &[9, 9]);
-}
-
-#[test]
-fn a_reply_to_a_policy_has_those_that_there_are(rt: HostRuntime) {
-    let mut reply = RecordData::from_slice(&[0x2C]);
-    PowerPolicyLimits::set_reply(&SetPowerPolicy { policy: 3 }, &mut reply);
-    expect_bytes(&rt, reply.as_slice(), &[0x2C, 0x07]);
-}
-
-#[test]
-fn chassis_bits_leave_the_policy_bits(rt: HostRuntime) {
-    let mut live = Live::opening();
-    let mut reply = RecordData::new();
-    PowerPolicyLimits.get_data(&[1], &live, &mut reply);
-    live.chassis = Below::new(0x1F);
-    PowerPolicyLimits.get_data(&[1], &live, &mut reply);
-    expect_bytes(&rt, reply.as_slice(), &[0x20, 0, 0, 0x3F, 0, 0]);
+    expect_policy(&rt, 3, true, &[1]);
+    expect_policy(&rt, 4, false, &[9, 9]);
 }
 
 /// A Set that stops the watchdog, of this use.
@@ -84,63 +57,65 @@ fn stop(timer_use: u8) -> SetWatchdog {
     }
 }
 
-#[test]
-fn a_watchdog_without_a_use_is_refused(rt: HostRuntime) {
+/// A Set of the watchdog is carried out or not, and leaves these bytes.
+fn expect_set(rt: &impl Abort, op: &SetWatchdog, is_done: bool, kept: &[u8]) {
     let mut new = Value::from_slice(&[9, 9]);
-    let refused = WatchdogLimits.apply(&stop(0), &SETTINGS, &mut new);
-    expect(&rt, refused.is_err(), "no use");
-    expect_bytes(&rt, new.as_slice(), &[9, 9]);
+    let done = WatchdogLimits.apply(op, &SETTINGS, &mut new);
+    expect_equal(rt, done.is_ok(), is_done);
+    expect_bytes(rt, new.as_slice(), kept);
 }
 
 #[test]
-fn a_set_is_kept(rt: HostRuntime) {
-    let mut new = Value::from_slice(&[9, 9]);
-    let set = WatchdogLimits.apply(&LATER, &SETTINGS, &mut new);
-    expect(&rt, set.is_ok(), "a watchdog");
-    expect_bytes(&rt, new.as_slice(), &[0x84, 0x11, 0x05, 0x70, 0x17]);
+fn a_set_is_kept_and_one_without_a_use_is_refused(rt: HostRuntime) {
+    expect_set(&rt, &LATER, true, &[0x84, 0x11, 0x05, 0x70, 0x17]);
+    expect_set(&rt, &stop(0), false, &[9, 9]);
 }
 
 #[test]
-fn a_set_begins_the_countdown_anew(rt: HostRuntime) {
-    let mut live = running();
-    WatchdogLimits::next_live(&LATER, &mut live);
-    expect(&rt, live.running && live.countdown == 6000, "anew");
-    expect(&rt, live.expired == 0x08, "one flag is cleared");
-    WatchdogLimits::next_live(&stop(0x04), &mut live);
-    expect(&rt, !live.running, "stopped");
-}
-
-#[test]
-fn a_get_shows_a_timer_that_runs(rt: HostRuntime) {
-    let mut reply = RecordData::new();
+fn replies_have_policies_chassis_bits_and_a_timer_that_runs(rt: HostRuntime) {
+    let mut reply = RecordData::from_slice(&[0x2C]);
+    PowerPolicyLimits::set_reply(&SetPowerPolicy { policy: 3 }, &mut reply);
+    let mut live = Live::opening();
+    PowerPolicyLimits.get_data(&[1], &live, &mut reply);
+    live.chassis = Below::new(0x1F);
+    PowerPolicyLimits.get_data(&[1], &live, &mut reply);
     WatchdogLimits.get_data(&SETTINGS, &running(), &mut reply);
-    let shown = [0x44, 0x01, 0x0A, 0x18, 0xB8, 0x0B, 0x39, 0x30];
+    let shown = [
+        0x2C, 0x07, 0x20, 0, 0, 0x3F, 0, 0, 0x44, 0x01, 0x0A, 0x18, 0xB8, 0x0B, 0x39, 0x30,
+    ];
     expect_bytes(&rt, reply.as_slice(), &shown);
     let asked = WatchdogLimits::get_asked(&());
-    expect(
-        &rt,
-        asked.is(&Asked::ipmi(NetFn::new(0x06), 0x25, &[])),
-        "the Get",
-    );
+    let get = Asked::ipmi(NetFn::new(0x06), 0x25, &[]);
+    expect(&rt, asked.is(&get), "the Get");
 }
 
-/// A reset has the timer run from its initial value, and leaves these flags.
-fn expect_reset(rt: &impl Abort, live: &Live, flags: u8) {
-    let live = live_after_reset(&SETTINGS, live).expect(rt, "never set");
-    expect(
-        rt,
-        live.running && live.countdown == 3000,
-        "from the initial value",
-    );
-    expect(rt, live.expired == flags, "the flags stay");
+/// Whether a reset has the timer run from its initial value, and leaves these flags.
+fn runs_anew(live: &Live, flags: u8) -> bool {
+    match live_after_reset(&SETTINGS, live) {
+        Some(live) => live.running && live.countdown == 3000 && live.expired == flags,
+        None => false,
+    }
 }
 
 #[test]
-fn a_reset_starts_a_timer_that_was_set(rt: HostRuntime) {
-    expect_reset(&rt, &running(), 0x18);
-    expect_reset(&rt, &Live::opening(), 0);
-    let never = live_after_reset(&[0; 5], &Live::opening());
-    expect(&rt, never.is_none(), "never set");
+fn a_set_and_a_reset_begin_the_countdown_anew(rt: HostRuntime) {
+    let mut live = running();
+    WatchdogLimits::next_live(&LATER, &mut live);
+    let anew = live;
+    WatchdogLimits::next_live(&stop(0x04), &mut live);
+    let hold = [
+        anew.running && anew.countdown == 6000,
+        anew.expired == 0x08,
+        !live.running,
+        runs_anew(&running(), 0x18),
+        runs_anew(&Live::opening(), 0),
+        live_after_reset(&[0; 5], &Live::opening()).is_none(),
+    ];
+    expect_each(
+        &rt,
+        &hold,
+        "anew, one flag is cleared, stopped, a reset leaves the flags, a reset starts it, never set",
+    );
 }
 
 /// Whether the settings come back where a Get shows them with this timer.
@@ -151,12 +126,6 @@ fn come_back(live: &Live) -> bool {
         Some(back) => back.is(&SETTINGS),
         None => false,
     }
-}
-
-#[test]
-fn settings_come_back_where_they_can(rt: HostRuntime) {
-    expect(&rt, come_back(&Live::opening()), "stopped");
-    expect(&rt, !come_back(&running()), "it runs");
 }
 
 /// Whether this policy comes back.
@@ -173,7 +142,16 @@ fn policy_comes_back(policy: u8) -> bool
 }
 
 #[test]
-fn a_policy_comes_back_where_it_is_known(rt: HostRuntime) {
-    expect(&rt, policy_comes_back(2), "known");
-    expect(&rt, !policy_comes_back(3), "unknown");
+fn settings_and_policies_come_back_where_they_can(rt: HostRuntime) {
+    let hold = [
+        come_back(&Live::opening()),
+        !come_back(&running()),
+        policy_comes_back(2),
+        !policy_comes_back(3),
+    ];
+    expect_each(
+        &rt,
+        &hold,
+        "it is stopped, it runs, the policy is known, it is unknown",
+    );
 }

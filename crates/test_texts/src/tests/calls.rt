@@ -16,14 +16,17 @@ use undo_core::{Phase, Why};
 /// The sample board, as Rust writes it.
 fn sample(rt: &impl Abort, alloc: Global) -> Came {
     let board = sample_board(alloc).expect(rt, "memory");
-    shown::<BoardFile, &str>(alloc, Ok(board)).expect(rt, "memory")
+    let read: Result<BoardFile, &str> = Ok(board);
+    shown(rt, alloc, read)
 }
 
 #[test]
 fn the_sample_file_holds_the_sample_board(rt: HostRuntime) {
-    let read = came_of(rt.alloc(), Form::Board, SAMPLE).expect(&rt, "memory");
+    let read = came_of(&rt, rt.alloc(), Form::Board, SAMPLE);
     let known = sample(&rt, rt.alloc());
     expect_equal(&rt, read.text.as_str(), known.text.as_str());
+    drop(read);
+    drop(known);
 }
 
 /// A plan of one step.

@@ -4,8 +4,9 @@ use bmc_play::read_inputs;
 use cfg_records::{Op, RecordKind};
 use plan_file::read_plan;
 use record_kinds::Limits;
-use std::alloc::{AllocError, Global};
+use std::alloc::Global;
 use std::fmt::{Debug, Display};
+use std::process::Abort;
 use text_board::read_board;
 use text_lines::{behind, byte, bytes, first_line, first_word, number, plain_number};
 use text_readings::read_readings;
@@ -90,104 +91,110 @@ impl Form {
 }
 
 /// This is read.
-fn read_as(text: Result<String, AllocError>) -> Result<Came, AllocError> {
-    Ok(Came {
+fn read_as(text: String) -> Came {
+    Came {
         is_read: true,
-        text: text?,
-    })
+        text,
+    }
 }
 
 /// A fault, by its name.
-fn refused<E: Display>(alloc: Global, fault: &E) -> Result<Came, AllocError> {
-    Ok(Came {
+fn refused<E: Display>(rt: &impl Abort, alloc: Global, fault: &E) -> Came {
+    Came {
         is_read: false,
-        text: format!(in alloc; "{fault}")?,
-    })
+        text: format!(in alloc; "{fault}").expect(rt, "memory"),
+    }
 }
 
 /// What is read shows all that it says, as Rust writes it.
 pub fn shown<T: Debug + Drop, E: Display + Drop>(
+    rt: &impl Abort,
     alloc: Global,
     read: Result<T, E>,
-) -> Result<Came, AllocError> {
+) -> Came {
     match read {
-        Ok(read) => read_as(format!(in alloc; "{read:?}")),
-        Err(fault) => refused(alloc, &fault),
+        Ok(read) => read_as(format!(in alloc; "{read:?}").expect(rt, "memory")),
+        Err(fault) => refused(rt, alloc, &fault),
     }
 }
 
 /// What is cut in two shows both parts, with a bar between them.
-fn cut(alloc: Global, parts: Option<(&str, &str)>) -> Result<Came, AllocError> {
+fn cut(rt: &impl Abort, alloc: Global, parts: Option<(&str, &str)>) -> Came {
     match parts {
-        Some((first, rest)) => read_as(format!(in alloc; "{first}|{rest}")),
-        None => refused(alloc, &"none"),
+        Some((first, rest)) => read_as(format!(in alloc; "{first}|{rest}").expect(rt, "memory")),
+        None => refused(rt, alloc, &"none"),
     }
 }
 
 /// Adds the line of a step's request, as an undo text has it.
-fn push_step(alloc: Global, text: &mut String, step: &Op<'_>) -> Result<(), AllocError> {
-    let mut requests = Requests::open(alloc, 0, 0)?;
-    requests.add(&UndoRequest::of(&Limits::set_asked(step)))?;
-    push_requests(alloc, text, &requests)
+fn push_step(rt: &impl Abort, alloc: Global, text: &mut String, step: &Op<'_>) {
+    let mut requests = Requests::open(alloc, 0, 0).expect(rt, "memory");
+    let asked = Limits::set_asked(step);
+    requests.add(&UndoRequest::of(&asked)).expect(rt, "memory");
+    push_requests(alloc, text, &requests).expect(rt, "memory");
+    drop(requests);
 }
 
-/// Adds how often the plan's frames are sent again, and the requests of its steps, a line each.
-fn push_plan(alloc: Global, text: &mut String, plan: &Plan) -> Result<(), AllocError> {
-    write!(text, "{}: ", plan.retries.number())?;
+/// How often the plan's frames are sent again, and the requests of its steps, a line each.
+fn sent(rt: &impl Abort, alloc: Global, plan: &Plan) -> String {
+    let mut text = String::new(alloc);
+    write!(text, "{}: ", plan.retries.number()).expect(rt, "memory");
     for place in 0..plan.steps.len() {
         if let Some(step) = plan.steps.get(place) {
-            push_step(alloc, text, &step)?;
+            push_step(rt, alloc, &mut text, &step);
         }
     }
-    Ok(())
-}
-
-/// What is added of the plan.
-fn sent(alloc: Global, plan: &Plan) -> Result<String, AllocError> {
-    let mut text = String::new(alloc);
-    push_plan(alloc, &mut text, plan)?;
-    String::from_str(alloc, text.as_str().trim_end())
+    let sent = String::from_str(alloc, text.as_str().trim_end());
+    drop(text);
+    sent.expect(rt, "memory")
 }
 
 /// A plan shows what is sent.
-fn came_of_plan(alloc: Global, text: &str) -> Result<Came, AllocError> {
+fn came_of_plan(rt: &impl Abort, alloc: Global, text: &str) -> Came {
     match read_plan(alloc, text) {
-        Ok(plan) => read_as(sent(alloc, &plan)),
-        Err(fault) => refused(alloc, &fault),
+        Ok(plan) => {
+            let sent = sent(rt, alloc, &plan);
+            drop(plan);
+            read_as(sent)
+        }
+        Err(fault) => refused(rt, alloc, &fault),
     }
 }
 
 /// An undo text shows what is written of its list.
-fn came_of_undo(alloc: Global, text: &str) -> Result<Came, AllocError> {
+fn came_of_undo(rt: &impl Abort, alloc: Global, text: &str) -> Came {
     match read_undo(alloc, text) {
-        Ok(list) => read_as(write_undo(alloc, &list)),
-        Err(fault) => refused(alloc, &fault),
+        Ok(list) => {
+            let written = write_undo(alloc, &list);
+            drop(list);
+            read_as(written.expect(rt, "memory"))
+        }
+        Err(fault) => refused(rt, alloc, &fault),
     }
 }
 
-/// Adds each request of the list, in the order of the steps, the numbers and the names.
-fn push_list(text: &mut String, list: &UndoList) -> Result<(), AllocError> {
+/// Each request of the list, in the order of the steps, the numbers and the names.
+fn listed(rt: &impl Abort, alloc: Global, list: &UndoList) -> String {
+    let mut text = String::new(alloc);
     for place in 0..list.requests.len() {
         if let Some(request) = list.requests.get(place) {
-            write!(text, "{request:?}, ")?;
+            write!(text, "{request:?}, ").expect(rt, "memory");
         }
     }
     let (next, names) = (list.next, list.names);
-    write!(text, "{next:?}, {names:?}")
-}
-
-/// What is added of the list.
-fn listed(alloc: Global, list: &UndoList) -> Result<String, AllocError> {
-    let mut text = String::new(alloc);
-    push_list(&mut text, list)?;
-    Ok(text)
+    write!(text, "{next:?}, {names:?}").expect(rt, "memory");
+    text
 }
 
 /// An undo text shows its list.
-fn came_of_list(alloc: Global, text: &str) -> Result<Came, AllocError> {
+fn came_of_list(rt: &impl Abort, alloc: Global, text: &str) -> Came {
     match read_undo(alloc, text) {
-        Ok(list) => read_as(listed(alloc, &list)),
-        Err(fault) => refused(alloc, &fault),
+        Ok(list) => {
+            let listed = listed(rt, alloc, &list);
+            drop(list);
+            read_as(listed)
+        }
+        Err(fault) => refused(rt, alloc, &fault),
     }
 }
 
@@ -197,48 +204,48 @@ fn parted(texts: &str) -> (&str, &str) {
 }
 
 /// The texts of a play, with `---` between them, show what Rust writes of them.
-fn came_of_play(alloc: Global, text: &str) -> Result<Came, AllocError> {
+fn came_of_play(rt: &impl Abort, alloc: Global, text: &str) -> Came {
     let (board, others) = parted(text);
     let (plan, schedule) = parted(others);
-    shown(alloc, read_inputs(alloc, board, plan, schedule))
+    shown(rt, alloc, read_inputs(alloc, board, plan, schedule))
 }
 
 /// A file that is looked at shows what is told of it, and then what came of it.
-fn came_of_check(alloc: Global, file: &str) -> Result<Came, AllocError> {
+fn came_of_check(rt: &impl Abort, alloc: Global, file: &str) -> Came {
     let mut text = String::new(alloc);
-    let outcome = checked(alloc, &mut text, "file", file)?;
-    write!(text, "{outcome:?}")?;
-    Ok(Came {
-        is_read: true,
-        text,
-    })
+    let outcome = checked(alloc, &mut text, "file", file).expect(rt, "memory");
+    write!(text, "{outcome:?}").expect(rt, "memory");
+    read_as(text)
 }
 
 /// What comes of a part of a text.
-fn came_of_part(alloc: Global, form: PartForm, text: &str) -> Result<Came, AllocError> {
+fn came_of_part(rt: &impl Abort, alloc: Global, form: PartForm, text: &str) -> Came {
     match form {
-        PartForm::FirstLine => cut(alloc, first_line(text)),
-        PartForm::FirstWord => cut(alloc, first_word(text)),
-        PartForm::Behind => shown(alloc, behind("ipmb ", text).ok_or("none")),
-        PartForm::PlainNumber => shown(alloc, plain_number(text).ok_or("none")),
-        PartForm::Number => shown(alloc, number(text, 9).ok_or("none")),
-        PartForm::Byte => shown(alloc, byte(text).ok_or("none")),
-        PartForm::Bytes => shown(alloc, bytes(alloc, text)?.ok_or("none")),
+        PartForm::FirstLine => cut(rt, alloc, first_line(text)),
+        PartForm::FirstWord => cut(rt, alloc, first_word(text)),
+        PartForm::Behind => shown(rt, alloc, behind("ipmb ", text).ok_or("none")),
+        PartForm::PlainNumber => shown(rt, alloc, plain_number(text).ok_or("none")),
+        PartForm::Number => shown(rt, alloc, number(text, 9).ok_or("none")),
+        PartForm::Byte => shown(rt, alloc, byte(text).ok_or("none")),
+        PartForm::Bytes => {
+            let bytes = bytes(alloc, text).expect(rt, "memory");
+            shown(rt, alloc, bytes.ok_or("none"))
+        }
     }
 }
 
 /// What comes of a text of this form.
-pub fn came_of(alloc: Global, form: Form, text: &str) -> Result<Came, AllocError> {
+pub fn came_of(rt: &impl Abort, alloc: Global, form: Form, text: &str) -> Came {
     match form {
-        Form::Board => shown(alloc, read_board(alloc, text)),
-        Form::Plan => came_of_plan(alloc, text),
-        Form::Undo => came_of_undo(alloc, text),
-        Form::List => came_of_list(alloc, text),
-        Form::Schedule => shown(alloc, read_schedule(alloc, text)),
-        Form::Readings => shown(alloc, read_readings(alloc, text)),
-        Form::Play => came_of_play(alloc, text),
-        Form::Check => came_of_check(alloc, text),
-        Form::Part(part) => came_of_part(alloc, part, text),
+        Form::Board => shown(rt, alloc, read_board(alloc, text)),
+        Form::Plan => came_of_plan(rt, alloc, text),
+        Form::Undo => came_of_undo(rt, alloc, text),
+        Form::List => came_of_list(rt, alloc, text),
+        Form::Schedule => shown(rt, alloc, read_schedule(alloc, text)),
+        Form::Readings => shown(rt, alloc, read_readings(alloc, text)),
+        Form::Play => came_of_play(rt, alloc, text),
+        Form::Check => came_of_check(rt, alloc, text),
+        Form::Part(part) => came_of_part(rt, alloc, part, text),
     }
 }
 

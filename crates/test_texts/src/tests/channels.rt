@@ -1,8 +1,7 @@
 //! Users and channels of board files.
-use super::story::expect_told;
 
 /// What boards say of users and channels.
-const CHANNELS: &str = r#"
+pub(crate) const CHANNELS: &str = r#"
 file board
 with bare
 # A board of two users.
@@ -97,8 +96,3 @@ behind
 # The last is that of user 16 on channel 7.
 => holds 1 UserAccess { on: UserOnChannel { channel: BitField { number: 7 }, user: BitField { number: 16 } }, byte: 20 }] } }
 "#;
-
-#[test]
-fn channels_are_read(rt: HostRuntime) {
-    expect_told(&rt, rt.alloc(), CHANNELS);
-}

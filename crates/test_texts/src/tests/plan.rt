@@ -1,8 +1,7 @@
 //! Plans: what they hold, and their faults.
-use super::story::expect_told;
 
 /// What plans say.
-const PLANS: &str = r#"
+pub(crate) const PLANS: &str = r#"
 # A step of each kind, but for users, channels, BIOS attributes and state effecters. No line stands in it twice but `[[step]]`.
 file plan
 + [[step]]
@@ -275,8 +274,3 @@ file plan
 + policy = 2
 ends reads => 0 11 12 13 54 55
 "#;
-
-#[test]
-fn plans_are_read(rt: HostRuntime) {
-    expect_told(&rt, rt.alloc(), PLANS);
-}

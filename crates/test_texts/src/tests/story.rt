@@ -1,7 +1,7 @@
 //! Stories of texts: files, and what comes of each with other lines.
 use super::came::{Form, came_of};
 use super::files::{BARE, SAMPLE};
-use std::alloc::{AllocError, Global};
+use std::alloc::Global;
 use std::fmt::Debug;
 use std::process::Abort;
 
@@ -21,52 +21,52 @@ fn repetition(piece: &str) -> Option<(usize, &str, &str)> {
     Some((times.parse().ok()?, part, rest))
 }
 
-/// Adds the part, with the number at each `#`.
-fn push_part(
-    alloc: Global,
-    text: &mut String,
-    part: &str,
-    number: usize,
-) -> Result<(), AllocError> {
-    let digits = format!(in alloc; "{number}")?;
-    let part = part.replace(alloc, "#", digits.as_str())?;
-    text.push_str(part.as_str())
+/// Appends the part.
+fn push(rt: &impl Abort, text: &mut String, part: &str) {
+    text.push_str(part).expect(rt, "memory");
 }
 
-/// Adds what stands behind a `<`.
-fn push_piece(alloc: Global, text: &mut String, piece: &str) -> Result<(), AllocError> {
+/// Appends the part, with the number at each `#`.
+fn push_part(rt: &impl Abort, alloc: Global, text: &mut String, part: &str, number: usize) {
+    let digits = format!(in alloc; "{number}").expect(rt, "memory");
+    let part = part.replace(alloc, "#", digits.as_str());
+    drop(digits);
+    let part = part.expect(rt, "memory");
+    push(rt, text, part.as_str());
+    drop(part);
+}
+
+/// Appends what stands behind a `<`.
+fn push_piece(rt: &impl Abort, alloc: Global, text: &mut String, piece: &str) {
     let Some((times, part, rest)) = repetition(piece) else {
-        text.push_str("<")?;
-        return text.push_str(piece);
+        push(rt, text, "<");
+        return push(rt, text, piece);
     };
     for number in 0..times {
-        push_part(alloc, text, part, number)?;
+        push_part(rt, alloc, text, part, number);
     }
-    text.push_str(rest)
-}
-
-/// Adds what the lines say, with their repetitions.
-fn push_pieces(alloc: Global, text: &mut String, lines: &str) -> Result<(), AllocError> {
-    let mut pieces = lines.split('<');
-    text.push_str(pieces.next().unwrap_or(""))?;
-    for piece in pieces {
-        push_piece(alloc, text, piece)?;
-    }
-    Ok(())
+    push(rt, text, rest);
 }
 
 /// The words with line feeds and carriage returns.
-fn unescaped(alloc: Global, words: &str) -> Result<String, AllocError> {
-    let lines = words.replace(alloc, "\\r", "\r")?;
-    lines.as_str().replace(alloc, "\\n", "\n")
+fn unescaped(rt: &impl Abort, alloc: Global, words: &str) -> String {
+    let lines = words.replace(alloc, "\\r", "\r").expect(rt, "memory");
+    let text = lines.as_str().replace(alloc, "\\n", "\n");
+    drop(lines);
+    text.expect(rt, "memory")
 }
 
-/// The text that a story writes so.
-fn written(alloc: Global, words: &str) -> Result<String, AllocError> {
-    let lines = unescaped(alloc, words)?;
+/// The text that a story writes so, with its repetitions.
+fn written(rt: &impl Abort, alloc: Global, words: &str) -> String {
+    let lines = unescaped(rt, alloc, words);
+    let mut pieces = lines.as_str().split('<');
     let mut text = String::new(alloc);
-    push_pieces(alloc, &mut text, lines.as_str())?;
-    Ok(text)
+    push(rt, &mut text, pieces.next().unwrap_or(""));
+    for piece in pieces {
+        push_piece(rt, alloc, &mut text, piece);
+    }
+    drop(lines);
+    text
 }
 
 /// Whether the file has this line.
@@ -79,46 +79,47 @@ fn has_line(file: &str, line: &str) -> bool {
     false
 }
 
-/// Adds the file with a text in the place of each line that is this.
-fn push_edited(text: &mut String, file: &str, old: &str, new: &str) -> Result<(), AllocError> {
-    for line in file.lines() {
-        text.push_str(if line == old { new } else { line })?;
-        text.push_str("\n")?;
-    }
-    Ok(())
-}
-
 /// The file with other lines in the place of each line that is this.
-fn edited(alloc: Global, file: &str, old: &str, new: &str) -> Result<String, AllocError> {
-    let new = written(alloc, new)?;
+fn edited(rt: &impl Abort, alloc: Global, file: &str, old: &str, new: &str) -> String {
+    let new = written(rt, alloc, new);
     let mut text = String::new(alloc);
-    push_edited(&mut text, file, old, new.as_str())?;
-    Ok(text)
-}
-
-/// Whether this comes of the text.
-fn is_told(alloc: Global, form: Form, text: &str, told: &str) -> Result<bool, AllocError> {
-    Ok(came_of(alloc, form, text)?.is(told))
-}
-
-/// How long the prefixes of the text are of which this comes, from the shortest on, with a space behind each.
-fn ends_of(alloc: Global, form: Form, text: &str, told: &str) -> Result<String, AllocError> {
-    let mut ends = String::new(alloc);
-    for end in 0..=text.len() {
-        if let Some(prefix) = text.get(..end) {
-            if is_told(alloc, form, prefix, told)? {
-                write!(ends, "{end} ")?;
-            }
-        }
+    for line in file.lines() {
+        push(rt, &mut text, if line == old { new.as_str() } else { line });
+        push(rt, &mut text, "\n");
     }
-    Ok(ends)
+    drop(new);
+    text
 }
 
 /// The file with these lines behind it.
-fn extended(alloc: Global, file: &str, head: &str, lines: &str) -> Result<String, AllocError> {
-    let lines = [head, lines].concat(alloc)?;
-    let lines = written(alloc, lines.as_str())?;
-    [file, lines.as_str()].concat(alloc)
+fn extended(rt: &impl Abort, alloc: Global, file: &str, head: &str, lines: &str) -> String {
+    let words = [head, lines].concat(alloc).expect(rt, "memory");
+    let lines = written(rt, alloc, words.as_str());
+    drop(words);
+    let text = [file, lines.as_str()].concat(alloc);
+    drop(lines);
+    text.expect(rt, "memory")
+}
+
+/// Whether this comes of the text.
+fn is_told(rt: &impl Abort, alloc: Global, form: Form, text: &str, told: &str) -> bool {
+    let came = came_of(rt, alloc, form, text);
+    let is_told = came.is(told);
+    drop(came);
+    is_told
+}
+
+/// How long the prefixes of the text are of which this comes, from the shortest on, with a space behind each.
+fn ends_of(rt: &impl Abort, alloc: Global, form: Form, text: &str, told: &str) -> String {
+    let mut ends = String::new(alloc);
+    for end in 0..=text.len() {
+        if let Some(prefix) = text.get(..end) {
+            if is_told(rt, alloc, form, prefix, told) {
+                write!(ends, "{end} ").expect(rt, "memory");
+            }
+        }
+    }
+    ends
 }
 
 /// A story that is played.
@@ -137,223 +138,172 @@ struct Player<'s> {
 
 impl<'s> Player<'s> {
     /// The whole text with these lines.
-    fn whole(&self, alloc: Global, lines: &str) -> Result<String, AllocError> {
+    fn whole(&self, rt: &impl Abort, alloc: Global, lines: &str) -> String {
         let file = self.file.as_str();
         match self.place {
-            Place::At(old) => edited(alloc, file, old, lines),
-            Place::Behind(head) => extended(alloc, file, head, lines),
+            Place::At(old) => edited(rt, alloc, file, old, lines),
+            Place::Behind(head) => extended(rt, alloc, file, head, lines),
         }
     }
 
     /// Of the text with these lines comes what is told.
     fn hear(
         &mut self,
+        rt: &impl Abort,
         alloc: Global,
         form: Form,
         (lines, told): (&str, &str),
         text: &str,
-    ) -> Result<(), AllocError> {
+    ) {
         self.is_silent = false;
-        let came = came_of(alloc, form, text)?;
+        let came = came_of(rt, alloc, form, text);
         if !came.is(told) {
-            writeln!(self.otherwise, "{lines} => {}", came.text.as_str())?;
+            writeln!(self.otherwise, "{lines} => {}", came.text.as_str()).expect(rt, "memory");
         }
-        Ok(())
-    }
-
-    /// With these lines there comes what is told.
-    fn hear_whole(
-        &mut self,
-        alloc: Global,
-        form: Form,
-        (lines, told): (&str, &str),
-    ) -> Result<(), AllocError> {
-        let text = self.whole(alloc, lines)?;
-        self.hear(alloc, form, (lines, told), text.as_str())
+        drop(came);
     }
 
     /// With each of the lines there comes what is told.
     fn hear_each(
         &mut self,
+        rt: &impl Abort,
         alloc: Global,
         form: Form,
         (each, told): (&str, &str),
-    ) -> Result<(), AllocError> {
-        let told = written(alloc, told)?;
+    ) {
+        let told = written(rt, alloc, told);
         for lines in each.split(" | ") {
-            self.hear_whole(alloc, form, (lines, told.as_str()))?;
+            let text = self.whole(rt, alloc, lines);
+            self.hear(rt, alloc, form, (lines, told.as_str()), text.as_str());
+            drop(text);
         }
-        Ok(())
+        drop(told);
     }
 
     /// The line can't be read.
-    fn refuse(&mut self, line: &str) -> Result<(), AllocError> {
-        writeln!(self.otherwise, "{line} is no line of a story")
-    }
-
-    /// The file with other lines in the place of this one.
-    fn mended(&self, alloc: Global, old: &str, new: &str) -> Result<String, AllocError> {
-        let old = written(alloc, old)?;
-        edited(alloc, self.file.as_str(), old.as_str(), new)
-    }
-
-    /// Of the file as it was comes what is told.
-    fn hear_file(
-        &mut self,
-        alloc: Global,
-        form: Form,
-        (edit, told): (&str, &str),
-        file: &str,
-    ) -> Result<(), AllocError> {
-        let told = written(alloc, told)?;
-        self.hear(alloc, form, (edit, told.as_str()), file)
+    fn refuse(&mut self, rt: &impl Abort, line: &str) {
+        writeln!(self.otherwise, "{line} is no line of a story").expect(rt, "memory");
     }
 
     /// Of the file comes what is told, until other lines stand in a line's place.
-    fn mend(
-        &mut self,
-        alloc: Global,
-        form: Form,
-        (edit, told): (&str, &str),
-    ) -> Result<(), AllocError> {
+    fn mend(&mut self, rt: &impl Abort, alloc: Global, form: Form, (edit, told): (&str, &str)) {
         let Some((old, new)) = edit.split_once(" -> ") else {
-            return self.refuse(edit);
+            return self.refuse(rt, edit);
         };
-        let mended = self.mended(alloc, old, new)?;
+        let old = written(rt, alloc, old);
+        let mended = edited(rt, alloc, self.file.as_str(), old.as_str(), new);
+        drop(old);
         if mended.as_str() == self.file.as_str() {
-            self.refuse(edit)?;
+            self.refuse(rt, edit);
         }
         let file = std::mem::replace(&mut self.file, mended);
-        self.hear_file(alloc, form, (edit, told), file.as_str())
-    }
-
-    /// The prefixes of which this comes are of the told lengths.
-    fn compare(&mut self, what: &str, ends: &str, told: &str) -> Result<(), AllocError> {
-        if ends == told {
-            return Ok(());
-        }
-        writeln!(self.otherwise, "ends {what} => {ends}")
+        let told = written(rt, alloc, told);
+        self.hear(rt, alloc, form, (edit, told.as_str()), file.as_str());
+        drop(told);
+        drop(file);
     }
 
     /// Of the file's prefixes of the told lengths comes this, and of no others.
-    fn measure(
-        &mut self,
-        alloc: Global,
-        form: Form,
-        (what, told): (&str, &str),
-    ) -> Result<(), AllocError> {
+    fn measure(&mut self, rt: &impl Abort, alloc: Global, form: Form, (what, told): (&str, &str)) {
         self.is_silent = false;
-        let ends = ends_of(alloc, form, self.file.as_str(), what)?;
-        self.compare(what, ends.as_str().trim_end(), told)
+        let ends = ends_of(rt, alloc, form, self.file.as_str(), what);
+        let came = ends.as_str().trim_end();
+        if came != told {
+            writeln!(self.otherwise, "ends {what} => {came}").expect(rt, "memory");
+        }
+        drop(ends);
     }
 
     /// The lines below stand in the place of this one.
-    fn go(&mut self, line: &'s str) -> Result<(), AllocError> {
+    fn go(&mut self, rt: &impl Abort, line: &'s str) {
         self.place = Place::At(line);
-        if has_line(self.file.as_str(), line) {
-            return Ok(());
+        if !has_line(self.file.as_str(), line) {
+            writeln!(self.otherwise, "{line} is no line of the file").expect(rt, "memory");
         }
-        writeln!(self.otherwise, "{line} is no line of the file")
     }
 
     /// The file gets the lines of the board that is called so.
-    fn add_board(&mut self, name: &str) -> Result<(), AllocError> {
+    fn add_board(&mut self, rt: &impl Abort, name: &str) {
         match name {
-            "bare" => self.file.push_str(BARE),
-            "sample" => self.file.push_str(SAMPLE),
-            _ => self.refuse(name),
+            "bare" => push(rt, &mut self.file, BARE),
+            "sample" => push(rt, &mut self.file, SAMPLE),
+            _ => self.refuse(rt, name),
         }
     }
 
     /// The file gives way to one with no line. Something was told of it.
-    fn clear(&mut self, alloc: Global) -> Result<(), AllocError> {
-        self.end()?;
-        self.file = String::new(alloc);
+    fn clear(&mut self, rt: &impl Abort, alloc: Global) {
+        self.end(rt);
+        drop(std::mem::replace(&mut self.file, String::new(alloc)));
         self.place = Place::Behind("");
         self.is_silent = true;
-        Ok(())
     }
 
     /// A file of the form that is called so begins. Of the one before something was told.
-    fn begin(&mut self, alloc: Global, name: &str, line: &str) -> Result<(), AllocError> {
+    fn begin(&mut self, rt: &impl Abort, alloc: Global, name: &str, line: &str) {
         if self.form.is_some() {
-            self.clear(alloc)?;
+            self.clear(rt, alloc);
         }
         self.form = Form::of(name);
-        match self.form {
-            Some(_) => Ok(()),
-            None => self.refuse(line),
+        if self.form.is_none() {
+            self.refuse(rt, line);
         }
     }
 
     /// Something was told of the file.
-    fn end(&mut self) -> Result<(), AllocError> {
+    fn end(&mut self, rt: &impl Abort) {
         if self.is_silent {
-            self.otherwise.push_str("nothing is told\n")?;
+            push(rt, &mut self.otherwise, "nothing is told\n");
         }
-        Ok(())
     }
 
     /// Plays a line that tells what comes of these lines.
-    fn tell_of(
-        &mut self,
-        alloc: Global,
-        form: Form,
-        (lines, told): (&str, &str),
-    ) -> Result<(), AllocError> {
+    fn tell_of(&mut self, rt: &impl Abort, alloc: Global, form: Form, (lines, told): (&str, &str)) {
         if let Some(edit) = lines.strip_prefix("until ") {
-            return self.mend(alloc, form, (edit, told));
+            return self.mend(rt, alloc, form, (edit, told));
         }
         match lines.strip_prefix("ends ") {
-            Some(what) => self.measure(alloc, form, (what, told)),
-            None => self.hear_each(alloc, form, (lines, told)),
+            Some(what) => self.measure(rt, alloc, form, (what, told)),
+            None => self.hear_each(rt, alloc, form, (lines, told)),
         }
     }
 
     /// Plays a line that tells what comes.
-    fn tell(&mut self, alloc: Global, form: Form, line: &str) -> Result<(), AllocError> {
+    fn tell(&mut self, rt: &impl Abort, alloc: Global, form: Form, line: &str) {
         if let Some(told) = line.strip_prefix("=> ") {
-            return self.hear_each(alloc, form, ("", told));
+            return self.hear_each(rt, alloc, form, ("", told));
         }
         match line.split_once(" => ") {
-            Some(parts) => self.tell_of(alloc, form, parts),
-            None => self.refuse(line),
+            Some(parts) => self.tell_of(rt, alloc, form, parts),
+            None => self.refuse(rt, line),
         }
     }
 
     /// Plays a line of a file of this form.
-    fn play_in(&mut self, alloc: Global, form: Form, line: &'s str) -> Result<(), AllocError> {
+    fn play_in(&mut self, rt: &impl Abort, alloc: Global, form: Form, line: &'s str) {
         let (word, rest) = line.split_once(' ').unwrap_or((line, ""));
         match word {
-            "+" => writeln!(self.file, "{rest}"),
-            "with" => self.add_board(rest),
-            "at" => self.go(rest),
-            "behind" => {
-                self.place = Place::Behind(rest);
-                Ok(())
+            "+" => {
+                push(rt, &mut self.file, rest);
+                push(rt, &mut self.file, "\n");
             }
-            _ => self.tell(alloc, form, line),
+            "with" => self.add_board(rt, rest),
+            "at" => self.go(rt, rest),
+            "behind" => self.place = Place::Behind(rest),
+            _ => self.tell(rt, alloc, form, line),
         }
     }
 
     /// Plays a line.
-    fn play(&mut self, alloc: Global, line: &'s str) -> Result<(), AllocError> {
+    fn play(&mut self, rt: &impl Abort, alloc: Global, line: &'s str) {
         if line.is_empty() || line.starts_with('#') {
-            return Ok(());
+            return;
         }
         match (line.strip_prefix("file "), self.form) {
-            (Some(name), _) => self.begin(alloc, name, line),
-            (None, Some(form)) => self.play_in(alloc, form, line),
-            (None, None) => self.refuse(line),
+            (Some(name), _) => self.begin(rt, alloc, name, line),
+            (None, Some(form)) => self.play_in(rt, alloc, form, line),
+            (None, None) => self.refuse(rt, line),
         }
-    }
-
-    /// Plays the lines of the story.
-    fn play_all(&mut self, alloc: Global, story: &'s str) -> Result<(), AllocError> {
-        for line in story.lines() {
-            self.play(alloc, line)?;
-        }
-        self.end()
     }
 }
 
@@ -373,7 +323,7 @@ impl<'s> Player<'s> {
 /// plan shows how often frames are sent again, a colon and the requests of its steps, and an undo text what is written of its list. What
 /// is cut in two shows both parts with a bar between them. A file that is checked shows its lines and what came of it. The others show what Rust writes of them. In LINES and behind `=> `, `\n` is a
 /// line feed and `\r` a carriage return, and `<N:PART>` is so many times the part, with its place, from 0, at each `#` in it.
-fn otherwise(alloc: Global, story: &str) -> Result<String, AllocError> {
+fn otherwise(rt: &impl Abort, alloc: Global, story: &str) -> String {
     let mut player = Player {
         file: String::new(alloc),
         form: None,
@@ -381,9 +331,17 @@ fn otherwise(alloc: Global, story: &str) -> Result<String, AllocError> {
         is_silent: true,
         otherwise: String::new(alloc),
     };
-    player.play_all(alloc, story)?;
-    let Player { otherwise, .. } = player;
-    Ok(otherwise)
+    for line in story.lines() {
+        player.play(rt, alloc, line);
+    }
+    player.end(rt);
+    let Player {
+        file,
+        otherwise,
+        ..
+    } = player;
+    drop(file);
+    otherwise
 }
 
 /// The value is the one that is wanted.
@@ -393,11 +351,7 @@ pub fn expect_equal<T: Copy + Debug + PartialEq>(rt: &impl Abort, value: T, want
 
 /// This comes otherwise than the story tells it.
 pub fn expect_otherwise(rt: &impl Abort, alloc: Global, story: &str, said: &str) {
-    let report = otherwise(alloc, story).expect(rt, "memory");
+    let report = otherwise(rt, alloc, story);
     expect_equal(rt, report.as_str(), said);
-}
-
-/// All comes as the story tells it.
-pub fn expect_told(rt: &impl Abort, alloc: Global, story: &str) {
-    expect_otherwise(rt, alloc, story, "");
+    drop(report);
 }
