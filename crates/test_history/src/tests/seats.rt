@@ -1,17 +1,14 @@
 //! Threads that share a board.
 ghost use Rattle.std.specs.Prelude.{◌≡◌};
-ghost use Rattle.bmc_board.specs.State.{state_of};
 
-use super::{expect_equal, history_of, open_sample, open_shared};
-use bmc_board::{Board, Records};
+use super::{Session, expect_equal, run_on_sample};
+use bmc_board::Records;
 use bmc_ports::{Call, History, Opening, Seat, Seats, Shared};
 use record_base::{Asked, net_fn};
 use std::alloc::Global;
-use std::marker::Brand;
 use std::process::Abort;
 use std::snapshot::Snapshot;
 use std::sync::Wait;
-use std::sync::ledger::Blank;
 use std::thread;
 use std::thread::{Promise, PromisedHandle, Scope, Threads};
 use two_wire::NetFn;
@@ -24,15 +21,8 @@ impl<J: Opening> Promise<Seat<J>> for SeatOf<J> {
     ghost kept_by = { λ promise seat. seat.number ≡ promise.0.value.number };
 }
 
-/// Has a seat ask the board.
-fn ask<J: Opening, R: Wait>(rt: &R, shared: &Shared<J, Records>, seat: &mut Seat<J>, asked: &Asked)
-    ensures { seat.new.number ≡ seat.old.number }
-{
-    let _ = shared.exchange(rt, seat, asked);
-}
-
 /// Has a seat ask the board, and gives it back.
-fn ask_by<J: Opening, R: Wait>(
+fn ask<J: Opening, R: Wait>(
     rt: &R,
     shared: &Shared<J, Records>,
     mut seat: Seat<J>,
@@ -40,7 +30,7 @@ fn ask_by<J: Opening, R: Wait>(
 ) -> Seat<J>
     ensures { result.number ≡ seat.number }
 {
-    ask(rt, shared, &mut seat, asked);
+    let _ = shared.exchange(rt, &mut seat, asked);
     seat
 }
 
@@ -55,92 +45,76 @@ fn spawn_ask<'s, E, J: Opening + Send + Sync + 's, R: Threads + Wait + Abort + S
     ensures { result.promise.0.value.number ≡ seat.number }
 {
     let promise = SeatOf(Snapshot::of(&seat));
-    let spawned = scope.spawn_with(promise, move || ask_by(rt, shared, seat, asked));
+    let spawned = scope.spawn_with(promise, move || ask(rt, shared, seat, asked));
     spawned.ok().expect(rt, "a thread")
 }
 
-/// Each seat asks the board once, in a thread of its own.
-fn ask_each<J: Opening + Send + Sync, R: Threads + Wait + Abort + Sync>(
-    rt: &R,
-    shared: &Shared<J, Records>,
-    seats: Seats<J>,
-    asked: &Asked,
-) -> Seats<J> {
-    let Seats {
-        first,
-        second,
-        scanner,
-    } = seats;
-    thread::scope(
-        thread::scope_env(),
-        rt,
-        |scope| -> Seats<J>
-            requires { (first.number ≡ 0) × (second.number ≡ 1) × (scanner.number ≡ 2) }
-        {
-            let first = spawn_ask(scope, rt, shared, first, asked);
-            let second = spawn_ask(scope, rt, shared, second, asked);
-            let scanner = spawn_ask(scope, rt, shared, scanner, asked);
-            Seats {
-                first: first.join(rt),
-                second: second.join(rt),
-                scanner: scanner.join(rt),
-            }
-        },
-    )
+/// Each seat asks the board this once, in a thread of its own.
+#[derive(Drop)]
+struct AskEach<'a, R> {
+    rt: &'a R,
+    asked: Asked,
 }
 
-/// Three threads ask a board for its device's identifier.
-fn share<J: Opening + Send + Sync, R: Threads + Wait + Abort + Sync>(
-    rt: &R,
-    alloc: Global,
-    blank: Blank,
-    board: Board<Records>,
-    room: usize,
-) -> History
-    requires name { blank.name ≡ J.name }
-    requires parts { blank.parts ≡ J.parts }
-    requires three { blank.parts ≡ 3 }
-    requires setup { board.setup ≡ J.setup }
-    requires opening { state_of board ≡ J.opening }
-    requires room { room ≡ J.room }
-{
-    let (shared, seats) = open_shared::<J, R>(rt, alloc, blank, board, room);
-    let asked = Asked::ipmi(NetFn::new(net_fn::APPLICATION), 0x01, &[]);
-    let seats = ask_each(rt, &shared, seats, &asked);
-    history_of(rt, shared, seats)
-}
-
-/// The same, with a ledger of its own.
-fn share_at<R: Threads + Wait + Abort + Sync>(
-    rt: &R,
-    alloc: Global,
-    board: Board<Records>,
-    room: usize,
-) -> History {
-    share::<Brand, R>(rt, alloc, Blank::new(3), board, room)
+impl<'a, R: Threads + Wait + Abort + Sync> Session for AskEach<'a, R> {
+    fn run<J: Opening + Send + Sync>(
+        &mut self,
+        shared: &Shared<J, Records>,
+        seats: Seats<J>,
+    ) -> Seats<J> {
+        let rt = self.rt;
+        let asked = &self.asked;
+        let Seats {
+            first,
+            second,
+            scanner,
+        } = seats;
+        thread::scope(
+            thread::scope_env(),
+            rt,
+            |scope| -> Seats<J>
+                requires { (first.number ≡ 0) × (second.number ≡ 1) × (scanner.number ≡ 2) }
+            {
+                let first = spawn_ask(scope, rt, shared, first, asked);
+                let second = spawn_ask(scope, rt, shared, second, asked);
+                let scanner = spawn_ask(scope, rt, shared, scanner, asked);
+                Seats {
+                    first: first.join(rt),
+                    second: second.join(rt),
+                    scanner: scanner.join(rt),
+                }
+            },
+        )
+    }
 }
 
 /// The code of the exchange at this place.
 pub(super) fn code_at(history: &History, place: usize) -> Option<u8> {
-    match &history.get(place)?.call {
+    match history.get(place)?.call {
         Call::Exchanged { asked: _, answered } => Some(answered.code),
         Call::Benched { .. } => None,
     }
 }
 
-#[test]
-fn three_threads_ask_one_board(rt: HostRuntime) {
-    let board = open_sample(&rt, rt.alloc());
-    let history = share_at(&rt, rt.alloc(), board, 8);
-    expect_equal(&rt, history.len(), 3);
-    for place in 0..3 {
-        expect_equal(&rt, code_at(&history, place), Some(0x00));
+/// Three threads ask a board for its device's identifier, and its history, which has so much room, gains so many answers.
+fn expect_asked<R: Threads + Wait + Abort + Sync>(
+    rt: &R,
+    alloc: Global,
+    name: &str,
+    room: usize,
+    answers: usize,
+) {
+    let asked = Asked::ipmi(NetFn::new(net_fn::APPLICATION), 0x01, &[]);
+    let history = run_on_sample(rt, alloc, room, &mut AskEach { rt, asked });
+    expect_equal(rt, name, history.len(), answers);
+    for place in 0..answers {
+        expect_equal(rt, name, code_at(&history, place), Some(0x00));
     }
 }
 
 #[test]
-fn a_full_history_refuses_two_of_three(rt: HostRuntime) {
-    let board = open_sample(&rt, rt.alloc());
-    let history = share_at(&rt, rt.alloc(), board, 1);
-    expect_equal(&rt, history.len(), 1);
+fn three_threads_ask_one_board(rt: HostRuntime) {
+    let alloc = rt.alloc();
+    expect_asked(&rt, alloc, "three threads ask one board", 8, 3);
+    expect_asked(&rt, alloc, "a full history refuses two of three", 1, 1);
 }
