@@ -15,7 +15,6 @@ use bmc_ports::{History, Opening, Seats, Shared};
 use cfg_records::sample_board;
 use std::alloc::Global;
 use std::fmt::Debug;
-use std::marker::Brand;
 use std::process::Abort;
 use std::sync::ledger::Blank;
 
@@ -35,25 +34,14 @@ pub(crate) fn expect_equal<T: Copy + Debug + PartialEq>(
     assert_eq!(rt; value, wanted, "{name}");
 }
 
-/// What is done with a board that threads share.
-pub(crate) trait Session {
-    /// Calls the board from its seats, and gives these back.
-    fn run<J: Opening + Send + Sync>(
-        &mut self,
-        shared: &Shared<J, Records>,
-        seats: Seats<J>,
-    ) -> Seats<J>;
-}
-
-/// Shares the board for a session: the board and its history, once nobody shares it any more.
-fn run_opened<J: Opening + Send + Sync, S: Session, R: Abort>(
+/// The board, which threads share from here on, and their seats.
+pub(crate) fn open_shared<J: Opening, R: Abort>(
     rt: &R,
     alloc: Global,
     blank: Blank,
     board: Board<Records>,
     room: usize,
-    session: &mut S,
-) -> (Board<Records>, History)
+) -> (Shared<J, Records>, Seats<J>)
     requires name { blank.name ≡ J.name }
     requires parts { blank.parts ≡ J.parts }
     requires three { blank.parts ≡ 3 }
@@ -61,32 +49,31 @@ fn run_opened<J: Opening + Send + Sync, S: Session, R: Abort>(
     requires opening { state_of board ≡ J.opening }
     requires room { room ≡ J.room }
 {
-    let opened = Shared::<J, Records>::open(alloc, blank, board, room).ok();
-    let (shared, seats) = opened.expect(rt, "a board that is shared");
-    let seats = session.run(&shared, seats);
+    let opened = Shared::<J, Records>::open(alloc, blank, board, room);
+    opened.ok().expect(rt, "a board that is shared")
+}
+
+/// The board and its history, once nobody shares it any more.
+pub(crate) fn close<J: Opening>(
+    rt: &impl Abort,
+    shared: Shared<J, Records>,
+    seats: Seats<J>,
+) -> (Board<Records>, History)
+    requires three { J.parts ≡ 3 }
+{
     let closed = shared.close(seats).ok();
     closed.expect(rt, "a board that is closed")
 }
 
-/// The same with a ledger of its own.
-pub(crate) fn run_session<S: Session, R: Abort>(
-    rt: &R,
-    alloc: Global,
-    board: Board<Records>,
-    room: usize,
-    session: &mut S,
-) -> (Board<Records>, History) {
-    run_opened::<Brand, S, R>(rt, alloc, Blank::new(3), board, room, session)
-}
-
-/// The history of a session of the sample board.
-pub(crate) fn run_on_sample<S: Session, R: Abort>(
-    rt: &R,
-    alloc: Global,
-    room: usize,
-    session: &mut S,
-) -> History {
-    let (board, history) = run_session(rt, alloc, open_sample(rt, alloc), room, session);
+/// Its history alone.
+pub(crate) fn history_of<J: Opening>(
+    rt: &impl Abort,
+    shared: Shared<J, Records>,
+    seats: Seats<J>,
+) -> History
+    requires three { J.parts ≡ 3 }
+{
+    let (board, history) = close(rt, shared, seats);
     drop(board);
     history
 }

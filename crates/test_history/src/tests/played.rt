@@ -1,18 +1,23 @@
 //! A timetable that goes on while two workers serve a board.
+ghost use Rattle.std.specs.Prelude.{◌≡◌};
+ghost use Rattle.bmc_board.specs.State.{state_of};
+
 use super::gates::{Open, wait_for};
 use super::times::{LATER_TICK, READING, Slept, TICK, expect_happened};
-use super::{Session, expect_equal, open_sample, run_session};
+use super::{close, expect_equal, open_sample, open_shared};
 use bmc_board::{Bench, Board, Records};
 use bmc_core::{At, Port};
 use bmc_ports::{
-    Counts, Heard, Lane, Lanes, Link, LinkFault, Opening, Seats, Shared, Sliced, Timed, TimedEnd,
-    Timetable, run_slices,
+    Counts, Heard, History, Lane, Lanes, Link, LinkFault, Opening, Seats, Shared, Sliced, Timed,
+    TimedEnd, Timetable, run_slices,
 };
 use mctp_net::EndpointId;
 use std::alloc::Global;
+use std::marker::Brand;
 use std::process::Abort;
 use std::sync::Wait;
 use std::sync::atomic::AtomicU64;
+use std::sync::ledger::Blank;
 use std::thread::Threads;
 use std::time::Instant;
 use two_wire::{Address, Bus, Frame};
@@ -58,64 +63,118 @@ impl<'a> Link for Patient<'a> {
     }
 }
 
-/// Two workers and a scanner that goes through a timetable, and why the scanner ended.
-#[derive(Drop)]
-struct Serving<'a, R> {
-    clock: &'a Slept<'a, R>,
+/// A lane of this bus with so many turns, each of which waits until so much was slept.
+fn lane<'a>(
+    rt: &impl Abort,
     alloc: Global,
-    /// How many turns each worker has.
+    bus: Bus,
+    slept: &'a AtomicU64,
     turns: u32,
-    /// Each turn waits until so many milliseconds were slept.
     until: u64,
-    table: Timetable<'a>,
-    end: TimedEnd,
-}
-
-/// A lane of this bus whose worker makes the session's turns.
-fn lane<'a, R: Abort>(serving: &Serving<'a, R>, bus: Bus) -> Lane<Patient<'a>> {
+) -> Lane<Patient<'a>> {
     let at = At {
         wire: Address::new(0x20).unwrap(),
         eid: EndpointId::new(0x0A).unwrap(),
     };
-    let clock = serving.clock;
-    let port = Port::new(serving.alloc, bus, at).expect(clock.rt, "memory");
+    let port = Port::new(alloc, bus, at).expect(rt, "memory");
     let counts = Counts {
         failures: 0,
         calls: 0,
         heard: 0,
     };
     let link = Patient {
-        slept: &clock.ms,
-        until: serving.until,
+        slept,
+        until,
         counts,
     };
-    Lane::new(port, link, serving.turns, None)
+    Lane::new(port, link, turns, None)
 }
 
-impl<'a, R: Threads + Wait + Abort + Sync> Session for Serving<'a, R> {
-    fn run<J: Opening + Send + Sync>(
-        &mut self,
-        shared: &Shared<J, Records>,
-        seats: Seats<J>,
-    ) -> Seats<J> {
-        let lanes = Lanes {
-            first: lane(self, Bus::Ipmb),
-            second: lane(self, Bus::Smbus),
-        };
-        let sliced = run_slices(self.clock, shared, seats, lanes, self.table, &Open, None);
-        let Sliced {
-            seats,
-            lanes,
-            next,
-            first_end: _,
-            second_end: _,
-            scanner_end,
-        } = sliced.ok().expect(self.clock.rt, "three threads");
-        drop(lanes);
-        self.table.next = next;
-        self.end = scanner_end;
-        seats
+/// Both lanes, with so many turns each.
+fn lanes<'a, R: Abort>(
+    rt: &'a Slept<'_, R>,
+    alloc: Global,
+    turns: u32,
+    until: u64,
+) -> Lanes<Patient<'a>, Patient<'a>> {
+    Lanes {
+        first: lane(rt.rt, alloc, Bus::Ipmb, &rt.ms, turns, until),
+        second: lane(rt.rt, alloc, Bus::Smbus, &rt.ms, turns, until),
     }
+}
+
+/// What a history left.
+struct Left {
+    board: Board<Records>,
+    history: History,
+    next: usize,
+    end: TimedEnd,
+}
+
+/// Serves a board that is shared, while a timetable goes on: the seats, the place of the list that is next then, and
+/// why the scanner ended.
+fn serve_shared<J: Opening + Send + Sync, R: Threads + Wait + Abort + Sync>(
+    rt: &Slept<'_, R>,
+    shared: &Shared<J, Records>,
+    seats: Seats<J>,
+    lanes: Lanes<Patient<'_>, Patient<'_>>,
+    table: Timetable<'_>,
+) -> (Seats<J>, usize, TimedEnd) {
+    let sliced = run_slices(rt, shared, seats, lanes, table, &Open, None);
+    let Sliced {
+        seats,
+        lanes: _,
+        next,
+        first_end: _,
+        second_end: _,
+        scanner_end: end,
+    } = sliced.ok().expect(rt.rt, "three threads");
+    (seats, next, end)
+}
+
+/// Serves a board with one history, while a timetable goes on.
+fn serve_opened<J: Opening + Send + Sync, R: Threads + Wait + Abort + Sync>(
+    rt: &Slept<'_, R>,
+    alloc: Global,
+    blank: Blank,
+    board: Board<Records>,
+    room: usize,
+    lanes: Lanes<Patient<'_>, Patient<'_>>,
+    table: Timetable<'_>,
+) -> Left
+    requires name { blank.name ≡ J.name }
+    requires parts { blank.parts ≡ J.parts }
+    requires three { blank.parts ≡ 3 }
+    requires setup { board.setup ≡ J.setup }
+    requires opening { state_of board ≡ J.opening }
+    requires room { room ≡ J.room }
+{
+    let (shared, seats) = open_shared::<J, R>(rt.rt, alloc, blank, board, room);
+    let (seats, next, end) = serve_shared(rt, &shared, seats, lanes, table);
+    let (board, history) = close(rt.rt, shared, seats);
+    Left {
+        board,
+        history,
+        next,
+        end,
+    }
+}
+
+/// The same with a ledger of its own, from this place of the list above on.
+fn serve<R: Threads + Wait + Abort + Sync>(
+    rt: &Slept<'_, R>,
+    alloc: Global,
+    board: Board<Records>,
+    room: usize,
+    lanes: Lanes<Patient<'_>, Patient<'_>>,
+    next: usize,
+) -> Left {
+    let table = Timetable {
+        list: &GOES_ON,
+        next,
+        start: Instant::now(rt).ok(),
+    };
+    serve_opened::<Brand, R>(rt, alloc, Blank::new(3), board, room, lanes, table)
 }
 
 /// A history, and what happens in it.
@@ -142,21 +201,14 @@ fn expect_served<R: Threads + Wait + Abort + Sync>(
     period: Period,
     until: u64,
 ) -> Board<Records> {
-    let table = Timetable {
-        list: &GOES_ON,
-        next: period.from,
-        start: Instant::now(clock).ok(),
-    };
-    let mut serving = Serving {
-        clock,
-        alloc,
-        turns: period.turns,
-        until,
-        table,
-        end: TimedEnd::Over,
-    };
-    let (board, history) = run_session(clock.rt, alloc, board, period.room, &mut serving);
-    let told = (serving.table.next, serving.end);
+    let lanes = lanes(clock, alloc, period.turns, until);
+    let left = serve(clock, alloc, board, period.room, lanes, period.from);
+    let Left {
+        board,
+        history,
+        next,
+        end,
+    } = left;
     let wanted = (period.next, period.end);
     expect_happened(
         clock.rt,
@@ -164,7 +216,7 @@ fn expect_served<R: Threads + Wait + Abort + Sync>(
         &history,
         &GOES_ON,
         period.from,
-        told,
+        (next, end),
         wanted,
     );
     drop(history);

@@ -1,14 +1,17 @@
 //! A scanner that waits for the times of what happens.
-use super::{Session, expect_equal, run_on_sample};
-use bmc_board::{Bench, Records};
-use bmc_ports::{
-    Call, History, Opening, Seats, Shared, Stops, Timed, TimedEnd, Timetable, happen_in_time,
-};
+ghost use Rattle.std.specs.Prelude.{◌≡◌};
+ghost use Rattle.bmc_board.specs.State.{state_of};
+
+use super::{expect_equal, history_of, open_sample, open_shared};
+use bmc_board::{Bench, Board, Records};
+use bmc_ports::{Call, History, Opening, Stops, Timed, TimedEnd, Timetable, happen_in_time};
 use std::alloc::Global;
 use std::io;
+use std::marker::Brand;
 use std::process::Abort;
 use std::sync::Wait;
 use std::sync::atomic::{AtomicBool, AtomicU64, Ordering};
+use std::sync::ledger::Blank;
 use std::thread::Threads;
 use std::time::{Clock, Duration, Instant};
 
@@ -104,29 +107,53 @@ impl<'a, R> Clock for Slept<'a, R> {
     }
 }
 
-/// A scanner that goes through a timetable, and why it ended.
+/// Why a scanner ended, what is next, and the history.
 #[derive(Drop)]
-struct Scan<'a, R> {
-    clock: &'a Slept<'a, R>,
-    table: Timetable<'a>,
+struct Told {
     end: TimedEnd,
+    next: usize,
+    history: History,
 }
 
-impl<'a, R: Wait> Session for Scan<'a, R> {
-    fn run<J: Opening + Send + Sync>(
-        &mut self,
-        shared: &Shared<J, Records>,
-        seats: Seats<J>,
-    ) -> Seats<J> {
-        let mut seats = seats;
-        let stops = Stops {
-            bell: &self.clock.bell,
-            over: &self.clock.over,
-        };
-        let seat = &mut seats.scanner;
-        self.end = happen_in_time(self.clock, shared, seat, &mut self.table, stops);
-        seats
+/// Has the scanner of a board go through a timetable from one place on.
+fn scan<J: Opening, R: Wait + Abort>(
+    rt: &Slept<'_, R>,
+    alloc: Global,
+    blank: Blank,
+    board: Board<Records>,
+    room: usize,
+    table: Timetable<'_>,
+) -> Told
+    requires name { blank.name ≡ J.name }
+    requires parts { blank.parts ≡ J.parts }
+    requires three { blank.parts ≡ 3 }
+    requires setup { board.setup ≡ J.setup }
+    requires opening { state_of board ≡ J.opening }
+    requires room { room ≡ J.room }
+{
+    let (shared, mut seats) = open_shared::<J, R>(rt.rt, alloc, blank, board, room);
+    let mut table = table;
+    let stops = Stops {
+        bell: &rt.bell,
+        over: &rt.over,
+    };
+    let end = happen_in_time(rt, &shared, &mut seats.scanner, &mut table, stops);
+    Told {
+        end,
+        next: table.next,
+        history: history_of(rt.rt, shared, seats),
     }
+}
+
+/// The same, with a ledger of its own.
+fn scan_at<R: Wait + Abort>(
+    rt: &Slept<'_, R>,
+    alloc: Global,
+    board: Board<Records>,
+    room: usize,
+    table: Timetable<'_>,
+) -> Told {
+    scan::<Brand, R>(rt, alloc, Blank::new(3), board, room, table)
 }
 
 /// Whether this happened at the place.
@@ -196,18 +223,20 @@ fn expect_scanned<R: Wait + Abort>(
         next: case.from,
         start,
     };
-    let mut scan = Scan {
-        clock,
-        table,
-        end: TimedEnd::Over,
-    };
-    let history = run_on_sample(clock.rt, alloc, case.room, &mut scan);
-    let told = (scan.table.next, scan.end);
+    let board = open_sample(clock.rt, alloc);
+    let told = scan_at(clock, alloc, board, case.room, table);
+    let ended = (told.next, told.end);
     let wanted = (case.next, case.end);
     expect_happened(
-        clock.rt, case.name, &history, &WARMS_UP, case.from, told, wanted,
+        clock.rt,
+        case.name,
+        &told.history,
+        &WARMS_UP,
+        case.from,
+        ended,
+        wanted,
     );
-    drop(history);
+    drop(told);
     let longest = clock.longest_ms.load(Ordering::SeqCst);
     let slept = (case.slept, case.slept.min(NAP_MS));
     expect_equal(clock.rt, case.name, (clock.slept(), longest), slept);

@@ -1,17 +1,20 @@
 //! Two workers and a scanner on one board.
+ghost use Rattle.std.specs.Prelude.{◌≡◌};
+ghost use Rattle.bmc_board.specs.State.{state_of};
+
 use super::gates::{Counted, Crossed, Mixed};
 use super::links::link_of;
 use super::seats::code_at;
-use super::{Session, expect_equal, open_sample, run_on_sample};
+use super::{expect_equal, history_of, open_sample, open_shared};
 use bmc_board::{Bench, Board, Records};
 use bmc_core::{At, Port};
-use bmc_ports::{
-    Call, End, Gate, History, Link, MemLink, Opening, Seats, Shared, run_two, serve_port,
-};
+use bmc_ports::{Call, End, Gate, History, Link, MemLink, Opening, run_two, serve_port};
 use mctp_net::EndpointId;
 use std::alloc::Global;
+use std::marker::Brand;
 use std::process::Abort;
 use std::sync::Wait;
+use std::sync::ledger::Blank;
 use std::thread::Threads;
 use two_wire::{Address, Bus, Frame};
 
@@ -87,63 +90,80 @@ fn port_on(rt: &impl Abort, alloc: Global, bus: Bus) -> Port {
     Port::new(alloc, bus, at).expect(rt, "memory")
 }
 
-/// Two workers and a scanner that share a board: what they do, over which links, and why each ended.
+/// What both workers sent, why the three ended, and the history.
 #[derive(Drop)]
-struct Workers<'a, G, R> {
-    rt: &'a R,
-    alloc: Global,
+struct Told {
     first: MemLink,
     second: MemLink,
-    bench: &'a [Bench],
-    gate: &'a G,
-    turns: u32,
     ends: [End; 3],
+    history: History,
 }
 
-impl<'a, G: Gate + Sync, R: Threads + Wait + Abort + Sync> Session for Workers<'a, G, R> {
-    fn run<J: Opening + Send + Sync>(
-        &mut self,
-        shared: &Shared<J, Records>,
-        seats: Seats<J>,
-    ) -> Seats<J> {
-        let ports = [
-            port_on(self.rt, self.alloc, Bus::Ipmb),
-            port_on(self.rt, self.alloc, Bus::Smbus),
-        ];
-        let ran = run_two(
-            self.rt,
-            shared,
-            seats,
-            ports,
-            &mut self.first,
-            &mut self.second,
-            self.bench,
-            self.gate,
-            self.turns,
-        );
-        let (seats, ends) = ran.ok().expect(self.rt, "three threads");
-        self.ends = ends;
-        seats
-    }
-}
-
-/// Workers that hear this script.
-fn workers_of<'a, G: Gate + Sync, R: Abort>(
-    rt: &'a R,
+/// Has two workers and a scanner share a board.
+fn share<J: Opening + Send + Sync, G: Gate + Sync, R: Threads + Wait + Abort + Sync>(
+    rt: &R,
     alloc: Global,
-    script: Script<'a>,
-    gate: &'a G,
-) -> Workers<'a, G, R> {
-    Workers {
+    blank: Blank,
+    board: Board<Records>,
+    room: usize,
+    script: &Script<'_>,
+    gate: &G,
+) -> Told
+    requires name { blank.name ≡ J.name }
+    requires parts { blank.parts ≡ J.parts }
+    requires three { blank.parts ≡ 3 }
+    requires setup { board.setup ≡ J.setup }
+    requires opening { state_of board ≡ J.opening }
+    requires room { room ≡ J.room }
+{
+    let (shared, seats) = open_shared::<J, R>(rt, alloc, blank, board, room);
+    let ports = [
+        port_on(rt, alloc, Bus::Ipmb),
+        port_on(rt, alloc, Bus::Smbus),
+    ];
+    let mut first = link_of(rt, alloc, script.first);
+    let mut second = link_of(rt, alloc, script.second);
+    let ran = run_two(
         rt,
-        alloc,
-        first: link_of(rt, alloc, script.first),
-        second: link_of(rt, alloc, script.second),
-        bench: script.bench,
+        &shared,
+        seats,
+        ports,
+        &mut first,
+        &mut second,
+        script.bench,
         gate,
-        turns: script.turns,
-        ends: [End::Full, End::Full, End::Full],
+        script.turns,
+    );
+    let (seats, ends) = ran.ok().expect(rt, "three threads");
+    Told {
+        first,
+        second,
+        ends,
+        history: history_of(rt, shared, seats),
     }
+}
+
+/// The same, with a ledger of its own.
+fn share_at<G: Gate + Sync, R: Threads + Wait + Abort + Sync>(
+    rt: &R,
+    alloc: Global,
+    board: Board<Records>,
+    room: usize,
+    script: &Script<'_>,
+    gate: &G,
+) -> Told {
+    share::<Brand, G, R>(rt, alloc, Blank::new(3), board, room, script, gate)
+}
+
+/// The same, of the sample board.
+fn share_sample<G: Gate + Sync, R: Threads + Wait + Abort + Sync>(
+    rt: &R,
+    alloc: Global,
+    script: &Script<'_>,
+    gate: &G,
+) -> Told {
+    let board = open_sample(rt, alloc);
+    share_at::<G, R>(rt, alloc, board, 8, script, gate)
 }
 
 /// Whether these frames were sent, and no others.
@@ -190,19 +210,13 @@ fn a_gate_lets_port_1_answer_before_port_0(rt: HostRuntime) {
         turns: 3,
     };
     let gate = Crossed::new();
-    let mut workers = workers_of(&rt, rt.alloc(), script, &gate);
-    let history = run_on_sample(&rt, rt.alloc(), 8, &mut workers);
+    let told = share_sample(&rt, rt.alloc(), &script, &gate);
     expect_equal(&rt, "workers that waited too long", gate.gave_up(), 0);
-    expect_equal(
-        &rt,
-        "ends",
-        workers.ends,
-        [End::Turns, End::Turns, End::Turns],
-    );
-    expect_sent(&rt, "port 0", &workers.first, &[BOOT_SET, BOOT_GOT]);
-    expect_sent(&rt, "port 1", &workers.second, &[TID]);
-    expect_equal(&rt, "events", history.len(), 4);
-    expect_second_first(&rt, &history);
+    expect_equal(&rt, "ends", told.ends, [End::Turns, End::Turns, End::Turns]);
+    expect_sent(&rt, "port 0", &told.first, &[BOOT_SET, BOOT_GOT]);
+    expect_sent(&rt, "port 1", &told.second, &[TID]);
+    expect_equal(&rt, "events", told.history.len(), 4);
+    expect_second_first(&rt, &told.history);
 }
 
 /// Whether the board answers the call at this place so.
@@ -232,17 +246,14 @@ fn expect_replays(rt: &impl Abort, alloc: Global, history: &History, seed: u64) 
 fn expect_replayed<R: Threads + Wait + Abort + Sync>(
     rt: &R,
     alloc: Global,
-    script: Script<'_>,
+    script: &Script<'_>,
     seed: u64,
     events: usize,
 ) {
-    let gate = Mixed { seed };
-    let mut workers = workers_of(rt, alloc, script, &gate);
-    let history = run_on_sample(rt, alloc, 8, &mut workers);
-    drop(workers);
-    expect_equal(rt, "events", history.len(), events);
-    expect_replays(rt, alloc, &history, seed);
-    drop(history);
+    let told = share_sample(rt, alloc, script, &Mixed { seed });
+    expect_equal(rt, "events", told.history.len(), events);
+    expect_replays(rt, alloc, &told.history, seed);
+    drop(told);
 }
 
 #[test]
@@ -254,33 +265,55 @@ fn whoever_goes_first_a_second_board_answers_the_history_so(rt: HostRuntime) {
         turns: 4,
     };
     for seed in 0..300u64 {
-        expect_replayed(&rt, rt.alloc(), script, seed, 7);
+        expect_replayed(&rt, rt.alloc(), &script, seed, 7);
     }
 }
 
-/// One worker that serves a port of a board, and why it ended.
+/// One worker that serves a port of a board: its port, its link, its gate and its turns.
 #[derive(Drop)]
-struct Alone<'a, R> {
-    rt: &'a R,
+struct Alone {
     port: Port,
     link: MemLink,
     gate: Counted,
     turns: u32,
-    end: End,
 }
 
-impl<'a, R: Wait> Session for Alone<'a, R> {
-    fn run<J: Opening + Send + Sync>(
-        &mut self,
-        shared: &Shared<J, Records>,
-        seats: Seats<J>,
-    ) -> Seats<J> {
-        let mut seats = seats;
-        let (port, link) = (&mut self.port, &mut self.link);
-        let seat = &mut seats.first;
-        self.end = serve_port(self.rt, shared, seat, port, link, &self.gate, self.turns);
-        seats
-    }
+/// Has one worker alone serve a port of a board: why it ended, and the history.
+fn serve_alone<J: Opening, R: Wait + Abort>(
+    rt: &R,
+    alloc: Global,
+    blank: Blank,
+    board: Board<Records>,
+    room: usize,
+    alone: &mut Alone,
+) -> (End, History)
+    requires name { blank.name ≡ J.name }
+    requires parts { blank.parts ≡ J.parts }
+    requires three { blank.parts ≡ 3 }
+    requires setup { board.setup ≡ J.setup }
+    requires opening { state_of board ≡ J.opening }
+    requires room { room ≡ J.room }
+{
+    let (shared, mut seats) = open_shared::<J, R>(rt, alloc, blank, board, room);
+    let Alone {
+        port,
+        link,
+        gate,
+        turns,
+    } = alone;
+    let end = serve_port(rt, &shared, &mut seats.first, port, link, gate, *turns);
+    (end, history_of(rt, shared, seats))
+}
+
+/// The same, with a ledger of its own.
+fn serve_alone_at<R: Wait + Abort>(
+    rt: &R,
+    alloc: Global,
+    board: Board<Records>,
+    room: usize,
+    alone: &mut Alone,
+) -> (End, History) {
+    serve_alone::<Brand, R>(rt, alloc, Blank::new(3), board, room, alone)
 }
 
 /// What one worker alone does: its port's bus, its script, how many turns it makes, and for how many events there is room. Then why it ends,
@@ -303,16 +336,15 @@ struct Case {
 /// The worker does so.
 fn expect_alone<R: Wait + Abort>(rt: &R, alloc: Global, case: Case) {
     let mut alone = Alone {
-        rt,
         port: port_on(rt, alloc, case.bus),
         link: link_of(rt, alloc, case.script),
         gate: Counted::new(),
         turns: case.turns,
-        end: End::Turns,
     };
-    let history = run_on_sample(rt, alloc, case.room, &mut alone);
+    let board = open_sample(rt, alloc);
+    let (end, history) = serve_alone_at(rt, alloc, board, case.room, &mut alone);
     let counts = alone.link.counts();
-    expect_equal(rt, case.name, alone.end, case.end);
+    expect_equal(rt, case.name, end, case.end);
     expect_sent(rt, case.name, &alone.link, case.sent);
     expect_equal(rt, case.name, history.len(), case.events);
     expect_equal(rt, case.name, code_at(&history, 0), Some(0x00));
