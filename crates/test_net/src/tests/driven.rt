@@ -1,6 +1,7 @@
 //! A manager that is driven over links that fail.
 use super::shared::expect_equal;
 use super::wired::{Faulty, Wired};
+use bmc_drive::drive;
 use bmc_links::{Link, MemLink};
 use cfg_records::{Key, StartValue, sample_board};
 use changed_records::changed_count;
@@ -83,40 +84,53 @@ fn sample_records(rt: &impl Abort, alloc: Global) -> Vec<(Key, StartValue)> {
     records
 }
 
-/// What drives a manager: the bus of its port, the link to that, a link that hears nothing, and the records of the board as it began.
-#[derive(Drop)]
-struct Drive<'a> {
-    bus: Bus,
-    link: &'a mut Faulty<Wired>,
-    other: &'a mut MemLink,
-    records: &'a [(Key, StartValue)],
-}
-
-/// The manager sends this, comes to the phase, and has changed so many of the board's records then.
+/// The manager sends this, and is driven over the link to its port, and over one that hears nothing. It comes to the phase, and so many of the
+/// board's records are changed then.
 fn expect_driven(
     rt: &impl Abort,
-    drive: &mut Drive<'_>,
+    bus: Bus,
     manager: &mut Manager,
     sent: Option<Sent>,
-    phase: Phase,
-    changed: usize,
+    link: &mut Faulty<Wired>,
+    other: &mut MemLink,
+    records: &[(Key, StartValue)],
+    wanted: (Phase, usize),
 ) {
-    let came = match drive.bus {
-        Bus::Ipmb => bmc_drive::drive(manager, sent, drive.link, drive.other, TURNS),
-        Bus::Smbus => bmc_drive::drive(manager, sent, drive.other, drive.link, TURNS),
+    let phase = match bus {
+        Bus::Ipmb => drive(manager, sent, link, other, TURNS),
+        Bus::Smbus => drive(manager, sent, other, link, TURNS),
     };
-    let count = changed_count(drive.link.link.board.store(), drive.records);
-    expect_equal(rt, "phase and records", (came, count), (phase, changed));
+    let changed = changed_count(link.link.board.store(), records);
+    expect_equal(rt, "phase and records", (phase, changed), wanted);
 }
 
 /// A manager's plan is run over the link, which changes a record, and undone.
-fn expect_back(rt: &impl Abort, alloc: Global, drive: &mut Drive<'_>) {
-    let mut manager = manager_on(rt, alloc, drive.bus);
+fn expect_back(
+    rt: &impl Abort,
+    alloc: Global,
+    bus: Bus,
+    link: &mut Faulty<Wired>,
+    records: &[(Key, StartValue)],
+) {
+    let mut other = MemLink::new(alloc, &[]).ok().expect(rt, "memory");
+    let mut manager = manager_on(rt, alloc, bus);
     let sent = manager.start().ok().expect(rt, "a plan to be run");
-    expect_driven(rt, drive, &mut manager, sent, Phase::Done, 1);
+    let done = (Phase::Done, 1);
+    expect_driven(rt, bus, &mut manager, sent, link, &mut other, records, done);
     let sent = manager.undo().ok().expect(rt, "a plan to be undone");
-    expect_driven(rt, drive, &mut manager, sent, Phase::Undone, 0);
+    let undone = (Phase::Undone, 0);
+    expect_driven(
+        rt,
+        bus,
+        &mut manager,
+        sent,
+        link,
+        &mut other,
+        records,
+        undone,
+    );
     drop(manager);
+    drop(other);
 }
 
 /// The same over a link whose call of this number fails. How many of its calls failed.
@@ -128,15 +142,7 @@ fn failures_at(
     records: &[(Key, StartValue)],
 ) -> u64 {
     let mut link = Faulty::new(Wired::new(rt, alloc, bus), failing_call);
-    let mut other = MemLink::new(alloc, &[]).ok().expect(rt, "memory");
-    let mut drive = Drive {
-        bus,
-        link: &mut link,
-        other: &mut other,
-        records,
-    };
-    expect_back(rt, alloc, &mut drive);
-    drop(other);
+    expect_back(rt, alloc, bus, &mut link, records);
     let failures = link.counts().failures;
     drop(link);
     failures

@@ -1,5 +1,5 @@
 //! A port that forgets a requester from which nothing comes for some turns.
-use super::lent::{SET_REPLY, expect_lent, expect_sent, lend};
+use super::lent::{SET_REPLY, expect_sent, expect_served, new_lanes};
 use super::served::SET;
 use super::wired::open_sample;
 use bmc_ports::End;
@@ -42,11 +42,11 @@ fn expect_events<R: Threads + Wait + Clock + Abort + Sync>(
     events: usize,
 ) {
     let board = open_sample(rt, alloc);
-    let lent = lend(rt, alloc, &SCRIPT, TURNS, forget);
+    let lanes = new_lanes(rt, alloc, &SCRIPT, TURNS, forget);
     let wanted = (events, End::Turns, 0);
-    let (lent, board) = expect_lent(rt, alloc, board, 8, lent, name, wanted);
+    let (board, lanes) = expect_served(rt, alloc, board, 8, lanes, name, wanted);
     drop(board);
-    expect_sent(rt, name, lent, &REPLIES);
+    expect_sent(rt, name, lanes, &REPLIES);
 }
 
 #[test]

@@ -1,14 +1,19 @@
 //! Workers that are lent ports and links, from one history to the next.
+ghost use Rattle.std.specs.Prelude.{◌≡◌};
+ghost use Rattle.bmc_board.specs.State.{state_of};
+
 use super::served::{GET, Open, SET};
-use super::shared::{Session, expect_equal, run_session};
+use super::shared::{close, expect_equal, open_shared};
 use super::wired::{open_sample, port_on};
 use bmc_board::{Board, Records};
 use bmc_links::MemLink;
 use bmc_ports::{End, Lane, Lanes, Opening, Seats, Shared, Sliced, Timetable, run_slices};
 use net_serve::serve_periods;
 use std::alloc::Global;
+use std::marker::Brand;
 use std::process::Abort;
 use std::sync::Wait;
+use std::sync::ledger::Blank;
 use std::thread::Threads;
 use std::time::Clock;
 use two_wire::{Bus, Frame};
@@ -34,33 +39,70 @@ const SCRIPT: [&[u8]; 5] = [&SET, &GET, &LATER_GET, &SET, &LATER_GET];
 /// How many turns the port on IPMB has for it.
 const TURNS: u32 = 6;
 
-/// What two workers are lent, and why the one on IPMB ended.
-#[derive(Drop)]
-pub(super) struct Lent {
+/// What a history left.
+struct Left {
+    board: Board<Records>,
     lanes: Lanes<MemLink, MemLink>,
+    events: usize,
     end: End,
 }
 
-impl<R: Threads + Wait + Clock + Abort + Sync> Session<R> for Lent {
-    fn run<J: Opening + Send + Sync>(
-        self,
-        rt: &R,
-        shared: &Shared<J, Records>,
-        seats: Seats<J>,
-    ) -> (Self, Seats<J>) {
-        let Lent { lanes, end: _ } = self;
-        let table = Timetable::new(&[], None);
-        let sliced = run_slices(rt, shared, seats, lanes, table, &Open, None);
-        let Sliced {
-            seats,
-            lanes,
-            next: _,
-            first_end: end,
-            second_end: _,
-            scanner_end: _,
-        } = sliced.ok().expect(rt, "two threads");
-        (Lent { lanes, end }, seats)
+/// Serves a board that is shared: the seats, what is left of the lanes, and why the worker on IPMB ended.
+fn serve_shared<J: Opening + Send + Sync, R: Threads + Wait + Clock + Abort + Sync>(
+    rt: &R,
+    shared: &Shared<J, Records>,
+    seats: Seats<J>,
+    lanes: Lanes<MemLink, MemLink>,
+) -> (Seats<J>, Lanes<MemLink, MemLink>, End) {
+    let table = Timetable::new(&[], None);
+    let sliced = run_slices(rt, shared, seats, lanes, table, &Open, None);
+    let Sliced {
+        seats,
+        lanes,
+        next: _,
+        first_end: end,
+        second_end: _,
+        scanner_end: _,
+    } = sliced.ok().expect(rt, "two threads");
+    (seats, lanes, end)
+}
+
+/// Serves a board with one history.
+fn serve_opened<J: Opening + Send + Sync, R: Threads + Wait + Clock + Abort + Sync>(
+    rt: &R,
+    alloc: Global,
+    blank: Blank,
+    board: Board<Records>,
+    room: usize,
+    lanes: Lanes<MemLink, MemLink>,
+) -> Left
+    requires name { blank.name ≡ J.name }
+    requires parts { blank.parts ≡ J.parts }
+    requires three { blank.parts ≡ 3 }
+    requires setup { board.setup ≡ J.setup }
+    requires opening { state_of board ≡ J.opening }
+    requires room { room ≡ J.room }
+{
+    let (shared, seats) = open_shared::<J, R>(rt, alloc, blank, board, room);
+    let (seats, lanes, end) = serve_shared(rt, &shared, seats, lanes);
+    let (board, events) = close(rt, shared, seats);
+    Left {
+        board,
+        lanes,
+        events,
+        end,
     }
+}
+
+/// The same with a ledger of its own.
+fn serve_at<R: Threads + Wait + Clock + Abort + Sync>(
+    rt: &R,
+    alloc: Global,
+    board: Board<Records>,
+    room: usize,
+    lanes: Lanes<MemLink, MemLink>,
+) -> Left {
+    serve_opened::<Brand, R>(rt, alloc, Blank::new(3), board, room, lanes)
 }
 
 /// A port on this bus that hears the script, has so many turns, and forgets those that are silent for so many, where a number is given.
@@ -77,7 +119,7 @@ fn lane(
 }
 
 /// Such a port on IPMB, and one on SMBus that hears nothing in its one turn.
-fn lanes(
+pub(super) fn new_lanes(
     rt: &impl Abort,
     alloc: Global,
     script: &[&[u8]],
@@ -90,35 +132,26 @@ fn lanes(
     }
 }
 
-/// What workers are lent first: those ports.
-pub(super) fn lend(
-    rt: &impl Abort,
-    alloc: Global,
-    script: &[&[u8]],
-    turns: u32,
-    forget: Option<u32>,
-) -> Lent {
-    Lent {
-        lanes: lanes(rt, alloc, script, turns, forget),
-        end: End::Full,
-    }
-}
-
 /// The board is served with a history that has so much room. So many events are in it then, the worker on IPMB ends so and has so many turns
-/// left, and that on SMBus has none. The board, and what the workers give back.
-pub(super) fn expect_lent<R: Threads + Wait + Clock + Abort + Sync>(
+/// left, and that on SMBus has none. The board, and what is left of the lanes.
+pub(super) fn expect_served<R: Threads + Wait + Clock + Abort + Sync>(
     rt: &R,
     alloc: Global,
     board: Board<Records>,
     room: usize,
-    lent: Lent,
+    lanes: Lanes<MemLink, MemLink>,
     name: &str,
     wanted: (usize, End, u32),
-) -> (Lent, Board<Records>) {
-    let (lent, board, events) = run_session(rt, alloc, board, room, lent);
-    expect_equal(rt, name, (events, lent.end, lent.lanes.first.turns), wanted);
-    expect_equal(rt, name, lent.lanes.second.turns, 0);
-    (lent, board)
+) -> (Board<Records>, Lanes<MemLink, MemLink>) {
+    let Left {
+        board,
+        lanes,
+        events,
+        end,
+    } = serve_at(rt, alloc, board, room, lanes);
+    expect_equal(rt, name, (events, end, lanes.first.turns), wanted);
+    expect_equal(rt, name, lanes.second.turns, 0);
+    (board, lanes)
 }
 
 /// Whether these frames were sent, and no others.
@@ -135,30 +168,35 @@ fn are_sent(sent: &[Frame], wanted: &[&[u8]]) -> bool {
 }
 
 /// These frames were sent over IPMB's link, and no others.
-pub(super) fn expect_sent(rt: &impl Abort, name: &str, lent: Lent, wanted: &[&[u8]]) {
-    assert!(rt; are_sent(lent.lanes.first.link.sent(), wanted), "{name}");
-    drop(lent);
+pub(super) fn expect_sent(
+    rt: &impl Abort,
+    name: &str,
+    lanes: Lanes<MemLink, MemLink>,
+    wanted: &[&[u8]],
+) {
+    assert!(rt; are_sent(lanes.first.link.sent(), wanted), "{name}");
+    drop(lanes);
 }
 
 #[test]
 fn a_request_answered_before_a_change_gets_its_kept_reply_after_it(rt: HostRuntime) {
     let alloc = rt.alloc();
     let board = open_sample(&rt, alloc);
-    let lent = lend(&rt, alloc, &SCRIPT, TURNS, None);
+    let lanes = new_lanes(&rt, alloc, &SCRIPT, TURNS, None);
     let name = "there is no room for the second Get";
-    let (lent, board) = expect_lent(&rt, alloc, board, 2, lent, name, (2, End::Full, 3));
+    let (board, lanes) = expect_served(&rt, alloc, board, 2, lanes, name, (2, End::Full, 3));
     let name = "the Set's repeat is no event, and the Get that found no room is one";
-    let (lent, board) = expect_lent(&rt, alloc, board, 2, lent, name, (1, End::Turns, 0));
+    let (board, lanes) = expect_served(&rt, alloc, board, 2, lanes, name, (1, End::Turns, 0));
     drop(board);
     let sent: [&[u8]; 4] = [&SET_REPLY, &GET_REPLY, &SET_REPLY, &LATER_REPLY];
-    expect_sent(&rt, name, lent, &sent);
+    expect_sent(&rt, name, lanes, &sent);
 }
 
 #[test]
 fn a_board_is_served_in_periods_until_all_turns_are_made(rt: HostRuntime) {
     let alloc = rt.alloc();
     let board = open_sample(&rt, alloc);
-    let lanes = lanes(&rt, alloc, &SCRIPT, TURNS, None);
+    let lanes = new_lanes(&rt, alloc, &SCRIPT, TURNS, None);
     let table = Timetable::new(&[], None);
     let served = serve_periods(&rt, alloc, board, lanes, table, None).ok();
     let course = served.expect(&rt, "two threads");

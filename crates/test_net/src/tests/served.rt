@@ -1,13 +1,17 @@
 //! A worker whose link fails.
-use super::shared::{Session, expect_equal, run_session};
+ghost use Rattle.std.specs.Prelude.{◌≡◌};
+ghost use Rattle.bmc_board.specs.State.{state_of};
+
+use super::shared::{close, expect_equal, open_shared};
 use super::wired::{Faulty, open_sample, port_on};
-use bmc_board::Records;
-use bmc_core::Port;
+use bmc_board::{Board, Records};
 use bmc_links::{Link, MemLink};
-use bmc_ports::{End, Gate, Opening, Seats, Shared, serve_port};
+use bmc_ports::{End, Gate, Opening, serve_port};
 use std::alloc::Global;
+use std::marker::Brand;
 use std::process::Abort;
 use std::sync::Wait;
+use std::sync::ledger::Blank;
 use two_wire::Bus;
 
 /// A Set of boot parameter 5.
@@ -28,43 +32,49 @@ impl Gate for Open {
     fn pass(&self, _port: u8, _n: u64) {}
 }
 
-/// A worker on IPMB, and why it ended.
-#[derive(Drop)]
-struct Worker {
-    port: Port,
-    link: Faulty<MemLink>,
-    end: End,
+/// Has a worker serve port 0 of a board: why it ended, and how long the history is.
+fn serve_first<J: Opening, R: Wait + Abort>(
+    rt: &R,
+    alloc: Global,
+    blank: Blank,
+    board: Board<Records>,
+    room: usize,
+    link: &mut Faulty<MemLink>,
+) -> (End, usize)
+    requires name { blank.name ≡ J.name }
+    requires parts { blank.parts ≡ J.parts }
+    requires three { blank.parts ≡ 3 }
+    requires setup { board.setup ≡ J.setup }
+    requires opening { state_of board ≡ J.opening }
+    requires room { room ≡ J.room }
+{
+    let (shared, mut seats) = open_shared::<J, R>(rt, alloc, blank, board, room);
+    let mut port = port_on(rt, alloc, Bus::Ipmb);
+    let end = serve_port(rt, &shared, &mut seats.first, &mut port, link, &Open, TURNS);
+    drop(port);
+    let (board, events) = close(rt, shared, seats);
+    drop(board);
+    (end, events)
 }
 
-impl<R: Wait> Session<R> for Worker {
-    fn run<J: Opening + Send + Sync>(
-        self,
-        rt: &R,
-        shared: &Shared<J, Records>,
-        seats: Seats<J>,
-    ) -> (Self, Seats<J>) {
-        let mut worker = self;
-        let mut seats = seats;
-        let (port, link) = (&mut worker.port, &mut worker.link);
-        worker.end = serve_port(rt, shared, &mut seats.first, port, link, &Open, TURNS);
-        (worker, seats)
-    }
+/// The same of the sample board, with a ledger of its own and room for eight events.
+fn serve_sample<R: Wait + Abort>(
+    rt: &R,
+    alloc: Global,
+    link: &mut Faulty<MemLink>,
+) -> (End, usize) {
+    let board = open_sample(rt, alloc);
+    serve_first::<Brand, R>(rt, alloc, Blank::new(3), board, 8, link)
 }
 
 /// The worker hears a Set and a Get and makes its turns, whichever call of its link fails. How many of them failed.
 fn failures_at<R: Wait + Abort>(rt: &R, alloc: Global, failing_call: u32) -> u64 {
     let link = MemLink::new(alloc, &[&SET, &GET]).ok().expect(rt, "a link");
-    let worker = Worker {
-        port: port_on(rt, alloc, Bus::Ipmb),
-        link: Faulty::new(link, failing_call),
-        end: End::Full,
-    };
-    let board = open_sample(rt, alloc);
-    let (worker, board, events) = run_session(rt, alloc, board, 8, worker);
-    drop(board);
-    let counts = worker.link.counts();
-    let came = (failing_call, worker.end, events, counts.calls, counts.heard);
-    drop(worker);
+    let mut link = Faulty::new(link, failing_call);
+    let (end, events) = serve_sample(rt, alloc, &mut link);
+    let counts = link.counts();
+    drop(link);
+    let came = (failing_call, end, events, counts.calls, counts.heard);
     let wanted = (failing_call, End::Turns, 2, 5, 2);
     expect_equal(rt, "the failing call, and what came", came, wanted);
     counts.failures

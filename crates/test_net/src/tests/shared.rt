@@ -6,7 +6,6 @@ use bmc_board::{Board, Records};
 use bmc_ports::{Opening, Seats, Shared};
 use std::alloc::Global;
 use std::fmt::Debug;
-use std::marker::Brand;
 use std::process::Abort;
 use std::sync::ledger::Blank;
 
@@ -20,26 +19,14 @@ pub(crate) fn expect_equal<T: Copy + Debug + PartialEq>(
     assert_eq!(rt; value, wanted, "{name}");
 }
 
-/// What is done with a board that threads share.
-pub(crate) trait Session<R>: Sized {
-    /// Calls the board from its seats, and gives these back, with what it came to.
-    fn run<J: Opening + Send + Sync>(
-        self,
-        rt: &R,
-        shared: &Shared<J, Records>,
-        seats: Seats<J>,
-    ) -> (Self, Seats<J>);
-}
-
-/// Shares the board for a session: what that came to, the board, once nobody shares it any more, and how many events its history has.
-fn run_opened<J: Opening + Send + Sync, S: Session<R>, R: Abort>(
+/// The board, which threads share from here on, and their seats.
+pub(crate) fn open_shared<J: Opening, R: Abort>(
     rt: &R,
     alloc: Global,
     blank: Blank,
     board: Board<Records>,
     room: usize,
-    session: S,
-) -> (S, Board<Records>, usize)
+) -> (Shared<J, Records>, Seats<J>)
     requires name { blank.name ≡ J.name }
     requires parts { blank.parts ≡ J.parts }
     requires three { blank.parts ≡ 3 }
@@ -47,21 +34,19 @@ fn run_opened<J: Opening + Send + Sync, S: Session<R>, R: Abort>(
     requires opening { state_of board ≡ J.opening }
     requires room { room ≡ J.room }
 {
-    let opened = Shared::<J, Records>::open(alloc, blank, board, room).ok();
-    let (shared, seats) = opened.expect(rt, "a board that is shared");
-    let (session, seats) = session.run(rt, &shared, seats);
-    let closed = shared.close(seats).ok();
-    let (board, history) = closed.expect(rt, "a board that is closed");
-    (session, board, history.len())
+    let opened = Shared::<J, Records>::open(alloc, blank, board, room);
+    opened.ok().expect(rt, "a board that is shared")
 }
 
-/// The same with a ledger of its own.
-pub(crate) fn run_session<S: Session<R>, R: Abort>(
-    rt: &R,
-    alloc: Global,
-    board: Board<Records>,
-    room: usize,
-    session: S,
-) -> (S, Board<Records>, usize) {
-    run_opened::<Brand, S, R>(rt, alloc, Blank::new(3), board, room, session)
+/// The board, once nobody shares it any more, and how many events its history has.
+pub(crate) fn close<J: Opening>(
+    rt: &impl Abort,
+    shared: Shared<J, Records>,
+    seats: Seats<J>,
+) -> (Board<Records>, usize)
+    requires three { J.parts ≡ 3 }
+{
+    let closed = shared.close(seats).ok();
+    let (board, history) = closed.expect(rt, "a board that is closed");
+    (board, history.len())
 }
