@@ -24,9 +24,14 @@ pub(crate) fn open_sample(rt: &impl Abort, alloc: Global) -> Board<Records> {
     Board::of_file(alloc, file).expect(rt, "memory")
 }
 
-/// The value is the one that is wanted.
-pub(crate) fn expect_equal<T: Copy + Debug + PartialEq>(rt: &impl Abort, value: T, wanted: T) {
-    assert_eq!(rt; value, wanted);
+/// The value of this name is the one that is wanted.
+pub(crate) fn expect_equal<T: Copy + Debug + PartialEq>(
+    rt: &impl Abort,
+    name: &str,
+    value: T,
+    wanted: T,
+) {
+    assert_eq!(rt; value, wanted, "{name}");
 }
 
 /// The board, which threads share from here on, and their seats.
@@ -68,6 +73,7 @@ pub(crate) fn history_of<J: Opening>(
 ) -> History
     requires three { J.parts ≡ 3 }
 {
-    let (_, history) = close(rt, shared, seats);
+    let (board, history) = close(rt, shared, seats);
+    drop(board);
     history
 }

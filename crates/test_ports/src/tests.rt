@@ -20,23 +20,27 @@ pub(crate) fn expect_report(rt: &impl Abort, alloc: Global, stories: &str, told:
     expect_equal(rt, report.as_str(), told);
 }
 
-/// Each line of the stories comes as it is told.
-pub(crate) fn expect_told(rt: &impl Abort, alloc: Global, stories: &str) {
-    expect_report(rt, alloc, stories, "");
-}
-
-/// The frame that was sent.
-fn sent(out: &Out) -> &[u8] {
-    match out.frames.as_slice() {
-        [frame] => frame.as_slice(),
-        _ => &[],
+#[test]
+fn each_line_comes_as_it_is_told(rt: HostRuntime) {
+    let texts = [
+        ipmb::IPMB,
+        smbus::SMBUS,
+        floods::REQUESTERS,
+        floods::MESSAGES,
+        window::WINDOWS,
+    ];
+    for stories in texts {
+        expect_report(&rt, rt.alloc(), stories, "");
     }
 }
 
 /// The port did this, and sent this frame and no other.
 pub(crate) fn expect_out(rt: &impl Abort, out: &Out, done: Done, frame: &[u8]) {
     expect_equal(rt, out.done, done);
-    expect_equal(rt, sent(out), frame);
+    match out.frames.as_slice() {
+        [sent] => expect_equal(rt, sent.as_slice(), frame),
+        _ => panic!(rt; "not one frame"),
+    }
 }
 
 /// The value is the one that is wanted.

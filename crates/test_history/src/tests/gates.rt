@@ -1,10 +1,21 @@
 //! Gates that hold workers.
 use bmc_ports::Gate;
-use std::sync::atomic::{AtomicBool, AtomicU64, Ordering};
+use std::sync::atomic::{AtomicU64, Ordering};
 use std::thread;
 
 /// The most often that a worker looks for another.
-const MOST_YIELDS: u32 = 1_000_000;
+const MOST_YIELDS: u32 = 10_000_000;
+
+/// Waits until the number is so large, and gives whether it became so.
+pub(crate) fn wait_for(number: &AtomicU64, least: u64) -> bool {
+    for _ in 0..MOST_YIELDS {
+        if number.load(Ordering::SeqCst) >= least {
+            return true;
+        }
+        thread::yield_now();
+    }
+    false
+}
 
 /// A gate that holds nobody.
 #[derive(Drop)]
@@ -17,45 +28,43 @@ impl Gate for Open {
 /// Port 0 makes its first exchange only once port 1 sent its first reply, and port 1 goes on only once port 0 is there.
 #[derive(Drop)]
 pub(crate) struct Crossed {
-    is_first_there: AtomicBool,
-    is_second_done: AtomicBool,
-    gave_up: AtomicBool,
+    /// How often port 0 came to its first exchange.
+    first_came: AtomicU64,
+    /// How often port 1 sent its first reply.
+    second_sent: AtomicU64,
+    /// How often a worker waited in vain.
+    gave_up: AtomicU64,
 }
 
 impl Crossed {
     pub fn new() -> Crossed {
         Crossed {
-            is_first_there: AtomicBool::new(false),
-            is_second_done: AtomicBool::new(false),
-            gave_up: AtomicBool::new(false),
+            first_came: AtomicU64::new(0),
+            second_sent: AtomicU64::new(0),
+            gave_up: AtomicU64::new(0),
         }
     }
 
-    /// Whether a worker waited in vain.
-    pub fn gave_up(&self) -> bool {
+    /// How often a worker waited in vain.
+    pub fn gave_up(&self) -> u64 {
         self.gave_up.load(Ordering::SeqCst)
     }
 
-    /// Waits until the flag is set, or gives up.
-    fn wait_for(&self, flag: &AtomicBool) {
-        for _ in 0..MOST_YIELDS {
-            if flag.load(Ordering::SeqCst) {
-                return;
-            }
-            thread::yield_now();
+    /// Says that one worker is there, and waits for the other.
+    fn meet(&self, own: &AtomicU64, other: &AtomicU64) {
+        own.store(1, Ordering::SeqCst);
+        if !wait_for(other, 1) {
+            self.gave_up.store(1, Ordering::SeqCst);
         }
-        self.gave_up.store(true, Ordering::SeqCst);
     }
 }
 
 impl Gate for Crossed {
     fn pass(&self, port: u8, n: u64) {
         if port == 0 && n == 0 {
-            self.is_first_there.store(true, Ordering::SeqCst);
-            self.wait_for(&self.is_second_done);
+            self.meet(&self.first_came, &self.second_sent);
         } else if port == 1 && n == 1 {
-            self.is_second_done.store(true, Ordering::SeqCst);
-            self.wait_for(&self.is_first_there);
+            self.meet(&self.second_sent, &self.first_came);
         }
     }
 }
@@ -63,13 +72,7 @@ impl Gate for Crossed {
 /// A gate that holds each worker for a while that its seed gives.
 #[derive(Drop)]
 pub(crate) struct Mixed {
-    seed: u64,
-}
-
-impl Mixed {
-    pub fn new(seed: u64) -> Mixed {
-        Mixed { seed }
-    }
+    pub seed: u64,
 }
 
 impl Gate for Mixed {
@@ -85,36 +88,35 @@ impl Gate for Mixed {
     }
 }
 
+/// What `passed` is once a worker's numbers didn't come one after another, from 0 on.
+const OUT_OF_ORDER: u64 = u64::MAX;
+
 /// A gate that counts how often one worker passes it.
 #[derive(Drop)]
 pub(crate) struct Counted {
     passed: AtomicU64,
-    is_out_of_order: AtomicBool,
 }
 
 impl Counted {
     pub fn new() -> Counted {
         Counted {
             passed: AtomicU64::new(0),
-            is_out_of_order: AtomicBool::new(false),
         }
     }
 
     /// How often it was passed, where the worker's numbers came one after another, from 0 on.
-    pub fn passed(&self) -> Option<u64> {
-        if self.is_out_of_order.load(Ordering::SeqCst) {
-            None
-        } else {
-            Some(self.passed.load(Ordering::SeqCst))
-        }
+    pub fn passed(&self) -> u64 {
+        self.passed.load(Ordering::SeqCst)
     }
 }
 
 impl Gate for Counted {
     fn pass(&self, _port: u8, n: u64) {
-        if self.passed.load(Ordering::SeqCst) != n {
-            self.is_out_of_order.store(true, Ordering::SeqCst);
-        }
-        self.passed.store(n.wrapping_add(1), Ordering::SeqCst);
+        let next = if self.passed() == n {
+            n.wrapping_add(1)
+        } else {
+            OUT_OF_ORDER
+        };
+        self.passed.store(next, Ordering::SeqCst);
     }
 }

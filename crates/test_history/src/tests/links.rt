@@ -26,7 +26,7 @@ fn expect_counts(rt: &impl Abort, link: &MemLink, calls: u64, heard: u64) {
         calls,
         heard,
     };
-    expect_equal(rt, link.counts(), wanted);
+    expect_equal(rt, "counts", link.counts(), wanted);
 }
 
 #[test]
@@ -39,30 +39,21 @@ fn a_link_hears_its_script_and_then_nothing(rt: HostRuntime) {
     expect_counts(&rt, &link, 4, 2);
 }
 
-/// The link sends each frame of one byte, in order.
-fn send_all(rt: &impl Abort, link: &mut MemLink) {
-    for number in 0..=255u8 {
-        assert!(rt; link.send(&Frame::from_slice(&[number])).is_ok());
-    }
-}
-
-/// One more frame is sent, and not kept.
-fn expect_one_not_kept(rt: &impl Abort, link: &mut MemLink) {
-    assert!(rt; link.send(&Frame::from_slice(&[1, 2])).is_ok());
-    assert_eq!(rt; link.sent().len(), MOST_KEPT);
-    assert!(rt; link.sent()[255].is(&[255]));
-}
-
 #[test]
 fn the_first_frames_that_a_link_sends_are_kept(rt: HostRuntime) {
     let mut link = link_of(&rt, rt.alloc(), &[]);
-    send_all(&rt, &mut link);
-    expect_one_not_kept(&rt, &mut link);
+    for number in 0..=255u8 {
+        assert!(rt; link.send(&Frame::from_slice(&[number])).is_ok());
+    }
+    // One more is sent, and not kept.
+    assert!(rt; link.send(&Frame::from_slice(&[1, 2])).is_ok());
+    assert_eq!(rt; link.sent().len(), MOST_KEPT);
+    assert!(rt; link.sent()[255].is(&[255]));
     expect_counts(&rt, &link, 0, 0);
 }
 
 #[test]
 fn a_frame_of_81_bytes_is_too_long(rt: HostRuntime) {
     let link = MemLink::new(rt.alloc(), &[&[0x20], &[7u8; 81]]);
-    expect_equal(&rt, link.err(), Some(MemFault::TooLong));
+    expect_equal(&rt, "a fault", link.err(), Some(MemFault::TooLong));
 }

@@ -2,8 +2,8 @@
 ghost use Rattle.std.specs.Prelude.{◌≡◌};
 ghost use Rattle.bmc_board.specs.State.{state_of};
 
-use super::gates::Open;
-use super::times::{LATER_TICK, READING, Slept, TICK, WARMS_UP, expect_happened};
+use super::gates::{Open, wait_for};
+use super::times::{LATER_TICK, READING, Slept, TICK, expect_happened};
 use super::{close, expect_equal, open_sample, open_shared};
 use bmc_board::{Bench, Board, Records};
 use bmc_core::{At, Port};
@@ -16,9 +16,8 @@ use std::alloc::Global;
 use std::marker::Brand;
 use std::process::Abort;
 use std::sync::Wait;
-use std::sync::atomic::{AtomicU64, Ordering};
+use std::sync::atomic::AtomicU64;
 use std::sync::ledger::Blank;
-use std::thread;
 use std::thread::Threads;
 use std::time::Instant;
 use two_wire::{Address, Bus, Frame};
@@ -35,9 +34,6 @@ const GOES_ON: [Timed; 4] = [READING, TICK, LATER_TICK, NEVER];
 /// Once so many milliseconds were slept, all has happened that is to happen before.
 const LATER_MS: u64 = 200;
 
-/// The most often that a link looks for it.
-const MOST_YIELDS: u32 = 10_000_000;
-
 /// A link on which nothing is heard, and whose `next` waits until so many milliseconds were slept.
 #[derive(Drop)]
 struct Patient<'a> {
@@ -46,22 +42,11 @@ struct Patient<'a> {
     counts: Counts,
 }
 
-impl<'a> Patient<'a> {
-    fn wait(&self) {
-        for _ in 0..MOST_YIELDS {
-            if self.slept.load(Ordering::SeqCst) >= self.until {
-                return;
-            }
-            thread::yield_now();
-        }
-    }
-}
-
 impl<'a> Link for Patient<'a> {
     ghost counts_of = { λ link. link.counts };
 
     fn next(&mut self) -> Result<Heard, LinkFault> {
-        self.wait();
+        let _ = wait_for(self.slept, self.until);
         let answer = Ok(Heard::Quiet);
         self.counts.count_next(&answer);
         answer
@@ -119,7 +104,6 @@ fn lanes<'a, R: Abort>(
 }
 
 /// What a history left.
-#[derive(Drop)]
 struct Left {
     board: Board<Records>,
     history: History,
@@ -193,105 +177,107 @@ fn serve<R: Threads + Wait + Abort + Sync>(
     serve_opened::<Brand, R>(rt, alloc, Blank::new(3), board, room, lanes, table)
 }
 
-/// A history: the events for which it has room, each worker's turns, each of which waits until so much was slept, the
-/// place of the list at which it begins, what happens in it, the place that is next then, and why the scanner ended.
-#[derive(Drop)]
-struct Period<'a> {
+/// A history, and what happens in it.
+#[derive(Clone, Copy)]
+struct Period {
+    name: &'static str,
+    /// The events for which it has room.
     room: usize,
+    /// How many turns each worker has.
     turns: u32,
-    until: u64,
+    /// The place of the list above at which it begins.
     from: usize,
-    list: &'a [Timed],
+    /// The place that is next then: what stands before it happens.
     next: usize,
+    /// Why the scanner ends.
     end: TimedEnd,
 }
 
-/// Serves a board with one history, in which this happens. The board.
+/// Serves a board with one history, in which this happens, where each turn waits until so much was slept. The board.
 fn expect_served<R: Threads + Wait + Abort + Sync>(
-    rt: &Slept<'_, R>,
+    clock: &Slept<'_, R>,
     alloc: Global,
     board: Board<Records>,
-    period: &Period<'_>,
+    period: Period,
+    until: u64,
 ) -> Board<Records> {
-    let lanes = lanes(rt, alloc, period.turns, period.until);
-    let left = serve(rt, alloc, board, period.room, lanes, period.from);
-    let ended = (left.next, left.end);
+    let lanes = lanes(clock, alloc, period.turns, until);
+    let left = serve(clock, alloc, board, period.room, lanes, period.from);
+    let Left {
+        board,
+        history,
+        next,
+        end,
+    } = left;
     let wanted = (period.next, period.end);
-    expect_happened(rt.rt, &left.history, period.list, ended, wanted);
-    left.board
-}
-
-/// The same of the sample board.
-fn expect_sample_served<R: Threads + Wait + Abort + Sync>(
-    rt: &Slept<'_, R>,
-    alloc: Global,
-    period: &Period<'_>,
-) -> Board<Records> {
-    let board = open_sample(rt.rt, alloc);
-    expect_served(rt, alloc, board, period)
+    expect_happened(
+        clock.rt,
+        period.name,
+        &history,
+        &GOES_ON,
+        period.from,
+        (next, end),
+        wanted,
+    );
+    drop(history);
+    board
 }
 
 #[test]
 fn what_comes_while_workers_serve_happens(rt: HostRuntime) {
     let clock = Slept::new(&rt, u64::MAX);
+    let board = open_sample(&rt, rt.alloc());
     let all = Period {
+        name: "what comes while workers serve happens",
         room: 8,
         turns: 1,
-        until: LATER_MS,
         from: 0,
-        list: &WARMS_UP,
         next: 3,
         end: TimedEnd::Stopped,
     };
-    let _ = expect_sample_served(&clock, rt.alloc(), &all);
+    drop(expect_served(&clock, rt.alloc(), board, all, LATER_MS));
 }
 
-/// A history of the sample board has room for all but the last tick. The board.
-fn expect_all_but_one<R: Threads + Wait + Abort + Sync>(
-    rt: &Slept<'_, R>,
-    alloc: Global,
-) -> Board<Records> {
-    let found_room = Period {
-        room: 2,
-        // Only the bell ends these workers.
-        turns: u32::MAX,
-        until: 0,
-        from: 0,
-        list: &[READING, TICK],
-        next: 2,
-        end: TimedEnd::Full,
-    };
-    expect_sample_served(rt, alloc, &found_room)
-}
+/// There is room for all but the last tick. Only the bell ends these workers.
+const FOUND_ROOM: Period = Period {
+    name: "what finds room happens",
+    room: 2,
+    turns: u32::MAX,
+    from: 0,
+    next: 2,
+    end: TimedEnd::Full,
+};
+
+const FOUND_NONE: Period = Period {
+    name: "what finds no room happens in the next history",
+    room: 2,
+    turns: 1,
+    from: 2,
+    next: 3,
+    end: TimedEnd::Stopped,
+};
 
 #[test]
 fn what_finds_no_room_happens_in_the_next_history(rt: HostRuntime) {
     let clock = Slept::new(&rt, u64::MAX);
-    let board = expect_all_but_one(&clock, rt.alloc());
-    let found_none = Period {
-        room: 2,
-        turns: 1,
-        until: clock.slept().saturating_add(LATER_MS),
-        from: 2,
-        list: &[LATER_TICK],
-        next: 3,
-        end: TimedEnd::Stopped,
-    };
-    let _ = expect_served(&clock, rt.alloc(), board, &found_none);
+    let board = open_sample(&rt, rt.alloc());
+    let board = expect_served(&clock, rt.alloc(), board, FOUND_ROOM, 0);
+    let until = clock.slept().saturating_add(LATER_MS);
+    drop(expect_served(&clock, rt.alloc(), board, FOUND_NONE, until));
 }
 
 #[test]
 fn nothing_happens_where_nothing_is_left(rt: HostRuntime) {
     let clock = Slept::new(&rt, u64::MAX);
+    let board = open_sample(&rt, rt.alloc());
     let none = Period {
+        name: "nothing happens where nothing is left",
         room: 8,
         turns: 1,
-        until: 0,
         from: 4,
-        list: &[],
         next: 4,
         end: TimedEnd::Over,
     };
-    let _ = expect_sample_served(&clock, rt.alloc(), &none);
-    expect_equal(&rt, clock.slept(), 0);
+    drop(expect_served(&clock, rt.alloc(), board, none, 0));
+    expect_equal(&rt, none.name, clock.slept(), 0);
 }

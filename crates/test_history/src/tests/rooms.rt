@@ -6,7 +6,7 @@ use super::{expect_equal, open_sample};
 use bmc_board::{Bench, Board};
 use bmc_ports::{Held, OpenFault, Opening, PeriodFull, Shared};
 use cfg_records::Store;
-use record_base::{Answered, Asked, net_fn};
+use record_base::{Asked, net_fn};
 use std::alloc::Global;
 use std::marker::Brand;
 use std::process::Abort;
@@ -48,11 +48,6 @@ fn share<J: Opening, S: Store + Drop>(
     (fault, board)
 }
 
-/// The fault is that of a room that is refused.
-fn expect_room_fault(rt: &impl Abort, fault: OpenFault, room: usize) {
-    assert_eq!(rt; fault, OpenFault::Room, "{room}");
-}
-
 /// The room is refused, both alone and for threads. The board.
 fn expect_refused<S: Store + Drop>(
     rt: &impl Abort,
@@ -61,43 +56,29 @@ fn expect_refused<S: Store + Drop>(
     room: usize,
 ) -> Board<S> {
     let (alone, board) = hold::<Brand, S>(rt, alloc, board, room);
-    expect_room_fault(rt, alone, room);
     let (shared, board) = share::<Brand, S>(rt, alloc, Blank::new(3), board, room);
-    expect_room_fault(rt, shared, room);
+    let refused = (room, OpenFault::Room, OpenFault::Room);
+    expect_equal(rt, "a room is refused", (room, alone, shared), refused);
     board
-}
-
-/// The code that a board answers.
-fn code_of(answered: &Result<Answered, PeriodFull>) -> Option<u8> {
-    match answered {
-        Ok(answered) => Some(answered.code),
-        Err(PeriodFull) => None,
-    }
 }
 
 /// Has a board answer a request for its device's identifier from this port. The code, where the history has room.
 fn ask<J: Opening, S: Store>(held: &mut Held<J, S>, port: u8) -> Option<u8> {
     let asked = Asked::ipmi(NetFn::new(net_fn::APPLICATION), 0x01, &[]);
-    code_of(&held.exchange(port, &asked))
+    match held.exchange(port, &asked) {
+        Ok(answered) => Some(answered.code),
+        Err(PeriodFull) => None,
+    }
 }
 
-/// Has a board answer, and happen, once each.
-fn call_twice<J: Opening, S: Store>(rt: &impl Abort, held: &mut Held<J, S>) {
-    expect_equal(rt, ask(held, 0), Some(0x00));
-    expect_equal(rt, held.bench(2, Bench::Tick), Ok(Ok(())));
-}
-
-/// A full history refuses a request, and what happens beside requests.
-fn refuse_both<J: Opening, S: Store>(rt: &impl Abort, held: &mut Held<J, S>) {
-    expect_equal(rt, ask(held, 1), None);
-    expect_equal(rt, held.bench(2, Bench::Tick), Err(PeriodFull));
-    expect_equal(rt, held.is_full(), true);
-}
-
-/// The history of a board that is held has two events.
-fn expect_two_events<J: Opening, S: Store + Drop>(rt: &impl Abort, held: Held<J, S>) {
-    let (_, history) = held.into_parts();
-    expect_equal(rt, history.len(), 2);
+/// A board answers and has something happen, once each. Then its history is full, and refuses both.
+fn call_until_full<J: Opening, S: Store>(rt: &impl Abort, held: &mut Held<J, S>) {
+    expect_equal(rt, "a request", ask(held, 0), Some(0x00));
+    expect_equal(rt, "a tick", held.bench(2, Bench::Tick), Ok(Ok(())));
+    expect_equal(rt, "a request that is refused", ask(held, 1), None);
+    let refused = held.bench(2, Bench::Tick);
+    expect_equal(rt, "a tick that is refused", refused, Err(PeriodFull));
+    expect_equal(rt, "whether it is full", held.is_full(), true);
 }
 
 /// Calls a board until its history, which has room for two events, is full.
@@ -108,9 +89,10 @@ fn fill<J: Opening, S: Store + Drop>(rt: &impl Abort, alloc: Global, board: Boar
 {
     let opened = Held::<J, S>::open(alloc, board, room).ok();
     let mut held = opened.expect(rt, "a board that is held");
-    call_twice(rt, &mut held);
-    refuse_both(rt, &mut held);
-    expect_two_events(rt, held);
+    call_until_full(rt, &mut held);
+    let (board, history) = held.into_parts();
+    drop(board);
+    expect_equal(rt, "events", history.len(), 2);
 }
 
 /// The same, with an opening of its own.

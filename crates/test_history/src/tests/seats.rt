@@ -24,15 +24,8 @@ impl<J: Opening> Promise<Seat<J>> for SeatOf<J> {
     ghost kept_by = { λ promise seat. seat.number ≡ promise.0.value.number };
 }
 
-/// Has a seat ask the board.
-fn ask<J: Opening, R: Wait>(rt: &R, shared: &Shared<J, Records>, seat: &mut Seat<J>, asked: &Asked)
-    ensures { seat.new.number ≡ seat.old.number }
-{
-    let _ = shared.exchange(rt, seat, asked);
-}
-
 /// Has a seat ask the board, and gives it back.
-fn ask_by<J: Opening, R: Wait>(
+fn ask<J: Opening, R: Wait>(
     rt: &R,
     shared: &Shared<J, Records>,
     mut seat: Seat<J>,
@@ -40,7 +33,7 @@ fn ask_by<J: Opening, R: Wait>(
 ) -> Seat<J>
     ensures { result.number ≡ seat.number }
 {
-    ask(rt, shared, &mut seat, asked);
+    let _ = shared.exchange(rt, &mut seat, asked);
     seat
 }
 
@@ -55,7 +48,7 @@ fn spawn_ask<'s, E, J: Opening + Send + Sync + 's, R: Threads + Wait + Abort + S
     ensures { result.promise.0.value.number ≡ seat.number }
 {
     let promise = SeatOf(Snapshot::of(&seat));
-    let spawned = scope.spawn_with(promise, move || ask_by(rt, shared, seat, asked));
+    let spawned = scope.spawn_with(promise, move || ask(rt, shared, seat, asked));
     spawned.ok().expect(rt, "a thread")
 }
 
@@ -122,25 +115,30 @@ fn share_at<R: Threads + Wait + Abort + Sync>(
 
 /// The code of the exchange at this place.
 pub(super) fn code_at(history: &History, place: usize) -> Option<u8> {
-    match &history.get(place)?.call {
+    match history.get(place)?.call {
         Call::Exchanged { asked: _, answered } => Some(answered.code),
         Call::Benched { .. } => None,
     }
 }
 
-#[test]
-fn three_threads_ask_one_board(rt: HostRuntime) {
-    let board = open_sample(&rt, rt.alloc());
-    let history = share_at(&rt, rt.alloc(), board, 8);
-    expect_equal(&rt, history.len(), 3);
-    for place in 0..3 {
-        expect_equal(&rt, code_at(&history, place), Some(0x00));
+/// Three threads ask a board for its device's identifier, and its history, which has so much room, gains so many answers.
+fn expect_asked<R: Threads + Wait + Abort + Sync>(
+    rt: &R,
+    alloc: Global,
+    name: &str,
+    room: usize,
+    answers: usize,
+) {
+    let history = share_at(rt, alloc, open_sample(rt, alloc), room);
+    expect_equal(rt, name, history.len(), answers);
+    for place in 0..answers {
+        expect_equal(rt, name, code_at(&history, place), Some(0x00));
     }
 }
 
 #[test]
-fn a_full_history_refuses_two_of_three(rt: HostRuntime) {
-    let board = open_sample(&rt, rt.alloc());
-    let history = share_at(&rt, rt.alloc(), board, 1);
-    expect_equal(&rt, history.len(), 1);
+fn three_threads_ask_one_board(rt: HostRuntime) {
+    let alloc = rt.alloc();
+    expect_asked(&rt, alloc, "three threads ask one board", 8, 3);
+    expect_asked(&rt, alloc, "a full history refuses two of three", 1, 1);
 }

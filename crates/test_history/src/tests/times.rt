@@ -39,6 +39,9 @@ pub(super) const LATER_TICK: Timed = Timed {
 /// The reading, and both ticks.
 pub(super) const WARMS_UP: [Timed; 3] = [READING, TICK, LATER_TICK];
 
+/// The longest nap of the scanner, in milliseconds.
+const NAP_MS: u64 = 20;
+
 /// A clock that goes on by what is slept, and not by itself.
 #[derive(Drop)]
 pub(super) struct Slept<'a, R> {
@@ -153,133 +156,177 @@ fn scan_at<R: Wait + Abort>(
     scan::<Brand, R>(rt, alloc, Blank::new(3), board, room, table)
 }
 
-/// The same, of the sample board and the list above, from one of its places on.
-fn scan_sample<R: Wait + Abort>(
-    rt: &Slept<'_, R>,
-    alloc: Global,
-    room: usize,
-    next: usize,
-    start: Option<Instant>,
-) -> Told {
-    let board = open_sample(rt.rt, alloc);
-    let table = Timetable {
-        list: &WARMS_UP,
-        next,
-        start,
-    };
-    scan_at(rt, alloc, board, room, table)
-}
-
-/// Whether this is a call that has this happen.
-fn has_happen(call: &Call, wanted: Bench) -> bool {
-    match call {
-        Call::Benched { bench, answered: _ } => *bench == wanted,
-        Call::Exchanged { .. } => false,
-    }
-}
-
 /// Whether this happened at the place.
-fn is_at(history: &History, place: usize, wanted: Bench) -> bool {
+fn has_happened(history: &History, place: usize, wanted: Bench) -> bool {
     match history.get(place) {
-        Some(event) => has_happen(&event.call, wanted),
+        Some(event) => match event.call {
+            Call::Benched { bench, answered: _ } => bench == wanted,
+            Call::Exchanged { .. } => false,
+        },
         None => false,
     }
 }
 
 /// Whether these happened, in their order, and nothing else.
-fn are_all(history: &History, list: &[Timed]) -> bool {
-    if history.len() != list.len() {
-        return false;
-    }
+fn have_happened(history: &History, list: &[Timed]) -> bool {
     for (place, timed) in list.iter().enumerate() {
-        if !is_at(history, place, timed.event) {
+        if !has_happened(history, place, timed.event) {
             return false;
         }
     }
-    true
+    history.len() == list.len()
 }
 
-/// These happened and no others, this is next, and so the scanner ended.
+/// The scanner ended at this place of the list and so, and all happened that stands before it, from another place on, and nothing else.
 pub(super) fn expect_happened(
     rt: &impl Abort,
+    name: &str,
     history: &History,
     list: &[Timed],
+    from: usize,
     told: (usize, TimedEnd),
     wanted: (usize, TimedEnd),
 ) {
-    let next = wanted.0;
-    assert!(rt; are_all(history, list), "up to {next}");
-    expect_equal(rt, told, wanted);
+    expect_equal(rt, name, told, wanted);
+    let happened = list.get(from..wanted.0).unwrap_or(&[]);
+    expect_equal(rt, name, have_happened(history, happened), true);
 }
 
-/// The scanner goes through the list above from this place on: these happen, this is next, and so it ends.
+/// How a scanner goes through the list above, and what comes of it.
+#[derive(Clone, Copy)]
+struct Case {
+    name: &'static str,
+    /// The events for which the history has room.
+    room: usize,
+    /// Once so many milliseconds were slept, the bell rings.
+    rings_at: u64,
+    /// Whether all is over before.
+    is_over: bool,
+    /// The place of the list at which it begins.
+    from: usize,
+    /// The place that is next then: what stands before it happens.
+    next: usize,
+    end: TimedEnd,
+    /// How many milliseconds are slept.
+    slept: u64,
+}
+
+/// The scanner goes through the list by this clock and from this start on, so as the case tells.
 fn expect_scanned<R: Wait + Abort>(
     clock: &Slept<'_, R>,
     alloc: Global,
-    room: usize,
-    from: (usize, Option<Instant>),
-    list: &[Timed],
-    next: usize,
-    end: TimedEnd,
+    start: Option<Instant>,
+    case: Case,
 ) {
-    let told = scan_sample(clock, alloc, room, from.0, from.1);
+    let table = Timetable {
+        list: &WARMS_UP,
+        next: case.from,
+        start,
+    };
+    let board = open_sample(clock.rt, alloc);
+    let told = scan_at(clock, alloc, board, case.room, table);
     let ended = (told.next, told.end);
-    expect_happened(clock.rt, &told.history, list, ended, (next, end));
+    let wanted = (case.next, case.end);
+    expect_happened(
+        clock.rt,
+        case.name,
+        &told.history,
+        &WARMS_UP,
+        case.from,
+        ended,
+        wanted,
+    );
+    drop(told);
+    let longest = clock.longest_ms.load(Ordering::SeqCst);
+    let slept = (case.slept, case.slept.min(NAP_MS));
+    expect_equal(clock.rt, case.name, (clock.slept(), longest), slept);
 }
 
-/// The same from now on.
-fn expect_scanned_now<R: Wait + Abort>(
-    clock: &Slept<'_, R>,
-    alloc: Global,
-    room: usize,
-    place: usize,
-    list: &[Timed],
-    next: usize,
-    end: TimedEnd,
-) {
-    let start = Instant::now(clock).ok();
-    expect_scanned(clock, alloc, room, (place, start), list, next, end);
+/// The same from now on, by a clock that can be read.
+fn expect_case<R: Wait + Abort>(rt: &R, alloc: Global, case: Case) {
+    let clock = Slept::new(rt, case.rings_at);
+    clock.over.store(case.is_over, Ordering::SeqCst);
+    let start = Instant::now(&clock).ok();
+    expect_scanned(&clock, alloc, start, case);
 }
+
+const IN_NAPS: Case = Case {
+    name: "each happens at its time in naps",
+    room: 8,
+    rings_at: u64::MAX,
+    is_over: false,
+    from: 0,
+    next: 3,
+    end: TimedEnd::Over,
+    slept: 145,
+};
+
+const BELL: Case = Case {
+    name: "the bell ends it",
+    rings_at: 60,
+    next: 1,
+    end: TimedEnd::Stopped,
+    slept: 60,
+    ..IN_NAPS
+};
+
+const ALL_OVER: Case = Case {
+    name: "nothing happens once all is over",
+    is_over: true,
+    next: 0,
+    end: TimedEnd::Stopped,
+    slept: 0,
+    ..IN_NAPS
+};
+
+const FULL: Case = Case {
+    name: "a full history keeps the place",
+    room: 1,
+    next: 1,
+    end: TimedEnd::Full,
+    slept: 100,
+    ..IN_NAPS
+};
 
 #[test]
-fn each_happens_at_its_time_in_naps(rt: HostRuntime) {
-    let clock = Slept::new(&rt, u64::MAX);
-    expect_scanned_now(&clock, rt.alloc(), 8, 0, &WARMS_UP, 3, TimedEnd::Over);
-    expect_equal(&rt, clock.slept(), 145);
-    expect_equal(&rt, clock.longest_ms.load(Ordering::SeqCst), 20);
-}
-
-#[test]
-fn what_happened_before_does_not_happen_again(rt: HostRuntime) {
-    for place in 1..5usize {
-        let clock = Slept::new(&rt, u64::MAX);
-        let list = WARMS_UP.get(place..).unwrap_or(&[]);
-        let next = place.max(3);
-        expect_scanned_now(&clock, rt.alloc(), 8, place, list, next, TimedEnd::Over);
+fn a_scanner_ends_with_its_list_or_before(rt: HostRuntime) {
+    for case in [IN_NAPS, BELL, ALL_OVER, FULL] {
+        expect_case(&rt, rt.alloc(), case);
     }
 }
 
-#[test]
-fn the_bell_ends_it(rt: HostRuntime) {
-    let clock = Slept::new(&rt, 60);
-    let list = &WARMS_UP[..1];
-    expect_scanned_now(&clock, rt.alloc(), 8, 0, list, 1, TimedEnd::Stopped);
-    expect_equal(&rt, clock.slept(), 60);
-}
+/// What happened before doesn't happen again.
+const FROM_PLACES: [Case; 4] = [
+    Case {
+        name: "the reading happened before",
+        from: 1,
+        ..IN_NAPS
+    },
+    Case {
+        name: "a tick happened before, too",
+        from: 2,
+        ..IN_NAPS
+    },
+    Case {
+        name: "all happened before",
+        from: 3,
+        slept: 0,
+        ..IN_NAPS
+    },
+    Case {
+        name: "the place is past the list",
+        from: 4,
+        next: 4,
+        slept: 0,
+        ..IN_NAPS
+    },
+];
 
 #[test]
-fn nothing_happens_once_all_is_over(rt: HostRuntime) {
-    let clock = Slept::new(&rt, u64::MAX);
-    clock.over.store(true, Ordering::SeqCst);
-    expect_scanned_now(&clock, rt.alloc(), 8, 0, &[], 0, TimedEnd::Stopped);
-    expect_equal(&rt, clock.slept(), 0);
-}
-
-#[test]
-fn a_full_history_keeps_the_place(rt: HostRuntime) {
-    let clock = Slept::new(&rt, u64::MAX);
-    expect_scanned_now(&clock, rt.alloc(), 1, 0, &WARMS_UP[..1], 1, TimedEnd::Full);
-    expect_equal(&rt, clock.slept(), 100);
+fn what_happened_before_does_not_happen_again(rt: HostRuntime) {
+    for case in FROM_PLACES {
+        expect_case(&rt, rt.alloc(), case);
+    }
 }
 
 #[test]
@@ -288,15 +335,11 @@ fn nothing_waits_for_a_clock_that_cannot_be_read(rt: HostRuntime) {
     let start = Instant::now(&clock).ok();
     assert!(rt; start.is_some());
     clock.is_whole.store(false, Ordering::SeqCst);
-    expect_scanned(
-        &clock,
-        rt.alloc(),
-        8,
-        (0, start),
-        &WARMS_UP,
-        3,
-        TimedEnd::Over,
-    );
-    expect_scanned_now(&clock, rt.alloc(), 8, 0, &WARMS_UP, 3, TimedEnd::Over);
-    expect_equal(&rt, clock.slept(), 0);
+    let case = Case {
+        name: "nothing is slept",
+        slept: 0,
+        ..IN_NAPS
+    };
+    expect_scanned(&clock, rt.alloc(), start, case);
+    expect_scanned(&clock, rt.alloc(), Instant::now(&clock).ok(), case);
 }

@@ -2,15 +2,13 @@
 ghost use Rattle.std.specs.Prelude.{◌≡◌};
 ghost use Rattle.bmc_board.specs.State.{state_of};
 
-use super::gates::{Counted, Crossed, Mixed, Open};
+use super::gates::{Counted, Crossed, Mixed};
 use super::links::link_of;
 use super::seats::code_at;
 use super::{expect_equal, history_of, open_sample, open_shared};
 use bmc_board::{Bench, Board, Records};
 use bmc_core::{At, Port};
-use bmc_ports::{
-    Call, End, Gate, History, Link, MemLink, Opening, Seat, Shared, run_two, serve_port,
-};
+use bmc_ports::{Call, End, Gate, History, Link, MemLink, Opening, run_two, serve_port};
 use mctp_net::EndpointId;
 use std::alloc::Global;
 use std::marker::Brand;
@@ -25,38 +23,53 @@ const READING: Bench = Bench::Reading {
     raw: 0x55,
 };
 
-/// A Set of boot parameter 5, and a Get of it.
-const BOOT: [&[u8]; 2] = [
-    &[
-        0x20, 0x00, 0xE0, 0x2C, 0x00, 0x08, 0x05, 0x80, 0x04, 0x00, 0x00, 0x00, 0x43,
-    ],
-    &[0x20, 0x00, 0xE0, 0x2C, 0x04, 0x09, 0x05, 0x00, 0x00, 0xC2],
+/// A Set of boot parameter 5, and its reply.
+const SET_BOOT: &[u8] = &[
+    0x20, 0x00, 0xE0, 0x2C, 0x00, 0x08, 0x05, 0x80, 0x04, 0x00, 0x00, 0x00, 0x43,
 ];
 
-/// The replies to both: carried out, and the value that was set.
-const BOOTED: [&[u8]; 2] = [
-    &[0x2C, 0x04, 0xD0, 0x20, 0x00, 0x08, 0x00, 0xD8],
-    &[
-        0x2C, 0x04, 0xD0, 0x20, 0x04, 0x09, 0x00, 0x01, 0x05, 0x80, 0x04, 0x00, 0x00, 0x00, 0x49,
-    ],
+const BOOT_SET: &[u8] = &[0x2C, 0x04, 0xD0, 0x20, 0x00, 0x08, 0x00, 0xD8];
+
+/// A Get of it, and its reply: the value that was set.
+const GET_BOOT: &[u8] = &[0x20, 0x00, 0xE0, 0x2C, 0x04, 0x09, 0x05, 0x00, 0x00, 0xC2];
+
+const BOOT_GOT: &[u8] = &[
+    0x2C, 0x04, 0xD0, 0x20, 0x04, 0x09, 0x00, 0x01, 0x05, 0x80, 0x04, 0x00, 0x00, 0x00, 0x49,
 ];
 
-/// GetTID, GetPLDMTypes, and GetTID under another instance.
-const ASKED: [&[u8]; 3] = [
-    &[
-        0x20, 0x0F, 0x09, 0x31, 0x01, 0x0A, 0x08, 0xC8, 0x01, 0x80, 0x00, 0x02, 0xBE,
-    ],
-    &[
-        0x20, 0x0F, 0x09, 0x31, 0x01, 0x0A, 0x08, 0xC9, 0x01, 0x81, 0x00, 0x04, 0xA5,
-    ],
-    &[
-        0x20, 0x0F, 0x09, 0x31, 0x01, 0x0A, 0x08, 0xCA, 0x01, 0x82, 0x00, 0x02, 0xAC,
-    ],
+/// That Get with a last check byte that is wrong.
+const DAMAGED: &[u8] = &[0x20, 0x00, 0xE0, 0x2C, 0x04, 0x09, 0x05, 0x00, 0x00, 0xC3];
+
+/// GetTID, and its reply.
+const GET_TID: &[u8] = &[
+    0x20, 0x0F, 0x09, 0x31, 0x01, 0x0A, 0x08, 0xC8, 0x01, 0x80, 0x00, 0x02, 0xBE,
 ];
 
-/// The reply to the first.
 const TID: &[u8] = &[
     0x30, 0x0F, 0x0B, 0x21, 0x01, 0x08, 0x0A, 0xC0, 0x01, 0x00, 0x00, 0x02, 0x00, 0x05, 0x1C,
+];
+
+/// GetPLDMTypes, under instance 1.
+const GET_TYPES: &[u8] = &[
+    0x20, 0x0F, 0x09, 0x31, 0x01, 0x0A, 0x08, 0xC9, 0x01, 0x81, 0x00, 0x04, 0xA5,
+];
+
+/// GetTID under instance 2, and its reply.
+const GET_TID_2: &[u8] = &[
+    0x20, 0x0F, 0x09, 0x31, 0x01, 0x0A, 0x08, 0xCA, 0x01, 0x82, 0x00, 0x02, 0xAC,
+];
+
+const TID_2: &[u8] = &[
+    0x30, 0x0F, 0x0B, 0x21, 0x01, 0x08, 0x0A, 0xC2, 0x01, 0x02, 0x00, 0x02, 0x00, 0x05, 0x61,
+];
+
+/// The control message Get Endpoint ID, and its reply.
+const GET_ENDPOINT: &[u8] = &[
+    0x20, 0x0F, 0x08, 0x31, 0x01, 0x0A, 0x08, 0xC8, 0x00, 0x80, 0x02, 0x4D,
+];
+
+const ENDPOINT: &[u8] = &[
+    0x30, 0x0F, 0x0C, 0x21, 0x01, 0x08, 0x0A, 0xC0, 0x00, 0x00, 0x02, 0x00, 0x0A, 0x00, 0x00, 0x40,
 ];
 
 /// What a run is of: the scripts of both links, what happens on the bench, and how many turns each worker makes.
@@ -68,15 +81,6 @@ struct Script<'a> {
     turns: u32,
 }
 
-/// What both workers sent, why the three ended, and the history.
-#[derive(Drop)]
-struct Told {
-    first: MemLink,
-    second: MemLink,
-    ends: [End; 3],
-    history: History,
-}
-
 /// A port of the controller at its address on this bus.
 fn port_on(rt: &impl Abort, alloc: Global, bus: Bus) -> Port {
     let at = At {
@@ -84,6 +88,15 @@ fn port_on(rt: &impl Abort, alloc: Global, bus: Bus) -> Port {
         eid: EndpointId::new(0x0A).unwrap(),
     };
     Port::new(alloc, bus, at).expect(rt, "memory")
+}
+
+/// What both workers sent, why the three ended, and the history.
+#[derive(Drop)]
+struct Told {
+    first: MemLink,
+    second: MemLink,
+    ends: [End; 3],
+    history: History,
 }
 
 /// Has two workers and a scanner share a board.
@@ -166,6 +179,11 @@ fn are_sent(sent: &[Frame], wanted: &[&[u8]]) -> bool {
     true
 }
 
+/// The link of this name sent these frames, and no others.
+fn expect_sent(rt: &impl Abort, name: &str, link: &MemLink, wanted: &[&[u8]]) {
+    assert!(rt; are_sent(link.sent(), wanted), "{name}");
+}
+
 /// The place of a seat's first event.
 fn place_of(history: &History, seat: u8) -> Option<usize> {
     for place in 0..history.len() {
@@ -183,60 +201,45 @@ fn expect_second_first(rt: &impl Abort, history: &History) {
     assert!(rt; second < first, "port 0 came first");
 }
 
-/// Both workers and the scanner ended with their turns, and both sent what answers the first two scripts. So many
-/// events are in the history.
-fn expect_answered(rt: &impl Abort, told: &Told, events: usize) {
-    expect_equal(rt, told.ends, [End::Turns, End::Turns, End::Turns]);
-    assert!(rt; are_sent(told.first.sent(), &BOOTED), "port 0");
-    assert!(rt; are_sent(told.second.sent(), &[TID]), "port 1");
-    expect_equal(rt, told.history.len(), events);
-}
-
 #[test]
 fn a_gate_lets_port_1_answer_before_port_0(rt: HostRuntime) {
     let script = Script {
-        first: &BOOT,
-        second: &ASKED[..1],
+        first: &[SET_BOOT, GET_BOOT],
+        second: &[GET_TID],
         bench: &[READING],
         turns: 3,
     };
     let gate = Crossed::new();
     let told = share_sample(&rt, rt.alloc(), &script, &gate);
-    assert!(rt; !gate.gave_up(), "a worker waited too long");
-    expect_answered(&rt, &told, 4);
+    expect_equal(&rt, "workers that waited too long", gate.gave_up(), 0);
+    expect_equal(&rt, "ends", told.ends, [End::Turns, End::Turns, End::Turns]);
+    expect_sent(&rt, "port 0", &told.first, &[BOOT_SET, BOOT_GOT]);
+    expect_sent(&rt, "port 1", &told.second, &[TID]);
+    expect_equal(&rt, "events", told.history.len(), 4);
     expect_second_first(&rt, &told.history);
-}
-
-/// Whether the board answers a call so.
-fn answers_so(board: &mut Board<Records>, call: &Call) -> bool {
-    match call {
-        Call::Exchanged { asked, answered } => board.answer(asked).is(answered),
-        Call::Benched { bench, answered } => board.bench(*bench) == *answered,
-    }
 }
 
 /// Whether the board answers the call at this place so.
 fn answers_at(board: &mut Board<Records>, history: &History, place: usize) -> bool {
     match history.get(place) {
-        Some(event) => answers_so(board, &event.call),
+        Some(event) => match &event.call {
+            Call::Exchanged { asked, answered } => board.answer(asked).is(answered),
+            Call::Benched { bench, answered } => board.bench(*bench) == *answered,
+        },
         None => false,
     }
 }
 
-/// Whether a board that is told the history's calls in their order answers each so.
-fn replays(board: &mut Board<Records>, history: &History) -> bool {
-    for place in 0..history.len() {
-        if !answers_at(board, history, place) {
-            return false;
-        }
-    }
-    true
-}
-
-/// The sample board answers the history that workers of this seed left as it was answered then.
+/// The sample board answers the calls of the history that workers of this seed left, in their order, as they were answered then.
 fn expect_replays(rt: &impl Abort, alloc: Global, history: &History, seed: u64) {
     let mut other = open_sample(rt, alloc);
-    assert!(rt; replays(&mut other, history), "seed {seed}");
+    for place in 0..history.len() {
+        assert!(rt;
+            answers_at(&mut other, history, place),
+            "seed {seed}, place {place}"
+        );
+    }
+    drop(other);
 }
 
 /// Workers whom a gate of this seed holds leave a history of so many events, and a second board answers it so.
@@ -247,77 +250,43 @@ fn expect_replayed<R: Threads + Wait + Abort + Sync>(
     seed: u64,
     events: usize,
 ) {
-    let told = share_sample(rt, alloc, script, &Mixed::new(seed));
-    expect_equal(rt, told.history.len(), events);
+    let told = share_sample(rt, alloc, script, &Mixed { seed });
+    expect_equal(rt, "events", told.history.len(), events);
     expect_replays(rt, alloc, &told.history, seed);
-}
-
-/// The same with each of 300 seeds.
-fn expect_all_replayed<R: Threads + Wait + Abort + Sync>(
-    rt: &R,
-    alloc: Global,
-    script: &Script<'_>,
-    events: usize,
-) {
-    for seed in 0..300u64 {
-        expect_replayed(rt, alloc, script, seed, events);
-    }
+    drop(told);
 }
 
 #[test]
 fn whoever_goes_first_a_second_board_answers_the_history_so(rt: HostRuntime) {
     let script = Script {
-        first: &BOOT,
-        second: &ASKED,
+        first: &[SET_BOOT, GET_BOOT],
+        second: &[GET_TID, GET_TYPES, GET_TID_2],
         bench: &[READING, Bench::Tick],
         turns: 4,
     };
-    expect_all_replayed(&rt, rt.alloc(), &script, 7);
+    for seed in 0..300u64 {
+        expect_replayed(&rt, rt.alloc(), &script, seed, 7);
+    }
 }
 
-/// What one worker alone is to do: its port's bus, its script, and how many turns it makes.
-#[derive(Clone, Copy)]
-struct Alone<'a> {
-    bus: Bus,
-    heard: &'a [&'a [u8]],
+/// One worker that serves a port of a board: its port, its link, its gate and its turns.
+#[derive(Drop)]
+struct Alone {
+    port: Port,
+    link: MemLink,
+    gate: Counted,
     turns: u32,
 }
 
-/// What it sent, why it ended, and the history.
-#[derive(Drop)]
-struct ToldAlone {
-    link: MemLink,
-    end: End,
-    history: History,
-}
-
-/// Has one worker serve a port of a board that is shared: its link, and why it ended.
-fn serve_seat<J: Opening, G: Gate, R: Wait + Abort>(
-    rt: &R,
-    alloc: Global,
-    shared: &Shared<J, Records>,
-    seat: &mut Seat<J>,
-    alone: Alone<'_>,
-    gate: &G,
-) -> (MemLink, End)
-    ensures { seat.new.number ≡ seat.old.number }
-{
-    let mut port = port_on(rt, alloc, alone.bus);
-    let mut link = link_of(rt, alloc, alone.heard);
-    let end = serve_port(rt, shared, seat, &mut port, &mut link, gate, alone.turns);
-    (link, end)
-}
-
-/// Has one worker alone serve a port of a board.
-fn serve_alone<J: Opening, G: Gate, R: Wait + Abort>(
+/// Has one worker alone serve a port of a board: why it ended, and the history.
+fn serve_alone<J: Opening, R: Wait + Abort>(
     rt: &R,
     alloc: Global,
     blank: Blank,
     board: Board<Records>,
     room: usize,
-    alone: Alone<'_>,
-    gate: &G,
-) -> ToldAlone
+    alone: &mut Alone,
+) -> (End, History)
     requires name { blank.name ≡ J.name }
     requires parts { blank.parts ≡ J.parts }
     requires three { blank.parts ≡ 3 }
@@ -326,104 +295,114 @@ fn serve_alone<J: Opening, G: Gate, R: Wait + Abort>(
     requires room { room ≡ J.room }
 {
     let (shared, mut seats) = open_shared::<J, R>(rt, alloc, blank, board, room);
-    let (link, end) = serve_seat(rt, alloc, &shared, &mut seats.first, alone, gate);
-    ToldAlone {
+    let Alone {
+        port,
         link,
-        end,
-        history: history_of(rt, shared, seats),
-    }
+        gate,
+        turns,
+    } = alone;
+    let end = serve_port(rt, &shared, &mut seats.first, port, link, gate, *turns);
+    (end, history_of(rt, shared, seats))
 }
 
 /// The same, with a ledger of its own.
-fn serve_alone_at<G: Gate, R: Wait + Abort>(
+fn serve_alone_at<R: Wait + Abort>(
     rt: &R,
     alloc: Global,
     board: Board<Records>,
     room: usize,
-    alone: Alone<'_>,
-    gate: &G,
-) -> ToldAlone {
-    serve_alone::<Brand, G, R>(rt, alloc, Blank::new(3), board, room, alone, gate)
+    alone: &mut Alone,
+) -> (End, History) {
+    serve_alone::<Brand, R>(rt, alloc, Blank::new(3), board, room, alone)
 }
 
-/// The same, of the sample board.
-fn serve_sample<G: Gate, R: Wait + Abort>(
-    rt: &R,
-    alloc: Global,
+/// What one worker alone does: its port's bus, its script, how many turns it makes, and for how many events there is room. Then why it ends,
+/// what it sends, how many requests it carries out, how often it passes its gate, and how many frames it hears.
+#[derive(Clone, Copy)]
+struct Case {
+    name: &'static str,
+    bus: Bus,
+    script: &'static [&'static [u8]],
+    turns: u32,
     room: usize,
-    alone: Alone<'_>,
-    gate: &G,
-) -> ToldAlone {
+    end: End,
+    sent: &'static [&'static [u8]],
+    events: usize,
+    passed: u64,
+    calls: u64,
+    heard: u64,
+}
+
+/// The worker does so.
+fn expect_alone<R: Wait + Abort>(rt: &R, alloc: Global, case: Case) {
+    let mut alone = Alone {
+        port: port_on(rt, alloc, case.bus),
+        link: link_of(rt, alloc, case.script),
+        gate: Counted::new(),
+        turns: case.turns,
+    };
     let board = open_sample(rt, alloc);
-    serve_alone_at::<G, R>(rt, alloc, board, room, alone, gate)
+    let (end, history) = serve_alone_at(rt, alloc, board, case.room, &mut alone);
+    let counts = alone.link.counts();
+    expect_equal(rt, case.name, end, case.end);
+    expect_sent(rt, case.name, &alone.link, case.sent);
+    expect_equal(rt, case.name, history.len(), case.events);
+    expect_equal(rt, case.name, code_at(&history, 0), Some(0x00));
+    expect_equal(rt, case.name, alone.gate.passed(), case.passed);
+    expect_equal(
+        rt,
+        case.name,
+        (counts.calls, counts.heard),
+        (case.calls, case.heard),
+    );
 }
 
-/// The worker ended so, and sent so many frames. So many events are in the history.
-fn expect_ended(rt: &impl Abort, told: &ToldAlone, end: End, sent: usize, events: usize) {
-    expect_equal(rt, told.end, end);
-    expect_equal(rt, told.link.sent().len(), sent);
-    expect_equal(rt, told.history.len(), events);
-}
+const NO_ROOM: Case = Case {
+    name: "a worker ends at the request that finds no room",
+    bus: Bus::Ipmb,
+    script: &[SET_BOOT, GET_BOOT],
+    turns: 3,
+    room: 1,
+    end: End::Full,
+    sent: &[BOOT_SET],
+    events: 1,
+    // It passes the gate before the request that finds no room, too.
+    passed: 3,
+    calls: 2,
+    heard: 2,
+};
 
-/// So many calls of the link were made, and so many frames were heard.
-fn expect_heard(rt: &impl Abort, link: &MemLink, calls: u64, heard: u64) {
-    let counts = link.counts();
-    expect_equal(rt, (counts.calls, counts.heard), (calls, heard));
-}
+const REPEAT: Case = Case {
+    name: "a repeat and what is ignored pass no gate",
+    bus: Bus::Ipmb,
+    script: &[SET_BOOT, SET_BOOT, DAMAGED, GET_BOOT],
+    turns: 5,
+    room: 8,
+    end: End::Turns,
+    sent: &[BOOT_SET, BOOT_SET, BOOT_GOT],
+    events: 2,
+    passed: 4,
+    calls: 5,
+    heard: 4,
+};
+
+const CONTROL: Case = Case {
+    name: "a control message passes no gate",
+    bus: Bus::Smbus,
+    script: &[GET_TID, GET_ENDPOINT, GET_TID, GET_TID_2],
+    turns: 4,
+    room: 8,
+    end: End::Turns,
+    sent: &[TID, ENDPOINT, TID, TID_2],
+    events: 2,
+    passed: 4,
+    calls: 4,
+    heard: 4,
+};
 
 #[test]
-fn a_worker_ends_at_the_request_that_finds_no_room(rt: HostRuntime) {
-    let alone = Alone {
-        bus: Bus::Ipmb,
-        heard: &BOOT,
-        turns: 3,
-    };
-    let told = serve_sample(&rt, rt.alloc(), 1, alone, &Open);
-    expect_ended(&rt, &told, End::Full, 1, 1);
-    expect_equal(&rt, code_at(&told.history, 0), Some(0x00));
-    assert!(rt; are_sent(told.link.sent(), &BOOTED[..1]));
-    expect_heard(&rt, &told.link, 2, 2);
-}
-
-/// The worker makes all its turns, sends so many frames, and passes the gate twice for each of so many exchanges.
-fn expect_passed<R: Wait + Abort>(
-    rt: &R,
-    alloc: Global,
-    alone: Alone<'_>,
-    sent: usize,
-    exchanges: usize,
-) {
-    let gate = Counted::new();
-    let told = serve_sample(rt, alloc, 8, alone, &gate);
-    expect_ended(rt, &told, End::Turns, sent, exchanges);
-    let passed = (exchanges as u64).saturating_mul(2);
-    expect_equal(rt, gate.passed(), Some(passed));
-}
-
-/// A Get of boot parameter 5 whose last check byte is wrong.
-const DAMAGED: &[u8] = &[0x20, 0x00, 0xE0, 0x2C, 0x04, 0x09, 0x05, 0x00, 0x00, 0xC3];
-
-/// The control message Get Endpoint ID.
-const ENDPOINT: &[u8] = &[
-    0x20, 0x0F, 0x08, 0x31, 0x01, 0x0A, 0x08, 0xC8, 0x00, 0x80, 0x02, 0x4D,
-];
-
-#[test]
-fn a_repeat_and_what_is_ignored_pass_no_gate(rt: HostRuntime) {
-    let alone = Alone {
-        bus: Bus::Ipmb,
-        heard: &[BOOT[0], BOOT[0], DAMAGED, BOOT[1]],
-        turns: 5,
-    };
-    expect_passed(&rt, rt.alloc(), alone, 3, 2);
-}
-
-#[test]
-fn a_control_message_passes_no_gate(rt: HostRuntime) {
-    let alone = Alone {
-        bus: Bus::Smbus,
-        heard: &[ASKED[0], ENDPOINT, ASKED[0], ASKED[2]],
-        turns: 4,
-    };
-    expect_passed(&rt, rt.alloc(), alone, 4, 2);
+fn a_worker_alone_serves_a_port(rt: HostRuntime) {
+    for case in [NO_ROOM, REPEAT, CONTROL] {
+        expect_alone(&rt, rt.alloc(), case);
+    }
 }

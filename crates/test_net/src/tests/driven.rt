@@ -1,9 +1,9 @@
 //! A manager that is driven over links that fail.
 use super::shared::expect_equal;
-use super::wired::{Wired, open_sample, port_on};
+use super::wired::{Faulty, Wired};
 use bmc_drive::drive;
 use bmc_links::{Link, MemLink};
-use cfg_records::{BoardFile, Key, StartValue, sample_board};
+use cfg_records::{Key, StartValue, sample_board};
 use changed_records::changed_count;
 use record_base::{Op, SetBiosAttribute, SetThresholds};
 use std::alloc::Global;
@@ -76,89 +76,61 @@ fn manager_on(rt: &impl Abort, alloc: Global, bus: Bus) -> Manager {
         .expect(rt, "a manager")
 }
 
-/// The records of the board in the file.
-fn records_of(rt: &impl Abort, alloc: Global, file: &BoardFile) -> Vec<(Key, StartValue)> {
-    file.records(alloc).expect(rt, "memory")
-}
-
 /// The records of the sample board.
 fn sample_records(rt: &impl Abort, alloc: Global) -> Vec<(Key, StartValue)> {
     let file = sample_board(alloc).expect(rt, "memory");
-    records_of(rt, alloc, &file)
+    let records = file.records(alloc).expect(rt, "memory");
+    drop(file);
+    records
 }
 
-/// Drives the manager over the link to its port, and over one that hears nothing.
-fn drive_on(
+/// The manager sends this, and is driven over the link to its port, and over one that hears nothing. It comes to the phase, and so many of the
+/// board's records are changed then.
+fn expect_driven(
+    rt: &impl Abort,
     bus: Bus,
     manager: &mut Manager,
     sent: Option<Sent>,
-    link: &mut Wired,
+    link: &mut Faulty<Wired>,
     other: &mut MemLink,
-) -> Phase {
-    match bus {
+    records: &[(Key, StartValue)],
+    wanted: (Phase, usize),
+) {
+    let phase = match bus {
         Bus::Ipmb => drive(manager, sent, link, other, TURNS),
         Bus::Smbus => drive(manager, sent, other, link, TURNS),
-    }
+    };
+    let changed = changed_count(link.link.board.store(), records);
+    expect_equal(rt, "phase and records", (phase, changed), wanted);
 }
 
-/// The manager is in the phase that is wanted, and so many of the board's records are changed.
-fn expect_changed(
-    rt: &impl Abort,
-    link: &Wired,
-    records: &[(Key, StartValue)],
-    phases: [Phase; 2],
-    changed: usize,
-) {
-    expect_equal(rt, phases[0], phases[1]);
-    expect_equal(rt, changed_count(link.board.store(), records), changed);
-}
-
-/// The manager's plan is run over the link, and changes one record.
-fn expect_run(
-    rt: &impl Abort,
-    bus: Bus,
-    manager: &mut Manager,
-    link: &mut Wired,
-    other: &mut MemLink,
-    records: &[(Key, StartValue)],
-) {
-    let sent = manager.start().ok().expect(rt, "a plan to be run");
-    let phase = drive_on(bus, manager, sent, link, other);
-    expect_changed(rt, link, records, [phase, Phase::Done], 1);
-}
-
-/// The manager's plan is undone over the link, and no record is changed then.
-fn expect_undone(
-    rt: &impl Abort,
-    bus: Bus,
-    manager: &mut Manager,
-    link: &mut Wired,
-    other: &mut MemLink,
-    records: &[(Key, StartValue)],
-) {
-    let sent = manager.undo().ok().expect(rt, "a plan to be undone");
-    let phase = drive_on(bus, manager, sent, link, other);
-    expect_changed(rt, link, records, [phase, Phase::Undone], 0);
-}
-
-/// A manager's plan is run over the link, and undone.
+/// A manager's plan is run over the link, which changes a record, and undone.
 fn expect_back(
     rt: &impl Abort,
     alloc: Global,
     bus: Bus,
-    link: &mut Wired,
+    link: &mut Faulty<Wired>,
     records: &[(Key, StartValue)],
 ) {
-    let mut manager = manager_on(rt, alloc, bus);
     let mut other = MemLink::new(alloc, &[]).ok().expect(rt, "memory");
-    expect_run(rt, bus, &mut manager, link, &mut other, records);
-    expect_undone(rt, bus, &mut manager, link, &mut other, records);
-}
-
-/// A link to the sample board's port on this bus, whose call of this number fails.
-fn wired_on(rt: &impl Abort, alloc: Global, bus: Bus, failing_call: u32) -> Wired {
-    let (board, port) = (open_sample(rt, alloc), port_on(rt, alloc, bus));
-    Wired::new(alloc, board, port, failing_call)
+    let mut manager = manager_on(rt, alloc, bus);
+    let sent = manager.start().ok().expect(rt, "a plan to be run");
+    let done = (Phase::Done, 1);
+    expect_driven(rt, bus, &mut manager, sent, link, &mut other, records, done);
+    let sent = manager.undo().ok().expect(rt, "a plan to be undone");
+    let undone = (Phase::Undone, 0);
+    expect_driven(
+        rt,
+        bus,
+        &mut manager,
+        sent,
+        link,
+        &mut other,
+        records,
+        undone,
+    );
+    drop(manager);
+    drop(other);
 }
 
 /// The same over a link whose call of this number fails. How many of its calls failed.
@@ -169,9 +141,11 @@ fn failures_at(
     failing_call: u32,
     records: &[(Key, StartValue)],
 ) -> u64 {
-    let mut link = wired_on(rt, alloc, bus, failing_call);
+    let mut link = Faulty::new(Wired::new(rt, alloc, bus), failing_call);
     expect_back(rt, alloc, bus, &mut link, records);
-    link.counts().failures
+    let failures = link.counts().failures;
+    drop(link);
+    failures
 }
 
 /// Each call of the link fails once. How many there are.
@@ -188,13 +162,11 @@ fn calls_that_fail(rt: &impl Abort, alloc: Global, bus: Bus) -> u32 {
 }
 
 #[test]
-fn whichever_call_on_ipmb_fails_thresholds_are_set_and_undone(rt: HostRuntime) {
+fn whichever_call_fails_a_plan_is_run_and_undone(rt: HostRuntime) {
     // Six requests of one frame each, and a reply to each.
-    expect_equal(&rt, calls_that_fail(&rt, rt.alloc(), Bus::Ipmb), 12);
-}
-
-#[test]
-fn whichever_call_on_smbus_fails_a_text_is_set_and_undone(rt: HostRuntime) {
+    let ipmb = calls_that_fail(&rt, rt.alloc(), Bus::Ipmb);
+    expect_equal(&rt, "thresholds on IPMB", ipmb, 12);
     // A Get of one frame, a Set of four and one that undoes of one, and replies of one frame each.
-    expect_equal(&rt, calls_that_fail(&rt, rt.alloc(), Bus::Smbus), 9);
+    let smbus = calls_that_fail(&rt, rt.alloc(), Bus::Smbus);
+    expect_equal(&rt, "a text on SMBus", smbus, 9);
 }

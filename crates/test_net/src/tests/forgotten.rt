@@ -1,91 +1,60 @@
 //! A port that forgets a requester from which nothing comes for some turns.
-use super::lent::{Left, SET_REPLY, expect_at, expect_left, lane, serve_opened};
+use super::lent::{SET_REPLY, expect_sent, expect_served, new_lanes};
 use super::served::SET;
-use super::shared::expect_equal;
 use super::wired::open_sample;
-use bmc_board::{Board, Records};
-use bmc_links::MemLink;
-use bmc_ports::{End, Lanes};
+use bmc_ports::End;
 use std::alloc::Global;
-use std::marker::Brand;
 use std::process::Abort;
 use std::sync::Wait;
-use std::sync::ledger::Blank;
 use std::thread::Threads;
 use std::time::Clock;
-use two_wire::{Bus, Frame};
 
-/// A Get of boot parameter 5 by another requester.
+/// A Get of boot parameter 5 by another requester, and its reply.
 const OTHER_GET: [u8; 10] = [0x20, 0x00, 0xE0, 0x2E, 0x04, 0x09, 0x05, 0x00, 0x00, 0xC0];
 
-/// How many turns the port on IPMB has.
+const OTHER_REPLY: [u8; 15] = [
+    0x2E, 0x04, 0xCE, 0x20, 0x04, 0x09, 0x00, 0x01, 0x05, 0x80, 0x04, 0x00, 0x00, 0x00, 0x49,
+];
+
+/// A Set, and then nothing from its requester for three turns. In the second and the fourth turn comes another's Get. Then come the Set twice,
+/// and the Get once more.
+const SCRIPT: [&[u8]; 7] = [&SET, &OTHER_GET, &[], &OTHER_GET, &SET, &SET, &OTHER_GET];
+
+/// The reply to each, whether it is carried out or not.
+const REPLIES: [&[u8]; 6] = [
+    &SET_REPLY,
+    &OTHER_REPLY,
+    &OTHER_REPLY,
+    &SET_REPLY,
+    &SET_REPLY,
+    &OTHER_REPLY,
+];
+
+/// How many turns the port on IPMB has for them.
 const TURNS: u32 = 7;
 
-/// Serves a board with a ledger of its own, and with room for eight events.
-fn serve_eight<R: Threads + Wait + Clock + Abort + Sync>(
-    rt: &R,
-    alloc: Global,
-    board: Board<Records>,
-    lanes: Lanes<MemLink, MemLink>,
-) -> Left {
-    serve_opened::<Brand, R>(rt, alloc, Blank::new(3), board, 8, lanes)
-}
-
-/// The port on IPMB hears a Set, and then nothing from its requester for three turns. In the second and the fourth turn it hears another's
-/// Get. Then it hears the Set twice, and the Get once more.
-fn new_lanes(rt: &impl Abort, alloc: Global, forget: Option<u32>) -> Lanes<MemLink, MemLink> {
-    let script: [&[u8]; 7] = [&SET, &OTHER_GET, &[], &OTHER_GET, &SET, &SET, &OTHER_GET];
-    Lanes {
-        first: lane(rt, alloc, Bus::Ipmb, &script, TURNS, forget),
-        second: lane(rt, alloc, Bus::Smbus, &[], 1, forget),
-    }
-}
-
-/// Serves the sample board, where the port forgets those that are silent for so many turns.
-fn serve_sample<R: Threads + Wait + Clock + Abort + Sync>(
-    rt: &R,
-    alloc: Global,
-    forget: Option<u32>,
-) -> Left {
-    let lanes = new_lanes(rt, alloc, forget);
-    serve_eight(rt, alloc, open_sample(rt, alloc), lanes)
-}
-
-/// Each request got its reply, whether it was carried out or not.
-fn expect_replies(rt: &impl Abort, sent: &[Frame]) {
-    expect_equal(rt, sent.len(), 6);
-    expect_at(rt, sent, 0, &SET_REPLY);
-    expect_at(rt, sent, 3, &SET_REPLY);
-    expect_at(rt, sent, 4, &SET_REPLY);
-    let got = sent.get(1).expect(rt, "a frame").as_slice();
-    expect_at(rt, sent, 2, got);
-    expect_at(rt, sent, 5, got);
-}
-
-/// So many requests are carried out where the port forgets those that are silent for so many turns.
+/// So many requests are carried out where the port forgets those that are silent for so many turns, and each gets its reply.
 fn expect_events<R: Threads + Wait + Clock + Abort + Sync>(
     rt: &R,
     alloc: Global,
+    name: &str,
     forget: Option<u32>,
     events: usize,
 ) {
-    let left = serve_sample(rt, alloc, forget);
-    expect_left(rt, &left, events, End::Turns, 0);
-    expect_replies(rt, left.lanes.first.link.sent());
+    let board = open_sample(rt, alloc);
+    let lanes = new_lanes(rt, alloc, &SCRIPT, TURNS, forget);
+    let wanted = (events, End::Turns, 0);
+    let (board, lanes) = expect_served(rt, alloc, board, 8, lanes, name, wanted);
+    drop(board);
+    expect_sent(rt, name, lanes, &REPLIES);
 }
 
 #[test]
 fn a_silent_requester_is_forgotten_and_another_one_is_not(rt: HostRuntime) {
+    let alloc = rt.alloc();
     // The Set is carried out twice, its repeat isn't, and the other's Get is carried out once.
-    expect_events(&rt, rt.alloc(), Some(3), 3);
-}
-
-#[test]
-fn a_requester_that_was_silent_for_fewer_turns_is_not_forgotten(rt: HostRuntime) {
-    expect_events(&rt, rt.alloc(), Some(4), 2);
-}
-
-#[test]
-fn where_no_number_is_given_nobody_is_forgotten(rt: HostRuntime) {
-    expect_events(&rt, rt.alloc(), None, 2);
+    expect_events(&rt, alloc, "silent for as many turns", Some(3), 3);
+    expect_events(&rt, alloc, "silent for fewer turns", Some(4), 2);
+    let name = "where no number is given nobody is forgotten";
+    expect_events(&rt, alloc, name, None, 2);
 }

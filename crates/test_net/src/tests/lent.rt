@@ -8,7 +8,7 @@ use super::wired::{open_sample, port_on};
 use bmc_board::{Board, Records};
 use bmc_links::MemLink;
 use bmc_ports::{End, Lane, Lanes, Opening, Seats, Shared, Sliced, Timetable, run_slices};
-use net_serve::{Course, serve_periods};
+use net_serve::serve_periods;
 use std::alloc::Global;
 use std::marker::Brand;
 use std::process::Abort;
@@ -33,14 +33,16 @@ const LATER_REPLY: [u8; 15] = [
     0x2C, 0x04, 0xD0, 0x20, 0x08, 0x09, 0x00, 0x01, 0x05, 0x80, 0x04, 0x00, 0x00, 0x00, 0x45,
 ];
 
-/// How many turns the port on IPMB has.
+/// A Set of boot parameter 5, a Get of it, and the Get under another number. Then the Set and that Get again.
+const SCRIPT: [&[u8]; 5] = [&SET, &GET, &LATER_GET, &SET, &LATER_GET];
+
+/// How many turns the port on IPMB has for it.
 const TURNS: u32 = 6;
 
 /// What a history left.
-#[derive(Drop)]
-pub(super) struct Left {
+struct Left {
     board: Board<Records>,
-    pub lanes: Lanes<MemLink, MemLink>,
+    lanes: Lanes<MemLink, MemLink>,
     events: usize,
     end: End,
 }
@@ -66,7 +68,7 @@ fn serve_shared<J: Opening + Send + Sync, R: Threads + Wait + Clock + Abort + Sy
 }
 
 /// Serves a board with one history.
-pub(super) fn serve_opened<J: Opening + Send + Sync, R: Threads + Wait + Clock + Abort + Sync>(
+fn serve_opened<J: Opening + Send + Sync, R: Threads + Wait + Clock + Abort + Sync>(
     rt: &R,
     alloc: Global,
     blank: Blank,
@@ -92,18 +94,19 @@ pub(super) fn serve_opened<J: Opening + Send + Sync, R: Threads + Wait + Clock +
     }
 }
 
-/// The same with a ledger of its own, and room for two events.
-fn serve_two<R: Threads + Wait + Clock + Abort + Sync>(
+/// The same with a ledger of its own.
+fn serve_at<R: Threads + Wait + Clock + Abort + Sync>(
     rt: &R,
     alloc: Global,
     board: Board<Records>,
+    room: usize,
     lanes: Lanes<MemLink, MemLink>,
 ) -> Left {
-    serve_opened::<Brand, R>(rt, alloc, Blank::new(3), board, 2, lanes)
+    serve_opened::<Brand, R>(rt, alloc, Blank::new(3), board, room, lanes)
 }
 
 /// A port on this bus that hears the script, has so many turns, and forgets those that are silent for so many, where a number is given.
-pub(super) fn lane(
+fn lane(
     rt: &impl Abort,
     alloc: Global,
     bus: Bus,
@@ -115,91 +118,91 @@ pub(super) fn lane(
     Lane::new(port_on(rt, alloc, bus), link, turns, forget)
 }
 
-/// The port on IPMB hears a Set of boot parameter 5, a Get of it, and the Get under another number, for which there is no room. Then it hears
-/// the Set and that Get again. That on SMBus hears nothing in its one turn.
-fn new_lanes(rt: &impl Abort, alloc: Global) -> Lanes<MemLink, MemLink> {
-    let script: [&[u8]; 5] = [&SET, &GET, &LATER_GET, &SET, &LATER_GET];
+/// Such a port on IPMB, and one on SMBus that hears nothing in its one turn.
+pub(super) fn new_lanes(
+    rt: &impl Abort,
+    alloc: Global,
+    script: &[&[u8]],
+    turns: u32,
+    forget: Option<u32>,
+) -> Lanes<MemLink, MemLink> {
     Lanes {
-        first: lane(rt, alloc, Bus::Ipmb, &script, TURNS, None),
-        second: lane(rt, alloc, Bus::Smbus, &[], 1, None),
+        first: lane(rt, alloc, Bus::Ipmb, script, turns, forget),
+        second: lane(rt, alloc, Bus::Smbus, &[], 1, forget),
     }
 }
 
-/// So many events are in the history, the worker on IPMB ended so and has so many turns left, and that on SMBus has none.
-pub(super) fn expect_left(rt: &impl Abort, left: &Left, events: usize, end: End, turns: u32) {
-    expect_equal(rt, left.events, events);
-    expect_equal(rt, left.end, end);
-    expect_equal(rt, left.lanes.first.turns, turns);
-    expect_equal(rt, left.lanes.second.turns, 0);
-}
-
-/// The frame at this place is of these bytes.
-pub(super) fn expect_at(rt: &impl Abort, sent: &[Frame], place: usize, bytes: &[u8]) {
-    let frame = sent.get(place).expect(rt, "a frame");
-    assert!(rt; frame.is(bytes));
-}
-
-/// These frames were sent, and no others.
-fn expect_sent(rt: &impl Abort, sent: &[Frame]) {
-    expect_equal(rt, sent.len(), 4);
-    expect_at(rt, sent, 0, &SET_REPLY);
-    expect_at(rt, sent, 1, &GET_REPLY);
-    expect_at(rt, sent, 2, &SET_REPLY);
-    expect_at(rt, sent, 3, &LATER_REPLY);
-}
-
-/// The sample board is served with a history that has no room for the second Get. What it left.
-fn serve_until_full<R: Threads + Wait + Clock + Abort + Sync>(rt: &R, alloc: Global) -> Left {
-    serve_two(rt, alloc, open_sample(rt, alloc), new_lanes(rt, alloc))
-}
-
-/// What that history left is served with another one, until all turns are made.
-fn expect_rest<R: Threads + Wait + Clock + Abort + Sync>(
+/// The board is served with a history that has so much room. So many events are in it then, the worker on IPMB ends so and has so many turns
+/// left, and that on SMBus has none. The board, and what is left of the lanes.
+pub(super) fn expect_served<R: Threads + Wait + Clock + Abort + Sync>(
     rt: &R,
     alloc: Global,
     board: Board<Records>,
+    room: usize,
     lanes: Lanes<MemLink, MemLink>,
+    name: &str,
+    wanted: (usize, End, u32),
+) -> (Board<Records>, Lanes<MemLink, MemLink>) {
+    let Left {
+        board,
+        lanes,
+        events,
+        end,
+    } = serve_at(rt, alloc, board, room, lanes);
+    expect_equal(rt, name, (events, end, lanes.first.turns), wanted);
+    expect_equal(rt, name, lanes.second.turns, 0);
+    (board, lanes)
+}
+
+/// Whether these frames were sent, and no others.
+fn are_sent(sent: &[Frame], wanted: &[&[u8]]) -> bool {
+    if sent.len() != wanted.len() {
+        return false;
+    }
+    for (frame, bytes) in sent.iter().zip(wanted.iter()) {
+        if !frame.is(bytes) {
+            return false;
+        }
+    }
+    true
+}
+
+/// These frames were sent over IPMB's link, and no others.
+pub(super) fn expect_sent(
+    rt: &impl Abort,
+    name: &str,
+    lanes: Lanes<MemLink, MemLink>,
+    wanted: &[&[u8]],
 ) {
-    let left = serve_two(rt, alloc, board, lanes);
-    // The Set's repeat is no event, and the Get that found no room is one.
-    expect_left(rt, &left, 1, End::Turns, 0);
-    expect_sent(rt, left.lanes.first.link.sent());
+    assert!(rt; are_sent(lanes.first.link.sent(), wanted), "{name}");
+    drop(lanes);
 }
 
 #[test]
 fn a_request_answered_before_a_change_gets_its_kept_reply_after_it(rt: HostRuntime) {
     let alloc = rt.alloc();
-    let left = serve_until_full(&rt, alloc);
-    expect_left(&rt, &left, 2, End::Full, 3);
-    expect_rest(&rt, alloc, left.board, left.lanes);
-}
-
-/// The sample board, served in periods until all turns are made.
-fn serve_all<R: Threads + Wait + Clock + Abort + Sync>(
-    rt: &R,
-    alloc: Global,
-) -> Course<'static, MemLink, MemLink> {
-    let (board, lanes) = (open_sample(rt, alloc), new_lanes(rt, alloc));
-    let table = Timetable::new(&[], None);
-    let served = serve_periods(rt, alloc, board, lanes, table, None);
-    served.ok().expect(rt, "two threads")
-}
-
-/// So many events happened, the worker on IPMB has no turns left, and it sent so many frames.
-fn expect_course(
-    rt: &impl Abort,
-    course: &Course<'_, MemLink, MemLink>,
-    events: usize,
-    sent: usize,
-) {
-    expect_equal(rt, course.events, events);
-    expect_equal(rt, course.lanes.first.turns, 0);
-    expect_equal(rt, course.lanes.first.link.sent().len(), sent);
+    let board = open_sample(&rt, alloc);
+    let lanes = new_lanes(&rt, alloc, &SCRIPT, TURNS, None);
+    let name = "there is no room for the second Get";
+    let (board, lanes) = expect_served(&rt, alloc, board, 2, lanes, name, (2, End::Full, 3));
+    let name = "the Set's repeat is no event, and the Get that found no room is one";
+    let (board, lanes) = expect_served(&rt, alloc, board, 2, lanes, name, (1, End::Turns, 0));
+    drop(board);
+    let sent: [&[u8]; 4] = [&SET_REPLY, &GET_REPLY, &SET_REPLY, &LATER_REPLY];
+    expect_sent(&rt, name, lanes, &sent);
 }
 
 #[test]
 fn a_board_is_served_in_periods_until_all_turns_are_made(rt: HostRuntime) {
-    let course = serve_all(&rt, rt.alloc());
+    let alloc = rt.alloc();
+    let board = open_sample(&rt, alloc);
+    let lanes = new_lanes(&rt, alloc, &SCRIPT, TURNS, None);
+    let table = Timetable::new(&[], None);
+    let served = serve_periods(&rt, alloc, board, lanes, table, None).ok();
+    let course = served.expect(&rt, "two threads");
+    let first = &course.lanes.first;
+    let came = (course.events, first.turns, first.link.sent().len());
+    drop(course);
     // Both repeats are no events.
-    expect_course(&rt, &course, 3, 5);
+    expect_equal(&rt, "events, turns and frames", came, (3, 0, 5));
 }

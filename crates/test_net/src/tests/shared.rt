@@ -9,9 +9,14 @@ use std::fmt::Debug;
 use std::process::Abort;
 use std::sync::ledger::Blank;
 
-/// The value is the one that is wanted.
-pub(crate) fn expect_equal<T: Copy + Debug + PartialEq>(rt: &impl Abort, value: T, wanted: T) {
-    assert_eq!(rt; value, wanted);
+/// The value of this name is the one that is wanted.
+pub(crate) fn expect_equal<T: Copy + Debug + PartialEq>(
+    rt: &impl Abort,
+    name: &str,
+    value: T,
+    wanted: T,
+) {
+    assert_eq!(rt; value, wanted, "{name}");
 }
 
 /// The board, which threads share from here on, and their seats.

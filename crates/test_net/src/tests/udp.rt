@@ -22,20 +22,21 @@ fn link_to<R: Net + Abort>(rt: &R, port: u16, wait_ms: u32) -> UdpLink {
     UdpLink::to(rt, port, wait_ms).ok().expect(rt, "a link")
 }
 
-/// The link sends these bytes.
-fn expect_sent(rt: &impl Abort, link: &mut UdpLink, bytes: &[u8])
-    requires { length bytes.now ≤ 80 }
-{
-    let sent = link.send(&Frame::from_slice(bytes));
-    assert!(rt; sent == Ok(()));
-}
-
 /// The link hears these bytes.
 fn expect_heard(rt: &impl Abort, link: &mut UdpLink, bytes: &[u8]) {
     match link.next() {
         Ok(Heard::Frame(frame)) => assert!(rt; frame.is(bytes)),
         _ => panic!(rt; "no frame"),
     }
+}
+
+/// One link sends these bytes, and the other hears them.
+fn expect_passed(rt: &impl Abort, from: &mut UdpLink, to: &mut UdpLink, bytes: &[u8])
+    requires { length bytes.now ≤ 80 }
+{
+    let sent = from.send(&Frame::from_slice(bytes));
+    assert!(rt; sent == Ok(()));
+    expect_heard(rt, to, bytes);
 }
 
 /// The link hears nothing.
@@ -51,17 +52,15 @@ fn expect_counts(rt: &impl Abort, link: &UdpLink, failures: u64, calls: u64, hea
         calls,
         heard,
     };
-    expect_equal(rt, link.counts(), counts);
+    expect_equal(rt, "counts", link.counts(), counts);
 }
 
 #[test]
 fn a_bound_link_answers_the_one_that_it_heard(rt: HostRuntime) {
     let (mut bound, port) = bind(&rt, WAIT_MS);
     let mut client = link_to(&rt, port, WAIT_MS);
-    expect_sent(&rt, &mut client, &[0x20, 0x10, 0xD0]);
-    expect_heard(&rt, &mut bound, &[0x20, 0x10, 0xD0]);
-    expect_sent(&rt, &mut bound, &[0x2C; 80]);
-    expect_heard(&rt, &mut client, &[0x2C; 80]);
+    expect_passed(&rt, &mut client, &mut bound, &[0x20, 0x10, 0xD0]);
+    expect_passed(&rt, &mut bound, &mut client, &[0x2C; 80]);
     expect_counts(&rt, &bound, 0, 1, 1);
     expect_counts(&rt, &client, 0, 1, 1);
 }
@@ -102,12 +101,9 @@ fn the_last_that_was_heard_is_answered(rt: HostRuntime) {
     let (mut bound, port) = bind(&rt, WAIT_MS);
     let mut client = link_to(&rt, port, WAIT_MS);
     let mut other = link_to(&rt, port, WAIT_MS);
-    expect_sent(&rt, &mut client, &[1]);
-    expect_heard(&rt, &mut bound, &[1]);
-    expect_sent(&rt, &mut other, &[2]);
-    expect_heard(&rt, &mut bound, &[2]);
-    expect_sent(&rt, &mut bound, &[3]);
-    expect_heard(&rt, &mut other, &[3]);
+    expect_passed(&rt, &mut client, &mut bound, &[1]);
+    expect_passed(&rt, &mut other, &mut bound, &[2]);
+    expect_passed(&rt, &mut bound, &mut other, &[3]);
 }
 
 #[test]

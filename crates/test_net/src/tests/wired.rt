@@ -1,4 +1,4 @@
-//! A link whose other end is a port over a board, and that fails once.
+//! A link whose other end is a port over a board, and a link of which one call fails.
 ghost use Rattle.std.specs.Prelude.{◌≡◌};
 
 use bmc_board::{Board, Records};
@@ -10,25 +10,12 @@ use std::alloc::Global;
 use std::process::Abort;
 use two_wire::{Address, Bus, Frame};
 
-/// The call of a link that fails, counted from 1.
-#[derive(Clone, Copy)]
-pub(crate) struct Failing {
-    calls: u32,
-    at: u32,
-}
-
-impl Failing {
-    /// This call fails.
-    pub fn at(at: u32) -> Failing {
-        Failing { calls: 0, at }
-    }
-
-    /// Whether the call that is made now fails.
-    pub fn fails(&mut self) -> bool {
-        self.calls = self.calls.wrapping_add(1);
-        self.calls == self.at
-    }
-}
+/// Nothing is counted.
+const NONE_COUNTED: Counts = Counts {
+    failures: 0,
+    calls: 0,
+    heard: 0,
+};
 
 /// The sample board.
 pub(crate) fn open_sample(rt: &impl Abort, alloc: Global) -> Board<Records> {
@@ -45,8 +32,58 @@ pub(crate) fn port_on(rt: &impl Abort, alloc: Global, bus: Bus) -> Port {
     Port::new(alloc, bus, at).expect(rt, "memory")
 }
 
-/// A link that gives each frame that is sent to a port over a board, and hands out the replies in their order. One call of it fails, and
-/// does nothing else.
+/// A link of which one call fails, and does nothing else.
+#[derive(Drop)]
+pub(crate) struct Faulty<L> {
+    pub link: L,
+    made: u32,
+    failing_call: u32,
+    counts: Counts,
+}
+
+impl<L: Drop> Faulty<L> {
+    /// This link, whose call of this number fails, counted from 1.
+    pub fn new(link: L, failing_call: u32) -> Self {
+        Faulty {
+            link,
+            made: 0,
+            failing_call,
+            counts: NONE_COUNTED,
+        }
+    }
+}
+
+impl<L: Link> Link for Faulty<L> {
+    ghost counts_of = { λ link. link.counts };
+
+    fn next(&mut self) -> Result<Heard, LinkFault> {
+        self.made = self.made.wrapping_add(1);
+        let answer = if self.made == self.failing_call {
+            Err(LinkFault)
+        } else {
+            self.link.next()
+        };
+        self.counts.count_next(&answer);
+        answer
+    }
+
+    fn send(&mut self, frame: &Frame) -> Result<(), LinkFault> {
+        self.made = self.made.wrapping_add(1);
+        let answer = if self.made == self.failing_call {
+            Err(LinkFault)
+        } else {
+            self.link.send(frame)
+        };
+        self.counts.count_send(&answer);
+        answer
+    }
+
+    fn counts(&self) -> Counts {
+        self.counts
+    }
+}
+
+/// A link that gives each frame that is sent to a port over a board, and hands out the replies in their order.
 #[derive(Drop)]
 pub(crate) struct Wired {
     pub board: Board<Records>,
@@ -54,50 +91,25 @@ pub(crate) struct Wired {
     out: Out,
     replies: Vec<Frame>,
     handed_out: usize,
-    failing: Failing,
     counts: Counts,
 }
 
 impl Wired {
-    /// A link to this port of the board, whose call of this number fails.
-    pub fn new(alloc: Global, board: Board<Records>, port: Port, failing_call: u32) -> Wired {
+    /// A link to the sample board's port on this bus.
+    pub fn new(rt: &impl Abort, alloc: Global, bus: Bus) -> Wired {
         Wired {
-            board,
-            port,
+            board: open_sample(rt, alloc),
+            port: port_on(rt, alloc, bus),
             out: Out::new(),
             replies: Vec::new(alloc),
             handed_out: 0,
-            failing: Failing::at(failing_call),
-            counts: Counts {
-                failures: 0,
-                calls: 0,
-                heard: 0,
-            },
-        }
-    }
-
-    fn hear(&mut self) -> Result<Heard, LinkFault>
-        ensures { self.new.counts ≡ self.old.counts }
-    {
-        if self.failing.fails() {
-            return Err(LinkFault);
-        }
-        match self.replies.get(self.handed_out) {
-            Some(frame) => {
-                let heard = Heard::Frame(frame.copy());
-                self.handed_out += 1;
-                Ok(heard)
-            }
-            None => Ok(Heard::Quiet),
+            counts: NONE_COUNTED,
         }
     }
 
     fn tell(&mut self, bytes: &[u8]) -> Result<(), LinkFault>
         ensures { self.new.counts ≡ self.old.counts }
     {
-        if self.failing.fails() {
-            return Err(LinkFault);
-        }
         self.port.on_frame(&mut self.board, bytes, &mut self.out);
         for frame in self.out.frames.as_slice() {
             if self.replies.push(frame.copy()).is_err() {
@@ -112,7 +124,13 @@ impl Link for Wired {
     ghost counts_of = { λ link. link.counts };
 
     fn next(&mut self) -> Result<Heard, LinkFault> {
-        let answer = self.hear();
+        let answer = match self.replies.get(self.handed_out) {
+            Some(frame) => {
+                self.handed_out += 1;
+                Ok(Heard::Frame(frame.copy()))
+            }
+            None => Ok(Heard::Quiet),
+        };
         self.counts.count_next(&answer);
         answer
     }

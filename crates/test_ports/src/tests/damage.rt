@@ -1,5 +1,5 @@
 //! Frames and packets that come damaged. Each frame is cut off at each place, and comes with each other byte at each place.
-use super::expect_told;
+use super::expect_report;
 
 const FRAMES: &str = "\
 story damaged frames leave board and windows as they were
@@ -82,11 +82,8 @@ smbus 200F0831010008C800800250 -> Control 300F0C2101080AC0000002000A000040
 ";
 
 #[test]
-fn damaged_frames_change_nothing(rt: HostRuntime) {
-    expect_told(&rt, rt.alloc(), FRAMES);
-}
-
-#[test]
-fn damaged_packets_change_nothing(rt: HostRuntime) {
-    expect_told(&rt, rt.alloc(), PACKETS);
+fn what_is_damaged_changes_nothing(rt: HostRuntime) {
+    for stories in [FRAMES, PACKETS] {
+        expect_report(&rt, rt.alloc(), stories, "");
+    }
 }

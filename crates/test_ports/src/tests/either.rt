@@ -24,22 +24,17 @@ fn open_port(rt: &impl Abort, alloc: Global) -> Port {
     Port::new(alloc, Bus::Ipmb, at).expect(rt, "memory")
 }
 
-/// The port asks the board, and tells what that answered.
-fn exchange(rt: &impl Abort, port: &mut Port, board: &mut Board<Records>, out: &mut Out) {
-    match port.hear(GET, out) {
-        Step::Ask(pending) => {
-            let answered = board.answer(&pending.asked());
-            port.answer(pending, &answered, out);
-        }
-        Step::Done => panic!(rt; "nothing is asked"),
-    }
-}
-
-/// A port answers that Get for the sample board, and repeats the response.
+/// A port asks the sample board for that Get, tells what that answered, and repeats the response.
 pub fn expect_answers(rt: &impl Abort, alloc: Global, board: &mut Board<Records>) {
     let mut port = open_port(rt, alloc);
     let mut out = Out::new();
-    exchange(rt, &mut port, board, &mut out);
+    match port.hear(GET, &mut out) {
+        Step::Ask(pending) => {
+            let answered = board.answer(&pending.asked());
+            port.answer(pending, &answered, &mut out);
+        }
+        Step::Done => panic!(rt; "nothing is asked"),
+    }
     expect_out(rt, &out, Done::Answered, GOT);
     port.on_frame(board, GET, &mut out);
     expect_out(rt, &out, Done::Repeated, GOT);

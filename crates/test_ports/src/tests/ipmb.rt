@@ -2,7 +2,7 @@
 ghost use Rattle.std.specs.Prelude.{◌≤◌, length};
 ghost use Rattle.two_wire.specs.Sizes.{most_ipmi_reply_data};
 
-use super::{expect_out, expect_told};
+use super::expect_out;
 use bmc_board::{Board, Records};
 use bmc_core::{Done, IpmbPending, IpmbPort, Out, Step};
 use record_base::{Answered, Asked};
@@ -10,7 +10,7 @@ use std::alloc::Global;
 use std::process::Abort;
 use two_wire::{Address, Bytes, Lun, NetFn};
 
-const IPMB: &str = "\
+pub(super) const IPMB: &str = "\
 story a ninth requester finds the port busy
 # Each asks for the identifier of the device, with sequence number 5.
 ipmb 2018C8401401AB -> Answered 401CA420140100200101050207CDAB003412DD
@@ -286,11 +286,6 @@ dropped ipmb 2010D0400C270588 -> Repeated 4014AC200C27003F140A05505F6E2E
 story what is heard and told is what comes of a frame
 ipmb 2010D0400C270588 -> Answered 4014AC200C27003F140A05505F6E2E
 ";
-
-#[test]
-fn requests_come_over_ipmb(rt: HostRuntime) {
-    expect_told(&rt, rt.alloc(), IPMB);
-}
 
 /// Get Sensor Thresholds of sensor 5, from 40h with sequence number 3, to 20h and to 22h.
 const GET: &[u8] = &[0x20, 0x10, 0xD0, 0x40, 0x0C, 0x27, 0x05, 0x88];

@@ -1,5 +1,5 @@
 //! Requests to a port on the System Management Bus, and what it keeps of them.
-use super::{expect_out, expect_told};
+use super::expect_out;
 use bmc_board::{Board, Records};
 use bmc_core::{At, Done, Out, SmbusPending, SmbusPort, Step};
 use mctp_net::EndpointId;
@@ -8,7 +8,7 @@ use std::alloc::Global;
 use std::process::Abort;
 use two_wire::{Address, Below, Bytes};
 
-const SMBUS: &str = "\
+pub(super) const SMBUS: &str = "\
 story instance 16 forgets instance 0
 # Each asks for the terminus identifier.
 smbus 200F093101000BC80180000296 -> Answered 300F0B21010B0AC001000002000597
@@ -105,11 +105,6 @@ smbus 200F1B31010A0BC801810307C000000004 61*13 EF -> Answered 300F0A21010B0AC001
 pldm 03 08 00000000010100 -> 00 0000000005 010001 C800 61*200
 ";
 
-#[test]
-fn requests_come_over_smbus(rt: HostRuntime) {
-    expect_told(&rt, rt.alloc(), SMBUS);
-}
-
 /// GetTID, from 30h and EID 08h, and its reply.
 const GET_TID: &[u8] = &[
     0x20, 0x0F, 0x09, 0x31, 0x01, 0x00, 0x08, 0xC8, 0x01, 0x80, 0x00, 0x02, 0xED,
@@ -136,14 +131,6 @@ fn asked(rt: &impl Abort, port: &mut SmbusPort, frame: &[u8], out: &mut Out) -> 
     }
 }
 
-/// This terminus identifier.
-fn tid(number: u8) -> Answered {
-    Answered {
-        code: 0x00,
-        body: Bytes::from_slice(&[number]),
-    }
-}
-
 /// The port gets this terminus identifier as the answer. It does this, and sends this.
 fn expect_told_tid(
     rt: &impl Abort,
@@ -153,22 +140,13 @@ fn expect_told_tid(
     done: Done,
     frame: &[u8],
 ) {
-    let mut out = Out::new();
-    port.answer(pending, &tid(number), &mut out);
-    expect_out(rt, &out, done, frame);
-}
-
-#[test]
-fn a_request_is_asked_for(rt: HostRuntime) {
-    let mut port = open_port(&rt, rt.alloc());
-    let pending = asked(&rt, &mut port, GET_TID, &mut Out::new());
-    let wanted = Asked::Pldm {
-        from: 0x08,
-        kind: Below::new(0),
-        command: 0x02,
-        body: Bytes::new(),
+    let tid = Answered {
+        code: 0x00,
+        body: Bytes::from_slice(&[number]),
     };
-    assert!(rt; pending.asked().is(&wanted));
+    let mut out = Out::new();
+    port.answer(pending, &tid, &mut out);
+    expect_out(rt, &out, done, frame);
 }
 
 /// The port repeats the reply to the request.
@@ -182,6 +160,13 @@ fn expect_repeated(rt: &impl Abort, port: &mut SmbusPort, frame: &[u8]) {
 fn a_request_is_heard_and_told(rt: HostRuntime) {
     let mut port = open_port(&rt, rt.alloc());
     let pending = asked(&rt, &mut port, GET_TID, &mut Out::new());
+    let wanted = Asked::Pldm {
+        from: 0x08,
+        kind: Below::new(0),
+        command: 0x02,
+        body: Bytes::new(),
+    };
+    assert!(rt; pending.asked().is(&wanted));
     expect_told_tid(&rt, &mut port, pending, 0x05, Done::Answered, GOT_TID);
     expect_repeated(&rt, &mut port, GOT_TID);
     assert!(rt; port.idle(0x08));

@@ -1,9 +1,8 @@
 //! What a port finds in its windows, over lists of requests.
-use super::expect_told;
 use bmc_windows::{Found, Request, Windows};
 use two_wire::Below;
 
-const WINDOWS: &str = "\
+pub(super) const WINDOWS: &str = "\
 story a ninth requester is busy
 window ipmb keeps 40 05 4205 : 00 -> New
 window ipmb keeps 42 05 4205 : 01 -> New
@@ -269,11 +268,6 @@ fn repeats(found: Found<'_, 32>, wanted: &[u8]) -> bool {
         Found::Repeats(reply) => reply.as_slice() == wanted,
         _ => false,
     }
-}
-
-#[test]
-fn requests_come_to_windows(rt: HostRuntime) {
-    expect_told(&rt, rt.alloc(), WINDOWS);
 }
 
 #[test]
