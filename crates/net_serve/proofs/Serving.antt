@@ -25,14 +25,14 @@ use Rattle.bmc_lab.specs.declared.ending.Untold.{Untold}
 use Rattle.bmc_lab.specs.declared.ending.Untold.TheVariants as untold
 use Rattle.bmc_lab.specs.Console.{Written}
 use Rattle.bmc_lab.specs.Ending.{RunEnds, SaysReport, Tells}
-use Rattle.bmc_lab.specs.EndingLaws.{run_reports}
+use Rattle.bmc_lab.specs.EndingLaws.{run_ends_as, run_reports}
 use Rattle.net_serve.specs.declared.board.Served.{Served}
 use Rattle.net_serve.specs.declared.periods.Course.{Course}
 use Rattle.net_serve.specs.declared.run.ServeWords.{ServeWords}
 use Rattle.net_serve.specs.declared.tally.Begun.{Begun}
 use Rattle.net_serve.specs.Served.{IsAll, IsBegun, IsServed, Lead, Plays, Tallies, TellsServed, most_events}
 use Rattle.net_serve.specs.Periods.{GoesToNext, RunsTo}
-use Rattle.net_serve.specs.Run.{IsTaken, SaysServed, SaysUnserved, StandsFor, TextEnds, ports_line}
+use Rattle.net_serve.specs.Run.{IsTaken, SaysNothing, SaysServed, SaysUnserved, StandsFor, TextEnds, ports_line}
 use Rattle.net_serve.proofs.Following.{follow_leads}
 
 -- ---- what is counted
@@ -138,6 +138,12 @@ was_read a why (inr r) = r
 pub was_refused : {A E R : Type 0} (why memory : E) → (let here : Result A E = Err why in here ≡ Err memory) ⊎ R → (why ≡ memory) ⊎ R
 was_refused why memory (inl e) = inl (cc e)
 was_refused why memory (inr r) = inr r
+
+-- a run that says nothing tells of no port
+pub ends_untold : {W E : Type 0} (out : W → Option (List ℕ)) (err : E → Option (List ℕ)) (words : ServeWords) (board : List ℕ) (given : Option (List ℕ)) (old new : Console W E) (result : ℕ)
+    → RunEnds out err SaysNothing old new result → TextEnds out err words board given old new result
+ends_untold out err words board given old new result ends =
+    inl (run_ends_as out err SaysNothing (SaysUnserved board given) old new result (λ stream text status said. absurd said) ends)
 
 module _ {W E : Type 0} (out : W → Option (List ℕ)) (err : E → Option (List ℕ)) (words : ServeWords) (board : List ℕ) (given : Option (List ℕ)) (file : BoardFile) (list : Option (List Timed))
     (reads : Reads board (Ok file)) (stands : StandsFor given list) (old new : Console W E) (result : ℕ) where

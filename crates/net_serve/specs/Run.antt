@@ -57,6 +57,10 @@ readings_line why = ended (codes "readings " ++ readings_fault_name why)
 abbrev pub IsTaken : (asked taken : ℕ) → Type 0
 IsTaken asked taken = (asked ≡ 0) ⊎ (taken ≡ asked)
 
+-- a run has nothing to say
+abbrev pub SaysNothing : Saying
+SaysNothing stream text status = ⊥
+
 -- the line that tells of both ports
 abbrev pub ports_line : (ipmb smbus : ℕ) → List ℕ
 ports_line ipmb smbus = codes "bmcnet: ipmb on 127.0.0.1:" ++ decimal ipmb ++ codes ", smbus on 127.0.0.1:" ++ decimal smbus ++ 10 ∷ []

@@ -4,6 +4,7 @@ ghost use Rattle.std.specs.List.{AllZip};
 ghost use Rattle.two_wire.specs.declared.Bus.TheVariants as bus;
 ghost use Rattle.bmc_board.specs.State.{state_of};
 ghost use Rattle.bmc_lab.specs.Run.{IsFresh};
+ghost use Rattle.bmc_shared.specs.Seated.{IsFresh as HasNoCall};
 ghost use Rattle.net_serve.specs.Served.{IsServed, most_events};
 
 use bmc_board::{Board, Records};
@@ -43,6 +44,33 @@ pub fn controller_ports(alloc: Global) -> Result<[Port; 2], AllocError>
     ])
 }
 
+/// A board to be shared, and its seats, which have called nothing. All memory is taken here.
+pub fn open_board<J: Opening>(
+    alloc: Global,
+    blank: Blank,
+    board: Board<Records>,
+    room: usize,
+) -> Result<(Shared<J, Records>, Seats<J>), Untold>
+    requires name { blank.name ≡ J.name }
+    requires parts { blank.parts ≡ J.parts }
+    requires three { blank.parts ≡ 3 }
+    requires setup { board.setup ≡ J.setup }
+    requires opening { state_of board ≡ J.opening }
+    requires room { room ≡ J.room }
+    ensures first { IfOk result (λ opened. HasNoCall opened.1.first) }
+    ensures second { IfOk result (λ opened. HasNoCall opened.1.second) }
+    ensures scanner { IfOk result (λ opened. HasNoCall opened.1.scanner) }
+{
+    match Shared::open(alloc, blank, board, room) {
+        Ok(opened) => Ok(opened),
+        Err((_, blank, board)) => {
+            drop(blank);
+            drop(board);
+            Err(Untold::Memory)
+        }
+    }
+}
+
 /// Serves both ports of a board until both workers made their turns, or until its history is full. It gives the seats back.
 pub fn work<J, A, B, R>(
     rt: &R,
@@ -76,6 +104,33 @@ pub fn close_board<J: Opening>(shared: Shared<J, Records>, seats: Seats<J>) -> O
     }
 }
 
+/// Serves a board that is shared over two links, and closes it.
+fn serve_shared<J, A, B, R>(
+    rt: &R,
+    shared: Shared<J, Records>,
+    seats: Seats<J>,
+    ports: [Port; 2],
+    ipmb: &mut A,
+    smbus: &mut B,
+    turns: u32,
+) -> Result<Served, Untold>
+where
+    J: Opening + Send + Sync,
+    A: Link + Send,
+    B: Link + Send,
+    R: Threads + Wait + Sync,
+    requires three { J.parts ≡ 3 }
+    ensures { IfOk result (IsServed J.setup J.opening J.room) }
+{
+    match work(rt, &shared, seats, ports, ipmb, smbus, turns) {
+        Ok(seats) => close_board(shared, seats).ok_or(Untold::Stopped),
+        Err(NoThread) => {
+            drop(shared);
+            Err(Untold::Stopped)
+        }
+    }
+}
+
 /// Serves a board over two links, with room for so many events.
 fn serve_opened<J, A, B, R>(
     rt: &R,
@@ -101,12 +156,12 @@ where
     requires room { room ≡ J.room }
     ensures { IfOk result (IsServed J.setup J.opening J.room) }
 {
-    let Ok((shared, seats)) = Shared::<J, Records>::open(alloc, blank, board, room) else {
-        return Err(Untold::Memory);
-    };
-    match work(rt, &shared, seats, ports, ipmb, smbus, turns) {
-        Ok(seats) => close_board(shared, seats).ok_or(Untold::Stopped),
-        Err(NoThread) => Err(Untold::Stopped),
+    match open_board::<J>(alloc, blank, board, room) {
+        Ok((shared, seats)) => serve_shared(rt, shared, seats, ports, ipmb, smbus, turns),
+        Err(why) => {
+            drop(ports);
+            Err(why)
+        }
     }
 }
 

@@ -2,6 +2,8 @@
 ghost use Rattle.std.specs.Prelude.{◌≡◌, false, true, List, Option, None, IfOk};
 ghost use Rattle.cfg_records.specs.declared.board_file.BoardFile.{BoardFile as AnyFile};
 ghost use Rattle.bmc_ports.specs.declared.timed.Timed.{Timed as AnyTimed};
+ghost use Rattle.bmc_board.specs.State.{state_of};
+ghost use Rattle.changed_records.specs.Changed.{changed_in};
 ghost use Rattle.net_serve.specs.Served.{IsAll, IsBegun, Tallies, list_in};
 
 use crate::board::{controller_ports, serve_over};
@@ -12,8 +14,8 @@ use crate::tally::{Begun, Tally, begin, count, tally_of};
 use bmc_core::Port;
 use bmc_lab::Untold;
 use bmc_ports::{Lane, Lanes, Link, Timed, Timetable};
-use cfg_records::BoardFile;
-use std::alloc::Global;
+use cfg_records::{BoardFile, Key, StartValue};
+use std::alloc::{AllocError, Global};
 use std::sync::Wait;
 use std::thread::Threads;
 use std::time::Clock;
@@ -37,6 +39,18 @@ fn lanes_of<A: Drop, B: Drop>(
     }
 }
 
+/// What is counted of a board that was served for a period or more, by the records that it began with. Both are let go.
+fn counted<A: Drop, B: Drop>(start: Vec<(Key, StartValue)>, course: Course<'_, A, B>) -> Tally
+    ensures events { result.events ≡ course.entry.events }
+    ensures changed { result.changed
+        ≡ changed_in (state_of course.entry.board).records start.items }
+{
+    let tally = count(start.as_slice(), &course.board, course.events);
+    drop(start);
+    drop(course);
+    tally
+}
+
 /// Serves a board with one history, and counts what came of it.
 fn served_once<A, B, R>(
     rt: &R,
@@ -55,9 +69,20 @@ where
         → IfOk result (λ tally. Tallies false None file tally.events tally.changed) }
 {
     let Begun { start, board } = begun;
-    match serve_over(rt, alloc, board, ports, &mut ipmb, &mut smbus, turns) {
-        Ok(served) => Ok(tally_of(start.as_slice(), &served)),
-        Err(why) => Err(why),
+    let served = serve_over(rt, alloc, board, ports, &mut ipmb, &mut smbus, turns);
+    drop(ipmb);
+    drop(smbus);
+    match served {
+        Ok(served) => {
+            let tally = tally_of(start.as_slice(), &served);
+            drop(start);
+            drop(served);
+            Ok(tally)
+        }
+        Err(why) => {
+            drop(start);
+            Err(why)
+        }
     }
 }
 
@@ -81,8 +106,11 @@ where
     let Begun { start, board } = begun;
     let course = Course::new(board, lanes, table);
     match course.go_on(rt, alloc, quiet) {
-        Ok(next) => Ok(count(start.as_slice(), &next.board, next.events)),
-        Err(why) => Err(why),
+        Ok(next) => Ok(counted(start, next)),
+        Err(why) => {
+            drop(start);
+            Err(why)
+        }
     }
 }
 
@@ -105,8 +133,42 @@ where
 {
     let Begun { start, board } = begun;
     match serve_periods(rt, alloc, board, lanes, table, quiet) {
-        Ok(course) => Ok(count(start.as_slice(), &course.board, course.events)),
-        Err(why) => Err(why),
+        Ok(course) => Ok(counted(start, course)),
+        Err(why) => {
+            drop(start);
+            Err(why)
+        }
+    }
+}
+
+/// Serves a board that begins over two links as the words say, while what is on the list happens, where there is one, and counts what came of
+/// it.
+fn serve_begun<A, B, R>(
+    rt: &R,
+    alloc: Global,
+    begun: Begun,
+    ports: [Port; 2],
+    readings: &Option<Vec<Timed>>,
+    ipmb: A,
+    smbus: B,
+    words: &ServeWords,
+) -> Result<Tally, Untold>
+where
+    A: Link + Send + Drop,
+    B: Link + Send + Drop,
+    R: Threads + Wait + Clock + Sync,
+    ensures { (file : AnyFile) → IsBegun file begun
+        → IfOk result (λ tally. Tallies words.now.periods (list_in readings.now) file
+        tally.events tally.changed) }
+{
+    if words.periods {
+        let lanes = lanes_of(ports, ipmb, smbus, words);
+        served_in_periods(rt, alloc, begun, lanes, table_of(rt, readings), words.quiet)
+    } else if words.quiet.is_some() || words.forget.is_some() || readings.is_some() {
+        let lanes = lanes_of(ports, ipmb, smbus, words);
+        served_in_one(rt, alloc, begun, lanes, table_of(rt, readings), words.quiet)
+    } else {
+        served_once(rt, alloc, begun, ports, ipmb, smbus, words.turns)
     }
 }
 
@@ -128,19 +190,18 @@ where
     ensures { IfOk result (λ tally. Tallies words.now.periods (list_in readings.now) file
         tally.events tally.changed) }
 {
-    let Ok(ports) = controller_ports(alloc) else {
-        return Err(Untold::Memory);
-    };
     let Ok(begun) = begin(alloc, file) else {
+        drop(ipmb);
+        drop(smbus);
         return Err(Untold::Memory);
     };
-    if words.periods {
-        let lanes = lanes_of(ports, ipmb, smbus, words);
-        served_in_periods(rt, alloc, begun, lanes, table_of(rt, readings), words.quiet)
-    } else if words.quiet.is_some() || words.forget.is_some() || readings.is_some() {
-        let lanes = lanes_of(ports, ipmb, smbus, words);
-        served_in_one(rt, alloc, begun, lanes, table_of(rt, readings), words.quiet)
-    } else {
-        served_once(rt, alloc, begun, ports, ipmb, smbus, words.turns)
+    match controller_ports(alloc) {
+        Ok(ports) => serve_begun(rt, alloc, begun, ports, readings, ipmb, smbus, words),
+        Err(AllocError) => {
+            drop(begun);
+            drop(ipmb);
+            drop(smbus);
+            Err(Untold::Memory)
+        }
     }
 }

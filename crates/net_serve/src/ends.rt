@@ -31,7 +31,10 @@ fn open_end<R: Net>(rt: &R, asked: u16, wait_ms: u32) -> Option<End>
     }
     match link.port() {
         Ok(port) => Some(End { link, port }),
-        Err(_) => None,
+        Err(_) => {
+            drop(link);
+            None
+        }
     }
 }
 
@@ -41,8 +44,13 @@ pub(crate) fn open_ends<R: Net>(rt: &R, words: &ServeWords) -> Option<Ends>
     ensures smbus { IfSome result (λ ends. IsTaken words.now.smbus_port ends.smbus.port) }
 {
     let ipmb = open_end(rt, words.ipmb_port, words.wait_ms)?;
-    let smbus = open_end(rt, words.smbus_port, words.wait_ms)?;
-    Some(Ends { ipmb, smbus })
+    match open_end(rt, words.smbus_port, words.wait_ms) {
+        Some(smbus) => Some(Ends { ipmb, smbus }),
+        None => {
+            drop(ipmb);
+            None
+        }
+    }
 }
 
 /// The line that tells of both ports.

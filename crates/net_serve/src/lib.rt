@@ -9,7 +9,7 @@ mod readings;
 pub mod run;
 pub mod tally;
 
-pub use board::{MOST_EVENTS, Served, close_board, controller_ports, work};
+pub use board::{MOST_EVENTS, Served, close_board, controller_ports, open_board, work};
 pub use periods::{Course, serve_periods};
 pub use run::{ServeWords, WAIT_MS, serve};
 pub use tally::{Begun, Tally, begin, tally_of};

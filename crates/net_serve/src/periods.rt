@@ -2,14 +2,16 @@
 ghost use Rattle.std.specs.Prelude.{◌≡◌, ◌<◌, ◌+◌, ◌^◌, ◌↔◌, IfOk, IsTrue};
 ghost use Rattle.bmc_ports.specs.Slices.{EndsAt};
 ghost use Rattle.bmc_board.specs.State.{state_of};
+ghost use Rattle.bmc_shared.specs.Seated.{IsFresh};
 ghost use Rattle.net_serve.specs.Served.{most_events};
 ghost use Rattle.net_serve.specs.Periods.{IsPeriod, IsClosed, GoesToNext, RunsTo};
 
-use crate::board::OpenGate;
+use crate::board::{OpenGate, open_board};
 use bmc_board::{Board, Records};
 use bmc_lab::Untold;
 use bmc_ports::{
-    History, Lanes, Link, MOST_EVENTS, NoThread, Opening, Shared, Sliced, Timetable, run_slices,
+    History, Lanes, Link, MOST_EVENTS, NoThread, Opening, Seats, Shared, Sliced, Timetable,
+    run_slices,
 };
 use std::alloc::Global;
 use std::marker::Brand;
@@ -65,7 +67,43 @@ fn close_period<J: Opening, A: Drop, B: Drop>(
             next,
             history,
         }),
-        Err(_) => Err(Untold::Stopped),
+        Err(_) => {
+            drop(lanes);
+            Err(Untold::Stopped)
+        }
+    }
+}
+
+/// Serves a board that is shared for a period, and closes it.
+fn serve_shared<J, A, B, R>(
+    rt: &R,
+    shared: Shared<J, Records>,
+    seats: Seats<J>,
+    lanes: Lanes<A, B>,
+    table: Timetable<'_>,
+    quiet: Option<u32>,
+) -> Result<Period<A, B>, Untold>
+where
+    J: Opening + Send + Sync,
+    A: Link + Send + Drop,
+    B: Link + Send + Drop,
+    R: Threads + Wait + Clock + Sync,
+    requires three { J.parts ≡ 3 }
+    requires first { IsFresh seats.first }
+    requires second { IsFresh seats.second }
+    requires scanner { IsFresh seats.scanner }
+    requires most { J.room ≡ most_events }
+    ensures period { IfOk result (λ period. IsPeriod A.counts_of B.counts_of J.setup J.opening
+        (state_of period.board) lanes period.lanes
+        table.entry.list.now table.entry.next period.next period.history) }
+    ensures setup { IfOk result (λ period. period.board.setup ≡ J.setup) }
+{
+    match run_slices(rt, &shared, seats, lanes, table, &OpenGate, quiet) {
+        Ok(sliced) => close_period(shared, sliced),
+        Err(NoThread) => {
+            drop(shared);
+            Err(Untold::Stopped)
+        }
     }
 }
 
@@ -97,12 +135,12 @@ where
         table.entry.list.now table.entry.next period.next period.history) }
     ensures setup { IfOk result (λ period. period.board.setup ≡ J.setup) }
 {
-    let Ok((shared, seats)) = Shared::<J, Records>::open(alloc, blank, board, room) else {
-        return Err(Untold::Memory);
-    };
-    match run_slices(rt, &shared, seats, lanes, table, &OpenGate, quiet) {
-        Ok(sliced) => close_period(shared, sliced),
-        Err(NoThread) => Err(Untold::Stopped),
+    match open_board::<J>(alloc, blank, board, room) {
+        Ok((shared, seats)) => serve_shared(rt, shared, seats, lanes, table, quiet),
+        Err(why) => {
+            drop(lanes);
+            Err(why)
+        }
     }
 }
 
@@ -186,12 +224,16 @@ impl<'a, A: Link + Send + Drop, B: Link + Send + Drop> Course<'a, A, B> {
                     next,
                     history,
                 },
-            ) => Ok(Course {
-                board,
-                lanes,
-                table: table.from(next),
-                events: events + history.len(),
-            }),
+            ) => {
+                let events = events + history.len();
+                drop(history);
+                Ok(Course {
+                    board,
+                    lanes,
+                    table: table.from(next),
+                    events,
+                })
+            }
             Err(why) => Err(why),
         }
     }

@@ -1,12 +1,13 @@
 //! `bmcnet serve`: a board's ports over UDP.
-ghost use Rattle.std.specs.Prelude.{◌≡◌, ◌⊎◌, ℕ, List, Option, option_map, IfOk, Ok, Err, string_bytes};
+ghost use Rattle.std.specs.Prelude.{◌≡◌, ◌⊎◌, ℕ, List, Option, option_map, IfOk, IfErr, OnOk, Ok, Err, string_bytes};
 ghost use Rattle.std.specs.Option.{option_copied};
-ghost use Rattle.bmc_lab.specs.declared.console.Stream.TheVariants.{Output};
+ghost use Rattle.bmc_lab.specs.declared.console.Stream.TheVariants.{Output, Error};
 ghost use Rattle.bmc_lab.specs.declared.status.Status.TheVariants.{Success};
-ghost use Rattle.bmc_lab.specs.Ending.{Tells};
+ghost use Rattle.bmc_lab.specs.Console.{Written};
+ghost use Rattle.bmc_lab.specs.Ending.{RunEnds, SaysReport, Tells};
 ghost use Rattle.text_board.specs.declared.fault.FileFault.TheVariants.{Memory};
 ghost use Rattle.text_board.specs.Holds.{Reads};
-ghost use Rattle.net_serve.specs.Run.{BesideEnds, IsTaken, SaysUnserved, ServeEnds, StandsFor, TextEnds};
+ghost use Rattle.net_serve.specs.Run.{BesideEnds, IsTaken, SaysNothing, SaysUnserved, ServeEnds, StandsFor, TextEnds, ports_line};
 ghost use Rattle.net_serve.specs.Served.{TellsServed, list_in};
 
 use crate::counting::served;
@@ -65,8 +66,49 @@ fn served_report<R: Threads + Wait + Clock + Sync>(
     ensures status { IfOk result (λ report. report.status ≡ Success) }
 {
     let Ends { ipmb, smbus } = ends;
-    let tally = served(rt, alloc, file, readings, ipmb.link, smbus.link, words)?;
-    Ok(report(alloc, tally)?)
+    match served(rt, alloc, file, readings, ipmb.link, smbus.link, words) {
+        Ok(tally) => Ok(report(alloc, tally)?),
+        Err(why) => Err(why),
+    }
+}
+
+/// Writes the report of a run, lets it go, and gives the status.
+fn finish<W: io::Write, E: io::Write>(
+    report: Result<Report, Untold>,
+    console: &mut Console<W, E>,
+) -> u8
+    ensures { RunEnds W.contents E.contents (SaysReport report) console.old console.new result }
+{
+    let status = end_run(&report, console);
+    drop(report);
+    status
+}
+
+/// Tells of the ports of these ends, or gives the status of a run that can't tell of them.
+fn tell_ports<W: io::Write, E: io::Write>(
+    alloc: Global,
+    ends: &Ends,
+    console: &mut Console<W, E>,
+) -> Result<(), u8>
+    ensures told { OnOk result (Written Error
+        (ports_line ends.now.ipmb.port ends.now.smbus.port)
+        (W.contents console.old.out) (W.contents console.new.out)
+        (E.contents console.old.err) (E.contents console.new.err)) }
+    ensures untold { IfErr result
+        (RunEnds W.contents E.contents SaysNothing console.old console.new) }
+{
+    let Ok(text) = ports_text(alloc, ends.ipmb.port, ends.smbus.port) else {
+        return Err(finish(Err(Untold::Memory), console));
+    };
+    let written = console.write(Stream::Error, text.as_bytes());
+    drop(text);
+    match written {
+        Ok(()) => Ok(()),
+        Err(why) => {
+            drop(why);
+            Err(u8::from(Status::Output))
+        }
+    }
 }
 
 /// Tells of the ports of these ends, and serves the board of a file there. Where nothing can be told, nothing is served.
@@ -85,15 +127,16 @@ fn serve_ends<W: io::Write, E: io::Write, R: Threads + Wait + Clock + Sync>(
         → StandsFor given (list_in readings.now)
         → TextEnds W.contents E.contents words.now board given console.old console.new result }
 {
-    let Ok(text) = ports_text(alloc, ends.ipmb.port, ends.smbus.port) else {
-        return end_run(&Err(Untold::Memory), console);
-    };
-    match console.write(Stream::Error, text.as_bytes()) {
-        Ok(()) => {
-            let report = served_report(rt, alloc, file, readings, ends, words);
-            end_run(&report, console)
+    match tell_ports(alloc, &ends, console) {
+        Ok(()) => finish(
+            served_report(rt, alloc, file, readings, ends, words),
+            console,
+        ),
+        Err(status) => {
+            drop(file);
+            drop(ends);
+            status
         }
-        Err(_) => u8::from(Status::Output),
     }
 }
 
@@ -112,7 +155,10 @@ fn serve_board<W: io::Write, E: io::Write, R: Net + Threads + Wait + Clock + Syn
 {
     match open_ends(rt, words) {
         Some(ends) => serve_ends(rt, alloc, file, readings, ends, words, console),
-        None => end_run(&Err(Untold::Stopped), console),
+        None => {
+            drop(file);
+            finish(Err(Untold::Stopped), console)
+        }
     }
 }
 
@@ -141,10 +187,14 @@ fn serve_file<W: io::Write, E: io::Write, R: Net + Threads + Wait + Clock + Sync
         console.old console.new result }
 {
     match list_of(alloc, readings) {
-        Ok(list) => serve_board(rt, alloc, file, &list, words, console),
+        Ok(list) => {
+            let status = serve_board(rt, alloc, file, &list, words, console);
+            drop(list);
+            status
+        }
         Err(why) => {
-            let report = readings_refusal(alloc, why);
-            end_run(&report, console)
+            drop(file);
+            finish(readings_refusal(alloc, why), console)
         }
     }
 }
@@ -163,10 +213,7 @@ fn serve_text<W: io::Write, E: io::Write, R: Net + Threads + Wait + Clock + Sync
 {
     match read_board(alloc, board) {
         Ok(file) => serve_file(rt, alloc, file, readings, words, console),
-        Err(why) => {
-            let report = refusal(alloc, why);
-            end_run(&report, console)
-        }
+        Err(why) => finish(refusal(alloc, why), console),
     }
 }
 
@@ -186,7 +233,11 @@ fn serve_beside<F: TextFiles, W: io::Write, E: io::Write, R: Net + Threads + Wai
         return serve_text(rt, alloc, board, None, words, console);
     };
     match text_of(files, word.as_str()) {
-        Ok(text) => serve_text(rt, alloc, board, Some(text.as_str()), words, console),
+        Ok(text) => {
+            let status = serve_text(rt, alloc, board, Some(text.as_str()), words, console);
+            drop(text);
+            status
+        }
         Err(unread) => refuse(alloc, &unread, console),
     }
 }
@@ -209,7 +260,11 @@ pub fn serve<F: TextFiles, W: io::Write, E: io::Write, R: Net + Threads + Wait +
         console.old console.new result }
 {
     match text_of(files, words.board.as_str()) {
-        Ok(text) => serve_beside(rt, alloc, files, text.as_str(), words, console),
+        Ok(text) => {
+            let status = serve_beside(rt, alloc, files, text.as_str(), words, console);
+            drop(text);
+            status
+        }
         Err(unread) => refuse(alloc, &unread, console),
     }
 }

@@ -27,17 +27,24 @@ pub fn begin(alloc: Global, file: BoardFile) -> Result<Begun, AllocError>
     ensures setup { IfOk result (λ begun. begun.board.setup ≡ file) }
     ensures state { IfOk result (λ begun. state_of begun.board ≡ opened file) }
 {
-    match file.records(alloc) {
-        Ok(start) => match Board::of_file(alloc, file) {
-            Ok(board) => Ok(Begun { start, board }),
-            Err(why) => Err(why),
-        },
-        Err(why) => Err(why),
+    let start = match file.records(alloc) {
+        Ok(start) => start,
+        Err(why) => {
+            drop(file);
+            return Err(why);
+        }
+    };
+    match Board::of_file(alloc, file) {
+        Ok(board) => Ok(Begun { start, board }),
+        Err(why) => {
+            drop(start);
+            Err(why)
+        }
     }
 }
 
 /// How many events the histories of a board have, and how many records are no longer what they were at its start.
-#[derive(Clone, Copy, PartialEq, Eq)]
+#[derive(Clone, Copy)]
 pub struct Tally {
     pub events: usize,
     pub changed: usize,

@@ -7,5 +7,5 @@ returns-in-Ok g c =
       c.as_str-in-Ok.result.now,
       subst (λ (text : List ℕ). g.F.TextFiles.gives c.args.files.now (string_bytes c.args.words.now.board) (Ok text)) (sym c.as_str-in-Ok.ensures.value)
           (subst (λ (word : List ℕ). g.F.TextFiles.gives c.args.files.now word (Ok (string_bytes c.in-Ok.text))) c.as_str.ensures.value c.in-Ok.ensures.text),
-      c.serve_beside.ensures,
+      c.serve_beside-status.ensures,
     )

@@ -12,5 +12,5 @@ returns-in-Ok g c = c.serve_file.ensures c.args.board.now (was_read c.in-Ok.file
 pub returns-in-Err : goal.returns-in-Err
 returns-in-Err g c =
     let given = option_copied c.args.readings in
-    inl (run_reports g.W.Write.contents g.E.Write.contents (SaysUnserved c.args.board.now given) c.refusal-report.result c.args.console.now c.end_run.new.console
-    c.end_run.result (c.refusal-report.ensures c.args.board.now given (was_refused c.in-Err.why Memory c.in-Err.ensures)) c.end_run.ensures)
+    inl (run_reports g.W.Write.contents g.E.Write.contents (SaysUnserved c.args.board.now given) c.refusal.result c.args.console.now c.finish.new.console
+    c.finish.result (c.refusal.ensures c.args.board.now given (was_refused c.in-Err.why Memory c.in-Err.ensures)) c.finish.ensures)
