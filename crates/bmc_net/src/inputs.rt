@@ -12,7 +12,7 @@ use text_board::{FileFault, read_board};
 use undo_plans::Plan;
 
 /// A board, and what is to be done to it.
-#[derive(Debug, Drop)]
+#[derive(Drop)]
 pub struct Inputs {
     pub file: BoardFile,
     pub plan: Plan,
@@ -37,7 +37,10 @@ pub fn read_inputs(alloc: Global, board: &str, plan: &str) -> Result<Inputs, Inp
     };
     match read_plan(alloc, plan) {
         Ok(plan) => Ok(Inputs { file, plan }),
-        Err(why) => Err(InputFault::Plan(why)),
+        Err(why) => {
+            drop(file);
+            Err(InputFault::Plan(why))
+        }
     }
 }
 

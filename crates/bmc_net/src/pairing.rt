@@ -12,8 +12,8 @@ ghost use Rattle.bmc_net.specs.Paired.{IsChanged, IsReady, RunsAndUndoes, TellsP
 ghost use Rattle.bmc_net.specs.Run.{AreTexts, Says, SaysOfFiles, words_of};
 
 use crate::inputs::{Inputs, is_memory, read_inputs, refusal};
-use crate::links::{controller_ends, manager_ends};
-use crate::side::{Controller, Driver, Phases, pair_over};
+use crate::links::{Ends, controller_ends, manager_ends};
+use crate::side::{Controller, Driver, Paired, Phases, pair_over};
 use bmc_lab::{
     Console, Report, Status, Stream, TextFiles, Unread, Untold, end_run, refuse, text_of,
 };
@@ -53,19 +53,60 @@ struct Account {
     changed: Option<usize>,
 }
 
+/// The controller's ports, and its ends of the links.
+fn open_controller<R: Net>(rt: &R, alloc: Global) -> Result<Controller, Untold> {
+    let Ok(ends) = controller_ends(rt) else {
+        return Err(Untold::Stopped);
+    };
+    match controller_ports(alloc) {
+        Ok(ports) => Ok(Controller { ports, ends }),
+        Err(AllocError) => {
+            drop(ends);
+            Err(Untold::Memory)
+        }
+    }
+}
+
+/// A manager of the plan, and its ends of the links, which send to the controller's.
+fn open_driver<R: Net>(
+    rt: &R,
+    alloc: Global,
+    plan: Plan,
+    controller: &Ends,
+) -> Result<Driver, Untold>
+    ensures { IfOk result (IsReady plan) }
+{
+    let Ok(ends) = manager_ends(rt, controller) else {
+        drop(plan);
+        return Err(Untold::Stopped);
+    };
+    match open_manager(alloc, plan) {
+        Ok(manager) => Ok(Driver { manager, ends }),
+        Err(AllocError) => {
+            drop(ends);
+            Err(Untold::Memory)
+        }
+    }
+}
+
 /// Both sides of the links, with a controller's ports and a manager of the plan.
 fn open_sides<R: Net>(rt: &R, alloc: Global, plan: Plan) -> Result<(Controller, Driver), Untold>
     ensures { IfOk result (λ sides. IsReady plan sides.1) }
 {
-    let Ok(ends) = controller_ends(rt) else {
-        return Err(Untold::Stopped);
+    let controller = match open_controller(rt, alloc) {
+        Ok(controller) => controller,
+        Err(why) => {
+            drop(plan);
+            return Err(why);
+        }
     };
-    let Ok(far) = manager_ends(rt, &ends) else {
-        return Err(Untold::Stopped);
-    };
-    let ports = controller_ports(alloc)?;
-    let manager = open_manager(alloc, plan)?;
-    Ok((Controller { ports, ends }, Driver { manager, ends: far }))
+    match open_driver(rt, alloc, plan, &controller.ends) {
+        Ok(driver) => Ok((controller, driver)),
+        Err(why) => {
+            drop(controller);
+            Err(why)
+        }
+    }
 }
 
 /// How many of these records changed on a board that was served, if it was.
@@ -77,6 +118,22 @@ fn changed_of(start: &[(Key, StartValue)], served: &Option<Served>) -> Option<us
         Some(served) => Some(tally_of(start, served).changed),
         None => None,
     }
+}
+
+/// What is told of a pair whose board began with these records. Both are let go.
+fn account_of(start: Vec<(Key, StartValue)>, paired: Paired) -> Account
+    ensures phases { result.phases ≡ paired.phases }
+    ensures changed { (file : AnyFile) → start.items ≡ pairs_of file
+        → IfSome paired.served (IsServed file (opened file) most_events)
+        → IsChanged file result.changed }
+{
+    let account = Account {
+        phases: paired.phases,
+        changed: changed_of(start.as_slice(), &paired.served),
+    };
+    drop(start);
+    drop(paired);
+    account
 }
 
 /// Serves the board beside the manager, and counts what came of it.
@@ -94,15 +151,17 @@ fn count<R: Threads + Wait + Sync>(
 {
     let (controller, driver) = sides;
     let Ok(begun) = begin(alloc, file) else {
+        drop(controller);
+        drop(driver);
         return Err(Untold::Memory);
     };
     let Begun { start, board } = begun;
     match pair_over(rt, alloc, board, controller, driver, turns) {
-        Ok(paired) => Ok(Account {
-            phases: paired.phases,
-            changed: changed_of(start.as_slice(), &paired.served),
-        }),
-        Err(why) => Err(why),
+        Ok(paired) => Ok(account_of(start, paired)),
+        Err(why) => {
+            drop(start);
+            Err(why)
+        }
     }
 }
 
@@ -158,13 +217,15 @@ fn paired_report<R: Net + Threads + Wait + Sync>(
         (string_bytes report.text) report.status) }
 {
     let Inputs { file, plan } = inputs;
-    match open_sides(rt, alloc, plan) {
-        Ok(sides) => {
-            let account = count(rt, alloc, file, sides, turns)?;
-            Ok(account_report(alloc, account)?)
+    let sides = match open_sides(rt, alloc, plan) {
+        Ok(sides) => sides,
+        Err(why) => {
+            drop(file);
+            return Err(why);
         }
-        Err(why) => Err(why),
-    }
+    };
+    let account = count(rt, alloc, file, sides, turns)?;
+    Ok(account_report(alloc, account)?)
 }
 
 /// What is said of the two texts.
@@ -197,7 +258,9 @@ fn pair_texts<W: io::Write, E: io::Write, R: Net + Threads + Wait + Sync>(
         console.old console.new result }
 {
     let report = texts_report(rt, alloc, board, plan, turns);
-    end_run(&report, console)
+    let status = end_run(&report, console);
+    drop(report);
+    status
 }
 
 /// The texts of the files, or the first that isn't read.
@@ -208,8 +271,13 @@ fn texts_of<'a, F: TextFiles>(files: &F, words: &'a PairWords) -> Result<Texts, 
         (words_of words.now) unread.word.now unread.why) }
 {
     let board = text_of(files, words.board.as_str())?;
-    let plan = text_of(files, words.plan.as_str())?;
-    Ok(Texts { board, plan })
+    match text_of(files, words.plan.as_str()) {
+        Ok(plan) => Ok(Texts { board, plan }),
+        Err(unread) => {
+            drop(board);
+            Err(unread)
+        }
+    }
 }
 
 /// Serves the board of a file in threads, runs a plan on it over UDP beside them, undoes it, and writes to standard output in which phase the
@@ -229,14 +297,19 @@ pub fn pair<F: TextFiles, W: io::Write, E: io::Write, R: Net + Threads + Wait + 
         console.old console.new result }
 {
     match texts_of(files, words) {
-        Ok(Texts { board, plan }) => pair_texts(
-            rt,
-            alloc,
-            board.as_str(),
-            plan.as_str(),
-            words.turns,
-            console,
-        ),
+        Ok(Texts { board, plan }) => {
+            let status = pair_texts(
+                rt,
+                alloc,
+                board.as_str(),
+                plan.as_str(),
+                words.turns,
+                console,
+            );
+            drop(board);
+            drop(plan);
+            status
+        }
         Err(unread) => refuse(alloc, &unread, console),
     }
 }

@@ -11,7 +11,7 @@ use bmc_core::Port;
 use bmc_lab::Untold;
 use bmc_ports::{NoThread, Opening, Seats, Shared};
 use net_run::{run_plan, undo_plan};
-use net_serve::{MOST_EVENTS, Served, close_board, work};
+use net_serve::{MOST_EVENTS, Served, close_board, open_board, work};
 use std::alloc::Global;
 use std::marker::Brand;
 use std::sync::Wait;
@@ -21,7 +21,7 @@ use std::thread::Threads;
 use undo_core::{Manager, Phase};
 
 /// The manager's phases: once it ran its plan, and once it undid it.
-#[derive(Clone, Copy, PartialEq, Eq)]
+#[derive(Clone, Copy)]
 pub(crate) struct Phases {
     pub run: Phase,
     pub undone: Phase,
@@ -60,6 +60,9 @@ fn run_and_undo(driver: Driver, turns: u32) -> Phases
     } = ends;
     let run = run_plan(&mut manager, &mut ipmb, &mut smbus, turns);
     let undone = undo_plan(&mut manager, &mut ipmb, &mut smbus, turns);
+    drop(manager);
+    drop(ipmb);
+    drop(smbus);
     Phases { run, undone }
 }
 
@@ -80,7 +83,10 @@ where
         mut ipmb,
         mut smbus,
     } = ends;
-    work(rt, shared, seats, ports, &mut ipmb, &mut smbus, turns)
+    let served = work(rt, shared, seats, ports, &mut ipmb, &mut smbus, turns);
+    drop(ipmb);
+    drop(smbus);
+    served
 }
 
 /// Drives the manager beside a thread that serves the ports, or gives nothing where no thread can be started.
@@ -105,15 +111,48 @@ where
             ensures { (plan : Plan) → IsReady plan driver
                 → IfSome result (λ both. RunsAndUndoes plan turns both.0.run both.0.undone) }
         {
-            let serving = scope
-                .spawn(move || -> Result<Seats<J>, NoThread> {
-                    serve_ports(rt, shared, seats, controller, turns)
-                })
-                .ok()?;
+            let Ok(serving) = scope.spawn(move || -> Result<Seats<J>, NoThread> {
+                serve_ports(rt, shared, seats, controller, turns)
+            }) else {
+                drop(driver);
+                return None;
+            };
             let phases = run_and_undo(driver, turns);
             Some((phases, serving.join(rt)))
         },
     )
+}
+
+/// Serves a board that is shared beside a manager, and closes it.
+fn pair_shared<J, R>(
+    rt: &R,
+    shared: Shared<J, Records>,
+    seats: Seats<J>,
+    controller: Controller,
+    driver: Driver,
+    turns: u32,
+) -> Result<Paired, Untold>
+where
+    J: Opening + Send + Sync,
+    R: Threads + Wait + Sync,
+    requires three { J.parts ≡ 3 }
+    ensures phases { (plan : Plan) → IsReady plan driver
+        → IfOk result (λ paired. RunsAndUndoes plan turns paired.phases.run paired.phases.undone) }
+    ensures served { IfOk result (λ paired. IfSome paired.served
+        (IsServed J.setup J.opening J.room)) }
+{
+    let Some((phases, seats)) = side_by_side(rt, &shared, seats, controller, driver, turns) else {
+        drop(shared);
+        return Err(Untold::Stopped);
+    };
+    let served = match seats {
+        Ok(seats) => close_board(shared, seats),
+        Err(NoThread) => {
+            drop(shared);
+            None
+        }
+    };
+    Ok(Paired { phases, served })
 }
 
 /// Serves a board beside a manager, with room for so many events.
@@ -141,17 +180,14 @@ where
     ensures served { IfOk result (λ paired. IfSome paired.served
         (IsServed J.setup J.opening J.room)) }
 {
-    let Ok((shared, seats)) = Shared::<J, Records>::open(alloc, blank, board, room) else {
-        return Err(Untold::Memory);
-    };
-    let Some((phases, seats)) = side_by_side(rt, &shared, seats, controller, driver, turns) else {
-        return Err(Untold::Stopped);
-    };
-    let served = match seats {
-        Ok(seats) => close_board(shared, seats),
-        Err(NoThread) => None,
-    };
-    Ok(Paired { phases, served })
+    match open_board::<J>(alloc, blank, board, room) {
+        Ok((shared, seats)) => pair_shared(rt, shared, seats, controller, driver, turns),
+        Err(why) => {
+            drop(controller);
+            drop(driver);
+            Err(why)
+        }
+    }
 }
 
 /// Serves a board beside a manager that runs its plan and undoes it. Each worker and each drive makes at most so many turns.
