@@ -42,8 +42,9 @@ fn give_back<J: Opening, A: Drop, B: Drop>(
     ensures second { (result.seats.second ≡ workers.1.0.seat)
         × (result.lanes.second ≡ workers.1.0.lane) }
     ensures scanner { (result.seats.scanner ≡ played.seat) × (result.next ≡ played.next) }
-    ensures ends { (result.first_end ≡ workers.0.1)
-        × (result.second_end ≡ workers.1.1) × (result.scanner_end ≡ played.end) }
+    ensures first_end { result.first_end ≡ workers.0.1 }
+    ensures second_end { result.second_end ≡ workers.1.1 }
+    ensures scanner_end { result.scanner_end ≡ played.end }
 {
     let ((first, first_end), (second, second_end)) = workers;
     Sliced {
