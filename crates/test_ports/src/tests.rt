@@ -20,18 +20,9 @@ pub(crate) fn expect_report(rt: &impl Abort, alloc: Global, stories: &str, told:
     expect_equal(rt, report.as_str(), told);
 }
 
-#[test]
-fn each_line_comes_as_it_is_told(rt: HostRuntime) {
-    let texts = [
-        ipmb::IPMB,
-        smbus::SMBUS,
-        floods::REQUESTERS,
-        floods::MESSAGES,
-        window::WINDOWS,
-    ];
-    for stories in texts {
-        expect_report(&rt, rt.alloc(), stories, "");
-    }
+/// All of the stories comes as it is told.
+pub(crate) fn expect_told(rt: &impl Abort, alloc: Global, stories: &str) {
+    expect_report(rt, alloc, stories, "");
 }
 
 /// The port did this, and sent this frame and no other.

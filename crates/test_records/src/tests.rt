@@ -33,30 +33,9 @@ pub(crate) fn expect_report(rt: &impl Abort, alloc: Global, stories: &str, told:
     drop(report);
 }
 
-/// The stories of each theme.
-const THEMES: [&str; 15] = [
-    attributes::ATTRIBUTES,
-    bench::BENCH,
-    commands::COMMANDS,
-    commands::MARKED,
-    effecters::EFFECTERS,
-    lan::REFUSED,
-    lan::SHOWN,
-    lan::CHANGES,
-    log::LOG,
-    long_strings::LONG,
-    string_parts::PARTS,
-    undo::UNDONE,
-    users::REFUSED,
-    users::PASSWORDS,
-    users::CHANGES,
-];
-
-#[test]
-fn each_line_of_the_stories_comes_as_it_is_told(rt: HostRuntime) {
-    for stories in THEMES {
-        expect_report(&rt, rt.alloc(), stories, "");
-    }
+/// All of the stories comes as it is told.
+pub(crate) fn expect_told(rt: &impl Abort, alloc: Global, stories: &str) {
+    expect_report(rt, alloc, stories, "");
 }
 
 /// The bytes are these.

@@ -20,32 +20,11 @@ mod undo;
 mod users;
 mod wrong;
 
+use std::alloc::Global;
+use std::process::Abort;
 use story::expect_otherwise;
 
-/// The stories of each theme.
-const THEMES: [&str; 17] = [
-    attributes::ATTRIBUTES,
-    board::BOARDS,
-    channels::CHANNELS,
-    checks::LOOKED_AT,
-    checks::REFUSED,
-    checks::UNREAD_KEYS,
-    lan::LAN,
-    lines::LINES,
-    numeric::NUMERIC,
-    order::MENDED,
-    plan::PLANS,
-    play::PLAYS,
-    readings::READINGS,
-    schedule::SCHEDULES,
-    states::STATES,
-    undo::UNDO_TEXTS,
-    users::USERS,
-];
-
-#[test]
-fn all_comes_as_the_stories_tell_it(rt: HostRuntime) {
-    for story in THEMES {
-        expect_otherwise(&rt, rt.alloc(), story, "");
-    }
+/// All of the stories comes as it is told.
+pub(crate) fn expect_told(rt: &impl Abort, alloc: Global, stories: &str) {
+    expect_otherwise(rt, alloc, stories, "");
 }

@@ -1,5 +1,7 @@
 //! More requesters and more messages than a port has room for.
-pub(super) const REQUESTERS: &str = "\
+use super::expect_told;
+
+const REQUESTERS: &str = "\
 story 120 requesters come to one port
 # Each reserves the log. Eight have windows.
 ipmb 2028B80E0042B0 -> Answered 0E2CC62000420001009D
@@ -134,7 +136,7 @@ ipmb 2028B81C0042A2 -> Repeated 1C2CB820004200080096
 ipmb 2028B81C04429E -> Answered 1C2CB820044200090091
 ";
 
-pub(super) const MESSAGES: &str = "\
+const MESSAGES: &str = "\
 story nine messages begin
 # Each gives an attribute a text of a hundred letters of its own, and comes in two packets.
 smbus 200F4531010A08880180030700000000050100016400 61*50 B3 -> Waiting
@@ -168,3 +170,13 @@ smbus 200F3731010A1058 69*50 B7 -> Ignored(Dropped(NoStart))
 smbus 200F4531010A10880180030700000000050100016400 69*50 5B -> Waiting
 smbus 200F3731010A1058 69*50 B7 -> Busy 300F0A2101100AC0010003070451
 ";
+
+#[test]
+fn eight_of_120_requesters_are_answered(rt: HostRuntime) {
+    expect_told(&rt, rt.alloc(), REQUESTERS);
+}
+
+#[test]
+fn eight_of_nine_messages_are_joined(rt: HostRuntime) {
+    expect_told(&rt, rt.alloc(), MESSAGES);
+}

@@ -2,7 +2,7 @@
 ghost use Rattle.std.specs.Prelude.{◌≤◌, length};
 ghost use Rattle.two_wire.specs.Sizes.{most_ipmi_reply_data};
 
-use super::expect_out;
+use super::{expect_out, expect_told};
 use bmc_board::{Board, Records};
 use bmc_core::{Done, IpmbPending, IpmbPort, Out, Step};
 use record_base::{Answered, Asked};
@@ -10,7 +10,7 @@ use std::alloc::Global;
 use std::process::Abort;
 use two_wire::{Address, Bytes, Lun, NetFn};
 
-pub(super) const IPMB: &str = "\
+const IPMB: &str = "\
 story a ninth requester finds the port busy
 # Each asks for the identifier of the device, with sequence number 5.
 ipmb 2018C8401401AB -> Answered 401CA420140100200101050207CDAB003412DD
@@ -356,4 +356,9 @@ pub fn expect_answer(rt: &impl Abort, alloc: Global, board: &mut Board<Records>)
     let mut out = Out::new();
     port.on_frame(board, GET, &mut out);
     expect_out(rt, &out, Done::Answered, GOT);
+}
+
+#[test]
+fn requests_come_over_ipmb(rt: HostRuntime) {
+    expect_told(&rt, rt.alloc(), IPMB);
 }

@@ -8,7 +8,7 @@ use std::alloc::Global;
 use std::process::Abort;
 use two_wire::{Address, Below, Bytes};
 
-pub(super) const SMBUS: &str = "\
+const SMBUS: &str = "\
 story instance 16 forgets instance 0
 # Each asks for the terminus identifier.
 smbus 200F093101000BC80180000296 -> Answered 300F0B21010B0AC001000002000597
@@ -232,4 +232,9 @@ pub fn expect_answer(rt: &impl Abort, alloc: Global, board: &mut Board<Records>)
     let mut out = Out::new();
     port.on_frame(board, GET_TID, &mut out);
     expect_out(rt, &out, Done::Answered, GOT_TID);
+}
+
+#[test]
+fn requests_come_over_smbus(rt: HostRuntime) {
+    expect_told(&rt, rt.alloc(), SMBUS);
 }

@@ -1,8 +1,9 @@
 //! What a port finds in its windows, over lists of requests.
+use super::expect_told;
 use bmc_windows::{Found, Request, Windows};
 use two_wire::Below;
 
-pub(super) const WINDOWS: &str = "\
+const WINDOWS: &str = "\
 story a ninth requester is busy
 window ipmb keeps 40 05 4205 : 00 -> New
 window ipmb keeps 42 05 4205 : 01 -> New
@@ -283,4 +284,9 @@ fn a_request_is_kept_and_found(rt: HostRuntime) {
     windows.keep(&request, &[0x00, 0x01]);
     assert!(rt; repeats(windows.find(&request), &[0x00, 0x01]));
     assert!(rt; windows.idle(0x2C));
+}
+
+#[test]
+fn requests_come_to_windows(rt: HostRuntime) {
+    expect_told(&rt, rt.alloc(), WINDOWS);
 }

@@ -1,7 +1,8 @@
 //! BIOS attributes, over PLDM.
+use super::expect_told;
 
 /// Attributes: their values, their tables, and what refuses them. The check in the end of a table is its CRC-32.
-pub(crate) const ATTRIBUTES: &str = "story an attribute is set and shown
+const ATTRIBUTES: &str = "story an attribute is set and shown
 pldm 03 07 00000000050200032800000000000000 -> 00 00000000
 pldm 03 08 00000000010200 -> 00 00000000050200032800000000000000
 
@@ -131,3 +132,8 @@ undo pldm 03 07 0000000005 0000 00 : 0000000005 0000 00 00 -> none
 undo pldm 03 07 0000000005 0000 00 : 0000000005 0000 02 0101 -> none
 undo pldm 03 07 0000000005 0000 00 : 0000000005 00 -> none
 ";
+
+#[test]
+fn attributes_are_set_shown_and_refused_in_order(rt: HostRuntime) {
+    expect_told(&rt, rt.alloc(), ATTRIBUTES);
+}

@@ -1,7 +1,8 @@
 //! Readings of a board's sensors, its clock, its timer and its chassis, by worked values.
+use super::expect_told;
 
 /// What happens at the bench, and what is shown of it.
-pub(crate) const BENCH: &str = "story a reading is shown and logged
+const BENCH: &str = "story a reading is shown and logged
 ipmi 10 2D 05 -> 00 00E0C0
 reads 05 60
 ipmi 10 2D 05 -> 00 60C0D8
@@ -171,3 +172,8 @@ ipmi 10 2D 05 -> 00 FFC0F9
 reads 05 FC
 ipmi 10 2D 05 -> 00 FCC0C1
 ";
+
+#[test]
+fn what_happens_at_the_bench_is_shown(rt: HostRuntime) {
+    expect_told(&rt, rt.alloc(), BENCH);
+}

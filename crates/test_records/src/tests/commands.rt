@@ -1,7 +1,8 @@
 //! Commands: each refusal, in the order of the checks, what is answered, and which commands are setting ones.
+use super::expect_told;
 
 /// Commands of a board.
-pub(crate) const COMMANDS: &str = "story each check of a command has its code
+const COMMANDS: &str = "story each check of a command has its code
 ipmi 11 26 0510000000005A -> C2
 ipmi 11 2B 0510000000005A -> C2
 ipmi 10 2B 0510000000005A -> C1
@@ -136,7 +137,7 @@ ipmi 10 29 FE -> 00 801F000000
 ";
 
 /// Which commands are setting ones.
-pub(crate) const MARKED: &str = "story setting commands are marked
+const MARKED: &str = "story setting commands are marked
 marked ipmi 00 01 -> gets
 marked ipmi 00 06 -> sets
 marked ipmi 10 24 -> sets
@@ -185,3 +186,13 @@ marked pldm 03 07 00000000050200032800000000000000 -> sets
 marked pldm 03 08 00000000010200 -> gets
 marked pldm 03 01 000000000100 -> gets
 ";
+
+#[test]
+fn each_check_of_a_command_has_its_code(rt: HostRuntime) {
+    expect_told(&rt, rt.alloc(), COMMANDS);
+}
+
+#[test]
+fn setting_commands_are_marked(rt: HostRuntime) {
+    expect_told(&rt, rt.alloc(), MARKED);
+}

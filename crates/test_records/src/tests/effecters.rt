@@ -1,8 +1,9 @@
 //! Numeric effecters and state effecters, over PLDM.
+use super::expect_told;
 
 /// Numeric effecter 4 goes from 0 to 1000, 5 from -2 to 1, 6 is disabled, and 261 goes from -70,000 to -1. State effecter 9 has two fields, and 10 has one
 /// and is disabled.
-pub(crate) const EFFECTERS: &str = "story a numeric effecter is set within its bounds
+const EFFECTERS: &str = "story a numeric effecter is set within its bounds
 board numeric = [
 board { id = 4, size = 2, operational = 1, lower = 0, upper = 1000, current = 500 },
 board { id = 5, size = 1, operational = 1, lower = -2, upper = 1, current = 0 },
@@ -176,3 +177,8 @@ undo pldm 02 39 0900 02 0102 0007 : -> none
 # A field to be set that the reply doesn't show.
 undo pldm 02 39 0900 02 0000 0101 : 01010101 -> none
 ";
+
+#[test]
+fn effecters_are_set_refused_in_order_and_undone(rt: HostRuntime) {
+    expect_told(&rt, rt.alloc(), EFFECTERS);
+}

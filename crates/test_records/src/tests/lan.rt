@@ -1,9 +1,9 @@
 //! LAN parameters: each refusal in the order of the checks, what is shown, and changes that are undone. Channels 1 and 15 have LAN
 //! parameters, 2 has none, and the other channels aren't there.
+use super::expect_told;
 
 /// What is refused.
-pub(crate) const REFUSED: &str =
-    "story the unit, the command and the length of LAN requests come first
+const REFUSED: &str = "story the unit, the command and the length of LAN requests come first
 board channel = [
 board { number = 1, sessions = true, access = [2, 2], limit = [4, 4], users = [0x14, 0x14] },
 board { number = 2, sessions = true, access = [2, 2], limit = [4, 4], users = [0x14, 0x14] },
@@ -170,7 +170,7 @@ kept ipmi 30 02 01040000 -> none
 ";
 
 /// What is shown, and what bits are ignored.
-pub(crate) const SHOWN: &str = "story an address is set over IPMB and shown
+const SHOWN: &str = "story an address is set over IPMB and shown
 board lan = [
 board { channel = 1, ip = [192, 0, 2, 1], source = 1, mask = [255, 255, 255, 0], gateway = [192, 0, 2, 254], vlan = [0, 0] },
 board ]
@@ -264,7 +264,7 @@ marked ipmi 30 03 -> gets
 ";
 
 /// Changes that are undone, and what undoes them.
-pub(crate) const CHANGES: &str = "story changes of each LAN parameter are undone
+const CHANGES: &str = "story changes of each LAN parameter are undone
 board channel = [
 board { number = 1, sessions = true, access = [2, 2], limit = [4, 4], users = [0x14, 0x14] },
 board { number = 15, sessions = false },
@@ -310,3 +310,18 @@ undo ipmi 30 01 01146483 : 11000000 -> none
 undo ipmi 30 01 0106FFFF0000 : 1101 -> none
 undo ipmi 30 01 010402 : 110000 -> none
 ";
+
+#[test]
+fn requests_on_lan_parameters_refuse_in_order(rt: HostRuntime) {
+    expect_told(&rt, rt.alloc(), REFUSED);
+}
+
+#[test]
+fn lan_parameters_are_shown_as_they_were_set(rt: HostRuntime) {
+    expect_told(&rt, rt.alloc(), SHOWN);
+}
+
+#[test]
+fn changes_of_lan_parameters_are_undone(rt: HostRuntime) {
+    expect_told(&rt, rt.alloc(), CHANGES);
+}

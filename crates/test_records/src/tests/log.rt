@@ -1,7 +1,8 @@
 //! The System Event Log and the sensor data records of a board, by worked values.
+use super::expect_told;
 
 /// The log and the records.
-pub(crate) const LOG: &str = "story a full log refuses and is cleared
+const LOG: &str = "story a full log refuses and is cleared
 reads 05 60
 ipmi 28 44 00000200000000010203040506070809 -> 00 0200
 ipmi 28 44 00000200000000010203040506070809 -> C4
@@ -128,3 +129,8 @@ ipmi 28 48 -> 00 FEFFFFFF
 tick 11
 ipmi 28 48 -> 00 FFFFFFFF
 ";
+
+#[test]
+fn the_log_and_the_records_of_a_board_are_shown(rt: HostRuntime) {
+    expect_told(&rt, rt.alloc(), LOG);
+}

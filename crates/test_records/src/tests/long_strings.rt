@@ -1,5 +1,5 @@
 //! Strings of up to 1,024 bytes, over PLDM.
-use super::expect;
+use super::{expect, expect_told};
 use cfg_records::{Asked, Key, Op};
 use record_base::SetBiosAttribute;
 use record_kinds::Limits;
@@ -7,7 +7,7 @@ use std::process::Abort;
 use two_wire::Below;
 
 /// An entry of over 205 bytes is shown in parts of 192 bytes, and one of over 247 can be set in parts alone.
-pub(crate) const LONG: &str = "story a long string is set in parts and shown in parts
+const LONG: &str = "story a long string is set in parts and shown in parts
 board attribute = [
 board { name = \"Quiet\", kind = \"enumeration\", values = [\"off\", \"on\"], default = [0], current = [0], readonly = false },
 board { name = \"Asset\", kind = \"string\", string_type = 1, least = 0, most = 1024, default = \"\", current = \"rack-1\", readonly = false },
@@ -221,4 +221,9 @@ fn a_later_part_of_an_attribute_alone_is_asked_for(rt: HostRuntime) {
     expect(&rt, came.is(&wanted), "behind 192 bytes");
     let other = Limits::get_next(&Key::PowerPolicy, 192);
     expect(&rt, other.is_none(), "another kind");
+}
+
+#[test]
+fn long_strings_are_set_and_shown_in_parts(rt: HostRuntime) {
+    expect_told(&rt, rt.alloc(), LONG);
 }

@@ -1,6 +1,6 @@
 //! Strings that are set in parts, over PLDM.
 use super::attribute::asset;
-use super::{expect, expect_bytes, expect_equal};
+use super::{expect, expect_bytes, expect_equal, expect_told};
 use attribute_parts::{Entry, SetPart, Stagings, part_in};
 use record_base::TextLengths;
 use std::alloc::Global;
@@ -8,7 +8,7 @@ use std::process::Abort;
 use two_wire::code::{PLDM_INVALID_DATA, PLDM_INVALID_LENGTH};
 
 /// A text of 200 bytes has an entry of 205: a first part of 192 and a last one of 13. Every code stands in the order of the rules.
-pub(crate) const PARTS: &str = "story a string is set in parts and shown
+const PARTS: &str = "story a string is set in parts and shown
 pldm 03 08 00000000010100 -> 00 0000000005 010001 0600 7261636B2D31
 pldm 03 07 0000000001 010001 C800 61*187 -> 00 C0000000
 # Nothing is shown of it before the last part.
@@ -231,4 +231,9 @@ fn a_requester_has_what_it_staged_until_it_ends(rt: HostRuntime) {
     let ended = stagings.ended(0x0B, 192, &[9; 13], &mut place);
     expect(&rt, ended.is_err(), "nothing is staged any more");
     drop(stagings);
+}
+
+#[test]
+fn strings_are_set_in_parts_and_refused_in_order(rt: HostRuntime) {
+    expect_told(&rt, rt.alloc(), PARTS);
 }

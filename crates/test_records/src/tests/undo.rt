@@ -1,7 +1,8 @@
 //! Changes of the sample board that are undone, those that can't be, and those that are refused.
+use super::expect_told;
 
 /// Changes, with what undoes them.
-pub(crate) const UNDONE: &str = "story changes of a sensor are undone
+const UNDONE: &str = "story changes of a sensor are undone
 # Upper critical becomes 5Ah.
 change ipmi 10 26 05 10 000000005A00 : 3F140A05505F6E -> 3F140A05505A6E : 05 10 000000005F00
 change ipmi 10 24 05 FF 0301 : 0202 -> 0301 : 05 FF 0202
@@ -562,3 +563,8 @@ story a reset starts no timer that was never set
 ipmi 18 22 -> 80
 ipmi 18 25 -> 00 00*8
 ";
+
+#[test]
+fn changes_are_undone_where_a_get_showed_what_was(rt: HostRuntime) {
+    expect_told(&rt, rt.alloc(), UNDONE);
+}

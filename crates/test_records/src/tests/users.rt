@@ -1,8 +1,9 @@
 //! Users, channels and passwords: each refusal in the order of the checks, what is shown, and changes that are undone. Channel 1 is the sample
 //! board's; 2 has sessions, and an access of its own in each store; 15 has none.
+use super::expect_told;
 
 /// What is refused, and what bits are ignored.
-pub(crate) const REFUSED: &str = "story users and channels are shown by their bits alone
+const REFUSED: &str = "story users and channels are shown by their bits alone
 board channel = [
 board { number = 1, sessions = true, access = [2, 2], limit = [4, 4], users = [0x14, 0x14] },
 board { number = 2, sessions = true, access = [0x3A, 0x09], limit = [3, 5], users = [0x71, 0x2F] },
@@ -257,7 +258,7 @@ ipmi 18 46 02 -> 00 61646D696E 00*11
 ";
 
 /// Passwords: of sixteen bytes, from 01h to 10h, and of twenty, from 01h to 14h; others are of the same size.
-pub(crate) const PASSWORDS: &str = "story a password is tested by size and text
+const PASSWORDS: &str = "story a password is tested by size and text
 board channel = [
 board { number = 1, sessions = true, access = [2, 2], limit = [4, 4], users = [0x14, 0x14] },
 board { number = 2, sessions = true, access = [0x3A, 0x09], limit = [3, 5], users = [0x71, 0x2F] },
@@ -350,7 +351,7 @@ kept ipmi 18 44 0102 -> 14
 ";
 
 /// Changes of both stores, where a refused part leaves the other undone, and changes that are undone.
-pub(crate) const CHANGES: &str = "story a change of both stores is whole
+const CHANGES: &str = "story a change of both stores is whole
 board channel = [
 board { number = 1, sessions = true, access = [2, 2], limit = [4, 4], users = [0x14, 0x14] },
 board { number = 2, sessions = true, access = [0x3A, 0x09], limit = [3, 5], users = [0x71, 0x2F] },
@@ -450,3 +451,18 @@ undo ipmi 18 43 A10203 : 02410114 -> 910204
 undo ipmi 18 40 024100 : 3A03 -> 027A00
 undo ipmi 18 40 020082 : 0905 -> 020085
 ";
+
+#[test]
+fn users_and_channels_refuse_in_order(rt: HostRuntime) {
+    expect_told(&rt, rt.alloc(), REFUSED);
+}
+
+#[test]
+fn passwords_are_tested_and_never_shown(rt: HostRuntime) {
+    expect_told(&rt, rt.alloc(), PASSWORDS);
+}
+
+#[test]
+fn changes_of_users_and_channels_are_whole_and_undone(rt: HostRuntime) {
+    expect_told(&rt, rt.alloc(), CHANGES);
+}

@@ -1,7 +1,8 @@
 //! BIOS attributes: of board files, and of the steps of plans.
+use super::expect_told;
 
 /// What boards and plans say of attributes.
-pub(crate) const ATTRIBUTES: &str = r#"
+const ATTRIBUTES: &str = r#"
 file board
 with bare
 # An attribute of each kind. No line stands in them twice but `[[attribute]]`, nor in the board above.
@@ -284,3 +285,8 @@ number = 0 => 3: smbus 0307<4:00>05050103<8:00>
 number = 0x0102030405060708 => 3: smbus 0307<4:00>050501030807060504030201
 number = 9223372036854775807 => 3: smbus 0307<4:00>05050103<7:FF>7F
 "#;
+
+#[test]
+fn attributes_are_read(rt: HostRuntime) {
+    expect_told(&rt, rt.alloc(), ATTRIBUTES);
+}

@@ -1,7 +1,8 @@
 //! Board files: the fields of a board, of its device and of its sensors.
+use super::expect_told;
 
 /// What boards say of themselves, of their devices and of sensors.
-pub(crate) const BOARDS: &str = r#"
+const BOARDS: &str = r#"
 # The sample board. Each field left out, of another type, just beyond its range and just inside, and more. The line of `deassert` is each
 # sensor's.
 file board
@@ -205,3 +206,8 @@ with bare
 <32:[[sensor]]\nnumber = #\ntype = 1\nreadable = 0\nsettable = 0\nthresholds = [0, 0, 0, 0, 0, 0]\nhysteresis = [0, 0]\nsupported = 0\nflags = 0\nassert = 0\ndeassert = 0\n> => holds 32 Sensor {
 <33:[[sensor]]\nnumber = #\ntype = 1\nreadable = 0\nsettable = 0\nthresholds = [0, 0, 0, 0, 0, 0]\nhysteresis = [0, 0]\nsupported = 0\nflags = 0\nassert = 0\ndeassert = 0\n> => Range top sensor
 "#;
+
+#[test]
+fn boards_are_read(rt: HostRuntime) {
+    expect_told(&rt, rt.alloc(), BOARDS);
+}

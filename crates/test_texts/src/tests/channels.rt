@@ -1,7 +1,8 @@
 //! Users and channels of board files.
+use super::expect_told;
 
 /// What boards say of users and channels.
-pub(crate) const CHANNELS: &str = r#"
+const CHANNELS: &str = r#"
 file board
 with bare
 # A board of two users.
@@ -96,3 +97,8 @@ behind
 # The last is that of user 16 on channel 7.
 => holds 1 UserAccess { on: UserOnChannel { channel: BitField { number: 7 }, user: BitField { number: 16 } }, byte: 20 }] } }
 "#;
+
+#[test]
+fn channels_are_read(rt: HostRuntime) {
+    expect_told(&rt, rt.alloc(), CHANNELS);
+}

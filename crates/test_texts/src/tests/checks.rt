@@ -1,7 +1,8 @@
 //! Files that are looked at: what they look like, what they hold, their faults, and the keys that nothing reads.
+use super::expect_told;
 
 /// What is told of files, by what they look like.
-pub(crate) const LOOKED_AT: &str = r#"
+const LOOKED_AT: &str = r#"
 # The sample board, and one without sensors.
 file check
 with sample
@@ -36,7 +37,7 @@ start\ntid = 5 => file: schedule refused, line 2\nRefused
 "#;
 
 /// What is told of a file that is refused.
-pub(crate) const REFUSED: &str = r#"
+const REFUSED: &str = r#"
 # Where a text is no TOML, and why not.
 file check
 retries = => file: plan refused, TOML parse error at line 1, column 10: invalid value, expected a string, number, boolean, date-time, array or inline table\nRefused
@@ -74,7 +75,7 @@ retries = 16 => file: plan refused, Range: table top, field retries\nRefused
 "#;
 
 /// What is told of keys that nothing reads.
-pub(crate) const UNREAD_KEYS: &str = r#"
+const UNREAD_KEYS: &str = r#"
 # A key with a slip, and one that is like no field. Of fields that are as near the first counts: `unc` stands before `uc`.
 file check
 + [[step]]
@@ -130,3 +131,18 @@ select = "leave"\nassert = [1] => file: plan, 1 step, retries 3\nfile: step 0: k
 select = "leave"\nassert = []\ndeassert = [] => file: plan, 1 step, retries 3\nfile: step 0: key assert not used\nfile: step 0: key deassert not used\nTold
 select = "enable"\nassert = [1]\ndeassert = [] => file: plan, 1 step, retries 3\nFine
 "#;
+
+#[test]
+fn files_are_read_as_what_they_look_like(rt: HostRuntime) {
+    expect_told(&rt, rt.alloc(), LOOKED_AT);
+}
+
+#[test]
+fn faults_say_where(rt: HostRuntime) {
+    expect_told(&rt, rt.alloc(), REFUSED);
+}
+
+#[test]
+fn keys_that_nothing_reads_are_told(rt: HostRuntime) {
+    expect_told(&rt, rt.alloc(), UNREAD_KEYS);
+}

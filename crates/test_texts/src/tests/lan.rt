@@ -1,7 +1,8 @@
 //! LAN parameters: of board files, and of the steps of plans.
+use super::expect_told;
 
 /// What boards and plans say of LAN parameters.
-pub(crate) const LAN: &str = r#"
+const LAN: &str = r#"
 file board
 with bare
 # A channel with sessions, and two without.
@@ -198,3 +199,8 @@ file check
 [[step]]\nkind = "lan-param"\nchannel = 1\nparam = 4\ndata = [1]\nparma = 4 => file: plan, 1 step, retries 3\nfile: step 0: unknown key parma, nearest is param\nTold
 [[step]]\nkind = "lan-param"\nchannel = 1\nparam = 4\ndata = [5] => file: plan refused, Range: table step, item 0, field data\nRefused
 "#;
+
+#[test]
+fn lan_parameters_are_read(rt: HostRuntime) {
+    expect_told(&rt, rt.alloc(), LAN);
+}

@@ -1,7 +1,8 @@
 //! Lines, words, numbers and bytes, as texts have them.
+use super::expect_told;
 
 /// What is cut off lines, and which numbers and bytes words are.
-pub(crate) const LINES: &str = r#"
+const LINES: &str = r#"
 # A line ends with a line feed.
 file first line
 undo 1\nnext\n => undo 1|next\n
@@ -55,3 +56,8 @@ file bytes
 10F => none
 1  => none
 "#;
+
+#[test]
+fn lines_are_cut_and_words_are_read(rt: HostRuntime) {
+    expect_told(&rt, rt.alloc(), LINES);
+}

@@ -1,7 +1,8 @@
 //! Numeric effecters: of board files, and of the steps of plans.
+use super::expect_told;
 
 /// What boards and plans say of numeric effecters.
-pub(crate) const NUMERIC: &str = r#"
+const NUMERIC: &str = r#"
 file board
 with bare
 # Two numeric effecters. No line stands in them twice but `[[numeric]]`, nor in the board above.
@@ -172,3 +173,8 @@ size = 4\nvalue = 0x12345678 => 3: smbus 023105010478563412
 size = 5\nvalue = -70000 => 3: smbus 023105010590EEFEFF
 size = 5\nvalue = -1 => 3: smbus 0231050105<4:FF>
 "#;
+
+#[test]
+fn numeric_effecters_are_read(rt: HostRuntime) {
+    expect_told(&rt, rt.alloc(), NUMERIC);
+}

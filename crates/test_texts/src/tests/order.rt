@@ -1,9 +1,10 @@
 //! A board file and a plan in which all is wrong. The faults come in the order of the tables of both formats, as each is mended, one after
 //! the other: in each table first all that are missing, then those of another type, then those out of their ranges.
+use super::expect_told;
 
 /// A board file that lacks each field, but for five that are of another type, and a plan whose own fields are of other types: what the
 /// fault of each is, until a line is mended.
-pub(crate) const MENDED: &str = r#"
+const MENDED: &str = r#"
 file board
 + # tid
 + # clock
@@ -456,3 +457,8 @@ until limit = 6 -> limit = 5 => 12 Range limit
 # All is right at last.
 => 5: ipmb 1026053F010203040506\nipmb 102406FF0708\nipmb 1028099080020108\nipmb 182483210A00B80B\nipmb 000602\nipmb 182E08\nipmb 0008040301\nsmbus 0307<4:00>050700000103\nsmbus 0239050103010200000107\nsmbus 0231050102E803\nipmb 1845026F70657261746F72<8:00>\nipmb 1843D10304\nipmb 184006AB85
 "#;
+
+#[test]
+fn faults_come_in_the_order_of_the_tables(rt: HostRuntime) {
+    expect_told(&rt, rt.alloc(), MENDED);
+}

@@ -1,7 +1,8 @@
 //! Plans: what they hold, and their faults.
+use super::expect_told;
 
 /// What plans say.
-pub(crate) const PLANS: &str = r#"
+const PLANS: &str = r#"
 # A step of each kind, but for users, channels, BIOS attributes and state effecters. No line stands in it twice but `[[step]]`.
 file plan
 + [[step]]
@@ -274,3 +275,8 @@ file plan
 + policy = 2
 ends reads => 0 11 12 13 54 55
 "#;
+
+#[test]
+fn plans_are_read(rt: HostRuntime) {
+    expect_told(&rt, rt.alloc(), PLANS);
+}

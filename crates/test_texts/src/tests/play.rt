@@ -1,7 +1,8 @@
 //! The texts that a play is told in.
+use super::expect_told;
 
 /// A board file, a plan and a schedule: the first text that is refused is named.
-pub(crate) const PLAYS: &str = r#"
+const PLAYS: &str = r#"
 file play
 tid = 5\n---\nretries = 16\n---\nbegin => board Missing top clock
 tid =\n---\n---\n => board Text
@@ -20,3 +21,8 @@ start\n\nbegin\n => schedule Line 3
 start\n\nto-bmc 0\n => holds 1 Inputs { file: BoardFile { tid: 5,
 start\n\nto-bmc 0\n => holds 1 plan: Plan { steps: Steps { ops: [PowerPolicy(SetPowerPolicy { policy: 2 })], values: [] }, retries: Below { number: 2 } }, events: Schedule { events: [Calls(Start), ToBmc(0)] } }
 "#;
+
+#[test]
+fn the_texts_of_plays_are_read(rt: HostRuntime) {
+    expect_told(&rt, rt.alloc(), PLAYS);
+}

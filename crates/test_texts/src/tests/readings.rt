@@ -1,7 +1,8 @@
 //! Texts of readings, good and bad.
+use super::expect_told;
 
 /// What texts of readings say.
-pub(crate) const READINGS: &str = r#"
+const READINGS: &str = r#"
 # A line of each form, with a comment and a blank line between.
 file readings
 + # a board that warms up
@@ -87,3 +88,8 @@ ends Line 2 => 9 10 11 12 13 14
 ends Line 3 => 17 18 19 20 21 22 23 24 25 26 27 28
 ends Line 4 => 31 32 33 34 35 36 37 38 39 40 41 42
 "#;
+
+#[test]
+fn readings_are_read(rt: HostRuntime) {
+    expect_told(&rt, rt.alloc(), READINGS);
+}

@@ -1,7 +1,8 @@
 //! The lines of schedules, good and bad.
+use super::expect_told;
 
 /// What schedules say.
-pub(crate) const SCHEDULES: &str = r#"
+const SCHEDULES: &str = r#"
 # An event of each form. The first digits of `2a07` are the function of number 10 on logical unit 2, and the last the sequence number 1 of
 # logical unit 3.
 file schedule
@@ -86,3 +87,8 @@ ends Line 6 => 54 55 56 57 58 59 60 61 62 63 64 65 66
 ends Line 7 => 69 70 71 72 73 74 75 76 77 78 79 80
 ends Line 8 => 83 84 85 86 87 88 89 90 91
 "#;
+
+#[test]
+fn schedules_are_read(rt: HostRuntime) {
+    expect_told(&rt, rt.alloc(), SCHEDULES);
+}

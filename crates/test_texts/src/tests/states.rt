@@ -1,7 +1,8 @@
 //! State effecters: of board files, and of the steps of plans.
+use super::expect_told;
 
 /// What boards and plans say of state effecters.
-pub(crate) const STATES: &str = r#"
+const STATES: &str = r#"
 file board
 with bare
 # Two state effecters. No line stands in them twice but `[[state]]`, nor in the board above.
@@ -139,3 +140,8 @@ behind [[step]]\nkind = "state-effecter"\neffecter = 261\nstates =
  [2, -1, 7] => 3: smbus 0239050103010200000107
  [1, 2, 3, 4, 5, 6, 7, -1] => 3: smbus 02390501080101010201030104010501060107<2:00>
 "#;
+
+#[test]
+fn state_effecters_are_read(rt: HostRuntime) {
+    expect_told(&rt, rt.alloc(), STATES);
+}

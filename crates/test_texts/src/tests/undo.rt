@@ -1,7 +1,8 @@
 //! Undo texts, good and bad.
+use super::expect_told;
 
 /// What is read of undo texts, and written of it.
-pub(crate) const UNDO_TEXTS: &str = r#"
+const UNDO_TEXTS: &str = r#"
 # The text of a plan that sets upper thresholds of sensor 5 twice. Of its prefixes those are read that end behind lines 2, 3 and 4.
 file undo
 + undo 1
@@ -139,3 +140,8 @@ undo 2\nnext ipmb 2 smbus 0\nnames ipmb 2C 20 smbus 30 20 eid 08 0A\nipmb 300101
 undo 2\nnext ipmb 2 smbus 0\nnames ipmb 2c 20 smbus 30 20 eid 08 0a\nipmb 30010103c0000201\n => undo 2\nnext ipmb 2 smbus 0\nnames ipmb 2C 20 smbus 30 20 eid 08 0A\nipmb 30010103C0000201\n
 undo 1\nnext ipmb 4 smbus 0\nipmb 10260530000000005a6e\nipmb 10260518000000505f00\n => undo 1\nnext ipmb 4 smbus 0\nipmb 10260530000000005A6E\nipmb 10260518000000505F00\n
 "#;
+
+#[test]
+fn undo_texts_are_read(rt: HostRuntime) {
+    expect_told(&rt, rt.alloc(), UNDO_TEXTS);
+}

@@ -1,7 +1,8 @@
 //! Steps of plans that change users and channels.
+use super::expect_told;
 
 /// What plans say of users and channels.
-pub(crate) const USERS: &str = r#"
+const USERS: &str = r#"
 # A step of each kind. No line stands in it twice but `[[step]]`.
 file plan
 + [[step]]
@@ -132,3 +133,8 @@ store = 0\nlimit = 0 => 0 WrongType store
 store = "volatile"\nlimit = true => 0 WrongType limit
 store = "volatile"\nlimit = 15 => 0 Range limit
 "#;
+
+#[test]
+fn steps_on_users_and_channels_are_read(rt: HostRuntime) {
+    expect_told(&rt, rt.alloc(), USERS);
+}
