@@ -1,5 +1,5 @@
 //! Requests to a port on the System Management Bus, and what it keeps of them.
-use super::expect_out;
+use super::{expect_out, expect_told};
 use bmc_board::{Board, Records};
 use bmc_core::{At, Done, Out, SmbusPending, SmbusPort, Step};
 use mctp_net::EndpointId;
