@@ -19,12 +19,27 @@ use std::marker::Model;
 use two_wire::Code;
 
 /// The tables of a board's attributes. All their memory is taken when they are opened.
-#[derive(Drop)]
 pub struct Tables {
     strings: Vec<u8>,
     attributes: Vec<u8>,
     heads: Vec<EntryHead>,
     values: Vec<u8>,
+}
+
+// Written out: the crates above would prove a derived one anew.
+impl Drop for Tables {
+    fn drop(self) {
+        let Tables {
+            strings,
+            attributes,
+            heads,
+            values,
+        } = self;
+        drop(strings);
+        drop(attributes);
+        drop(heads);
+        drop(values);
+    }
 }
 
 impl Model for Tables {

@@ -25,11 +25,18 @@ use std::alloc::{AllocError, Global};
 use two_wire::Address;
 
 /// A port on IPMB, at one address.
-#[derive(Drop)]
 pub struct IpmbPort {
     wire: Address,
     /// The requests that it carried out, with their responses.
     windows: Kept,
+}
+
+// Written out: the crates above would prove a derived one anew.
+impl Drop for IpmbPort {
+    fn drop(self) {
+        let IpmbPort { wire: _, windows } = self;
+        drop(windows);
+    }
 }
 
 /// The request to this address that the bytes are, or why nothing is heard in them.

@@ -45,10 +45,19 @@ impl Pending {
 }
 
 /// A port of the controller on one bus.
-#[derive(Drop)]
 pub enum Port {
     Ipmb(IpmbPort),
     Smbus(SmbusPort),
+}
+
+// Written out: the crates above would prove a derived one anew.
+impl Drop for Port {
+    fn drop(self) {
+        match self {
+            Port::Ipmb(port) => drop(port),
+            Port::Smbus(port) => drop(port),
+        }
+    }
 }
 
 impl Port {

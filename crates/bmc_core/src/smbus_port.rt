@@ -26,7 +26,6 @@ use std::alloc::{AllocError, Global};
 use two_wire::Address;
 
 /// A port of the controller on the System Management Bus.
-#[derive(Drop)]
 pub struct SmbusPort {
     /// Its two-wire address.
     wire: Address,
@@ -38,6 +37,21 @@ pub struct SmbusPort {
     windows: Kept,
     /// Where the reply of a new request is made.
     made: Reply,
+}
+
+// Written out: the crates above would prove a derived one anew.
+impl Drop for SmbusPort {
+    fn drop(self) {
+        let SmbusPort {
+            wire: _,
+            endpoint: _,
+            assembler,
+            windows,
+            made: _,
+        } = self;
+        drop(assembler);
+        drop(windows);
+    }
 }
 
 /// The packet to this address that the bytes are, where it ends a message. Of all else `out` says what was done.

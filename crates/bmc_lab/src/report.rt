@@ -11,11 +11,22 @@ use text_board::FileFault;
 use two_wire::Frame;
 
 /// The lines that a run writes, where it writes them, and how it ends.
-#[derive(Drop)]
 pub struct Report {
     pub stream: Stream,
     pub text: String,
     pub status: Status,
+}
+
+// Written out: the crates above would prove a derived one anew.
+impl Drop for Report {
+    fn drop(self) {
+        let Report {
+            stream: _,
+            text,
+            status: _,
+        } = self;
+        drop(text);
+    }
 }
 
 /// Adds the line of a frame: its bytes in upper-case hexadecimal.

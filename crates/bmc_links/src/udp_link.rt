@@ -16,12 +16,23 @@ const ROOM: usize = MOST_FRAME_BYTES + 1;
 /// A link over datagrams between programs of one host, a frame in each. It is bound to the loopback address alone.
 ///
 /// It hears whoever sends to its port, and sends to the one that it heard last.
-#[derive(Drop)]
 pub struct UdpLink {
     socket: UdpSocket,
     /// To whom it sends: the one that was heard last.
     peer: Option<SocketAddr>,
     counts: Counts,
+}
+
+// Written out: the crates above would prove a derived one anew.
+impl Drop for UdpLink {
+    fn drop(self) {
+        let UdpLink {
+            socket,
+            peer: _,
+            counts: _,
+        } = self;
+        drop(socket);
+    }
 }
 
 /// This port of the loopback address.

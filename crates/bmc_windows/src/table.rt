@@ -27,13 +27,24 @@ type Slot = Below<{ MOST_WINDOWS }>;
 
 /// The requests that a port carried out, with their replies, for at most `MOST_WINDOWS` requesters. `NUMBERS` is `SEQUENCE_NUMBERS`
 /// on IPMB and `INSTANCES` for PLDM. A reply has at most `CAP` bytes, and so has a request behind its first byte.
-#[derive(Drop)]
 pub struct Windows<const NUMBERS: u8, const CAP: usize> {
     /// The window that each requester has, by its byte.
     slots: [Option<Slot>; REQUESTERS],
     /// The requester that has each window.
     owners: [Option<u8>; COUNT],
     windows: Vec<Window<NUMBERS, CAP>>,
+}
+
+// Written out: the crates above would prove a derived one anew.
+impl<const NUMBERS: u8, const CAP: usize> Drop for Windows<NUMBERS, CAP> {
+    fn drop(self) {
+        let Windows {
+            slots: _,
+            owners: _,
+            windows,
+        } = self;
+        drop(windows);
+    }
 }
 
 impl<const NUMBERS: u8, const CAP: usize> Model for Windows<NUMBERS, CAP> {

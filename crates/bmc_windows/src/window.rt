@@ -58,11 +58,18 @@ impl<const CAP: usize> Place<CAP> {
 }
 
 /// Under each number the request that was carried out with it and its reply, unless they are forgotten.
-#[derive(Drop)]
 pub(crate) struct Window<const NUMBERS: u8, const CAP: usize> {
     /// Bit n is set where number n is in use.
     used: u64,
     places: Vec<Place<CAP>>,
+}
+
+// Written out: the crates above would prove a derived one anew.
+impl<const NUMBERS: u8, const CAP: usize> Drop for Window<NUMBERS, CAP> {
+    fn drop(self) {
+        let Window { used: _, places } = self;
+        drop(places);
+    }
 }
 
 impl<const NUMBERS: u8, const CAP: usize> Model for Window<NUMBERS, CAP> {

@@ -12,7 +12,7 @@ use record_base::{
 use std::alloc::{AllocError, Global};
 
 /// What a board begins with: what never changes of it, and the values of its records. The type of each part says what it can be.
-#[derive(Debug, Drop)]
+#[derive(Debug)]
 pub struct BoardFile {
     /// The terminus of a PLDM controller, by the number that GetTID gives (DSP0240).
     pub tid: u8,
@@ -43,6 +43,42 @@ pub struct BoardFile {
     ghost few: { length (channel_numbers channels.items sessionless.items)
         ≤ most_channels },
     ghost each: { map on_numbers user_accesses.items ≡ each_user_on channels.items users.items },
+}
+
+// Written out: the crates above would prove a derived one anew.
+impl Drop for BoardFile {
+    fn drop(self) {
+        let BoardFile {
+            tid: _,
+            device: _,
+            sensors,
+            policy: _,
+            watchdog: _,
+            clock: _,
+            log: _,
+            enables: _,
+            sdr,
+            boot: _,
+            numeric_effecters,
+            state_effecters,
+            users,
+            channels,
+            sessionless,
+            user_accesses,
+            attributes,
+            lans,
+        } = self;
+        drop(sensors);
+        drop(sdr);
+        drop(numeric_effecters);
+        drop(state_effecters);
+        drop(users);
+        drop(channels);
+        drop(sessionless);
+        drop(user_accesses);
+        drop(attributes);
+        drop(lans);
+    }
 }
 
 impl BoardFile {

@@ -17,10 +17,18 @@ struct SensorPlaces {
 
 /// For each key, the place of its record in a list. A sensor's records are found by its number, in one step. Their tables lie in
 /// memory of their own, so that a board is moved without them.
-#[derive(Drop)]
 pub struct Index {
     sensors: Box<SensorPlaces>,
     others: BTreeMap<Key, usize>,
+}
+
+// Written out: the crates above would prove a derived one anew.
+impl Drop for Index {
+    fn drop(self) {
+        let Index { sensors, others } = self;
+        drop(sensors);
+        drop(others);
+    }
 }
 
 impl SensorPlaces {

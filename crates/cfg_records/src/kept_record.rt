@@ -7,10 +7,17 @@ use std::alloc::{AllocError, Global};
 use std::marker::Model;
 
 /// A key and its value, seen as this pair. The value's memory is its own, and has room for the longest value of the key's kind.
-#[derive(Drop)]
 pub(crate) struct KeptRecord {
     key: Key,
     value: Vec<u8>,
+}
+
+// Written out: the crates above would prove a derived one anew.
+impl Drop for KeptRecord {
+    fn drop(self) {
+        let KeptRecord { key: _, value } = self;
+        drop(value);
+    }
 }
 
 impl Model for KeptRecord {

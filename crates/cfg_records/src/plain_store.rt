@@ -26,11 +26,19 @@ pub enum StoreFault {
 }
 
 /// Records in a list, and for each key its record's place there.
-#[derive(Drop)]
 pub struct PlainStore {
     records: Vec<KeptRecord>,
     places: Index,
     ghost placed: { ArePlaced records.items (place_of places) } by { ArePlaced-prop records.items (place_of places) },
+}
+
+// Written out: the crates above would prove a derived one anew.
+impl Drop for PlainStore {
+    fn drop(self) {
+        let PlainStore { records, places } = self;
+        drop(records);
+        drop(places);
+    }
 }
 
 impl PlainStore {

@@ -14,11 +14,18 @@ use std::marker::Model;
 
 /// At most eight messages that are being put together, each from at most four packets. `seen` shows the packets that
 /// wait under each name.
-#[derive(Drop)]
 pub struct Assembler {
     places: Vec<Place>,
     /// Where the message lies that the last packet ended, if several packets made it.
     made: Option<usize>,
+}
+
+// Written out: the crates above would prove a derived one anew.
+impl Drop for Assembler {
+    fn drop(self) {
+        let Assembler { places, made: _ } = self;
+        drop(places);
+    }
 }
 
 impl Model for Assembler {

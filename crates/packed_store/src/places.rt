@@ -10,10 +10,18 @@ use cfg_records::index::Index;
 use std::alloc::{AllocError, Global};
 
 /// The offset of each key's record. A sensor's is found by the sensor's number, in one step, and any other's in the sorted list.
-#[derive(Drop)]
 pub(crate) struct Places {
     sensors: Index,
     others: SortedKeys,
+}
+
+// Written out: the crates above would prove a derived one anew.
+impl Drop for Places {
+    fn drop(self) {
+        let Places { sensors, others } = self;
+        drop(sensors);
+        drop(others);
+    }
 }
 
 impl Places {

@@ -13,12 +13,19 @@ const ROWS: usize = 4;
 
 /// Keys in their order, each once, with the offset of its record. Where the numbers of a kind's keys have no gaps, its keys stand in a row
 /// of places, and one is found in one step.
-#[derive(Drop)]
 pub(crate) struct SortedKeys {
     entries: Vec<(Key, usize)>,
     /// For each row, the place less the number of a key that stands there. It only says where to look first.
     starts: [usize; ROWS],
     ghost rising: { AreRising entries.items } by { AreRising-prop entries.items },
+}
+
+// Written out: the crates above would prove a derived one anew.
+impl Drop for SortedKeys {
+    fn drop(self) {
+        let SortedKeys { entries, starts: _ } = self;
+        drop(entries);
+    }
 }
 
 /// The row of the key's kind, and the key's number, for the kinds that mostly have numbers without gaps.

@@ -14,11 +14,19 @@ use cfg_records::{BoardFile, Key, StartValue, Store, StoreFault};
 use std::alloc::{AllocError, Global};
 
 /// Records in one byte image, and where each of them lies there.
-#[derive(Drop)]
 pub struct PackedStore {
     bytes: Vec<u8>,
     places: Places,
     ghost image: { IsImage bytes.items (offset_of places) } by { IsImage-prop bytes.items (offset_of places) },
+}
+
+// Written out: the crates above would prove a derived one anew.
+impl Drop for PackedStore {
+    fn drop(self) {
+        let PackedStore { bytes, places } = self;
+        drop(bytes);
+        drop(places);
+    }
 }
 
 /// Whether one of the pairs has the key.

@@ -21,7 +21,7 @@ pub type Text = Bytes<{ MOST_NAME }>;
 pub type Indexes = Bytes<{ MOST_INDEXES }>;
 
 /// An attribute that is one of its possible values, or several.
-#[derive(Debug, Drop)]
+#[derive(Debug)]
 pub struct EnumerationAttribute {
     pub values: Items<Text>,
     pub default: Indexes,
@@ -31,8 +31,20 @@ pub struct EnumerationAttribute {
     ghost current_valid: { AllowsIndexes (length values) current } by { AllowsIndexes-prop (length values) current },
 }
 
+// Written out: the crates above would prove a derived one anew.
+impl Drop for EnumerationAttribute {
+    fn drop(self) {
+        let EnumerationAttribute {
+            values,
+            default: _,
+            current: _,
+        } = self;
+        drop(values);
+    }
+}
+
 /// An attribute that is a text.
-#[derive(Debug, Drop)]
+#[derive(Debug)]
 pub struct StringAttribute {
     /// How its bytes are characters.
     pub string_type: u8,
@@ -42,6 +54,20 @@ pub struct StringAttribute {
     pub current: Items<u8>,
     ghost default_valid: { AllowsText lengths default } by { AllowsText-prop lengths default },
     ghost current_valid: { AllowsText lengths current } by { AllowsText-prop lengths current },
+}
+
+// Written out: the crates above would prove a derived one anew.
+impl Drop for StringAttribute {
+    fn drop(self) {
+        let StringAttribute {
+            string_type: _,
+            lengths: _,
+            default,
+            current,
+        } = self;
+        drop(default);
+        drop(current);
+    }
 }
 
 /// An attribute that is a number.
@@ -56,20 +82,44 @@ pub struct IntegerAttribute {
 }
 
 /// What an attribute is.
-#[derive(Debug, Drop)]
+#[derive(Debug)]
 pub enum AttributeKind {
     Enumeration(EnumerationAttribute),
     Text(StringAttribute),
     Integer(IntegerAttribute),
 }
 
+// Written out: the crates above would prove a derived one anew.
+impl Drop for AttributeKind {
+    fn drop(self) {
+        match self {
+            AttributeKind::Enumeration(attribute) => drop(attribute),
+            AttributeKind::Text(attribute) => drop(attribute),
+            AttributeKind::Integer(_) => {}
+        }
+    }
+}
+
 /// An attribute of a board. Its handle is its place in the board's list, from 0.
-#[derive(Debug, Drop)]
+#[derive(Debug)]
 pub struct Attribute {
     pub handle: u16,
     pub name: Text,
     pub read_only: bool,
     pub kind: AttributeKind,
+}
+
+// Written out: the crates above would prove a derived one anew.
+impl Drop for Attribute {
+    fn drop(self) {
+        let Attribute {
+            handle: _,
+            name: _,
+            read_only: _,
+            kind,
+        } = self;
+        drop(kind);
+    }
 }
 
 impl Numbered for Attribute {

@@ -10,11 +10,19 @@ use crate::in_order::are_numbered;
 use crate::items::Items;
 
 /// The attributes of a board, at most 64. The handle of each is its place, from 0.
-#[derive(Debug, Drop)]
+#[derive(Debug)]
 pub struct Attributes {
     pub items: Items<Attribute>,
     ghost placed: { AreInPlace items } by { AreInPlace-prop items },
     ghost few: { length items ≤ most_attributes },
+}
+
+// Written out: the crates above would prove a derived one anew.
+impl Drop for Attributes {
+    fn drop(self) {
+        let Attributes { items } = self;
+        drop(items);
+    }
 }
 
 impl Attributes {

@@ -4,9 +4,17 @@ ghost use Rattle.std.specs.Prelude.{◌≡◌};
 use std::marker::Model;
 
 /// A list of items, seen as that list.
-#[derive(Debug, Drop)]
+#[derive(Debug)]
 pub struct Items<T> {
     items: Vec<T>,
+}
+
+// Written out: the crates above would prove a derived one anew.
+impl<T: Drop> Drop for Items<T> {
+    fn drop(self) {
+        let Items { items } = self;
+        drop(items);
+    }
 }
 
 impl<T> Model for Items<T> {

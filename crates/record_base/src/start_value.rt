@@ -7,7 +7,6 @@ use std::marker::Model;
 use two_wire::Bytes;
 
 /// Where the bytes of such a value lie.
-#[derive(Drop)]
 enum StartBytes {
     /// A few, in the value itself.
     Few(Bytes<{ MOST_FEW }>),
@@ -15,11 +14,28 @@ enum StartBytes {
     Many(Vec<u8>),
 }
 
+// Written out: the crates above would prove a derived one anew.
+impl Drop for StartBytes {
+    fn drop(self) {
+        match self {
+            StartBytes::Few(_) => {}
+            StartBytes::Many(bytes) => drop(bytes),
+        }
+    }
+}
+
 /// The value that a record begins with. A few bytes lie in it itself, so that a list of such values is short, and a text has memory of
 /// its own.
-#[derive(Drop)]
 pub struct StartValue {
     bytes: StartBytes,
+}
+
+// Written out: the crates above would prove a derived one anew.
+impl Drop for StartValue {
+    fn drop(self) {
+        let StartValue { bytes } = self;
+        drop(bytes);
+    }
 }
 
 impl Model for StartValue {

@@ -12,21 +12,44 @@ use crate::start_value::StartValue;
 use two_wire::Bytes;
 
 /// A field of a state effecter: the states that it can be in, and its present state.
-#[derive(Debug, Drop)]
+#[derive(Debug)]
 pub struct StateField {
     pub allowed: Items<u8>,
     pub current: u8,
     ghost valid: { IsTrue (allows allowed current) },
 }
 
+// Written out: the crates above would prove a derived one anew.
+impl Drop for StateField {
+    fn drop(self) {
+        let StateField {
+            allowed,
+            current: _,
+        } = self;
+        drop(allowed);
+    }
+}
+
 /// A state effecter: its id, whether it is enabled, and its fields, 1 to `MOST_STATE_FIELDS`.
-#[derive(Debug, Drop)]
+#[derive(Debug)]
 pub struct StateEffecter {
     pub id: u16,
     pub enabled: bool,
     pub fields: Items<StateField>,
     ghost some: { 1 ≤ length fields },
     ghost few: { length fields ≤ most_state_fields },
+}
+
+// Written out: the crates above would prove a derived one anew.
+impl Drop for StateEffecter {
+    fn drop(self) {
+        let StateEffecter {
+            id: _,
+            enabled: _,
+            fields,
+        } = self;
+        drop(fields);
+    }
 }
 
 /// The state effecters of a board.

@@ -9,10 +9,18 @@ use crate::user::User;
 use crate::user_sizes::USER_NAME_SIZE;
 
 /// The users of a board: at most `MOST_USERS`, of numbers 1, 2 and so on in order. The first has no name.
-#[derive(Debug, Drop)]
+#[derive(Debug)]
 pub struct Users {
     pub items: Items<User>,
     ghost valid: { AreUsers items } by { AreUsers-prop items },
+}
+
+// Written out: the crates above would prove a derived one anew.
+impl Drop for Users {
+    fn drop(self) {
+        let Users { items } = self;
+        drop(items);
+    }
 }
 
 impl Users {

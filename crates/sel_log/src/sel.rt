@@ -41,7 +41,6 @@ pub struct Entry<'a> {
 }
 
 /// The log. It is seen as its list of records, with what else it keeps. All its memory is taken when it is made.
-#[derive(Drop)]
 pub struct Sel {
     records: Vec<LogRecord>,
     capacity: u16,
@@ -50,6 +49,22 @@ pub struct Sel {
     last_clear: u32,
     reservations: Reservations,
     clock: Clock,
+}
+
+// Written out: the crates above would prove a derived one anew.
+impl Drop for Sel {
+    fn drop(self) {
+        let Sel {
+            records,
+            capacity: _,
+            overflow: _,
+            last_add: _,
+            last_clear: _,
+            reservations: _,
+            clock: _,
+        } = self;
+        drop(records);
+    }
 }
 
 impl Model for Sel {

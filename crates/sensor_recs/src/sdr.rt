@@ -20,10 +20,20 @@ pub struct SdrEntry<'a> {
 
 /// The repository of sensor data records. Contracts see it as its list of records and its reservations. It takes all its memory when
 /// it is made.
-#[derive(Drop)]
 pub struct Sdr {
     records: Vec<SdrRecord>,
     reservations: Reservations,
+}
+
+// Written out: the crates above would prove a derived one anew.
+impl Drop for Sdr {
+    fn drop(self) {
+        let Sdr {
+            records,
+            reservations: _,
+        } = self;
+        drop(records);
+    }
 }
 
 impl Model for Sdr {

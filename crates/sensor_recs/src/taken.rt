@@ -24,9 +24,16 @@ const EVENT_FORMAT: u8 = 0x04;
 
 /// The last reading of each sensor, if the sensor has one. Contracts see a list with a place for each number of a sensor. It takes
 /// all its memory when it is made.
-#[derive(Drop)]
 pub struct Readings {
     items: Vec<Option<Taken>>,
+}
+
+// Written out: the crates above would prove a derived one anew.
+impl Drop for Readings {
+    fn drop(self) {
+        let Readings { items } = self;
+        drop(items);
+    }
 }
 
 impl Model for Readings {

@@ -27,12 +27,20 @@ pub struct OtherRequest {
 }
 
 /// Somebody else's message to the controller on SMBus.
-#[derive(Debug, Drop)]
+#[derive(Debug)]
 pub struct OtherMessage {
     /// The endpoint from which it comes.
     pub from: u8,
     /// All bytes of the message, the type first.
     pub body: Octets<{ MOST_MESSAGE_BYTES }>,
+}
+
+// Written out: the crates above would prove a derived one anew.
+impl Drop for OtherMessage {
+    fn drop(self) {
+        let OtherMessage { from: _, body } = self;
+        drop(body);
+    }
 }
 
 /// What happens on the bench: on the controller's board, beside requests.
@@ -45,7 +53,7 @@ pub enum BenchEvent {
 }
 
 /// What can happen.
-#[derive(Debug, Drop)]
+#[derive(Debug)]
 pub enum Event {
     /// The manager is called.
     Calls(Call),
@@ -63,6 +71,22 @@ pub enum Event {
     Idle(Bus, u8),
     /// This happens on the bench.
     OnBench(BenchEvent),
+}
+
+// Written out: the crates above would prove a derived one anew.
+impl Drop for Event {
+    fn drop(self) {
+        match self {
+            Event::OtherSmbus(message) => drop(message),
+            Event::Noise(_, bytes) => drop(bytes),
+            Event::Calls(_)
+            | Event::ToBmc(_)
+            | Event::ToMgr(_)
+            | Event::OtherIpmb(_)
+            | Event::Idle(_, _)
+            | Event::OnBench(_) => {}
+        }
+    }
 }
 
 impl Event {

@@ -4,9 +4,17 @@ ghost use Rattle.std.specs.Prelude.{◌≡◌, ◌≤◌, ◌<◌, SomeIff, leng
 use std::marker::Model;
 
 /// At least one byte, and at most `CAP`, in memory of their own.
-#[derive(Debug, Drop)]
+#[derive(Debug)]
 pub struct Octets<const CAP: usize> {
     items: Vec<u8>,
+}
+
+// Written out: the crates above would prove a derived one anew.
+impl<const CAP: usize> Drop for Octets<CAP> {
+    fn drop(self) {
+        let Octets { items } = self;
+        drop(items);
+    }
 }
 
 impl<const CAP: usize> Model for Octets<CAP> {

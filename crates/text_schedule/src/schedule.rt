@@ -10,9 +10,17 @@ use std::fmt;
 use std::marker::Model;
 
 /// What happens in a lab, in its order.
-#[derive(Debug, Drop)]
+#[derive(Debug)]
 pub struct Schedule {
     events: Vec<Event>,
+}
+
+// Written out: the crates above would prove a derived one anew.
+impl Drop for Schedule {
+    fn drop(self) {
+        let Schedule { events } = self;
+        drop(events);
+    }
 }
 
 impl Model for Schedule {

@@ -13,11 +13,20 @@ pub const MOST_STEPS: usize = 256;
 
 /// The steps of a plan, in its order: an operation each, and at most `MOST_STEPS`. A step takes the room of a small operation, and that
 /// of the value that it gives to an attribute.
-#[derive(Debug, Drop)]
+#[derive(Debug)]
 pub struct Steps {
     ops: Vec<Kept>,
     /// The values, one behind another.
     values: Vec<u8>,
+}
+
+// Written out: the crates above would prove a derived one anew.
+impl Drop for Steps {
+    fn drop(self) {
+        let Steps { ops, values } = self;
+        drop(ops);
+        drop(values);
+    }
 }
 
 impl Model for Steps {

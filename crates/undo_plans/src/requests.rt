@@ -13,7 +13,7 @@ use std::marker::Model;
 
 /// At most `MOST_STEPS` requests, each of which undoes a step, in the order of the steps. One more may wait behind them, until its step was
 /// done. `prepare` and `keep` take no memory.
-#[derive(Debug, Drop)]
+#[derive(Debug)]
 pub struct Requests {
     /// The last is that of the request that waits, if there is one.
     marks: Vec<Mark>,
@@ -22,6 +22,20 @@ pub struct Requests {
     bytes: Vec<u8>,
     /// How many bytes of data these have.
     kept: usize,
+}
+
+// Written out: the crates above would prove a derived one anew.
+impl Drop for Requests {
+    fn drop(self) {
+        let Requests {
+            marks,
+            counted: _,
+            bytes,
+            kept: _,
+        } = self;
+        drop(marks);
+        drop(bytes);
+    }
 }
 
 impl Model for Requests {

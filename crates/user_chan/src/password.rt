@@ -38,9 +38,16 @@ pub enum PasswordChange {
 }
 
 /// The password of each user, by the user's number. Contracts see the list of passwords. It takes all its memory when it is made.
-#[derive(Drop)]
 pub struct Passwords {
     kept: Vec<Password>,
+}
+
+// Written out: the crates above would prove a derived one anew.
+impl Drop for Passwords {
+    fn drop(self) {
+        let Passwords { kept } = self;
+        drop(kept);
+    }
 }
 
 impl Model for Passwords {
