@@ -14,9 +14,16 @@ use std::marker::Model;
 const MOST_SHOWN: usize = BEFORE_PART + MOST_ENTRY;
 
 /// The data that replies to a Get show together: those of a whole entry, as far as its parts came. Their memory is taken once.
-#[derive(Drop)]
 pub struct JoinedReplies {
     bytes: Vec<u8>,
+}
+
+// Written out: the crates above would prove a derived one anew.
+impl Drop for JoinedReplies {
+    fn drop(self) {
+        let JoinedReplies { bytes } = self;
+        drop(bytes);
+    }
 }
 
 impl Model for JoinedReplies {

@@ -32,7 +32,6 @@ pub enum ResumeFault {
 }
 
 /// A manager that runs a plan on the records of one controller, and takes it back. All its memory is taken when it is made.
-#[derive(Drop)]
 pub struct Manager {
     pub(crate) steps: Steps,
     pub(crate) retries: Retries,
@@ -56,4 +55,26 @@ pub struct Manager {
     ghost roomy: { HasRoom (steps_ahead steps stage) undo.requests },
     ghost parted: { parts_at stage < most_requests },
     ghost filled: { length replies ≤ most_replied stage },
+}
+
+// Written out: the crates above would prove a derived one anew.
+impl Drop for Manager {
+    fn drop(self) {
+        let Manager {
+            steps,
+            retries: _,
+            names: _,
+            stage: _,
+            stopped: _,
+            resent: _,
+            undo,
+            counts: _,
+            joined,
+            replies,
+        } = self;
+        drop(steps);
+        drop(undo);
+        drop(joined);
+        drop(replies);
+    }
 }
