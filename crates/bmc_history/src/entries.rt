@@ -21,13 +21,26 @@ use two_wire::size::{MOST_PLDM_REPLY_DATA, MOST_PLDM_REQUEST_DATA};
 const MOST_BYTES: usize = MOST_PLDM_REQUEST_DATA + MOST_PLDM_REPLY_DATA;
 
 /// Events in order.
-#[derive(Drop)]
 pub struct Events {
     marks: Vec<Mark>,
     /// How many of the bytes are those of events. The others have no meaning.
     written: usize,
     bytes: Vec<u8>,
     room: usize,
+}
+
+// Written out: the crates above would prove a derived one anew.
+impl Drop for Events {
+    fn drop(self) {
+        let Events {
+            marks,
+            written: _,
+            bytes,
+            room: _,
+        } = self;
+        drop(marks);
+        drop(bytes);
+    }
 }
 
 impl Model for Events {
@@ -147,9 +160,16 @@ impl Events {
 }
 
 /// Calls in order: the events of a seat, which keeps its number itself.
-#[derive(Drop)]
 pub struct Calls {
     events: Events,
+}
+
+// Written out: the crates above would prove a derived one anew.
+impl Drop for Calls {
+    fn drop(self) {
+        let Calls { events } = self;
+        drop(events);
+    }
 }
 
 /// The number that the events of a list of calls have. It says nothing.

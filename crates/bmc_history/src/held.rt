@@ -37,7 +37,6 @@ pub struct PeriodFull;
 
 /// A board, and the history that led to it from the board that it opened with. How long the history is stands in front, next to the lock that is
 /// round both: the two are written in each hold of the lock, and a line of the processor's cache that two threads write moves between them.
-#[derive(Drop)]
 pub struct Held<J: Opening, S: Store> {
     history: Events,
     room: usize,
@@ -50,6 +49,20 @@ pub struct Held<J: Opening, S: Store> {
     ghost replays: { Replays J.setup J.opening history.items
         (state_of board) } by { Replays-prop J.setup J.opening history.items
             (state_of board) },
+}
+
+// Written out: the crates above would prove a derived one anew.
+impl<J: Opening, S: Store> Drop for Held<J, S> {
+    fn drop(self) {
+        let Held {
+            history,
+            room: _,
+            board,
+            of: _,
+        } = self;
+        drop(history);
+        drop(board);
+    }
 }
 
 impl<J: Opening, S: Store> Held<J, S> {

@@ -7,9 +7,16 @@ use crate::event::{Call, Event};
 use std::marker::Model;
 
 /// What was asked of a board and answered, in order.
-#[derive(Drop)]
 pub struct History {
     events: Events,
+}
+
+// Written out: the crates above would prove a derived one anew.
+impl Drop for History {
+    fn drop(self) {
+        let History { events } = self;
+        drop(events);
+    }
 }
 
 impl Model for History {
