@@ -1,6 +1,7 @@
 -- What a board gives to what is asked of it, and that it was served.
 use Rattle.std.specs.Prelude.{◌≡◌, ◌≢◌, ◌+◌, ◌≤◌, ℕ, List, length, Result, IfOk}
 use Rattle.two_wire.specs.Codes.{success}
+use Rattle.record_base.specs.Meaning.{value_or_code}
 use Rattle.cfg_records.specs.Records.{Records}
 use Rattle.cfg_records.specs.declared.board_file.BoardFile.{BoardFile}
 use Rattle.record_kinds.specs.Limits.{key_of, limits_at}
@@ -66,6 +67,10 @@ Refuses old asked answer new = answer.code ≢ success → Leaves (asked_by aske
 -- the value that an operation makes of its record among these, or the code that refuses it
 abbrev pub outcome_among : BoardFile → Records → Op → Result (List ℕ) ℕ
 outcome_among setup records op = set_outcome (limits_at setup (key_of op)) (records (key_of op)) (unknown_code setup (key_of op)) op
+
+-- the operation's value was made, or the code that refuses the operation is given
+abbrev pub Makes : {A : Type 0} → BoardFile → Records → Op → Result A ℕ → List ℕ → Type 0
+Makes setup records op result made = value_or_code result made ≡ outcome_among setup records op
 
 -- what Get Sensor Reading replies of the sensor of this number
 abbrev pub reading_by : {S : Type 0} {g h : _} → Board S g h → ℕ → Answered

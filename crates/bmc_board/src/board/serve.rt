@@ -3,7 +3,7 @@ ghost use Rattle.std.specs.Prelude.{◌≡◌, ◌≢◌, ◌+◌, ◌≤◌, If
 ghost use Rattle.two_wire.specs.Codes.{node_busy, pldm_not_ready};
 ghost use Rattle.cfg_records.specs.Records.{records_of};
 ghost use Rattle.cfg_records.specs.Boards.{pairs_of};
-ghost use Rattle.record_base.specs.Meaning.{room_for, value_or_code};
+ghost use Rattle.record_base.specs.Meaning.{room_for};
 ghost use Rattle.record_base.specs.declared.message.Answered.{Answered as Reply};
 ghost use Rattle.record_kinds.specs.Limits.{key_of};
 ghost use Rattle.record_kinds.specs.Sound.{IsSound};
@@ -12,7 +12,7 @@ ghost use Rattle.bmc_board.specs.State.{opening};
 ghost use Rattle.bmc_board.specs.Gives.{Gives, Appends};
 ghost use Rattle.bmc_board.specs.Replies.{done, unknown_code};
 ghost use Rattle.bmc_board.specs.Sensing.{value_at};
-ghost use Rattle.bmc_board.specs.Serves.{outcome_among};
+ghost use Rattle.bmc_board.specs.Serves.{Makes};
 ghost use Rattle.bmc_board.specs.declared.board.Kept.TheVariants.{Stale};
 
 use crate::activity::Activity;
@@ -120,21 +120,34 @@ fn answered(done: Result<(), Code>, body: Bytes<{ MOST_PLDM_REPLY_DATA }>) -> An
     }
 }
 
-/// What a board of this file keeps in memory beside its set-up.
-fn opened_parts(alloc: Global, file: &BoardFile) -> Result<(Activity, Tables), AllocError>
-    ensures activity { IfOk result (λ parts. parts.0 ≡ opening file.now) }
-    ensures tables { IfOk result (λ parts. AreTables file.now.attributes.items parts.1) }
-{
-    match Activity::opening(alloc, file) {
-        Ok(activity) => match Tables::open(alloc, &file.attributes) {
-            Ok(tables) => Ok((activity, tables)),
-            Err(why) => {
-                drop(activity);
-                Err(why)
-            }
-        },
-        Err(why) => Err(why),
+/// A place for a value that a Set makes, in memory of its own.
+fn place_to_make(alloc: Global) -> Result<Box<Value>, AllocError> {
+    match Box::new(alloc, Value::new()) {
+        Ok(place) => Ok(place),
+        Err(_) => Err(AllocError),
     }
+}
+
+/// What a board of this file keeps in memory beside its set-up and its records.
+#[derive(Drop)]
+struct Parts {
+    activity: Activity,
+    tables: Tables,
+    made_over_pldm: Box<Value>,
+    made_over_ipmi: Box<Value>,
+}
+
+/// These parts, as they begin. The tables take memory between the two places, which so lie apart.
+fn opened_parts(alloc: Global, file: &BoardFile) -> Result<Parts, AllocError>
+    ensures activity { IfOk result (λ parts. parts.activity ≡ opening file.now) }
+    ensures tables { IfOk result (λ parts. AreTables file.now.attributes.items parts.tables) }
+{
+    Ok(Parts {
+        made_over_pldm: place_to_make(alloc)?,
+        tables: Tables::open(alloc, &file.attributes)?,
+        made_over_ipmi: place_to_make(alloc)?,
+        activity: Activity::opening(alloc, file)?,
+    })
 }
 
 /// Makes the value that the operation makes of its record, and gives the record's place: nothing is written.
@@ -146,8 +159,7 @@ fn try_set<S: Store>(
     made: &mut Value,
 ) -> Result<S::Place, Code>
     requires { IsSound setup.now (S.records store.now) }
-    ensures made { value_or_code result made.new
-        ≡ outcome_among setup.now (S.records store.now) op.now }
+    ensures made { Makes setup.now (S.records store.now) op.now result made.new }
     ensures place { IfOk result (λ at. S.places store.now (key_of op.now) ≡ Some at) }
 {
     let key = Limits::key(op);
@@ -181,19 +193,18 @@ impl<S: Store> Board<S> {
         ensures state { IfOk result (λ board. state_of board ≡ opened file) }
     {
         match opened_parts(alloc, &file) {
-            Ok((activity, tables)) => match Setup::new(alloc, file) {
+            Ok(parts) => match Setup::new(alloc, file) {
                 Ok(setup) => Ok(Board {
                     setup,
-                    activity,
+                    activity: parts.activity,
                     store,
-                    made_over_pldm: Value::new(),
-                    tables,
-                    made_over_ipmi: Value::new(),
+                    made_over_pldm: parts.made_over_pldm,
+                    tables: parts.tables,
+                    made_over_ipmi: parts.made_over_ipmi,
                     kept: Kept::Stale,
                 }),
                 Err(why) => {
-                    drop(activity);
-                    drop(tables);
+                    drop(parts);
                     drop(store);
                     Err(why)
                 }
@@ -480,7 +491,7 @@ impl<S: Store> Board<S> {
         ensures { ServesSilently self.old self.new
             (Ok (request.SetStores first.now second.now)) result }
     {
-        let new = &mut self.made_over_ipmi;
+        let new: &mut Value = &mut self.made_over_ipmi;
         let place = try_set(&self.setup, &self.store, &Op::ChannelAccess(*first), new)?;
         let made: Bytes<2> = Bytes::from_slice(new.as_slice());
         let other = try_set(&self.setup, &self.store, &Op::ChannelAccess(*second), new)?;
