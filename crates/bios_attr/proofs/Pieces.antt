@@ -27,3 +27,9 @@ room_for before size rest most part room is = omega arith
 -- behind a piece there is room for the rest
 pub room_left : (old part new : List ℕ) (size rest most : ℕ) → length old + (size + rest) ≤ most → length part ≡ size → new ≡ old ++ part → length new + rest ≤ most
 room_left old part new size rest most room is made = omega (arith, room, is, ap (λ (xs : List ℕ). length xs) made, length-append old part)
+
+pub room_for_one : (before rest most : ℕ) → before + (1 + rest) ≤ most → before < most
+room_for_one before rest most room = omega (arith, room)
+
+pub length_of : {xs ys : List ℕ} → xs ≡ ys → length xs ≡ length ys
+length_of same = ap (λ (xs : List ℕ). length xs) same
