@@ -1,4 +1,4 @@
-use Rattle.std.proofs.Common.{◌≡◌, ◌≤◌, ◌<◌, ◌-◌, ◌%◌, ℕ, List, [], ◌∷◌, length, take, drop, get_or, nat_le, Some, None, refl, sym, ◌∙◌, ap, arith, length-drop}
+use Rattle.std.proofs.Common.{◌≡◌, ◌≤◌, ◌<◌, ◌%◌, ℕ, List, [], ◌∷◌, length, drop, get_or, nat_le, Some, None, refl, sym, ◌∙◌, ap, arith}
 use Rattle.std.specs.Option.{option_map}
 use Rattle.record_base.specs.AttributeValue.{number_of}
 use Rattle.bios_attr.specs.declared.attribute_entry.AttributeEntry.{AttributeEntry}

@@ -1,6 +1,5 @@
 use Rattle.std.proofs.Common.{◌≡◌, ◌≤◌, ◌<◌, ◌-◌, ◌%◌, ℕ, List, [], ◌∷◌, length, take, drop, get_or, nat_le, Option, None, Some, sym, ◌∙◌, ap, refl, arith}
 use Rattle.std.specs.Option.{option_map}
-use Rattle.std.proofs.lemmas.List.{take_all}
 use Rattle.record_base.specs.declared.attribute_value.AttributeValue.{AttributeValue}
 use Rattle.record_base.specs.AttributeValue.{number_of, value_in}
 use Rattle.bios_attr.specs.declared.value_entry.ValueEntry.{ValueEntry}
