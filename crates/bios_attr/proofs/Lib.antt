@@ -1,2 +1,3 @@
 pub mod BodyFacts
 pub mod Contents
+pub mod Pieces
