@@ -1,8 +1,9 @@
 -- Requests that undo, the last first.
-use Rattle.std.proofs.Common.{◌≡◌, ℕ, suc, ◌-◌, ◌<◌, true, subst, arith, List, [], ◌∷◌, ◌++◌, map, take, Some, refl, sym, ◌∙◌, ap}
+use Rattle.std.proofs.Common.{◌≡◌, ℕ, suc, ◌+◌, ◌-◌, ◌<◌, ◌≤◌, true, subst, arith, List, [], ◌∷◌, ◌++◌, length, map, take, Option, Some, None, refl, sym, ◌∙◌, ap}
 use Rattle.std.specs.Prelude.{slice_get, get_or}
+use Rattle.std.specs.Option.{option_to_list}
 use Rattle.std.proofs.Math.Seq.{take-suc}
-use Rattle.std.proofs.lemmas.List.{reverse-append}
+use Rattle.std.proofs.lemmas.List.{length-append, reverse-append}
 use Rattle.std.proofs.lemmas.Option.{slice_get_within, slice_get-get_or, same_Some}
 use Rattle.record_base.specs.declared.message.Asked.{Asked}
 use Rattle.bios_attr.specs.EntryParts.{first_request}
@@ -18,6 +19,11 @@ use Rattle.undo_core.specs.Shown.{words_of, own, backs, IsStage}
 -- one request more comes first
 pub backs_push : (requests : List Asked) (request : Asked) → backs (requests ++ request ∷ []) ≡ Sends request ∷ backs requests
 backs_push requests request = ap (map Sends) (reverse-append requests (request ∷ []))
+
+-- one request more at most is kept
+pub one_kept : (requests others : List Asked) (waiting : Option Asked) → others ≡ requests ++ option_to_list waiting → length others ≤ length requests + 1
+one_kept requests others None is = omega (arith, ap (λ (l : List Asked). length l) is, length-append requests [])
+one_kept requests others (Some request) is = omega (arith, ap (λ (l : List Asked). length l) is, length-append requests (request ∷ []))
 
 -- so does the next of a list
 pub backs_take : (requests : List Asked) (k : ℕ) (request : Asked) → slice_get requests k ≡ Some request → backs (take (suc k) requests) ≡ Sends request ∷ backs (take k requests)

@@ -1,5 +1,5 @@
 -- What the replies to a Get that goes in parts show together.
-use Rattle.std.specs.Prelude.{◌≡◌, ℕ, zero, suc, ◌+◌, ◌*◌, List, [], ◌∷◌, ◌++◌, length, Option, Some, None, if◌then◌else◌}
+use Rattle.std.specs.Prelude.{◌≡◌, ℕ, zero, suc, ◌+◌, ◌*◌, ◌<◌, List, [], ◌∷◌, ◌++◌, length, Option, Some, None, if◌then◌else◌}
 use Rattle.std.specs.List.{flat_map}
 use Rattle.record_base.specs.declared.key.Key.{Key}
 use Rattle.record_base.specs.declared.key.Key.TheVariants as key
@@ -32,6 +32,11 @@ JoinsLast parts old body new = ForJoined parts old (λ before. new ≡ joined (b
 abbrev pub most_joined : ℕ → ℕ
 most_joined zero = before_part + most_entry
 most_joined (suc parts) = before_part + part_length * suc parts
+
+-- the reply, as so many with those before it, is as long as one that shows a part with others behind it, and an entry goes on behind so many parts
+pub record IsFullPart (count : ℕ) (body : List ℕ) : Type 0 where
+  pub full : length body ≡ before_part + part_length
+  pub goes_on : part_length * count < most_entry
 
 -- the request for the next part of a record, after so many replies of which this is the last
 abbrev pub get_after_reply : Key → (count : ℕ) → List ℕ → Option Asked

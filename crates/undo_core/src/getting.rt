@@ -1,8 +1,8 @@
 //! What the replies to a Get lead to.
-ghost use Rattle.std.specs.Prelude.{◌≡◌, ◌+◌, ◌≤◌, ◌<◌, length, drop};
+ghost use Rattle.std.specs.Prelude.{◌≡◌, ◌+◌, ◌≤◌, ◌<◌, length, drop, IfSome};
 ghost use Rattle.undo_plans.specs.Fitting.{most_requests};
 ghost use Rattle.undo_core.specs.declared.stage.Task.TheVariants.{Gets as IsGets, Sets as IsSets};
-ghost use Rattle.undo_core.specs.Joining.{most_joined, get_after_reply};
+ghost use Rattle.undo_core.specs.Joining.{most_joined, IsFullPart, get_after_reply};
 ghost use Rattle.undo_core.specs.Entered.{EntersSet, AfterGet};
 ghost use Rattle.undo_core.specs.Bounds.{parts_at, most_replied, steps_needed, undone_needed, most_backs, LeavesFewer, LeavesNoMore, steps_ahead};
 ghost use Rattle.undo_core.specs.Room.{HasRoom};
@@ -21,7 +21,8 @@ use undo_plans::{Requests, Steps};
 
 /// The request for the next part of a record, after so many replies of which this is the last.
 fn next_part(key: &Key, count: u8, body: &[u8]) -> Option<Asked>
-    ensures { result ≡ get_after_reply key.now count body.now }
+    ensures asked { result ≡ get_after_reply key.now count body.now }
+    ensures full { IfSome result (λ _. IsFullPart count body.now) }
 {
     if !goes_on(count, body) {
         return None;

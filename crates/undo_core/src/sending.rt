@@ -21,14 +21,14 @@ use undo_plans::Names;
 
 /// How many of a manager's requests were answered on each bus. Counted from 0, that is the number of the open request, or
 /// of the next where none is open.
-#[derive(Clone, Copy, Debug, PartialEq, Eq)]
+#[derive(Clone, Copy)]
 pub struct Counts {
     pub ipmb: u16,
     pub smbus: u16,
 }
 
 /// The frames of a request, on its bus.
-#[derive(Debug, Drop)]
+#[derive(Drop)]
 pub struct Sent {
     pub bus: Bus,
     /// Which of the manager's requests on that bus it is, counted from 0.

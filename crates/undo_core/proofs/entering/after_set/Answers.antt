@@ -8,6 +8,7 @@ use Rattle.model_bus.specs.Answered.{Answered}
 use Rattle.model_undo.specs.Machine as machine
 use Rattle.undo_core.specs.Shown.{words_of, backs, IsStage}
 use Rattle.undo_core.specs.Room.{HasRoom}
+use Rattle.undo_core.proofs.Backs.{one_kept}
 use Rattle.undo_core.proofs.Going.{next_sent, not_yet, acknowledged}
 use Rattle.undo_core.proofs.Replies.{set_goes_on, set_ends, waited}
 use Rattle.undo_core.specs.declared.stage.Stage.TheVariants.{Opened}
@@ -62,3 +63,19 @@ returns-in-None-clause-room c =
       places = omega (arith, c.requires.room.places, c.keep.ensures.places);
       room = omega (arith, c.requires.room.room, c.keep.ensures.room);
     }))
+
+pub returns-in-Some-clause-left : goal.returns-in-Some-clause-left
+returns-in-Some-clause-left c = omega (arith, c.requires.step, c.requires.parts)
+
+pub returns-in-Some-set_next-clause-left : goal.returns-in-Some-set_next-clause-left
+returns-in-Some-set_next-clause-left c = omega (arith, c.requires.step, c.requires.parts)
+
+pub returns-in-None-clause-left : goal.returns-in-None-clause-left
+returns-in-None-clause-left c =
+    let one = one_kept c.args.requests.now.members c.keep.new.self.members c.args.requests.now.waiting c.keep.ensures.members in
+    omega (arith, c.requires.step, c.requires.parts, c.step_stage.ensures.left c.keep.new.self, one)
+
+pub returns-in-None-clause-few : goal.returns-in-None-clause-few
+returns-in-None-clause-few c =
+    let one = one_kept c.args.requests.now.members c.keep.new.self.members c.args.requests.now.waiting c.keep.ensures.members in
+    omega (arith, c.requires.few, c.step_stage.ensures.few, one)

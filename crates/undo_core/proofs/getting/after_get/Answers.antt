@@ -1,17 +1,19 @@
-use Rattle.std.proofs.Common.{rules, ◌≡◌, ◌+◌, ◌++◌, ◌∷◌, [], Bool, true, false, if◌then◌else◌, List, ℕ, length, Some, None, refl, sym, ◌∙◌, ap, subst, arith}
+use Rattle.std.proofs.Common.{rules, ◌≡◌, ◌+◌, ◌*◌, suc, ◌++◌, ◌∷◌, [], Bool, true, false, if◌then◌else◌, List, ℕ, length, Some, None, refl, sym, ◌∙◌, ap, subst, add-one, arith}
 use Rattle.std.proofs.lemmas.Option.{same_Some}
-use Rattle.bios_attr.specs.EntryParts.{joined}
+use Rattle.std.proofs.lemmas.List.{length-drop}
+use Rattle.pldm_base.specs.Parts.{part_length}
+use Rattle.bios_attr.specs.EntryParts.{before_part, joined}
 use Rattle.record_kinds.specs.Limits.{key_of, inverse}
 use Rattle.model_bus.specs.Answered.{Answered}
 use Rattle.model_undo.specs.Machine as machine
-use Rattle.undo_core.specs.Joining.{get_after_reply}
+use Rattle.undo_core.specs.Joining.{most_joined, get_after_reply}
 use Rattle.undo_core.specs.Shown.{words_of, own, IsStage}
 use Rattle.model_undo.specs.declared.phase.Why.TheVariants.{Stop}
 use Rattle.undo_core.specs.declared.stage.Stage.TheVariants.{Opened, AtHalt}
 use Rattle.undo_core.specs.declared.stage.Task.TheVariants.{Gets}
-use Rattle.undo_core.proofs.JoinedBodies.{are_joined}
 use Rattle.undo_core.proofs.Going.{one_more, next_got, more_stage, last_stage}
 use Rattle.undo_core.proofs.Replied as replied
+use Rattle.undo_core.proofs.JoinedBodies.{are_joined}
 use Rattle.undo_core.proofs.getting.after_get.Goals as goal
 
 -- a reply that came first shows its own body
@@ -28,7 +30,7 @@ returns-then-parts-eq0-clause-after c = replied.got c.args.steps.now c.args.stop
     let is_op : c.unwrap-op.result ≡ op = same_Some c.unwrap-op.result op (sym c.unwrap-op.ensures ∙ c.get.ensures ∙ there) in
     let done : c.args.reply.code ≡ 0 = search rules in
     let last : get_after_reply (key_of op) (c.args.parts + 1) a.body ≡ None =
-    (λ i. get_after_reply ((ap key_of (sym is_op) ∙ sym c.key.ensures) i) (c.args.parts + 1) a.body) ∙ sym c.next_part.ensures ∙ c.in_default-next_part.is in
+    (λ i. get_after_reply ((ap key_of (sym is_op) ∙ sym c.key.ensures) i) (c.args.parts + 1) a.body) ∙ sym c.next_part.ensures.asked ∙ c.in_default-next_part.is in
     subst (IsStage names c.args.steps.now c.got_stage.new.requests c.args.replies.now c.got_stage.result)
     (ap (λ (l : List ℕ). machine.set_stage (words_of names) c.args.stopped c.args.step op (inverse op l)) (sym (alone part.before a.body (many ∙ c.if-parts-eq0.true)))
     ∙ sym (last_stage names c.args.stopped c.args.steps.now a (machine.Gets c.args.step op) part _ done (next_got names (key_of op) part.before a.body c.args.parts many) last))
@@ -40,7 +42,7 @@ returns-clause-after c = replied.got c.args.steps.now c.args.stopped c.args.step
     let is_op : c.unwrap-op.result ≡ op = same_Some c.unwrap-op.result op (sym c.unwrap-op.ensures ∙ c.get.ensures ∙ there) in
     let done : c.args.reply.code ≡ 0 = search rules in
     let last : get_after_reply (key_of op) (c.args.parts + 1) a.body ≡ None =
-    (λ i. get_after_reply ((ap key_of (sym is_op) ∙ sym c.key.ensures) i) (c.args.parts + 1) a.body) ∙ sym c.next_part.ensures ∙ c.in_default-next_part.is in
+    (λ i. get_after_reply ((ap key_of (sym is_op) ∙ sym c.key.ensures) i) (c.args.parts + 1) a.body) ∙ sym c.next_part.ensures.asked ∙ c.in_default-next_part.is in
     let shown : c.as_slice.result.now ≡ joined (part.before ++ a.body ∷ []) = c.as_slice.ensures.value ∙ c.end.ensures part.before many got in
     subst (IsStage names c.args.steps.now c.got_stage-2.new.requests c.end.new.self c.got_stage-2.result)
     (ap (λ (l : List ℕ). machine.set_stage (words_of names) c.args.stopped c.args.step op (inverse op l)) shown
@@ -55,7 +57,7 @@ returns-then-stopped-clause-after c = replied.got c.args.steps.now c.args.stoppe
     let stops : c.args.stopped ≡ true = search rules in
     let asked = c.in-Some-next_part.asked in
     let made : get_after_reply (key_of op) (c.args.parts + 1) a.body ≡ Some asked =
-    (λ i. get_after_reply ((ap key_of (sym is_op) ∙ sym c.key.ensures) i) (c.args.parts + 1) a.body) ∙ sym c.next_part.ensures ∙ c.in-Some-next_part.is in
+    (λ i. get_after_reply ((ap key_of (sym is_op) ∙ sym c.key.ensures) i) (c.args.parts + 1) a.body) ∙ sym c.next_part.ensures.asked ∙ c.in-Some-next_part.is in
     let next : machine.Part (words_of names) = record { asked = own names asked; before = machine.bodies_with (words_of names) a part } in
     subst (IsStage names c.args.steps.now c.args.requests.now c.args.replies.now (AtHalt c.args.step Stop))
     (sym (more_stage names c.args.stopped c.args.steps.now a (machine.Gets c.args.step op) part asked _ done (next_got names (key_of op) part.before a.body c.args.parts many) made
@@ -69,9 +71,47 @@ returns-in-Some-next_part-clause-after c = replied.got c.args.steps.now c.args.s
     let goes : c.args.stopped ≡ false = search rules in
     let asked = c.in-Some-next_part.asked in
     let made : get_after_reply (key_of op) (c.args.parts + 1) a.body ≡ Some asked =
-    (λ i. get_after_reply ((ap key_of (sym is_op) ∙ sym c.key.ensures) i) (c.args.parts + 1) a.body) ∙ sym c.next_part.ensures ∙ c.in-Some-next_part.is in
+    (λ i. get_after_reply ((ap key_of (sym is_op) ∙ sym c.key.ensures) i) (c.args.parts + 1) a.body) ∙ sym c.next_part.ensures.asked ∙ c.in-Some-next_part.is in
     let next : machine.Part (words_of names) = record { asked = own names asked; before = machine.bodies_with (words_of names) a part } in
     subst (IsStage names c.args.steps.now c.args.requests.now c.take.new.self (Opened true (Gets c.args.step) (c.args.parts + 1) asked))
     (sym (more_stage names c.args.stopped c.args.steps.now a (machine.Gets c.args.step op) part asked _ done (next_got names (key_of op) part.before a.body c.args.parts many) made
     ∙ ap (λ (b : Bool). if b then machine.AtHalt c.args.step Stop else machine.Opened true (machine.Gets c.args.step op) next) goes))
     (refl, (refl, there), one_more part.before a.body c.args.parts many, are_joined c.take.new.self part.before a.body (c.take.ensures.joined part.before many got), refl))
+
+pub returns-in-Some-clause-left : goal.returns-in-Some-clause-left
+returns-in-Some-clause-left c any = omega (arith, c.requires.step, c.requires.parts)
+
+pub returns-then-stopped-clause-left : goal.returns-then-stopped-clause-left
+returns-then-stopped-clause-left c any = omega (arith, c.requires.step, c.requires.parts)
+
+pub returns-in-Some-next_part-clause-left : goal.returns-in-Some-next_part-clause-left
+returns-in-Some-next_part-clause-left c any = omega (arith, c.requires.step, c.requires.parts)
+
+pub returns-then-parts-eq0-clause-left : goal.returns-then-parts-eq0-clause-left
+returns-then-parts-eq0-clause-left c any = omega (arith, c.requires.step, c.requires.parts, c.got_stage.ensures.left any)
+
+pub returns-clause-left : goal.returns-clause-left
+returns-clause-left c any = omega (arith, c.requires.step, c.requires.parts, c.got_stage-2.ensures.left any)
+
+pub returns-in-Some-next_part-clause-parted : goal.returns-in-Some-next_part-clause-parted
+returns-in-Some-next_part-clause-parted c = omega (arith, c.in-Some-next_part.ensures.full.goes_on)
+
+pub returns-in-Some-next_part-clause-room : goal.returns-in-Some-next_part-clause-room
+returns-in-Some-next_part-clause-room c = c.requires.room
+
+pub take-requires-clause-few : goal.take-requires-clause-few
+take-requires-clause-few c = c.requires.filled
+
+pub take-requires-clause-room : goal.take-requires-clause-room
+take-requires-clause-room c =
+    let full = c.in-Some-next_part.ensures.full in
+    omega (arith, full.full, full.goes_on, length-drop before_part c.args.reply.body.now)
+
+pub returns-in-Some-next_part-clause-filled : goal.returns-in-Some-next_part-clause-filled
+returns-in-Some-next_part-clause-filled c =
+    let full : length c.args.reply.body.now ≡ before_part + part_length = c.in-Some-next_part.ensures.full.full in
+    let most : most_joined (c.args.parts + 1) ≡ before_part + part_length * suc c.args.parts = ap most_joined (add-one c.args.parts) in
+    omega (arith, full, most, c.take.ensures.few, length-drop before_part c.args.reply.body.now)
+
+pub end-requires-clause-few : goal.end-requires-clause-few
+end-requires-clause-few c = c.requires.filled

@@ -1,12 +1,14 @@
-use Rattle.std.proofs.Common.{rules, ◌≡◌, ◌≤◌, ◌+◌, Bool, true, false, refl, ◌∙◌, ap, subst, arith}
+use Rattle.std.proofs.Common.{rules, ◌≡◌, ◌≤◌, ◌<◌, ◌+◌, length, Bool, true, false, refl, ◌∙◌, ap, subst, arith}
 use Rattle.two_wire.specs.declared.Bus.{Bus}
+use Rattle.undo_plans.specs.Fitting.{most_requests}
 use Rattle.model_ports.specs.Wires.{bus_of}
 use Rattle.model_bus.specs.Answered.{Answered}
 use Rattle.model_undo.specs.Words.{is_busy}
 use Rattle.model_undo.specs.Machine.{one_answered}
 use Rattle.undo_core.specs.declared.stage.Stage.{Stage}
 use Rattle.undo_core.specs.declared.stage.Stage.TheVariants.{Opened}
-use Rattle.undo_core.specs.Bounds.{left_at, left_of, most_replies}
+use Rattle.undo_core.specs.Bounds.{steps_needed, undone_needed, most_backs, left_at, left_of, most_replies, steps_ahead, parts_at, most_replied}
+use Rattle.undo_core.specs.Room.{HasRoom}
 use Rattle.undo_core.specs.Counted.{counts_of}
 use Rattle.undo_core.proofs.Replies.{took_reply}
 use Rattle.undo_core.proofs.manager.Manager.on_reply.Goals as goal
@@ -57,3 +59,21 @@ returns c names s shows =
       stage = c.stage_after-self.ensures.after.stage names;
       sends = λ at named shown. c.open_frames.ensures names c.args.self.now.steps c.stage_after-self.new.requests c.stage_after-self.new.replies at named shown;
     })
+
+pub stage_after-self-requires-clause-steps : goal.stage_after-self-requires-clause-steps
+stage_after-self-requires-clause-steps c = subst (λ (s : Stage). steps_needed s ≤ length c.args.self.now.steps) c.in-Opened-true-default-default-default.is c.args.self.now.planned
+
+pub stage_after-self-requires-clause-undone : goal.stage_after-self-requires-clause-undone
+stage_after-self-requires-clause-undone c = subst (λ (s : Stage). undone_needed s ≤ length c.args.self.now.undo.requests.members) c.in-Opened-true-default-default-default.is c.args.self.now.kept
+
+pub stage_after-self-requires-clause-few : goal.stage_after-self-requires-clause-few
+stage_after-self-requires-clause-few c = subst (λ (s : Stage). length c.args.self.now.undo.requests.members ≤ most_backs s) c.in-Opened-true-default-default-default.is c.args.self.now.few
+
+pub stage_after-self-requires-clause-room : goal.stage_after-self-requires-clause-room
+stage_after-self-requires-clause-room c = subst (λ (s : Stage). HasRoom (steps_ahead c.args.self.now.steps s) c.args.self.now.undo.requests) c.in-Opened-true-default-default-default.is c.args.self.now.roomy
+
+pub stage_after-self-requires-clause-parts : goal.stage_after-self-requires-clause-parts
+stage_after-self-requires-clause-parts c = subst (λ (s : Stage). parts_at s < most_requests) c.in-Opened-true-default-default-default.is c.args.self.now.parted
+
+pub stage_after-self-requires-clause-filled : goal.stage_after-self-requires-clause-filled
+stage_after-self-requires-clause-filled c = subst (λ (s : Stage). length c.args.self.now.replies ≤ most_replied s) c.in-Opened-true-default-default-default.is c.args.self.now.filled
