@@ -1,6 +1,7 @@
 -- What a seat's list keeps of an answer that the board gave where the request was looked at.
-use Rattle.std.specs.Prelude.{Result, Ok, Err, true, IfOk, OnOk, OnErr, ◌∷◌, [], ◌++◌}
+use Rattle.std.specs.Prelude.{Result, Ok, Err, true, false, IsOk, IfOk, OnOk, OnErr, ◌∷◌, [], ◌++◌}
 use Rattle.std.proofs.Common.{◌≡◌, ◌+◌, ◌≤◌, ◌<◌, ℕ, List, length, drop, refl, sym, ◌∙◌, ap, subst, arith, length-append}
+use Rattle.std.proofs.Math.Arith.{lt_of_le-ne}
 use Rattle.two_wire.specs.Sizes.{most_pldm_reply_data}
 use Rattle.record_base.specs.declared.message.Asked.{Asked}
 use Rattle.record_base.specs.declared.message.Answered.{Answered}
@@ -99,3 +100,19 @@ pub leaves_seat : {J A : Type 0} {g h : _} (told result : Result A PeriodFull) (
     → after.number ≡ before.number → LeavesSeat told before after
 leaves_seat told result before after same mark list marked number =
     subst (λ r. LeavesSeat r before after) (sym same) (record { mark = mark; same_list = list; marked = marked; number = number })
+
+-- a share has fewer calls than its history has room, where that isn't full
+pub has_place_left : (amount total made most room : ℕ) → amount ≤ total → made ≡ total → made ≤ most → most ≡ room → (made ≡ room → ⊥)
+    → amount < room
+has_place_left amount total made most room bound counted within same free =
+    let less : made < room = lt_of_le-ne (subst (λ (n : ℕ). made ≤ n) same within) free in omega (arith, bound, counted, less)
+
+-- what holds of the list that was there holds of the one that came back
+pub holds_of_list : {A E : Type 0} (result : Result A E) (list : A → List Event) (items : List Event) (Holds : List Event → Type 0)
+    → IfOk result (λ a. list a ≡ items) → (IsOk result → Holds items) → IfOk result (λ a. Holds (list a))
+holds_of_list (Ok a) list items Holds same holds = subst Holds (sym same) (holds refl)
+holds_of_list (Err why) list items Holds same holds = tt
+
+-- what is false isn't true
+pub clash : false ≡ true → ⊥
+clash both = cc both

@@ -66,10 +66,10 @@ impl<J: Opening> Seat<J> {
         self.refused
     }
 
-    /// Its list and its share.
-    pub(crate) fn into_parts(self) -> (Calls, Share<J>)
-        ensures calls { result.0 ≡ self.calls }
-        ensures counted { length result.0.items ≡ result.1.amount }
+    /// How many calls it made, and its share. It lets its list go.
+    pub(crate) fn close(self) -> (usize, Share<J>)
+        ensures calls { result.0 ≡ length self.calls.items }
+        ensures counted { result.0 ≡ result.1.amount }
         ensures part { result.1.parts ≡ 1 }
     {
         let Seat {
@@ -78,6 +78,6 @@ impl<J: Opening> Seat<J> {
             refused: _,
             share,
         } = self;
-        (calls, share)
+        (calls.len(), share)
     }
 }

@@ -220,11 +220,39 @@ fn lists(alloc: Global, room: usize) -> Option<(Calls, Calls, Calls)>
     ensures second { IfSome result (λ lists. IsBlank room lists.1) }
     ensures scanner { IfSome result (λ lists. IsBlank room lists.2) }
 {
-    Some((
-        Calls::open(alloc, room).ok()?,
-        Calls::open(alloc, room).ok()?,
-        Calls::open(alloc, room).ok()?,
-    ))
+    let Ok(first) = Calls::open(alloc, room) else {
+        return None;
+    };
+    let Ok(second) = Calls::open(alloc, room) else {
+        return None;
+    };
+    let Ok(scanner) = Calls::open(alloc, room) else {
+        return None;
+    };
+    Some((first, second, scanner))
+}
+
+/// The book of a new ledger, and seats with these lists, which have its shares.
+fn seated<J: Opening>(blank: Blank, lists: (Calls, Calls, Calls)) -> (Book<J>, Seats<J>)
+    requires name { blank.name ≡ J.name }
+    requires parts { blank.parts ≡ J.parts }
+    requires three { blank.parts ≡ 3 }
+    requires first { IsBlank J.room lists.0 }
+    requires second { IsBlank J.room lists.1 }
+    requires scanner { IsBlank J.room lists.2 }
+    ensures total { result.0.total ≡ 0 }
+    ensures first { IsFresh result.1.first }
+    ensures second { IsFresh result.1.second }
+    ensures scanner { IsFresh result.1.scanner }
+{
+    let (first, second, scanner) = lists;
+    let (book, mut whole) = blank.open::<J>();
+    let seats = Seats {
+        second: Seat::new(1, second, whole.split_off(1, 0)),
+        scanner: Seat::new(2, scanner, whole.split_off(1, 0)),
+        first: Seat::new(0, first, whole),
+    };
+    (book, seats)
 }
 
 impl<J: Opening, S: Store + Drop> Shared<J, S> {
@@ -252,16 +280,11 @@ impl<J: Opening, S: Store + Drop> Shared<J, S> {
             Ok(held) => held,
             Err((fault, board)) => return Err((fault, blank, board)),
         };
-        let Some((first, second, scanner)) = lists(alloc, room) else {
+        let Some(lists) = lists(alloc, room) else {
             let (board, _) = held.into_parts();
             return Err((OpenFault::Memory, blank, board));
         };
-        let (book, mut whole) = blank.open::<J>();
-        let seats = Seats {
-            second: Seat::new(1, second, whole.split_off(1, 0)),
-            scanner: Seat::new(2, scanner, whole.split_off(1, 0)),
-            first: Seat::new(0, first, whole),
-        };
+        let (book, seats) = seated(blank, lists);
         let lock = Mutex::new(Locked { held, book });
         Ok((Shared { lock }, seats))
     }
@@ -401,11 +424,11 @@ fn count_calls<J: Opening>(book: &mut Book<J>, seats: Seats<J>) -> usize
         second,
         scanner,
     } = seats;
-    let (first, mut all) = first.into_parts();
-    let (second, share) = second.into_parts();
+    let (first, mut all) = first.close();
+    let (second, share) = second.close();
     all.merge(share);
-    let (scanner, share) = scanner.into_parts();
+    let (scanner, share) = scanner.close();
     all.merge(share);
     book.audit(&mut all);
-    first.len() + second.len() + scanner.len()
+    first + second + scanner
 }

@@ -1,0 +1,30 @@
+use Rattle.std.proofs.Common.{ℕ, ◌+◌, ◌∙◌, ap}
+use Rattle.bmc_shared.proofs.Keeping.{has_place_left, clash}
+use Rattle.bmc_shared.proofs.shared.Locked.answer.Goals as goal
+
+pub returns-in-Ok : goal.returns-in-Ok
+returns-in-Ok g c =
+    let held = c.args.self.now.held in
+    record {
+      exchanged = c.in-Ok.ensures.exchanged;
+      full = c.in-Ok.ensures.full;
+      same = tt;
+      nothing = tt;
+      counted = c.add.ensures.amount ∙ ap (λ (n : ℕ). n + 1) c.audit.ensures.amount;
+      uncounted = tt;
+      place = has_place_left c.args.share.now.amount c.args.self.now.book.total _ held.room g.J.Opening.room
+          c.audit.ensures.bound c.args.self.now.counted held.within held.room_is (λ full. clash (c.in-Ok.ensures.full.1 full));
+      part = c.add.ensures.parts ∙ c.audit.ensures.parts ∙ c.requires.part;
+    }
+
+pub returns-in-Err : goal.returns-in-Err
+returns-in-Err g c = record {
+  exchanged = tt;
+  full = c.in-Err.ensures.full;
+  same = c.in-Err.ensures.same;
+  nothing = c.in-Err.ensures.nothing;
+  counted = tt;
+  uncounted = c.audit.ensures.amount;
+  place = tt;
+  part = c.audit.ensures.parts ∙ c.requires.part;
+}
