@@ -4,7 +4,7 @@ ghost use Rattle.bmc_lab.specs.declared.console.Stream.TheVariants.{Output};
 ghost use Rattle.bmc_play.specs.Account.{status_of};
 ghost use Rattle.bmc_play.specs.Drawn.{NotesPlayOf, Draws, drawing};
 
-use crate::ended::parts_of;
+use crate::ended::{Ended, parts_of};
 use crate::inputs::Inputs;
 use crate::lines::push_stopped;
 use crate::report::status;
@@ -30,9 +30,8 @@ fn noted<'a>(
         NotesPlayOf file plan.steps plan.retries events.now stopped notes.new.items) }
 {
     match parts_of(play_noted(alloc, file, plan, events, notes)) {
-        Ok(ended) => {
-            let stopped = ended.stopped;
-            drop(ended);
+        Ok(Ended { played, stopped }) => {
+            played.close();
             Ok(stopped)
         }
         Err(AllocError) => Err(AllocError),

@@ -6,13 +6,12 @@ use lab_play::{LabFault, Played, Stopped};
 use std::alloc::AllocError;
 
 /// What was played, and the event that the lab didn't take.
-#[derive(Drop)]
 pub(crate) struct Ended {
     pub played: Played,
     pub stopped: Option<Stopped>,
 }
 
-/// The parts of what a play gave. It drops none of them: so whoever takes them drops a lab at one place.
+/// The parts of what a play gave. It drops none of them: so whoever takes them closes what was played at one place.
 pub(crate) fn parts_of(given: Result<Played, LabFault>) -> Result<Ended, AllocError>
     ensures { IfOk result (λ ended. given ≡ given_of ended.played ended.stopped) }
 {

@@ -7,7 +7,7 @@ ghost use Rattle.bmc_play.specs.Drawn.{Draws};
 ghost use Rattle.bmc_play.specs.Run.{is_memory, refusal_line, tells_of, Recounts, Says};
 
 use crate::drawn::drawn_report;
-use crate::ended::parts_of;
+use crate::ended::{Ended, parts_of};
 use crate::inputs::{InputFault, Inputs, read_inputs};
 use crate::report::{account_of, account_report};
 use bmc_lab::{Console, Ending, Report, Status, Stream};
@@ -66,10 +66,10 @@ fn played_report(
 {
     let Inputs { file, plan, events } = inputs;
     match parts_of(play(alloc, file, plan, events.as_slice())) {
-        Ok(ended) => {
-            let account = account_of(&ended.played, ended.stopped);
+        Ok(Ended { played, stopped }) => {
+            let account = account_of(&played, stopped);
             let report = account_report(alloc, frames, premises, &account);
-            drop(ended);
+            played.close();
             report
         }
         Err(AllocError) => Err(AllocError),

@@ -13,7 +13,6 @@ use Rattle.model_lab.specs.Played.{plans, happens, after}
 use Rattle.lab_run.specs.declared.note.Note.{Note}
 use Rattle.lab_run.specs.declared.lab_state.Lab.{Lab}
 use Rattle.lab_play.specs.declared.played.Played.{Played}
-use Rattle.lab_play.specs.declared.watch.Watch.{Watch}
 use Rattle.lab_play.specs.declared.run.Stopped.{Stopped}
 use Rattle.lab_run.specs.declared.step.Refused.{Refused}
 use Rattle.lab_run.specs.declared.step.Refused.TheVariants as refused
@@ -107,8 +106,14 @@ module _ (file : BoardFile) (steps : List Op) (retries : ℕ) (events : List Eve
       record { each = subst (λ (n : ℕ). AllZip IsNote notes (noted_from file (take n events) first)) count (noted file first shows) }
 
   -- what is noted of a play, as its events ended
-  pub notes_given : {E : Type 0} (played : Played) (new : Lab) (watch : Watch) (ended : Result (Option Stopped) E) → Begins file steps retries played → NotesRun events played.lab ended notes
-      → NotesPlay file steps retries events (given (record played { lab = new; watch = watch }) ended) notes
-  notes_given played new watch (Ok None) begins noted = (all_noted played.lab begins.shows noted.0 noted.1, noted.1)
-  notes_given played new watch (Ok (Some stopped)) begins noted = (some_noted played.lab begins.shows stopped.place noted.0 noted.1, noted.1)
-  notes_given played new watch (Err memory) begins noted = tt
+  pub notes_given : {E : Type 0} (played new : Played) (old : Lab) (ended : Result (Option Stopped) E) → Begins file steps retries played → old ≡ played.lab.value
+      → NotesRun events old ended notes → NotesPlay file steps retries events (given new ended) notes
+  notes_given played new old ended begins was = by ended
+    where
+      shows : Shows file old first
+      shows = subst (λ (lab : Lab). Shows file lab first) (sym was) begins.shows
+
+      by : {E : Type 0} (ended : Result (Option Stopped) E) → NotesRun events old ended notes → NotesPlay file steps retries events (given new ended) notes
+      by (Ok None) noted = (all_noted old shows noted.0 noted.1, noted.1)
+      by (Ok (Some stopped)) noted = (some_noted old shows stopped.place noted.0 noted.1, noted.1)
+      by (Err memory) noted = tt

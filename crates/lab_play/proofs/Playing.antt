@@ -1,5 +1,5 @@
 -- What a play tells, of the lab after its events.
-use Rattle.std.proofs.Common.{◌≡◌, ◌≤◌, ℕ, ◌-◌, List, length, take, Option, Some, None, Result, Ok, Err, refl, sym, ap, subst}
+use Rattle.std.proofs.Common.{◌≡◌, ◌≤◌, ℕ, ◌-◌, List, length, take, Option, Some, None, Result, Ok, Err, refl, sym, ◌∙◌, ap, subst}
 use Rattle.cfg_records.specs.declared.board_file.BoardFile.{BoardFile}
 use Rattle.record_base.specs.declared.op.Op.{Op}
 use Rattle.cfg_records.specs.Boards.{pairs_of}
@@ -33,7 +33,7 @@ module _ (file : BoardFile) (steps : List Op) (retries : ℕ) where
   told_after events = told_of file first (after file events first)
 
   tells : (events : List Event) (played : Played) → played.start.items ≡ pairs_of file → KeysDiffer (pairs_of file)
-      → Shows file played.lab (after file events first) → Tells played (told_after events)
+      → Shows file played.lab.value (after file events first) → Tells played (told_after events)
   tells events played start once shown = record {
     file = file;
     first = first;
@@ -46,7 +46,7 @@ module _ (file : BoardFile) (steps : List Op) (retries : ℕ) where
 
   -- all events were taken
   ends_whole : (events : List Event) (played : Played) (old : Lab) → played.start.items ≡ pairs_of file → KeysDiffer (pairs_of file)
-      → Shows file old first → length steps ≤ 256 → Take events old played.lab → TellsPremise file events first played.watch.broken
+      → Shows file old first → length steps ≤ 256 → Take events old played.lab.value → TellsPremise file events first played.watch.broken
       → Ends file steps retries events (Ok played)
   ends_whole events played old start once shows few takes told =
       let at = takes file first shows in
@@ -64,7 +64,7 @@ module _ (file : BoardFile) (steps : List Op) (retries : ℕ) where
 
   -- the event of a place has a fault
   ends_at : (events : List Event) (played : Played) (old : Lab) (why : Fault) (place : ℕ) → played.start.items ≡ pairs_of file → KeysDiffer (pairs_of file)
-      → Shows file old first → length steps ≤ 256 → StopsAt events old played.lab (record { place = place; fault = why })
+      → Shows file old first → length steps ≤ 256 → StopsAt events old played.lab.value (record { place = place; fault = why })
       → TellsPremise file (take (place - 1) events) first played.watch.broken → Ends file steps retries events (Err (fault.Event why place played))
   ends_at events played old why place start once shows few stops premise =
       let at = stops.left file first shows in
@@ -86,11 +86,20 @@ module _ (file : BoardFile) (steps : List Op) (retries : ℕ) where
 
   -- ---- what is given of a play, as its events ended
 
-  pub plays_given : {E : Type 0} (events : List Event) (played : Played) (new : Lab) (watch : Watch) (ended : Result (Option Stopped) E) → Begins file steps retries played
-      → Runs events played.lab ended new → WatchesRun events played.lab played.watch ended watch → Plays file steps retries events (given (record played { lab = new; watch = watch }) ended)
-  plays_given events played new watch (Ok None) begins takes watched =
-      ends_whole events (record played { lab = new; watch = watch }) played.lab begins.start begins.once begins.shows begins.few takes (watched file first begins.shows begins.watches).1
-  plays_given events played new watch (Ok (Some stopped)) begins stops watched =
-      ends_at events (record played { lab = new; watch = watch }) played.lab stopped.fault stopped.place begins.start begins.once begins.shows begins.few stops
-      (watched file first begins.shows begins.watches).1
-  plays_given events played new watch (Err memory) begins stops watched = tt
+  pub plays_given : {E : Type 0} (events : List Event) (played new : Played) (old : Lab) (ended : Result (Option Stopped) E) → Begins file steps retries played
+      → old ≡ played.lab.value → new.start.items ≡ played.start.items → Runs events old ended new.lab.value → WatchesRun events old played.watch ended new.watch
+      → Plays file steps retries events (given new ended)
+  plays_given events played new old ended begins was same = by ended
+    where
+      shows : Shows file old first
+      shows = subst (λ (lab : Lab). Shows file lab first) (sym was) begins.shows
+
+      start : new.start.items ≡ pairs_of file
+      start = same ∙ begins.start
+
+      by : {E : Type 0} (ended : Result (Option Stopped) E) → Runs events old ended new.lab.value → WatchesRun events old played.watch ended new.watch
+          → Plays file steps retries events (given new ended)
+      by (Ok None) takes watched = ends_whole events new old start begins.once shows begins.few takes (watched file first shows begins.watches).1
+      by (Ok (Some stopped)) stops watched =
+          ends_at events new old stopped.fault stopped.place start begins.once shows begins.few stops (watched file first shows begins.watches).1
+      by (Err memory) stops watched = tt

@@ -24,7 +24,7 @@ pub record Tells (played : Played) (told : Told) : Type 0 where
   pub file : BoardFile
   pub first : LabModel plans
   pub now : LabModel plans
-  pub shown : Shows file played.lab now
+  pub shown : Shows file played.lab.value now
   pub once : KeysDiffer played.start.items
   pub start : first.board.records ≡ records_of played.start.items
   pub is : told ≡ told_of file first now
@@ -33,7 +33,7 @@ pub record Tells (played : Played) (told : Told) : Type 0 where
 pub record Begins (file : BoardFile) (steps : List Op) (retries : ℕ) (played : Played) : Type 0 where
   pub start : played.start.items ≡ pairs_of file
   pub once : KeysDiffer (pairs_of file)
-  pub shows : Shows file played.lab (opening plans file lab_names steps retries)
+  pub shows : Shows file played.lab.value (opening plans file lab_names steps retries)
   pub few : length steps ≤ most_steps
   pub watches : Watches played.watch (opening plans file lab_names steps retries)
 

@@ -26,7 +26,7 @@ use undo_plans::{Plan, UndoList};
 #[derive(Drop)]
 pub struct Played {
     start: Vec<(Key, StartValue)>,
-    lab: Lab,
+    lab: Box<Lab>,
     watch: Watch,
 }
 
@@ -84,6 +84,17 @@ impl Played {
     {
         changed_count(self.records(), self.start.as_slice())
     }
+
+    /// Gives the memory of all that was played back. A crate that lets it go by this call doesn't prove again how each of its parts goes.
+    pub fn close(self) {
+        let Played {
+            start,
+            lab,
+            watch: _,
+        } = self;
+        drop(start);
+        Lab::close(lab);
+    }
 }
 
 /// Why a play doesn't end well.
@@ -105,18 +116,17 @@ impl Played {
         ensures begins { IfOk result (λ played. Begins file plan.steps plan.retries played) }
         ensures unbroken { IfOk result (λ played. played.watch.broken ≡ None) }
         ensures never { IfOk result (λ played.
-            (on : AnyBus) → idles_in on played.lab.idles ≡ 0) }
+            (on : AnyBus) → idles_in on played.lab.value.idles ≡ 0) }
     {
         let _steps = plan.steps.len();
         let watch = Watch::new();
-        match file.records(alloc) {
-            Ok(start) => match Lab::open(alloc, file, plan) {
-                Ok(lab) => Ok(Played { start, lab, watch }),
-                Err(why) => Err(why),
-            },
+        let started = file.records(alloc);
+        // The lab takes the file and the plan, whether there are records or not.
+        let lab = Lab::open(alloc, file, plan)?;
+        match started {
+            Ok(start) => Ok(Played { start, lab, watch }),
             Err(why) => {
-                drop(file);
-                drop(plan);
+                Lab::close(lab);
                 Err(why)
             }
         }
@@ -134,7 +144,7 @@ impl Played {
                 played: self,
             }),
             Err(_) => {
-                drop(self);
+                self.close();
                 Err(LabFault::Memory)
             }
         }
@@ -150,16 +160,11 @@ pub fn play(
 ) -> Result<Played, LabFault>
     ensures { Plays file plan.steps plan.retries events.now result }
 {
-    let Ok(played) = Played::begin(alloc, file, plan) else {
+    let Ok(mut played) = Played::begin(alloc, file, plan) else {
         return Err(LabFault::Memory);
     };
-    let Played {
-        start,
-        mut lab,
-        mut watch,
-    } = played;
-    let ended = run(&mut lab, &mut watch, events);
-    Played { start, lab, watch }.ending(ended)
+    let ended = run(&mut played.lab, &mut played.watch, events);
+    played.ending(ended)
 }
 
 /// Plays a plan as `play` does, and notes each event that happens.
@@ -174,14 +179,9 @@ pub fn play_noted<'a>(
     ensures plays { Plays file plan.steps plan.retries events.now result }
     ensures noted { NotesPlay file plan.steps plan.retries events.now result notes.new.items }
 {
-    let Ok(played) = Played::begin(alloc, file, plan) else {
+    let Ok(mut played) = Played::begin(alloc, file, plan) else {
         return Err(LabFault::Memory);
     };
-    let Played {
-        start,
-        mut lab,
-        mut watch,
-    } = played;
-    let ended = run_noted(&mut lab, &mut watch, events, notes);
-    Played { start, lab, watch }.ending(ended)
+    let ended = run_noted(&mut played.lab, &mut played.watch, events, notes);
+    played.ending(ended)
 }

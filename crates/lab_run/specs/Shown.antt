@@ -13,6 +13,9 @@ use Rattle.bmc_core.specs.SmbusShown as smbus
 use Rattle.model_ports.specs.Values.{IsFrameOn}
 use Rattle.model_ports.specs.PortSteps.{quiet_port}
 use Rattle.model_lab.specs.ManagerSteps.{Sent as AllSent}
+use Rattle.undo_plans.specs.declared.names.Names.{Names}
+use Rattle.undo_plans.specs.declared.plan.Plan.{Plan}
+use Rattle.undo_core.specs.declared.manager.Manager.{Manager}
 use Rattle.undo_core.specs.declared.sending.Sent.{Sent}
 use Rattle.undo_core.specs.Shown as manager
 use Rattle.lab_run.specs.declared.frames.SentFrame.{SentFrame}
@@ -70,6 +73,10 @@ BeginsOnIpmb port = ipmb.Shows port (quiet_port lab_names.peer_address lab_names
 
 abbrev pub BeginsOnSmbus : SmbusPort → Type 0
 BeginsOnSmbus port = smbus.Shows port (quiet_port lab_names.peer_wire lab_names.peer_eid)
+
+-- a manager of a plan, with its retries
+abbrev pub HasPlan : Names → Plan → Manager → Type 0
+HasPlan names plan opened = manager.Shows names opened (manager.opened_with names plan.steps plan.retries)
 
 -- a lab with a plan, on a board of this file
 abbrev pub Begins : BoardFile → List plans.words.Op → (retries : ℕ) → Lab → Type 0

@@ -1,10 +1,8 @@
 //! A lab.
 ghost use Rattle.std.specs.Prelude.{◌≡◌, IfOk};
-ghost use Rattle.undo_core.specs.Shown as manager;
-ghost use Rattle.undo_core.specs.Shown.{opened_with};
 ghost use Rattle.model_lab.specs.Meaning.{lab_names as the_names};
 ghost use Rattle.lab_run.specs.FramesShown.{ShowsFrames};
-ghost use Rattle.lab_run.specs.Shown.{ForShown, BeginsOnIpmb, BeginsOnSmbus, Begins, ForgotNone, idles_in};
+ghost use Rattle.lab_run.specs.Shown.{ForShown, BeginsOnIpmb, BeginsOnSmbus, HasPlan, Begins, ForgotNone, idles_in};
 
 use crate::fault::Marks;
 use crate::frames::Frames;
@@ -54,8 +52,7 @@ pub struct Lab {
 
 /// A manager of a plan, with the plan's retries.
 fn opened_manager(alloc: Global, plan: Plan, names: Names) -> Result<Manager, AllocError>
-    ensures { IfOk result (λ m.
-        manager.Shows names m (opened_with names plan.steps plan.retries)) }
+    ensures { IfOk result (HasPlan names plan) }
 {
     let Plan { steps, retries } = plan;
     match Manager::open(alloc, Plan { steps, retries }, names, retries.number()) {
@@ -94,8 +91,7 @@ struct Ends {
 fn opened_ends(alloc: Global, plan: Plan) -> Result<Ends, AllocError>
     ensures ipmb { IfOk result (λ ends. BeginsOnIpmb ends.ipmb) }
     ensures smbus { IfOk result (λ ends. BeginsOnSmbus ends.smbus) }
-    ensures manager { IfOk result (λ ends.
-        manager.Shows the_names ends.manager (opened_with the_names plan.steps plan.retries)) }
+    ensures manager { IfOk result (λ ends. HasPlan the_names plan ends.manager) }
 {
     Ok(Ends {
         ipmb: opened_ipmb(alloc)?,
@@ -104,29 +100,56 @@ fn opened_ends(alloc: Global, plan: Plan) -> Result<Ends, AllocError>
     })
 }
 
+/// This lab, in memory of its own.
+fn boxed(alloc: Global, lab: Lab) -> Result<Box<Lab>, AllocError>
+    ensures { IfOk result (λ boxed. boxed.value ≡ lab) }
+{
+    match Box::new(alloc, lab) {
+        Ok(boxed) => Ok(boxed),
+        Err(refused) => {
+            drop(refused);
+            Err(AllocError)
+        }
+    }
+}
+
 impl Lab {
-    /// A lab as it begins.
-    pub fn open(alloc: Global, file: BoardFile, plan: Plan) -> Result<Lab, AllocError>
-        ensures shows { IfOk result (Begins file plan.steps plan.retries) }
-        ensures never { IfOk result (λ lab. ForgotNone lab.idles) }
+    /// A lab as it begins, in memory of its own.
+    pub fn open(alloc: Global, file: BoardFile, plan: Plan) -> Result<Box<Lab>, AllocError>
+        ensures shows { IfOk result (λ lab. Begins file plan.steps plan.retries lab.value) }
+        ensures never { IfOk result (λ lab. ForgotNone lab.value.idles) }
     {
-        let ends = opened_ends(alloc, plan)?;
+        let ends = match opened_ends(alloc, plan) {
+            Ok(ends) => ends,
+            Err(error) => {
+                drop(file);
+                return Err(error);
+            }
+        };
         match Board::of_file(alloc, file) {
-            Ok(board) => Ok(Lab {
-                board,
-                ipmb: ends.ipmb,
-                smbus: ends.smbus,
-                manager: ends.manager,
-                names: lab_names(),
-                frames: Frames::new(alloc),
-                idles: Idles { ipmb: 0, smbus: 0 },
-                out: Out::new(),
-            }),
+            Ok(board) => boxed(
+                alloc,
+                Lab {
+                    board,
+                    ipmb: ends.ipmb,
+                    smbus: ends.smbus,
+                    manager: ends.manager,
+                    names: lab_names(),
+                    frames: Frames::new(alloc),
+                    idles: Idles { ipmb: 0, smbus: 0 },
+                    out: Out::new(),
+                },
+            ),
             Err(error) => {
                 drop(ends);
                 Err(error)
             }
         }
+    }
+
+    /// Gives the lab's memory back. A crate that lets a lab go by this call doesn't prove again how each of its parts goes.
+    pub fn close(lab: Box<Lab>) {
+        drop(lab);
     }
 
     /// What tells which frames are too old.

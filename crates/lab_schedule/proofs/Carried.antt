@@ -26,6 +26,7 @@ use Rattle.lab_schedule.specs.declared.make.Links.TheVariants as links
 use Rattle.lab_schedule.specs.Drawn.{Drawn, Offered, CanDeliver, DeliversAll, CanCarry, HasCarried, Carries}
 use Rattle.lab_schedule.specs.Made.{IsCleanFor, IsMade}
 use Rattle.lab_schedule.proofs.CleanKeeps.{clean_keeps}
+use Rattle.lab_schedule.proofs.Deliveries.{AreFrames}
 use Rattle.lab_schedule.proofs.Cleanly.{runs_so, events_append, taken_behind, one_delivery, room_to_call}
 
 -- ---- the call, and what is delivered after it
@@ -35,9 +36,6 @@ same_long [] [] all = refl
 same_long [] (f ∷ fs) all = absurd all
 same_long (s ∷ ss) [] all = absurd all
 same_long (s ∷ ss) (f ∷ fs) all = ap suc (same_long ss fs all.1)
-
-abbrev AreFrames : List SentFrame → Drawing → Type 0
-AreFrames sent now = (file : BoardFile) (x : LabModel plans) → Shows file now.lab x → AllZip IsSentFrame sent x.frames
 
 -- a lab with so many frames isn't called
 pub carries_full : (call : Called) (old : Drawing) (sent : List SentFrame) → AreFrames sent old → most_frames ≤ length sent → Carries call old old

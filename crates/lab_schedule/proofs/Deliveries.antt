@@ -18,7 +18,8 @@ use Rattle.model_lab.specs.Meaning.{lab_names, event_of}
 use Rattle.model_lab.specs.Played.{plans, fault_at, happens, after}
 use Rattle.model_headline.specs.CleanPlays.{events_from}
 use Rattle.lab_run.specs.declared.frames.SentFrame.{SentFrame}
-use Rattle.lab_run.specs.Shown.{Shows, IsSentFrame}
+use Rattle.lab_run.specs.declared.lab_state.Lab.{Lab}
+use Rattle.lab_run.specs.Shown.{Shows, ForShown, IsSentFrame}
 use Rattle.lab_play.proofs.Running.{after_more}
 use Rattle.lab_schedule.specs.declared.drawing.Drawing.{Drawing}
 use Rattle.lab_schedule.specs.declared.drawing.Offer.TheVariants.{Taken, Faulty}
@@ -61,8 +62,12 @@ pub record Delivering (first number : ℕ) (old now : Drawing) : Type 0 where
       → Gone file start first number old now
 
 -- the frames that the code has are those of the lab
-abbrev AreFrames : List SentFrame → Drawing → Type 0
-AreFrames sent now = (file : BoardFile) (x : LabModel plans) → Shows file now.lab x → AllZip IsSentFrame sent x.frames
+abbrev pub AreFrames : List SentFrame → Drawing → Type 0
+AreFrames sent now = (file : BoardFile) (x : LabModel plans) → Shows file now.lab.value x → AllZip IsSentFrame sent x.frames
+
+-- the lab was read out of its memory
+pub frames_are : (now : Drawing) (read : Lab) (sent : List SentFrame) → read ≡ now.lab.value → ForShown read (λ file x. AllZip IsSentFrame sent x.frames) → AreFrames sent now
+frames_are now read sent is are = subst (λ (l : Lab). ForShown l (λ file x. AllZip IsSentFrame sent x.frames)) is are
 
 module _ (file : BoardFile) (start : LabModel plans) (first number : ℕ) (old now : Drawing) (g : Gone file start first number old now) (sent : List SentFrame) (are : AreFrames sent now) where
   abbrev y : LabModel plans

@@ -1,6 +1,7 @@
 -- An event that is offered to a lab.
-use Rattle.std.proofs.Common.{◌≡◌, ◌<◌, ℕ, Bool, true, false, not, ◌&&◌, cond, List, [], ◌∷◌, ◌++◌, Option, Some, None, Ok, refl, sym, ◌∙◌, ap, subst}
+use Rattle.std.proofs.Common.{◌≡◌, ◌<◌, ℕ, Bool, true, false, not, ◌&&◌, cond, List, [], ◌∷◌, ◌++◌, Option, Some, None, Result, Ok, Err, IfOk, true≢false, refl, sym, ◌∙◌, ap, subst}
 use Rattle.std.specs.List.{AllByRecursion}
+use Rattle.std.specs.Box.{with_value}
 use Rattle.two_wire.specs.declared.Bus.TheVariants.{Smbus}
 use Rattle.cfg_records.specs.declared.board_file.BoardFile.{BoardFile}
 use Rattle.text_schedule.specs.declared.event.Event.{Event}
@@ -11,6 +12,8 @@ use Rattle.model_lab.specs.Played.{plans, fault_at, happens, after, AreTaken}
 use Rattle.model_headline.specs.Plays.{KeepsPremise, AllKeepPremise}
 use Rattle.lab_run.specs.declared.lab_state.Lab.{Lab}
 use Rattle.lab_run.specs.declared.part.ManagerPart.{ManagerPart}
+use Rattle.lab_run.specs.declared.step.Refused.{Refused}
+use Rattle.lab_run.specs.declared.step.Refused.TheVariants as refused
 use Rattle.lab_run.specs.Shown.{Shows, Steps}
 use Rattle.lab_run.specs.Parts.{part_at}
 use Rattle.lab_run.specs.Coming.{done_at}
@@ -19,7 +22,9 @@ use Rattle.lab_play.specs.Watched.{took_by, waits_long, opened_in, broken_at, Wa
 use Rattle.lab_play.proofs.Running.{after_more}
 use Rattle.lab_play.proofs.Watches.{no_packet, a_packet}
 use Rattle.lab_schedule.specs.declared.drawing.Drawing.{Drawing}
-use Rattle.lab_schedule.specs.Drawn.{Drawn}
+use Rattle.lab_schedule.specs.declared.drawing.Offer.TheVariants.{Faulty}
+use Rattle.lab_schedule.specs.declared.drawing.Offer.{Offer}
+use Rattle.lab_schedule.specs.Drawn.{Drawn, NotTaken, Offered}
 
 -- ---- the premise on packets
 
@@ -65,19 +70,33 @@ lines_more [] e all one = (one, tt)
 lines_more (d ∷ es) e all one = (all.0, lines_more es e all.1 one)
 
 -- the lab took it
-pub drawn_more : (file : BoardFile) (first : LabModel plans) (old new : Drawing) (e : Event) (place : ℕ) → Drawn file first old → Steps e old.lab (Ok tt) new.lab
-    → WatchesStep e place old.lab old.watch (Ok tt) new.watch → new.events.items ≡ old.events.items ++ e ∷ [] → new.late ≡ old.late → has_line e ≡ true
+pub drawn_more : (file : BoardFile) (first : LabModel plans) (old new : Drawing) (lab : Lab) (e : Event) (place : ℕ) → lab ≡ old.lab.value → Drawn file first old
+    → Steps e lab (Ok tt) new.lab.value → WatchesStep e place lab old.watch (Ok tt) new.watch → new.events.items ≡ old.events.items ++ e ∷ [] → new.late ≡ old.late → has_line e ≡ true
     → (old.late ≡ false → KeepsPremise file (after file old.events.items first) e) → Drawn file first new
-drawn_more file first old new e place drawn stepped watched more same line keeps =
+drawn_more file first old new lab e place was drawn stepped watched more same line keeps =
     let es = old.events.items in
     let x = after file es first in
-    let now = stepped file x drawn.shows in
+    let shows : Shows file lab x = subst (λ (l : Lab). Shows file l x) (sym was) drawn.shows in
+    let now = stepped file x shows in
     let next : happens file e x ≡ after file new.events.items first = sym (after_more file es e first) ∙ ap (λ (l : List Event). after file l first) (sym more) in
     record {
-      shows = subst (Shows file new.lab) next now.1;
+      shows = subst (Shows file new.lab.value) next now.1;
       taken = subst (λ (l : List Event). AreTaken file l first) (sym more) (taken_more file es e first drawn.taken now.0);
-      watches = subst (Watches new.watch) next (watched file x drawn.shows drawn.watches).0;
+      watches = subst (Watches new.watch) next (watched file x shows drawn.watches).0;
       kept = λ late. let before = sym same ∙ late in
           subst (λ (l : List Event). AllKeepPremise file l first) (sym more) (keep_more file es e first (drawn.kept before) (keeps before));
       lines = subst (λ (l : List Event). AllByRecursion (λ d. has_line d ≡ true) l) (sym more) (lines_more es e drawn.lines line);
     }
+
+-- the lab didn't take it
+pub not_taken : {E : Type 0} (old : Drawing) (lab now : Lab) (watch : Watch) (e : Event) (place : ℕ) (why : Refused) (given : Result Offer E) → lab ≡ old.lab.value
+    → Steps e lab (Err why) now → WatchesStep e place lab old.watch (Err why) watch → NotTaken why given
+    → IfOk given (λ offer. Offered e old offer (record old { lab = with_value old.lab now; watch = watch }))
+not_taken old lab now watch e place (refused.Fault fault) given was stepped watched is =
+    let new : Drawing = record old { lab = with_value old.lab now; watch = watch } in
+    subst (λ g. IfOk g (λ offer. Offered e old offer new)) (sym is) (
+      ap (λ (l : Lab). record old { lab = with_value old.lab l; watch = watch }) (stepped.0 ∙ was) ∙ ap (λ (w : Watch). record old { watch = w }) watched,
+      λ file first drawn. let x = after file old.events.items first in stepped.1 file x (subst (λ (l : Lab). Shows file l x) (sym was) drawn.shows),
+    )
+not_taken old lab now watch e place refused.Memory (Ok offer) was stepped watched is = absurd (true≢false is)
+not_taken old lab now watch e place refused.Memory (Err memory) was stepped watched is = tt

@@ -1,5 +1,5 @@
 -- A lab in which a schedule comes about.
-use Rattle.std.specs.Prelude.{◌≡◌, ◌≤◌, ℕ, true, false, List, [], ◌∷◌, ◌++◌, length, Option, Some, None}
+use Rattle.std.specs.Prelude.{◌≡◌, ◌≤◌, ℕ, true, false, List, [], ◌∷◌, ◌++◌, length, Option, Some, None, Result, Ok, is_ok}
 use Rattle.std.specs.List.{AllByRecursion}
 use Rattle.two_wire.specs.declared.Bus.{Bus}
 use Rattle.cfg_records.specs.declared.board_file.BoardFile.{BoardFile}
@@ -17,6 +17,8 @@ use Rattle.model_lab.specs.Played.{plans, fault_at, happens, after, AreTaken}
 use Rattle.model_headline.specs.Plays.{AllKeepPremise}
 use Rattle.model_headline.specs.CleanPlays.{events_from}
 use Rattle.lab_run.specs.declared.frames.SentFrame.{SentFrame}
+use Rattle.lab_run.specs.declared.step.Refused.{Refused}
+use Rattle.lab_run.specs.declared.step.Refused.TheVariants as refused
 use Rattle.lab_run.specs.Shown.{Shows, idles_in}
 use Rattle.lab_play.specs.Watched.{Watches}
 use Rattle.lab_schedule.specs.declared.drawing.Drawing.{Drawing}
@@ -37,7 +39,7 @@ delivery_of number (Some frame) = delivered_by number frame.way
 -- The lab began as this one of the model, and these events happened in it: it took each, and where no packet may join one that waits too long,
 -- none did. A line can say each.
 pub record Drawn (file : BoardFile) (first : LabModel plans) (drawing : Drawing) : Type 0 where
-  pub shows : Shows file drawing.lab (after file drawing.events.items first)
+  pub shows : Shows file drawing.lab.value (after file drawing.events.items first)
   pub taken : AreTaken file drawing.events.items first
   pub watches : Watches drawing.watch (after file drawing.events.items first)
   pub kept : drawing.late ≡ false → AllKeepPremise file drawing.events.items first
@@ -45,7 +47,7 @@ pub record Drawn (file : BoardFile) (first : LabModel plans) (drawing : Drawing)
 
 -- the manager's windows were forgotten at most as often as something happened
 abbrev pub HasFew : Drawing → Type 0
-HasFew drawing = (on : Bus) → idles_in on drawing.lab.idles ≤ length drawing.events.items
+HasFew drawing = (on : Bus) → idles_in on drawing.lab.value.idles ≤ length drawing.events.items
 
 -- whatever lab of the model it began as, it still did
 abbrev pub StaysDrawn : Drawing → Drawing → Type 0
@@ -58,6 +60,11 @@ Offered e old Taken new = (new.events.items ≡ old.events.items ++ e ∷ []) ×
 Offered e old (Faulty fault) new =
     (new ≡ old) × ((file : BoardFile) (first : LabModel plans) → Drawn file first old → fault_at file (after file old.events.items first) e ≡ Some fault)
 Offered e old LeftOut new = (new ≡ old) × (old.late ≡ true → has_line e ≡ false)
+
+-- this is given where the lab didn't take the event
+abbrev pub NotTaken : {E : Type 0} → Refused → Result Offer E → Type 0
+NotTaken (refused.Fault fault) given = given ≡ Ok (Faulty fault)
+NotTaken refused.Memory given = is_ok given ≡ false
 
 -- ---- clean deliveries
 

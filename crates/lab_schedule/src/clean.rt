@@ -89,11 +89,10 @@ pub(crate) fn clean_events(
 {
     let _steps = plan.steps.len();
     let mut drawing = Drawing::open(alloc, file, plan, true)?;
-    match drawing.run_cleanly(undo) {
-        Ok(()) => Ok(drawing.into_events()),
-        Err(error) => {
-            drop(drawing);
-            Err(error)
-        }
+    let run = drawing.run_cleanly(undo);
+    let events = drawing.into_events();
+    match run {
+        Ok(()) => Ok(events),
+        Err(error) => Err(error),
     }
 }

@@ -7,7 +7,7 @@ ghost use Rattle.model_lab.specs.Played.{plans};
 ghost use Rattle.model_headline.specs.Plays.{KeepsPremise};
 ghost use Rattle.lab_run.specs.Shown.{Shows};
 ghost use Rattle.lab_play.specs.Watched.{Watches};
-ghost use Rattle.lab_schedule.specs.Drawn.{Drawn, HasFew, Offered, delivery_of};
+ghost use Rattle.lab_schedule.specs.Drawn.{Drawn, HasFew, NotTaken, Offered, delivery_of};
 
 use cfg_records::BoardFile;
 use lab_play::{Watch, step_watched};
@@ -42,9 +42,8 @@ pub(crate) enum Offer {
 }
 
 /// A lab, and the events that happened in it.
-#[derive(Drop)]
 pub(crate) struct Drawing {
-    pub lab: Lab,
+    pub lab: Box<Lab>,
     pub watch: Watch,
     /// Whether a packet may join one that waits too long.
     pub late: bool,
@@ -62,6 +61,16 @@ fn may_join_late(lab: &Lab, watch: &Watch, event: &Event) -> bool
     let _ = part.tag.number();
     let waits = watch.waits_long(&part, lab.begun(Bus::Smbus));
     !part.start && waits
+}
+
+/// What comes of an event that the lab didn't take.
+fn not_taken(why: Refused) -> Result<Offer, AllocError>
+    ensures { NotTaken why result }
+{
+    match why {
+        Refused::Fault(fault) => Ok(Offer::Faulty(fault)),
+        Refused::Memory => Err(AllocError),
+    }
 }
 
 impl Drawing {
@@ -86,11 +95,17 @@ impl Drawing {
         })
     }
 
-    /// The events that happened.
+    /// The events that happened. The lab's memory is given back.
     pub fn into_events(self) -> Vec<Event>
         ensures { result.items ≡ self.events.items }
     {
-        let Drawing { events, .. } = self;
+        let Drawing {
+            lab,
+            watch: _,
+            late: _,
+            events,
+        } = self;
+        Lab::close(lab);
         events
     }
 
@@ -104,9 +119,11 @@ impl Drawing {
             ≤ suc (length self.old.events.items)) }
     {
         if !has_line(&event) {
+            drop(event);
             return Ok(Offer::LeftOut);
         }
         if !self.late && may_join_late(&self.lab, &self.watch, &event) {
+            drop(event);
             return Ok(Offer::LeftOut);
         }
         let place = self.events.len() + 1;
@@ -115,8 +132,10 @@ impl Drawing {
                 self.events.push(event)?;
                 Ok(Offer::Taken)
             }
-            Err(Refused::Fault(fault)) => Ok(Offer::Faulty(fault)),
-            Err(Refused::Memory) => Err(AllocError),
+            Err(why) => {
+                drop(event);
+                not_taken(why)
+            }
         }
     }
 }

@@ -69,12 +69,11 @@ fn drawn_events(
         (record { links = Links.Drawn chances; undo = undo }) events.items) }
 {
     let mut drawing = Drawing::open(alloc, file, plan, chances.late_joins)?;
-    match draw(alloc, &mut drawing, Traffic::new(alloc, undo, chances)) {
-        Ok(()) => Ok(drawing.into_events()),
-        Err(error) => {
-            drop(drawing);
-            Err(error)
-        }
+    let drawn = draw(alloc, &mut drawing, Traffic::new(alloc, undo, chances));
+    let events = drawing.into_events();
+    match drawn {
+        Ok(()) => Ok(events),
+        Err(error) => Err(error),
     }
 }
 

@@ -8,5 +8,5 @@ use Rattle.lab_schedule.proofs.clean.clean_events.Goals as goal
 pub returns-in-Ok : goal.returns-in-Ok
 returns-in-Ok c =
     let plan = c.args.plan in
-    subst (λ (events : List Event). IsMade c.args.file plan.steps plan.retries (record { links = links.Clean; undo = c.args.undo }) events) (sym c.into_events.ensures)
+    subst (λ (events : List Event). IsMade c.args.file plan.steps plan.retries (record { links = links.Clean; undo = c.args.undo }) events) (sym c.into_events-events.ensures)
     (c.in-Ok.ensures c.args.file plan.steps plan.retries (subst (λ (n : ℕ). n ≤ most_steps) c.len-steps.ensures.value c.len-steps.ensures.few) c.in_ok-drawing.ensures.drawn)
