@@ -31,7 +31,7 @@ fn noted<'a>(
 {
     match parts_of(play_noted(alloc, file, plan, events, notes)) {
         Ok(Ended { played, stopped }) => {
-            played.close();
+            drop(played);
             Ok(stopped)
         }
         Err(AllocError) => Err(AllocError),

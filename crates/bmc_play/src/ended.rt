@@ -11,7 +11,7 @@ pub(crate) struct Ended {
     pub stopped: Option<Stopped>,
 }
 
-/// The parts of what a play gave. It drops none of them: so whoever takes them closes what was played at one place.
+/// The parts of what a play gave. It drops none of them: so whoever takes them drops what was played at one place.
 pub(crate) fn parts_of(given: Result<Played, LabFault>) -> Result<Ended, AllocError>
     ensures { IfOk result (λ ended. given ≡ given_of ended.played ended.stopped) }
 {

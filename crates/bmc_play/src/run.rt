@@ -69,7 +69,7 @@ fn played_report(
         Ok(Ended { played, stopped }) => {
             let account = account_of(&played, stopped);
             let report = account_report(alloc, frames, premises, &account);
-            played.close();
+            drop(played);
             report
         }
         Err(AllocError) => Err(AllocError),

@@ -23,11 +23,23 @@ use undo_core::Phase;
 use undo_plans::{Plan, UndoList};
 
 /// What is told of a lab that was played.
-#[derive(Drop)]
 pub struct Played {
     start: Vec<(Key, StartValue)>,
     lab: Box<Lab>,
     watch: Watch,
+}
+
+// Written out: the crates above would prove a derived one anew.
+impl Drop for Played {
+    fn drop(self) {
+        let Played {
+            start,
+            lab,
+            watch: _,
+        } = self;
+        drop(start);
+        drop(lab);
+    }
 }
 
 impl Played {
@@ -84,17 +96,6 @@ impl Played {
     {
         changed_count(self.records(), self.start.as_slice())
     }
-
-    /// Gives the memory of all that was played back. A crate that lets it go by this call doesn't prove again how each of its parts goes.
-    pub fn close(self) {
-        let Played {
-            start,
-            lab,
-            watch: _,
-        } = self;
-        drop(start);
-        Lab::close(lab);
-    }
 }
 
 /// Why a play doesn't end well.
@@ -126,7 +127,7 @@ impl Played {
         match started {
             Ok(start) => Ok(Played { start, lab, watch }),
             Err(why) => {
-                Lab::close(lab);
+                drop(lab);
                 Err(why)
             }
         }
@@ -144,7 +145,7 @@ impl Played {
                 played: self,
             }),
             Err(_) => {
-                self.close();
+                drop(self);
                 Err(LabFault::Memory)
             }
         }

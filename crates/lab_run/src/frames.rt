@@ -22,9 +22,16 @@ pub struct SentFrame {
 }
 
 /// All frames that were sent, each at its number. Memory is taken as they come.
-#[derive(Drop)]
 pub struct Frames {
     items: Vec<SentFrame>,
+}
+
+// Written out: the crates above would prove a derived one anew.
+impl Drop for Frames {
+    fn drop(self) {
+        let Frames { items } = self;
+        drop(items);
+    }
 }
 
 impl Model for Frames {

@@ -37,7 +37,6 @@ impl Idles {
 }
 
 /// A controller's board with its two ports, a manager with a plan, and all frames that were sent.
-#[derive(Drop)]
 pub struct Lab {
     pub(crate) board: Board<Records>,
     pub(crate) ipmb: IpmbPort,
@@ -48,6 +47,27 @@ pub struct Lab {
     pub(crate) idles: Idles,
     /// What a port sent last.
     pub(crate) out: Out,
+}
+
+// Written out: the crates above would prove a derived one anew.
+impl Drop for Lab {
+    fn drop(self) {
+        let Lab {
+            board,
+            ipmb,
+            smbus,
+            manager,
+            names: _,
+            frames,
+            idles: _,
+            out: _,
+        } = self;
+        drop(board);
+        drop(ipmb);
+        drop(smbus);
+        drop(manager);
+        drop(frames);
+    }
 }
 
 /// A manager of a plan, with the plan's retries.
@@ -145,11 +165,6 @@ impl Lab {
                 Err(error)
             }
         }
-    }
-
-    /// Gives the lab's memory back. A crate that lets a lab go by this call doesn't prove again how each of its parts goes.
-    pub fn close(lab: Box<Lab>) {
-        drop(lab);
     }
 
     /// What tells which frames are too old.

@@ -105,7 +105,7 @@ impl Drawing {
             late: _,
             events,
         } = self;
-        Lab::close(lab);
+        drop(lab);
         events
     }
 
