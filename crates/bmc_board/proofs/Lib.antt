@@ -1,5 +1,6 @@
 pub mod Rightly
 pub mod LiveReplies
+mod LiveServed
 pub mod BootFacts
 pub mod ChannelFacts
 pub mod AttributeFacts
