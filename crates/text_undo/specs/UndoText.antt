@@ -15,17 +15,13 @@ use Rattle.undo_plans.specs.Steps.{most_steps}
 use Rattle.undo_plans.specs.declared.names.Names.{Names}
 use Rattle.undo_plans.specs.declared.undo_list.NextNumbers.{NextNumbers}
 use Rattle.undo_plans.specs.declared.undo_list.UndoList.{UndoList}
-use Rattle.text_undo.specs.declared.version.Version.{Version}
-use Rattle.text_undo.specs.declared.version.Version.TheVariants.{One, Two}
+use Rattle.undo_version.specs.declared.version.Version.{Version}
+use Rattle.undo_version.specs.declared.version.Version.TheVariants.{One, Two}
+use Rattle.undo_version.specs.Versions.{version_line, head_length}
 
 -- ---- the lines
 
--- line 1 is the version
-abbrev pub version_line : Version → List ℕ
-version_line One = codes "undo 1"
-version_line Two = codes "undo 2"
-
--- it is 2 where the list has names
+-- the version is 2 where the list has names
 abbrev pub version_of : Option Names → Version
 version_of None = One
 version_of (Some names) = Two
@@ -161,11 +157,6 @@ text_of list =
     flat_map ended (version_line (version_of list.names) ∷ numbers_line list.next ∷ (names_lines list.names ++ map line_of (reverse list.requests.members)))
 
 -- ---- what is no undo text
-
--- how many lines stand in front of the requests
-abbrev pub head_length : Version → ℕ
-head_length One = 2
-head_length Two = 3
 
 -- A line behind the first can have this number in an undo text of this version, where lines are counted from 1. The numbers stand on line 2,
 -- in version 2 the names on line 3, and at most `most_steps` requests behind them.

@@ -5,7 +5,6 @@ mod laws;
 mod line;
 mod names;
 mod text;
-mod version;
 
 pub use laws::one_undo_list;
 pub use text::{UndoFault, push_requests, read_undo, write_undo};

@@ -3,14 +3,15 @@ ghost use Rattle.std.specs.Prelude.{◌≡◌, ◌⊎◌, ◌≤◌, ◌+◌, �
 ghost use Rattle.std.specs.List.{All, AllZip, flat_map};
 ghost use Rattle.text_lines.specs.Cuts.{ended};
 ghost use Rattle.undo_plans.specs.Steps.{most_steps};
-ghost use Rattle.text_undo.specs.UndoText.{IsPlain, IsRequestLine, AreLinesOf, Stands, IsFirstBad, IsFirstBadFrom, line_of, head_length, text_of};
+ghost use Rattle.undo_version.specs.Versions.{version_line, head_length};
+ghost use Rattle.text_undo.specs.UndoText.{IsPlain, IsRequestLine, AreLinesOf, Stands, IsFirstBad, IsFirstBadFrom, version_of, line_of, text_of};
 
 use crate::line::{add_first, first_numbers, push_request};
 use crate::names::{push_names_line, version_names};
-use crate::version::{Version, first_version, head_lines, version_text};
 use std::alloc::{AllocError, Global};
 use std::fmt;
-use undo_plans::{MOST_STEPS, Requests, UndoList};
+use undo_plans::{MOST_STEPS, Names, Requests, UndoList};
+use undo_version::{Version, first_version, head_lines};
 
 /// Why a text is no undo text.
 #[derive(Clone, Copy, Debug, PartialEq, Eq)]
@@ -23,6 +24,16 @@ pub enum UndoFault {
 
 /// The most requests of a text.
 const MOST_REQUESTS: usize = MOST_STEPS;
+
+/// The first line of a list with these names, or with none, and the line feed that ends it.
+fn version_text(names: &Option<Names>) -> &'static str
+    ensures { result.now ≡ ended (version_line (version_of names.now)) }
+{
+    match names {
+        None => Version::One.line(),
+        Some(_) => Version::Two.line(),
+    }
+}
 
 /// The text of the list, in upper case: what `read_undo` reads as that list, where each request is from nobody and to logical unit 0. It is
 /// of version 2 where the list has names, and else of version 1.

@@ -1,5 +1,5 @@
 -- The machine that a manager shows, and the packets that wait at it.
-use Rattle.std.specs.Prelude.{◌≡◌, ◌≢◌, Result, Ok, Err, ℕ, suc, ◌<◌, ◌≤◌, Bool, ◌&&◌, not, List, ◌∷◌, length, map, take, reverse, Option, Some, None, slice_get, if◌then◌else◌}
+use Rattle.std.specs.Prelude.{◌≡◌, ◌≢◌, Result, Ok, Err, ℕ, suc, ◌<◌, ◌≤◌, Bool, ◌==◌, ◌&&◌, not, List, ◌∷◌, length, map, take, reverse, Option, Some, None, slice_get, if◌then◌else◌}
 use Rattle.std.specs.List.{AllZip}
 use Rattle.std.specs.Option.{option_map}
 use Rattle.two_wire.specs.declared.Bus.TheVariants.{Ipmb, Smbus}
@@ -13,6 +13,7 @@ use Rattle.undo_plans.specs.declared.names.Names.{Names}
 use Rattle.undo_plans.specs.declared.undo_list.UndoList.{UndoList}
 use Rattle.undo_plans.specs.Requests.{RequestList}
 use Rattle.mctp_net.specs.declared.packet.Packet.{Packet}
+use Rattle.pldm_base.specs.declared.message.Header.{Header}
 use Rattle.mctp_net.specs.Grammar.{IsPacket}
 use Rattle.mctp_net.specs.Assembly.{nothing}
 use Rattle.mctp_net.specs.Places.{seen}
@@ -193,6 +194,10 @@ TellsButForBusy asked sequence response passes = TellsResponse asked sequence re
 -- and whether the message answers this request on SMBus
 abbrev pub TellsMessage : Asked → (instance : ℕ) → (message : List ℕ) → Bool → Type 0
 TellsMessage asked instance message passes = (names : Names) → bus_of asked ≡ Smbus → pldm_answers (bytes_of instance (own names asked)) message ≡ passes
+
+-- the header has this instance, type and command
+abbrev pub is_header_of : Header → (instance kind command : ℕ) → Bool
+is_header_of header instance kind command = header.instance == instance && header.pldm_type == kind && header.command == command
 
 -- the message gives the reply's answer, and answers this request unless the reply's code is that of a busy port
 pub record IsReplyTo (asked : Asked) (instance : ℕ) (message : List ℕ) (reply : Reply) : Type 0 where

@@ -1,7 +1,7 @@
 //! Frames that come to a manager.
-ghost use Rattle.std.specs.Prelude.{◌≡◌, ◌≤◌, ◌==◌, ◌&&◌, length, None, IfSome, false};
+ghost use Rattle.std.specs.Prelude.{◌≡◌, ◌≤◌, length, None, IfSome, false};
 ghost use Rattle.two_wire.specs.Sizes.{most_message_bytes};
-ghost use Rattle.undo_core.specs.Shown.{Takes, answered_in, TellsButForBusy, TellsMessage, IsReplyTo, IsTakenIf, IsJoinedIf, HearsResponse, HearsPacket, HearsMessage, HearsResponseIn, HearsPacketIn, StaysSilent, IsNoResponse, IsNoPacket};
+ghost use Rattle.undo_core.specs.Shown.{Takes, answered_in, TellsButForBusy, TellsMessage, IsReplyTo, IsTakenIf, IsJoinedIf, HearsResponse, HearsPacket, HearsMessage, HearsResponseIn, HearsPacketIn, StaysSilent, IsNoResponse, IsNoPacket, is_header_of as is_header};
 ghost use Rattle.model_undo.specs.Words.{is_busy as is_busy_code};
 ghost use Rattle.undo_core.specs.Course.{Hears, ComesOf};
 ghost use Rattle.two_wire.specs.declared.Bus.TheVariants.{Ipmb as IsIpmb, Smbus as IsSmbus};
@@ -215,8 +215,7 @@ fn reply_to<'a>(asked: &Asked, instance: Instance, message: &'a [u8]) -> Option<
 
 /// Whether the header has this instance, type and command.
 fn is_header_of(header: &Header, instance: Instance, kind: u8, command: u8) -> bool
-    ensures { result ≡ (header.now.instance == instance && header.now.pldm_type == kind
-        && header.now.command == command) }
+    ensures { result ≡ is_header header.now instance kind command }
 {
     header.instance == instance && header.pldm_type.number() == kind && header.command == command
 }

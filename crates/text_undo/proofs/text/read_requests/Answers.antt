@@ -1,7 +1,7 @@
 use Rattle.std.proofs.Common.{◌≡◌, ◌+◌, ◌∷◌, [], inr, List, length, refl, sym, ◌∙◌, ap, subst, arith, rules}
 use Rattle.std.proofs.lemmas.List.{length-append}
 use Rattle.record_base.specs.declared.message.Asked.{Asked}
-use Rattle.text_undo.specs.UndoText.{head_length}
+use Rattle.undo_version.specs.Versions.{head_length}
 use Rattle.text_undo.proofs.UndoLists.{Begun, begun_more, begun_bad, no_request, past, not_empty}
 use Rattle.text_undo.proofs.text.read_requests.Goals as goal
 

@@ -1,10 +1,10 @@
-use Rattle.std.proofs.Common.{◌≡◌, ◌≤◌, ℕ, ◌-◌, ◌==◌, ◌&&◌, not, Bool, List, [], ◌∷◌, length, take, drop, sym, ◌∙◌, ap, arith}
+use Rattle.std.proofs.Common.{◌≡◌, ◌≤◌, ℕ, ◌-◌, ◌&&◌, not, Bool, List, [], ◌∷◌, length, take, drop, sym, ◌∙◌, ap, arith}
 use Rattle.std.specs.Prelude.{slice_index}
 use Rattle.std.proofs.Math.Seq.{take-length}
 use Rattle.model_bus.specs.Bytes.{pldm_answers, is_busy_code}
 use Rattle.model_ports.specs.Wires.{bytes_of, answered_from}
 use Rattle.two_wire.specs.declared.Bus.TheVariants.{Smbus}
-use Rattle.undo_core.specs.Shown.{own}
+use Rattle.undo_core.specs.Shown.{own, is_header_of}
 use Rattle.undo_core.proofs.Heard.{pldm_by_fields}
 use Rattle.undo_core.proofs.hearing.reply_to.Goals as goal
 
@@ -25,7 +25,7 @@ returns-clause-some c =
       tells = λ names on.
           (λ i. pldm_answers (bytes_of c.args.instance (own names (c.in-Pldm.is i))) (is i))
           ∙ pldm_by_fields names c.in-Pldm.from c.in-Pldm.kind c.in-Pldm.command c.args.instance c.in-Pldm.body r c.new.result (omega arith) read
-          ∙ ap (λ (b : Bool). b && not (is_busy_code r.code)) (ap (λ (k : ℕ). r.header.instance == c.args.instance && r.header.pldm_type == k && r.header.command == c.in-Pldm.command) (sym c.number-kind.ensures.value) ∙ sym c.is_header_of.ensures ∙ c.if-not-is_header_of.false);
+          ∙ ap (λ (b : Bool). b && not (is_busy_code r.code)) (ap (λ (k : ℕ). is_header_of r.header c.args.instance k c.in-Pldm.command) (sym c.number-kind.ensures.value) ∙ sym c.is_header_of.ensures ∙ c.if-not-is_header_of.false);
     }
 
 pub returns-then-not-is_header_of-clause-none : goal.returns-then-not-is_header_of-clause-none
@@ -34,4 +34,4 @@ returns-then-not-is_header_of-clause-none c none names on =
     let is : c.args.message.now ≡ 1 ∷ c.new.result = pldm_message c.args.message.now c.new.result c.in-len1-up.len_at_least c.if-first-ne-PLDM_MESSAGE_TYPE.false c.new.ensures in
     (λ i. pldm_answers (bytes_of c.args.instance (own names (c.in-Pldm.is i))) (is i))
     ∙ pldm_by_fields names c.in-Pldm.from c.in-Pldm.kind c.in-Pldm.command c.args.instance c.in-Pldm.body r c.new.result (omega arith) c.in-Ok.ensures.read
-    ∙ ap (λ (b : Bool). b && not (is_busy_code r.code)) (ap (λ (k : ℕ). r.header.instance == c.args.instance && r.header.pldm_type == k && r.header.command == c.in-Pldm.command) (sym c.number-kind.ensures.value) ∙ sym c.is_header_of.ensures ∙ c.if-not-is_header_of.true)
+    ∙ ap (λ (b : Bool). b && not (is_busy_code r.code)) (ap (λ (k : ℕ). is_header_of r.header c.args.instance k c.in-Pldm.command) (sym c.number-kind.ensures.value) ∙ sym c.is_header_of.ensures ∙ c.if-not-is_header_of.true)

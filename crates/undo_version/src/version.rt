@@ -1,14 +1,13 @@
-//! The versions of the undo text.
+//! The version of an undo text, on its first line.
 ghost use Rattle.std.specs.Prelude.{◌≡◌, ◌≢◌, ◌++◌, ℕ, List, IfSome, IfNone};
 ghost use Rattle.text_lines.specs.Cuts.{ended};
-ghost use Rattle.text_undo.specs.declared.version.Version.{Version as AnyVersion};
-ghost use Rattle.text_undo.specs.UndoText.{version_line, version_of, head_length};
+ghost use Rattle.undo_version.specs.declared.version.Version.{Version as AnyVersion};
+ghost use Rattle.undo_version.specs.Versions.{version_line, head_length};
 
 use text_lines::behind;
-use undo_plans::Names;
 
 /// The version of a text.
-#[derive(Clone, Copy, PartialEq, Eq)]
+#[derive(Clone, Copy)]
 pub enum Version {
     /// The text has no names.
     One,
@@ -48,12 +47,14 @@ pub fn head_lines(version: Version) -> usize
     }
 }
 
-/// The first line of a list with these names, or with none, and the line feed that ends it.
-pub fn version_text(names: &Option<Names>) -> &'static str
-    ensures { result.now ≡ ended (version_line (version_of names.now)) }
-{
-    match names {
-        None => FIRST,
-        Some(_) => SECOND,
+impl Version {
+    /// The first line of its texts, and the line feed that ends it.
+    pub fn line(self) -> &'static str
+        ensures { result.now ≡ ended (version_line self) }
+    {
+        match self {
+            Version::One => FIRST,
+            Version::Two => SECOND,
+        }
     }
 }
