@@ -1,3 +1,4 @@
+pub mod AtOnce
 pub mod Scanning
 pub mod Seated
 pub mod Since

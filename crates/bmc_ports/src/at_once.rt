@@ -1,7 +1,10 @@
-//! Two things, one after the other, or at once with one of them in a thread of its own.
+//! Works that are run at once, in threads of their own.
 ghost use Rattle.std.specs.Prelude.{◌≡◌, IfOk, Ok};
+ghost use Rattle.bmc_ports.specs.AtOnce.{BothGive, ThreeGive};
 
+use std::snapshot::Snapshot;
 use std::sync::Wait;
+use std::sync::atomic::{AtomicBool, Ordering};
 use std::thread;
 use std::thread::{Promise, Threads};
 
@@ -9,79 +12,159 @@ use std::thread::{Promise, Threads};
 #[derive(Clone, Copy, Debug)]
 pub struct NoThread;
 
-/// Runs one thing in a thread of its own, and another meanwhile in this one. Where no thread can be started, neither runs.
-pub(crate) fn run_at_once<P, T, F, U, M, R>(
-    rt: &R,
-    promise: P,
-    apart: F,
-    here: M,
-) -> Result<(T, U), NoThread>
+/// What is to be done once, and gives something back.
+pub(crate) trait Work {
+    /// What it gives back.
+    type Given;
+
+    /// It may give this back.
+    ghost gives: { Self → Self.Given → Type 0 };
+
+    /// Does it.
+    fn run(self) -> Self::Given
+        ensures { gives self result };
+}
+
+/// What two works gave back.
+#[derive(Drop)]
+pub(crate) struct Both<T, U> {
+    pub first: T,
+    pub second: U,
+}
+
+/// What a scanner's work gave back, and what those of two workers did.
+#[derive(Drop)]
+pub(crate) struct Three<S, T, U> {
+    pub scanner: S,
+    pub first: T,
+    pub second: U,
+}
+
+/// What the thread of a work gives back: what that work may give.
+#[derive(Drop)]
+struct GivenBy<W: Work>(Snapshot<W>);
+
+impl<W: Work> Promise<W::Given> for GivenBy<W> {
+    ghost kept_by = { λ promise given. W.gives promise.0.value given };
+}
+
+/// Runs a work in a thread of its own, and another thing meanwhile in this one. Where no thread can be started, neither runs.
+fn run_apart<W, U, M, R>(rt: &R, apart: W, here: M) -> Result<Both<W::Given, U>, NoThread>
 where
-    P: Promise<T> + Drop,
-    T: Send + Drop,
-    F: FnOnce() -> T + Send + Drop,
+    W: Work + Send + Drop,
+    W::Given: Send + Drop,
     U: Drop,
     M: FnOnce() -> U + Drop,
     R: Threads + Wait + Sync,
-    requires apart { F.pre apart }
-    requires keeps { (given : T) → F.post apart given → P.kept_by promise given }
-    requires here { M.pre here }
-    ensures apart { IfOk result (λ both. P.kept_by promise both.0) }
-    ensures here { IfOk result (λ both. M.post here both.1) }
+    requires { M.pre here }
+    ensures { BothGive (W.gives apart) (M.post here) result }
 {
     thread::scope(
         thread::scope_env(),
         rt,
-        |scope| -> Result<(T, U), NoThread>
-            requires apart { F.pre apart }
-            requires keeps { (given : T) → F.post apart given → P.kept_by promise given }
-            requires here { M.pre here }
-            ensures apart { IfOk result (λ both. P.kept_by promise both.0) }
-            ensures here { IfOk result (λ both. M.post here both.1) }
+        |scope| -> Result<Both<W::Given, U>, NoThread>
+            requires { M.pre here }
+            ensures { BothGive (W.gives apart) (M.post here) result }
         {
-            let Ok(thread) = scope.spawn_with(promise, apart) else {
+            let promise = GivenBy(Snapshot::of(&apart));
+            let Ok(thread) = scope.spawn_with(promise, move || apart.run()) else {
                 return Err(NoThread);
             };
-            let here = here();
-            Ok((thread.join(rt), here))
+            let second = here();
+            Ok(Both {
+                first: thread.join(rt),
+                second,
+            })
         },
     )
 }
 
-/// Runs two things: both at once, where that is wanted, and else one after the other in this thread. Where no thread can be started, neither runs.
-pub(crate) fn run_both<P, T, F, U, M, R>(
-    rt: &R,
-    at_once: bool,
-    promise: P,
-    apart: F,
-    here: M,
-) -> Result<(T, U), NoThread>
+/// Runs two works at once, the first in a thread of its own. Where no thread can be started, neither runs.
+fn run_at_once<V, W, R>(rt: &R, first: V, second: W) -> Result<Both<V::Given, W::Given>, NoThread>
 where
-    P: Promise<T> + Drop,
-    T: Send + Drop,
-    F: FnOnce() -> T + Send + Drop,
-    U: Drop,
-    M: FnOnce() -> U + Drop,
+    V: Work + Send + Drop,
+    V::Given: Send + Drop,
+    W: Work + Drop,
+    W::Given: Drop,
     R: Threads + Wait + Sync,
-    requires apart { F.pre apart }
-    requires keeps { (given : T) → F.post apart given → P.kept_by promise given }
-    requires here { M.pre here }
-    ensures apart { IfOk result (λ both. P.kept_by promise both.0) }
-    ensures here { IfOk result (λ both. M.post here both.1) }
+    ensures { BothGive (V.gives first) (W.gives second) result }
 {
-    if at_once {
-        return run_at_once(rt, promise, apart, here);
-    }
-    let first = apart();
-    Ok((first, here()))
+    run_apart(rt, first, move || second.run())
 }
 
-/// What two things gave, of which the second ran others and may have found no thread for them.
-pub(crate) fn joined<T: Drop, U: Drop>(
-    ran: Result<(T, Result<U, NoThread>), NoThread>,
-) -> Result<(T, U), NoThread>
-    ensures { IfOk result (λ both. ran ≡ Ok (both.0, Ok both.1)) }
+/// Runs two workers at once, and says once both ended.
+fn run_workers<V, W, R>(
+    rt: &R,
+    first: V,
+    second: W,
+    over: &AtomicBool,
+) -> Result<Both<V::Given, W::Given>, NoThread>
+where
+    V: Work + Send + Drop,
+    V::Given: Send + Drop,
+    W: Work + Drop,
+    W::Given: Drop,
+    R: Threads + Wait + Sync,
+    ensures { BothGive (V.gives first) (W.gives second) result }
 {
-    let (first, second) = ran?;
-    Ok((first, second?))
+    let both = run_at_once(rt, first, second);
+    over.store(true, Ordering::SeqCst);
+    both
+}
+
+/// What a scanner gave back that ran apart from two workers.
+fn joined<S: Drop, T: Drop, U: Drop>(
+    ran: Result<Both<S, Result<Both<T, U>, NoThread>>, NoThread>,
+) -> Result<Three<S, T, U>, NoThread>
+    ensures { IfOk result (λ three. ran ≡ Ok (record {
+      first = three.scanner;
+      second = Ok (record { first = three.first; second = three.second });
+    })) }
+{
+    let Both {
+        first: scanner,
+        second,
+    } = ran?;
+    let Both { first, second } = second?;
+    Ok(Three {
+        scanner,
+        first,
+        second,
+    })
+}
+
+/// Runs two workers at once, the first in a thread of its own, and a scanner: in a thread beside them, where that is wanted, and else before them.
+/// Once both workers ended, `over` is set. Where a thread can't be started, who would run beside it doesn't run.
+pub(crate) fn run_three<S, V, W, R>(
+    rt: &R,
+    beside: bool,
+    scanner: S,
+    first: V,
+    second: W,
+    over: &AtomicBool,
+) -> Result<Three<S::Given, V::Given, W::Given>, NoThread>
+where
+    S: Work + Send + Drop,
+    S::Given: Send + Drop,
+    V: Work + Send + Drop,
+    V::Given: Send + Drop,
+    W: Work + Drop,
+    W::Given: Drop,
+    R: Threads + Wait + Sync,
+    ensures { ThreeGive (S.gives scanner) (V.gives first) (W.gives second) result }
+{
+    if beside {
+        return joined(run_apart(rt, scanner, move || {
+            run_workers(rt, first, second, over)
+        }));
+    }
+    let scanner = scanner.run();
+    match run_workers(rt, first, second, over) {
+        Ok(Both { first, second }) => Ok(Three {
+            scanner,
+            first,
+            second,
+        }),
+        Err(why) => Err(why),
+    }
 }

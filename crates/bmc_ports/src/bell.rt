@@ -68,9 +68,9 @@ impl Bell {
         self.rung.store(true, Ordering::SeqCst);
     }
 
-    /// Tells the scanner that both workers ended.
-    pub fn end(&self) {
-        self.over.store(true, Ordering::SeqCst);
+    /// What is set once both workers ended.
+    pub fn over(&self) -> &AtomicBool {
+        &self.over
     }
 }
 

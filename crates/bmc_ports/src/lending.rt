@@ -3,11 +3,11 @@ ghost use Rattle.std.specs.Prelude.{◌≡◌, ◌↔◌, IsTrue, IfOk};
 ghost use Rattle.bmc_ports.specs.Slices.{IsBack, IsDone, NoRoom};
 ghost use Rattle.bmc_ports.specs.Timing.{IsPlayed};
 
-use crate::at_once::NoThread;
+use crate::at_once::{NoThread, Three, run_three};
 use crate::bell::Bell;
 use crate::lane::Lanes;
-use crate::scanned::{Played, Script, run_beside};
-use crate::slices::{Both, Lent};
+use crate::scanned::{Played, Playing, Script};
+use crate::slices::{Lent, Returned, Serving};
 use crate::timed::{TimedEnd, Timetable};
 use bmc_board::Records;
 use bmc_links::Link;
@@ -31,47 +31,50 @@ pub struct Sliced<J: Opening, A, B> {
 
 /// What two workers and a scanner gave back.
 fn give_back<J: Opening, A: Drop, B: Drop>(
-    workers: Both<J, A, B>,
-    played: Played<J>,
+    run: Three<Played<J>, Returned<J, A>, Returned<J, B>>,
 ) -> Sliced<J, A, B>
-    requires first { workers.0.0.seat.number ≡ 0 }
-    requires second { workers.1.0.seat.number ≡ 1 }
-    requires third { played.seat.number ≡ 2 }
-    ensures first { (result.seats.first ≡ workers.0.0.seat)
-        × (result.lanes.first ≡ workers.0.0.lane) }
-    ensures second { (result.seats.second ≡ workers.1.0.seat)
-        × (result.lanes.second ≡ workers.1.0.lane) }
-    ensures scanner { (result.seats.scanner ≡ played.seat) × (result.next ≡ played.next) }
-    ensures first_end { result.first_end ≡ workers.0.1 }
-    ensures second_end { result.second_end ≡ workers.1.1 }
-    ensures scanner_end { result.scanner_end ≡ played.end }
+    requires first { run.first.lent.seat.number ≡ 0 }
+    requires second { run.second.lent.seat.number ≡ 1 }
+    requires third { run.scanner.seat.number ≡ 2 }
+    ensures first { (result.seats.first ≡ run.first.lent.seat)
+        × (result.lanes.first ≡ run.first.lent.lane) }
+    ensures second { (result.seats.second ≡ run.second.lent.seat)
+        × (result.lanes.second ≡ run.second.lent.lane) }
+    ensures scanner { (result.seats.scanner ≡ run.scanner.seat) × (result.next ≡ run.scanner.next) }
+    ensures first_end { result.first_end ≡ run.first.end }
+    ensures second_end { result.second_end ≡ run.second.end }
+    ensures scanner_end { result.scanner_end ≡ run.scanner.end }
 {
-    let ((first, first_end), (second, second_end)) = workers;
+    let Three {
+        scanner,
+        first,
+        second,
+    } = run;
     Sliced {
         seats: Seats {
-            first: first.seat,
-            second: second.seat,
-            scanner: played.seat,
+            first: first.lent.seat,
+            second: second.lent.seat,
+            scanner: scanner.seat,
         },
         lanes: Lanes {
-            first: first.lane,
-            second: second.lane,
+            first: first.lent.lane,
+            second: second.lent.lane,
         },
-        next: played.next,
-        first_end,
-        second_end,
-        scanner_end: played.end,
+        next: scanner.next,
+        first_end: first.end,
+        second_end: second.end,
+        scanner_end: scanner.end,
     }
 }
 
 /// Lends both workers their ports, and the scanner what is left of the timetable, once, until all three end.
-fn run_once<J, A, B, G, R>(
-    rt: &R,
-    shared: &Shared<J, Records>,
+fn run_once<'a, J, A, B, G, R>(
+    rt: &'a R,
+    shared: &'a Shared<J, Records>,
     seats: Seats<J>,
     lanes: Lanes<A, B>,
-    table: Timetable<'_>,
-    gate: &G,
+    table: Timetable<'a>,
+    gate: &'a G,
     least: Option<u32>,
 ) -> Result<Sliced<J, A, B>, NoThread>
 where
@@ -97,20 +100,41 @@ where
         second: second_lane,
     } = lanes;
     let bell = Bell::new(least, first_lane.quiet, second_lane.quiet);
-    let first = Lent {
-        seat: first_seat,
-        lane: first_lane,
+    let first_rope = bell.first();
+    let second_rope = bell.second();
+    let first = Serving {
+        rt,
+        shared,
+        lent: Lent {
+            seat: first_seat,
+            lane: first_lane,
+        },
+        gate,
+        rope: first_rope,
     };
-    let second = Lent {
-        seat: second_seat,
-        lane: second_lane,
+    let second = Serving {
+        rt,
+        shared,
+        lent: Lent {
+            seat: second_seat,
+            lane: second_lane,
+        },
+        gate,
+        rope: second_rope,
     };
+    let beside = !table.is_over();
     let script = Script {
         seat: scanner,
         table,
     };
-    match run_beside(rt, shared, first, second, script, gate, &bell) {
-        Ok((played, workers)) => Ok(give_back(workers, played)),
+    let playing = Playing {
+        rt,
+        shared,
+        script,
+        bell: &bell,
+    };
+    match run_three(rt, beside, playing, first, second, bell.over()) {
+        Ok(run) => Ok(give_back(run)),
         Err(why) => Err(why),
     }
 }

@@ -1,122 +1,88 @@
 //! Two port workers and a scanner, at once.
 ghost use Rattle.std.specs.Prelude.{IfOk};
-ghost use Rattle.bmc_ports.specs.Seated.{ComesBack, AllComeBack};
+ghost use Rattle.bmc_ports.specs.Seated.{AllComeBack};
 
-use crate::at_once::{NoThread, joined, run_at_once, run_both};
+use crate::at_once::{NoThread, Three, Work, run_three};
 use crate::scanner::scan;
 use bmc_board::{Bench, Records};
 use bmc_core::Port;
 use bmc_links::Link;
 use bmc_shared::{Opening, Seat, Seats, Shared};
 use bmc_worker::{End, Gate, serve_port};
-use std::snapshot::Snapshot;
 use std::sync::Wait;
-use std::thread::{Promise, Threads};
+use std::sync::atomic::AtomicBool;
+use std::thread::Threads;
 
-/// What a thread gives back: the seat that it was given, with what it called, and why it ended.
+/// What a worker or the scanner gives back: its seat, with what it called, and why it ended.
 #[derive(Drop)]
-struct SeatOf<J: Opening>(Snapshot<Seat<J>>);
-
-impl<J: Opening> Promise<(Seat<J>, End)> for SeatOf<J> {
-    ghost kept_by = { λ promise given. ComesBack promise.0.value given.0 given.1 };
+struct Ended<J: Opening> {
+    seat: Seat<J>,
+    end: End,
 }
 
-/// What a port's thread works with.
+/// A port to be served, with its seat and its link.
 #[derive(Drop)]
-struct Side<'a, J: Opening, L: Link> {
+struct Serving<'a, J: Opening, L: Link, G: Gate, R: Wait> {
+    rt: &'a R,
+    shared: &'a Shared<J, Records>,
     seat: Seat<J>,
     port: Port,
     link: &'a mut L,
+    gate: &'a G,
+    turns: u32,
 }
 
-/// Serves a port, and gives its seat back.
-fn serve<J: Opening, L: Link, G: Gate, R: Wait>(
-    rt: &R,
-    shared: &Shared<J, Records>,
-    side: Side<'_, J, L>,
-    gate: &G,
-    turns: u32,
-) -> (Seat<J>, End)
-    ensures { ComesBack side.entry.seat result.0 result.1 }
-{
-    let Side {
-        mut seat,
-        mut port,
-        link,
-    } = side;
-    let end = serve_port(rt, shared, &mut seat, &mut port, link, gate, turns);
-    drop(port);
-    (seat, end)
+impl<'a, J: Opening, L: Link, G: Gate, R: Wait> Work for Serving<'a, J, L, G, R> {
+    ghost use Rattle.bmc_ports.specs.Seated.{ComesBack};
+
+    type Given = Ended<J>;
+
+    ghost gives = { λ work ended. ComesBack work.seat ended.seat ended.end };
+
+    fn run(self) -> Ended<J> {
+        let Serving {
+            rt,
+            shared,
+            mut seat,
+            mut port,
+            link,
+            gate,
+            turns,
+        } = self;
+        let end = serve_port(rt, shared, &mut seat, &mut port, link, gate, turns);
+        drop(port);
+        Ended { seat, end }
+    }
 }
 
-/// Has events happen, and gives the scanner's seat back.
-fn happen<J: Opening, R: Wait>(
-    rt: &R,
-    shared: &Shared<J, Records>,
-    mut seat: Seat<J>,
-    bench: &[Bench],
+/// Events that are to happen, with the scanner's seat.
+#[derive(Drop)]
+struct Happening<'a, J: Opening, R: Wait> {
+    rt: &'a R,
+    shared: &'a Shared<J, Records>,
+    seat: Seat<J>,
+    bench: &'a [Bench],
     turns: u32,
-) -> (Seat<J>, End)
-    ensures { ComesBack seat result.0 result.1 }
-{
-    let end = scan(rt, shared, &mut seat, bench, turns);
-    (seat, end)
 }
 
-/// Runs a worker and the scanner: at once, where something is to happen, and else one after the other.
-fn run_beside_scanner<J, L, G, R>(
-    rt: &R,
-    shared: &Shared<J, Records>,
-    side: Side<'_, J, L>,
-    scanner: Seat<J>,
-    bench: &[Bench],
-    gate: &G,
-    turns: u32,
-) -> Result<((Seat<J>, End), (Seat<J>, End)), NoThread>
-where
-    J: Opening + Send + Sync,
-    L: Link + Send,
-    G: Gate + Sync,
-    R: Threads + Wait + Sync,
-    ensures worker { IfOk result (λ run. ComesBack side.entry.seat run.0.0 run.0.1) }
-    ensures scanner { IfOk result (λ run. ComesBack scanner run.1.0 run.1.1) }
-{
-    run_both(
-        rt,
-        !bench.is_empty(),
-        SeatOf(Snapshot::of(&side.seat)),
-        move || serve(rt, shared, side, gate, turns),
-        move || happen(rt, shared, scanner, bench, turns),
-    )
-}
+impl<'a, J: Opening, R: Wait> Work for Happening<'a, J, R> {
+    ghost use Rattle.bmc_ports.specs.Seated.{ComesBack};
 
-/// Runs the second worker in a thread of its own, and the first with the scanner.
-fn run_sides<J, A, B, G, R>(
-    rt: &R,
-    shared: &Shared<J, Records>,
-    first: Side<'_, J, A>,
-    second: Side<'_, J, B>,
-    scanner: Seat<J>,
-    bench: &[Bench],
-    gate: &G,
-    turns: u32,
-) -> Result<((Seat<J>, End), ((Seat<J>, End), (Seat<J>, End))), NoThread>
-where
-    J: Opening + Send + Sync,
-    A: Link + Send,
-    B: Link + Send,
-    G: Gate + Sync,
-    R: Threads + Wait + Sync,
-    ensures second { IfOk result (λ run. ComesBack second.entry.seat run.0.0 run.0.1) }
-    ensures first { IfOk result (λ run. ComesBack first.entry.seat run.1.0.0 run.1.0.1) }
-    ensures scanner { IfOk result (λ run. ComesBack scanner run.1.1.0 run.1.1.1) }
-{
-    joined(run_at_once(
-        rt,
-        SeatOf(Snapshot::of(&second.seat)),
-        move || serve(rt, shared, second, gate, turns),
-        move || run_beside_scanner(rt, shared, first, scanner, bench, gate, turns),
-    ))
+    type Given = Ended<J>;
+
+    ghost gives = { λ work ended. ComesBack work.seat ended.seat ended.end };
+
+    fn run(self) -> Ended<J> {
+        let Happening {
+            rt,
+            shared,
+            mut seat,
+            bench,
+            turns,
+        } = self;
+        let end = scan(rt, shared, &mut seat, bench, turns);
+        Ended { seat, end }
+    }
 }
 
 /// Serves both ports of a board at once and has events happen on it, until all three end. One of the three runs in the caller's thread, and the
@@ -147,23 +113,41 @@ where
         scanner,
     } = seats;
     let [first_port, second_port] = ports;
-    let first = Side {
+    let first = Serving {
+        rt,
+        shared,
         seat: first,
         port: first_port,
         link: first_link,
+        gate,
+        turns,
     };
-    let second = Side {
+    let second = Serving {
+        rt,
+        shared,
         seat: second,
         port: second_port,
         link: second_link,
+        gate,
+        turns,
     };
-    let ((second, second_end), ((first, first_end), (scanner, scanner_end))) = run_sides(
-        rt, shared, first, second, scanner, bench, gate, turns,
-    )?;
-    let seats = Seats {
+    let scanner = Happening {
+        rt,
+        shared,
+        seat: scanner,
+        bench,
+        turns,
+    };
+    let over = AtomicBool::new(false);
+    let Three {
+        scanner,
         first,
         second,
-        scanner,
+    } = run_three(rt, !bench.is_empty(), scanner, first, second, &over)?;
+    let seats = Seats {
+        first: first.seat,
+        second: second.seat,
+        scanner: scanner.seat,
     };
-    Ok((seats, [first_end, second_end, scanner_end]))
+    Ok((seats, [first.end, second.end, scanner.end]))
 }

@@ -1,10 +1,10 @@
 //! Two port workers that are lent ports and links, and give them back after some of their turns.
-ghost use Rattle.std.specs.Prelude.{◌≡◌, ◌≤◌, true, [], ◌∷◌, IfOk};
+ghost use Rattle.std.specs.Prelude.{◌≡◌, ◌≤◌, true, [], ◌∷◌};
 ghost use Rattle.bmc_worker.specs.declared.worker.End.TheVariants.{Turns, Full};
-ghost use Rattle.bmc_ports.specs.Slices.{IsQuiet, SomeTurn, GoesOn, GivesBack};
+ghost use Rattle.bmc_ports.specs.Slices.{IsQuiet, SomeTurn, GoesOn};
 
-use crate::at_once::{NoThread, run_at_once};
-use crate::bell::{Bell, Rope};
+use crate::at_once::Work;
+use crate::bell::Rope;
 use crate::lane::Lane;
 use crate::silence::forget_silent;
 use bmc_board::Records;
@@ -12,9 +12,7 @@ use bmc_links::Link;
 use bmc_shared::{Opening, Seat, Shared};
 use bmc_worker::{Desk, End, Gate, turn};
 use cfg_records::Store;
-use std::snapshot::Snapshot;
 use std::sync::Wait;
-use std::thread::{Promise, Threads};
 use two_wire::Frame;
 
 /// What a worker is lent.
@@ -24,16 +22,11 @@ pub(crate) struct Lent<J: Opening, L> {
     pub lane: Lane<L>,
 }
 
-/// What two workers give back, and why each ended.
-pub(crate) type Both<J, A, B> = ((Lent<J, A>, End), (Lent<J, B>, End));
-
-/// What a thread gives back: what it was lent, once it worked with it, and why it ended.
+/// What a worker gives back: what it was lent, once it worked with it, and why it ended.
 #[derive(Drop)]
-struct LentOf<J: Opening, L>(Snapshot<Lent<J, L>>);
-
-impl<J: Opening, L: Link> Promise<(Lent<J, L>, End)> for LentOf<J, L> {
-    ghost kept_by = { λ promise given.
-        GivesBack L.counts_of promise.0.value given.0 given.1 };
+pub(crate) struct Returned<J: Opening, L> {
+    pub lent: Lent<J, L>,
+    pub end: End,
 }
 
 /// How many quiet turns there are in a row, behind a turn that heard this.
@@ -108,45 +101,33 @@ fn serve_slices<J: Opening, S: Store + Drop, L: Link, G: Gate, R: Wait>(
     End::Turns
 }
 
-/// Serves a port that is lent, and gives back what was lent.
-fn serve_lent<J: Opening, L: Link + Drop, G: Gate, R: Wait>(
-    rt: &R,
-    shared: &Shared<J, Records>,
-    mut lent: Lent<J, L>,
-    gate: &G,
-    rope: Rope<'_>,
-) -> (Lent<J, L>, End)
-    ensures { GivesBack L.counts_of lent result.0 result.1 }
-{
-    let Lent { seat, lane } = &mut lent;
-    let end = serve_slices(rt, shared, seat, lane, gate, &rope);
-    (lent, end)
+/// A port to be served that is lent.
+#[derive(Drop)]
+pub(crate) struct Serving<'a, 'b, J: Opening, L, G: Gate, R: Wait> {
+    pub rt: &'a R,
+    pub shared: &'a Shared<J, Records>,
+    pub lent: Lent<J, L>,
+    pub gate: &'a G,
+    pub rope: Rope<'b>,
 }
 
-/// Runs both workers at once, and says once both ended.
-pub(crate) fn run_lent<J, A, B, G, R>(
-    rt: &R,
-    shared: &Shared<J, Records>,
-    first: Lent<J, A>,
-    second: Lent<J, B>,
-    gate: &G,
-    bell: &Bell,
-) -> Result<Both<J, A, B>, NoThread>
-where
-    J: Opening + Send + Sync,
-    A: Link + Send + Drop,
-    B: Link + Send + Drop,
-    G: Gate + Sync,
-    R: Threads + Wait + Sync,
-    ensures first { IfOk result (λ run. GivesBack A.counts_of first run.0.0 run.0.1) }
-    ensures second { IfOk result (λ run. GivesBack B.counts_of second run.1.0 run.1.1) }
-{
-    let run = run_at_once(
-        rt,
-        LentOf(Snapshot::of(&first)),
-        move || serve_lent(rt, shared, first, gate, bell.first()),
-        move || serve_lent(rt, shared, second, gate, bell.second()),
-    );
-    bell.end();
-    run
+impl<'a, 'b, J: Opening, L: Link + Drop, G: Gate, R: Wait> Work for Serving<'a, 'b, J, L, G, R> {
+    ghost use Rattle.bmc_ports.specs.Slices.{GivesBack};
+
+    type Given = Returned<J, L>;
+
+    ghost gives = { λ work back. GivesBack L.counts_of work.lent back.lent back.end };
+
+    fn run(self) -> Returned<J, L> {
+        let Serving {
+            rt,
+            shared,
+            mut lent,
+            gate,
+            rope,
+        } = self;
+        let Lent { seat, lane } = &mut lent;
+        let end = serve_slices(rt, shared, seat, lane, gate, &rope);
+        Returned { lent, end }
+    }
 }

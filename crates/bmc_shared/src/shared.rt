@@ -23,7 +23,6 @@ use std::sync::{Mutex, Wait};
 use two_wire::{Bytes, Code};
 
 /// What lies under the lock: the board with its history, whose events a book counts.
-#[derive(Drop)]
 pub struct Locked<J: Opening, S: Store> {
     held: Held<J, S>,
     book: Book<J>,
@@ -31,9 +30,23 @@ pub struct Locked<J: Opening, S: Store> {
 }
 
 /// A board that threads share. Each call of it holds the lock for one event of the board.
-#[derive(Drop)]
 pub struct Shared<J: Opening, S: Store> {
     lock: Mutex<Locked<J, S>>,
+}
+
+impl<J: Opening, S: Store> Drop for Locked<J, S> {
+    fn drop(self) {
+        let Locked { held, book } = self;
+        drop(held);
+        drop(book);
+    }
+}
+
+impl<J: Opening, S: Store> Drop for Shared<J, S> {
+    fn drop(self) {
+        let Shared { lock } = self;
+        drop(lock);
+    }
 }
 
 /// Why a board isn't closed.
@@ -362,7 +375,8 @@ impl<J: Opening, S: Store + Drop> Shared<J, S> {
         ensures counted { IfOk result (λ closed. length closed.1 ≡ calls_made seats) }
         ensures fault { IfErr result (λ fault. fault ≡ Mismatch) }
     {
-        self.lock.into_inner().close(seats)
+        let Shared { lock } = self;
+        lock.into_inner().close(seats)
     }
 }
 
