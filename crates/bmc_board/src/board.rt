@@ -14,7 +14,8 @@ mod serve;
 
 use crate::activity::Activity;
 use bios_attr::Tables;
-use cfg_records::{Store, Value};
+use board_records::KeptRecords;
+use cfg_records::Store;
 pub use opening::Records;
 use record_kinds::Setup;
 
@@ -27,23 +28,16 @@ enum Kept {
 
 /// A board over any store of its records: what never changes of it, what isn't configuration, and its records. Each record has
 /// limits, and a value that they allow.
-///
-/// A Set over IPMI makes the record's new value in another place than one over PLDM, and the two places lie apart: where a thread for each
-/// bus shares the board, neither writes a line of the processor's cache that the other reads.
 #[derive(Drop)]
 pub struct Board<S: Store> {
     setup: Setup,
     activity: Activity,
-    store: S,
-    /// Where a Set over PLDM makes the record's new value.
-    made_over_pldm: Value,
+    records: KeptRecords<S>,
     /// The tables of its attributes.
     tables: Tables,
-    /// Where a Set over IPMI makes the record's new value.
-    made_over_ipmi: Value,
     /// Of the table of values among the tables.
     kept: Kept,
-    ghost sound: { IsSound setup (S.records store) } by { IsSound-prop setup (S.records store) },
+    ghost sound: { IsSound setup (S.records records.store) } by { IsSound-prop setup (S.records records.store) },
     ghost tell: { Tells setup.attributes.items tables } by { Tells-prop setup.attributes.items tables },
-    ghost is_kept: { IsKept kept setup.attributes.items (values_in (S.records store)) tables } by { IsKept-prop kept setup.attributes.items (values_in (S.records store)) tables },
+    ghost is_kept: { IsKept kept setup.attributes.items (values_in (S.records records.store)) tables } by { IsKept-prop kept setup.attributes.items (values_in (S.records records.store)) tables },
 }
