@@ -1,5 +1,5 @@
 -- The parts of a Set: the codes that refuse one, and what its end leaves.
-use Rattle.std.proofs.Common.{◌≡◌, ◌≢◌, ℕ, ◌<◌, nat_le, nat_lt, ◌+◌, List, length, Option, Some, None, Result, Ok, Err, Bool, true, false, not, if◌then◌else◌, ◌==◌, ◌&&◌, refl, sym, ◌∙◌, ap, subst, arith}
+use Rattle.std.proofs.Common.{◌≡◌, ◌≢◌, ℕ, ◌<◌, nat_le, nat_lt, ◌+◌, List, length, Option, Some, None, Result, Ok, Err, Bool, true, false, not, if◌then◌else◌, ◌==◌, ◌&&◌, refl, arith}
 use Rattle.std.proofs.lemmas.Bool.Decides.{nat_tests}
 use Rattle.two_wire.specs.Codes.{success, pldm_error, pldm_invalid_data, pldm_invalid_length, pldm_invalid_attribute}
 use Rattle.pldm_base.specs.Parts.{part_length}
@@ -109,12 +109,6 @@ left_where false code ended after e fault = refl
 
 pub not_unstaged : (from code : ℕ) (after : State) → code ≢ success → unstaged from code after ≡ after
 not_unstaged from code after fault = left_where (code == success) code (with_stagings after (without from after.activity.stagings)) after refl fault
-
--- what was carried out ends what its requester has staged
-pub ends_staging : (from code : ℕ) (after given : State) (stagings : Staged) → code ≡ success → after ≡ given → stagings ≡ without from after.activity.stagings → with_stagings after stagings ≡ unstaged from code given
-ends_staging from code after given stagings is same left =
-    subst (λ (c : ℕ). with_stagings after stagings ≡ unstaged from c given) (sym is)
-    (ap (with_stagings after) left ∙ ap (λ (s : State). with_stagings s (without from s.activity.stagings)) same)
 
 -- the end of a staging leaves the records
 records_where : (b : Bool) (after : State) (stagings : Staged) → (if b then with_stagings after stagings else after).records ≡ after.records

@@ -1,8 +1,6 @@
 -- The answer to each request and the state that it leaves, as a function.
-use Rattle.std.specs.Prelude.{ℕ, List, [], length, Option, Some, Result, Ok, Err}
-use Rattle.std.specs.Int.{w32, to_le_bytes}
+use Rattle.std.specs.Prelude.{ℕ, List, Option, Some, Result, Ok, Err}
 use Rattle.record_kinds.specs.Limits.{key_of, limits_at}
-use Rattle.cfg_records.specs.Records.{with_record}
 use Rattle.record_base.specs.declared.key.Key.{Key}
 use Rattle.record_base.specs.declared.key.Key.TheVariants as key
 use Rattle.record_base.specs.declared.bios_attribute.SetBiosAttribute.{SetBiosAttribute}
@@ -13,11 +11,13 @@ use Rattle.record_base.specs.declared.message.Answered.{Answered}
 use Rattle.record_base.specs.declared.live.Live.{Live as LivePart}
 use Rattle.cfg_records.specs.declared.board_file.BoardFile.{BoardFile}
 use Rattle.record_kinds.specs.declared.limits.Limits.{Limits}
-use Rattle.record_kinds.specs.Limits.{outcome, view, set_reply, next_live}
+use Rattle.record_kinds.specs.Limits.{view, next_live}
 use Rattle.record_kinds.specs.Series.{first_shown}
 use Rattle.attribute_parts.specs.declared.set_part.SetPart.{SetPart}
 use Rattle.attribute_parts.specs.declared.set_part.SetPart.TheVariants.{Start, Middle, End}
-use Rattle.attribute_parts.specs.Stagings.{with_staged, start_outcome, add_outcome, end_outcome}
+use Rattle.attribute_parts.specs.Stagings.{after_part, start_outcome, add_outcome, end_outcome}
+use Rattle.board_records.specs.Sets.{set_outcome, outcome_among, set_given, records_set, live_set, both_answered, both_set}
+use Rattle.board_records.specs.SetParts.{staged_answer}
 use Rattle.bmc_board.specs.declared.activity.Activity.{Activity}
 use Rattle.bmc_board.specs.Request.{Request}
 use Rattle.bmc_board.specs.Request.{Live, Get, Set, SetStores, PartOfSet, LaterPart}
@@ -44,28 +44,19 @@ get_answer _ _ live unknown = refused unknown
 abbrev pub activity_after : Op → Activity → Activity
 activity_after op before = record before { live = next_live op before.live }
 
--- what comes of a Set: its reply, and the state that it leaves
+-- what comes of a Set that makes this of its record: its reply, and the state that it leaves
 abbrev pub set_result : Result (List ℕ) ℕ → Op → State → Given
-set_result (Ok new) op before = (done (set_reply op), state (with_record before.records (key_of op) new) (activity_after op before.activity))
-set_result (Err fault) op before = (refused fault, before)
+set_result made op before = (set_given made op, state (records_set made op before.records) (record before.activity { live = live_set made op before.activity.live }))
 
 abbrev pub set_answer : Option Limits → Option (List ℕ) → ℕ → Op → State → Given
-set_answer (Some limits) (Some old) unknown op before = set_result (outcome limits op old) op before
-set_answer _ _ unknown op before = (refused unknown, before)
-
--- what comes of an operation on a record, which may not be there: the new value, or the code that refuses it
-abbrev pub set_outcome : Option Limits → Option (List ℕ) → ℕ → Op → Result (List ℕ) ℕ
-set_outcome (Some limits) (Some old) unknown op = outcome limits op old
-set_outcome _ _ unknown op = Err unknown
+set_answer limits value unknown op before = set_result (set_outcome limits value unknown op) op before
 
 abbrev pub outcome_at : BoardFile → State → Op → Result (List ℕ) ℕ
-outcome_at setup before op = set_outcome (limits_at setup (key_of op)) (before.records (key_of op)) (unknown_code setup (key_of op)) op
+outcome_at setup before op = outcome_among setup before.records op
 
--- two records change, or neither does: the first code that refuses one of the operations refuses the request
+-- what comes of two operations, by what they make of their records
 abbrev pub both_given : Result (List ℕ) ℕ → Result (List ℕ) ℕ → Key → Key → State → Given
-both_given (Ok new) (Ok other) key other_key before = (done [], state (with_record (with_record before.records key new) other_key other) before.activity)
-both_given (Ok new) (Err fault) key other_key before = (refused fault, before)
-both_given (Err fault) _ key other_key before = (refused fault, before)
+both_given made other key other_key before = (both_answered made other, state (both_set made other key other_key before.records) before.activity)
 
 abbrev pub both_answer : BoardFile → State → Op → Op → Given
 both_answer setup before first second = both_given (outcome_at setup before first) (outcome_at setup before second) (key_of first) (key_of second) before
@@ -74,10 +65,9 @@ both_answer setup before first second = both_given (outcome_at setup before firs
 abbrev pub set_at : BoardFile → State → Op → Given
 set_at setup before op = set_answer (limits_at setup (key_of op)) (before.records (key_of op)) (unknown_code setup (key_of op)) op before
 
--- a part with others behind it is staged: its reply has the handle of the next, which counts the bytes that are staged
+-- a part with others behind it is staged
 abbrev pub staged : (from : ℕ) → State → Result (List ℕ) ℕ → Given
-staged from before (Ok entry) = (done (to_le_bytes w32 (length entry)), with_stagings before (with_staged from entry before.activity.stagings))
-staged from before (Err code) = (refused code, before)
+staged from before made = (staged_answer made, with_stagings before (after_part from made before.activity.stagings))
 
 -- a Set that is carried out ends what its requester has staged
 abbrev pub end_staging : (from : ℕ) → Given → Given

@@ -1,34 +1,21 @@
 -- The values of BIOS attributes in parts (DSP0247, "SetBIOSAttributeCurrentValue" and "GetBIOSAttributeCurrentValueByHandle"): what is staged of
 -- Sets, and the later parts of what a Get shows.
 use Rattle.std.specs.Prelude.{ℕ, List, drop, Option, Some, ◌==◌, if◌then◌else◌}
-use Rattle.std.specs.Option.{option_map}
 use Rattle.two_wire.specs.Codes.{success}
 use Rattle.pldm_base.specs.Parts.{asked_of_entry}
-use Rattle.record_base.specs.Requests.{byte_at}
-use Rattle.record_base.specs.Attribute.{range_of}
-use Rattle.record_base.specs.AttributeValue.{number_of}
 use Rattle.record_base.specs.declared.live.Live.{Live as LivePart}
 use Rattle.record_base.specs.declared.message.Answered.{Answered}
-use Rattle.cfg_records.specs.declared.board_file.BoardFile.{BoardFile}
 use Rattle.bios_attr.specs.BiosAttribute.{get_next_part}
-use Rattle.bios_attr.specs.declared.bios_attribute.AttributeLimits.{AttributeLimits}
 use Rattle.bios_attr.specs.EntryParts.{before_part}
 use Rattle.attribute_parts.specs.Stagings.{Staged, without}
 use Rattle.record_kinds.specs.declared.limits.Limits.{Limits}
-use Rattle.record_kinds.specs.Boards.{attribute_at}
 use Rattle.record_kinds.specs.Limits.{view}
+pub use Rattle.board_records.specs.SetParts.{named_in, limits_named}
 use Rattle.bmc_board.specs.State.{State}
 use Rattle.bmc_board.specs.Replies.{refused}
 use Rattle.bmc_board.specs.BiosTables.{part_answer}
 
 -- ---- Sets
-
--- the attribute that an entry names, and what can be done with it
-abbrev pub named_in : List ℕ → ℕ
-named_in entry = number_of (byte_at entry 0) (byte_at entry 1)
-
-abbrev pub limits_named : BoardFile → ℕ → Option AttributeLimits
-limits_named setup handle = option_map (λ a. record { handle = handle; read_only = a.read_only; range = range_of a.kind }) (attribute_at setup.attributes.items handle)
 
 -- the state with these stagings
 abbrev pub with_stagings : State → Staged → State

@@ -1,14 +1,2 @@
 -- What a call that appends a reply's data gives.
-use Rattle.std.specs.Prelude.{◌≡◌, ℕ, List, ◌++◌, Result, Ok, Err}
-use Rattle.two_wire.specs.Codes.{success}
-use Rattle.record_base.specs.declared.message.Answered.{Answered}
-use Rattle.bmc_board.specs.Replies.{refused}
-
--- the answer: its data stand behind the bytes that were there, or its code is given and nothing was appended
-abbrev pub Gives : {A : Type 0} → Result A ℕ → List ℕ → List ℕ → Answered → Type 0
-Gives (Ok _) old new answer = (answer.code ≡ success) × (new ≡ old ++ answer.body)
-Gives (Err code) old new answer = (answer ≡ refused code) × (new ≡ old)
-
--- the answer: its data stand behind those of this buffer
-abbrev pub Appends : {A B : Type 0} → (B → List ℕ) → Result A ℕ → B → B → Answered → Type 0
-Appends bytes result before after answer = Gives result (bytes before) (bytes after) answer
+pub use Rattle.board_records.specs.Gives.{Gives, Appends, Says}

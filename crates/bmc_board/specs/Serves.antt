@@ -1,11 +1,6 @@
 -- What a board gives to what is asked of it, and that it was served.
 use Rattle.std.specs.Prelude.{◌≡◌, ◌≢◌, ◌+◌, ◌≤◌, ℕ, List, length, Result, IfOk}
 use Rattle.two_wire.specs.Codes.{success}
-use Rattle.record_base.specs.Meaning.{value_or_code}
-use Rattle.cfg_records.specs.Records.{Records}
-use Rattle.cfg_records.specs.declared.board_file.BoardFile.{BoardFile}
-use Rattle.record_kinds.specs.Limits.{key_of, limits_at}
-use Rattle.record_base.specs.declared.op.Op.{Op}
 use Rattle.record_base.specs.declared.sensor.Sensor.{Sensor}
 use Rattle.bios_attr.specs.declared.bios_table.BiosTable.{BiosTable}
 use Rattle.record_base.specs.declared.message.Asked.{Asked}
@@ -16,10 +11,10 @@ use Rattle.bmc_board.specs.declared.live.LiveCommand.{LiveCommand}
 use Rattle.bmc_board.specs.Request.{Request, asked_by}
 use Rattle.bmc_board.specs.State.{records_in, state_of}
 use Rattle.bmc_board.specs.Room.{longest_reply}
-use Rattle.bmc_board.specs.Gives.{Gives, Appends}
-use Rattle.bmc_board.specs.Replies.{unknown_code}
+pub use Rattle.bmc_board.specs.Gives.{Says}
+use Rattle.bmc_board.specs.Gives.{Appends}
 use Rattle.bmc_board.specs.Live.{live_answer}
-use Rattle.bmc_board.specs.Answer.{Given, serve, reply, answer_of, set_outcome}
+use Rattle.bmc_board.specs.Answer.{Given, serve, reply, answer_of}
 use Rattle.bmc_board.specs.BiosTables.{values_in, table_bytes, asked_part, table_answer}
 use Rattle.bmc_board.specs.Leaves.{Leaves}
 use Rattle.bmc_board.specs.Sensing.{reading_answer, after_reading}
@@ -43,10 +38,6 @@ live_by board command body = live_answer board.setup (records_in board) board.ac
 abbrev pub Fits : Result Request ℕ → List ℕ → ℕ → Type 0
 Fits asked before capacity = IfOk asked (λ request. length before + longest_reply request ≤ capacity)
 
--- the answer has no data, or its code is given
-abbrev pub Says : {A : Type 0} → Result A ℕ → Answered → Type 0
-Says result answer = (bytes : List ℕ) → Gives result bytes bytes answer
-
 -- The board served what was asked: its answer is given behind the bytes of this buffer, and the board has the state after it. Its setup
 -- stays.
 pub record Serves {S A B : Type 0} {g h : _} (bytes : B → List ℕ) (old new : Board S g h) (asked : Result Request ℕ) (result : Result A ℕ) (before after : B) : Type 0 where
@@ -63,14 +54,6 @@ abbrev pub Refuses : {S : Type 0} {g h : _} → Board S g h → Asked → Answer
 Refuses old asked answer new = answer.code ≢ success → Leaves (asked_by asked) answer.code (state_of old) (state_of new)
 
 -- ---- parts of what a board gives
-
--- the value that an operation makes of its record among these, or the code that refuses it
-abbrev pub outcome_among : BoardFile → Records → Op → Result (List ℕ) ℕ
-outcome_among setup records op = set_outcome (limits_at setup (key_of op)) (records (key_of op)) (unknown_code setup (key_of op)) op
-
--- the operation's value was made, or the code that refuses the operation is given
-abbrev pub Makes : {A : Type 0} → BoardFile → Records → Op → Result A ℕ → List ℕ → Type 0
-Makes setup records op result made = value_or_code result made ≡ outcome_among setup records op
 
 -- what Get Sensor Reading replies of the sensor of this number
 abbrev pub reading_by : {S : Type 0} {g h : _} → Board S g h → ℕ → Answered

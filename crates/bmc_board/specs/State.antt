@@ -26,7 +26,7 @@ on_bench before activity = state before.records (record activity { stagings = be
 
 -- a board's records, which its store has
 abbrev pub records_in : {S : Type 0} {g h : _} → Board S g h → Records
-records_in {S} {g} {h} board = h.records board.store
+records_in {S} {g} {h} board = h.records board.records.store
 
 -- a board's state
 abbrev pub state_of : {S : Type 0} {g h : _} → Board S g h → State

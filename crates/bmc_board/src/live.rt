@@ -1,7 +1,6 @@
 //! Live commands: those that ask for no configuration record.
 ghost use Rattle.std.specs.Prelude.{◌≡◌, ◌/◌, ◌%◌};
 ghost use Rattle.bmc_board.specs.Live.{device_data, already_in_progress, progress_data};
-ghost use Rattle.bmc_board.specs.Replies.{sessionless_channel};
 
 use cfg_records::Device;
 use record_base::ChannelNumber;
@@ -74,16 +73,6 @@ pub(crate) fn already_in_progress() -> Code
     ensures { result ≡ already_in_progress }
 {
     Code::new(ALREADY_IN_PROGRESS).unwrap()
-}
-
-/// The code of a channel that has no sessions (IPMI 2.0, Set and Get Channel Access).
-const SESSIONLESS_CHANNEL: u8 = 0x82;
-
-/// That code.
-pub(crate) fn sessionless_channel() -> Code
-    ensures { result ≡ sessionless_channel }
-{
-    Code::new(SESSIONLESS_CHANNEL).unwrap()
 }
 
 /// What Get System Boot Options replies of parameter 0.

@@ -33,22 +33,22 @@ impl<S: Store> Board<S> {
 
     /// What readings of the sensor are compared with.
     fn compared(&self, sensor: &Sensor) -> Compared
-        ensures { result ≡ compared_at (S.records self.now.store) sensor.now }
+        ensures { result ≡ compared_at (S.records self.now.records.store) sensor.now }
     {
         Compared::of(
             sensor.thresholds.masks,
-            value_at(&self.store, &Key::Thresholds(sensor.number)),
-            value_at(&self.store, &Key::Hysteresis(sensor.number)),
-            value_at(&self.store, &Key::EventEnable(sensor.number)),
+            value_at(&self.records.store, &Key::Thresholds(sensor.number)),
+            value_at(&self.records.store, &Key::Hysteresis(sensor.number)),
+            value_at(&self.records.store, &Key::EventEnable(sensor.number)),
         )
     }
 
     /// Whether events go into the log.
     fn logs_events(&self) -> bool
-        ensures { result ≡ logs (S.records self.now.store) }
+        ensures { result ≡ logs (S.records self.now.records.store) }
     {
         has(
-            byte_at(value_at(&self.store, &Key::GlobalEnables), 0),
+            byte_at(value_at(&self.records.store, &Key::GlobalEnables), 0),
             LOGGING_PLACE,
         )
     }
@@ -57,10 +57,10 @@ impl<S: Store> Board<S> {
     fn take_reading(&mut self, sensor: &Sensor, reading: u8)
         ensures left { self.new.activity
             ≡ after_read self.old sensor.now reading }
-        ensures records { S.records self.new.store ≡ S.records self.old.store }
+        ensures records { S.records self.new.records.store ≡ S.records self.old.records.store }
         ensures setup { self.new.setup ≡ self.old.setup }
     {
-        let events = value_at(&self.store, &Key::EventEnable(sensor.number));
+        let events = value_at(&self.records.store, &Key::EventEnable(sensor.number));
         if !has(byte_at(events, 0), SCANNING_PLACE) {
             return;
         }
@@ -76,11 +76,11 @@ impl<S: Store> Board<S> {
     /// A tenth of a second passes.
     fn tick(&mut self)
         ensures left { self.new.activity
-            ≡ after_tick (S.records self.old.store) self.old.activity }
-        ensures records { S.records self.new.store ≡ S.records self.old.store }
+            ≡ after_tick (S.records self.old.records.store) self.old.activity }
+        ensures records { S.records self.new.records.store ≡ S.records self.old.records.store }
         ensures setup { self.new.setup ≡ self.old.setup }
     {
-        let settings = value_at(&self.store, &Key::Watchdog);
+        let settings = value_at(&self.records.store, &Key::Watchdog);
         watchdog::live_after_tick(settings, &mut self.activity.live);
         self.activity.log.tick();
     }
@@ -90,7 +90,7 @@ impl<S: Store> Board<S> {
     pub fn bench(&mut self, event: Bench) -> Result<(), NoSensor>
         ensures happens { (result, state_of self.new)
             ≡ bench_of self.old.setup (state_of self.old) event }
-        ensures records { S.records self.new.store ≡ S.records self.old.store }
+        ensures records { S.records self.new.records.store ≡ S.records self.old.records.store }
         ensures setup { self.new.setup ≡ self.old.setup }
         ensures unknown { IsErr result ↔ NamesNoSensor self.old.setup event }
         ensures refused { OnErr result

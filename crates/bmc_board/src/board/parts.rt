@@ -1,27 +1,20 @@
 //! The commands of attributes, with values that are whole or come in parts.
 ghost use Rattle.std.specs.Prelude.{◌≡◌, ◌+◌, ◌≤◌, length, Ok};
-ghost use Rattle.two_wire.specs.Sizes.{most_pldm_reply_data};
 ghost use Rattle.bmc_board.specs.Gives.{Appends};
 ghost use Rattle.bmc_board.specs.BiosTables.{longest_part};
-ghost use Rattle.bmc_board.specs.AttributeParts.{named_in, limits_named, later_part};
+ghost use Rattle.bmc_board.specs.AttributeParts.{later_part};
 
 use crate::board::Board;
 use crate::board::bios::push_part;
-use crate::board::serve::{show, unknown_code};
-use attribute_parts::{Entry, SetPart, part_in};
+use crate::board::serve::outdate;
+use attribute_parts::part_in;
+use bios_attr::AskedPart;
 use bios_attr::bios_attribute::{START_AND_END, attribute_in, attribute_shown_in};
 use bios_attr::entry_parts::entry_in;
-use bios_attr::{AskedPart, AttributeLimits};
+use board_records::unknown_code;
 use cfg_records::{Key, Op, RecordData, RecordKind, Store, byte_at};
 use pldm_base::{GET_NEXT_PART, entry_part};
 use two_wire::{Buffer, Code};
-
-/// The attribute that an entry names.
-fn named_in(entry: &[u8]) -> u16
-    ensures { result ≡ named_in entry.now }
-{
-    u16::from_le_bytes([byte_at(entry, 0), byte_at(entry, 1)])
-}
 
 /// Appends a later part of an entry.
 fn show_later_part<B: Buffer>(entry: &[u8], transfer: u32, to: &mut B) -> Result<(), Code>
@@ -37,69 +30,8 @@ impl<S: Store> Board<S> {
     ghost use Rattle.bmc_board.specs.Request as request;
     ghost use Rattle.bios_attr.specs.BiosAttribute.{attribute_in};
     ghost use Rattle.attribute_parts.specs.SetParts.{part_in};
-    ghost use Rattle.bmc_board.specs.AttributeCommands.{whole_asked, part_asked, first_part, part_between, last_part, attribute_set, attribute_get};
+    ghost use Rattle.bmc_board.specs.AttributeCommands.{whole_asked, part_asked, attribute_set, attribute_get};
     ghost use Rattle.bmc_board.specs.Serves.{Fits, Serves, serve_by};
-
-    /// What can be done with the attribute of this handle.
-    fn limits_named(&self, handle: u16) -> Option<AttributeLimits>
-        ensures { result ≡ limits_named self.now.setup handle }
-    {
-        let attribute = self.setup.attribute(handle)?;
-        Some(AttributeLimits::of(handle, attribute))
-    }
-
-    /// Stages the first part of an entry.
-    fn start_set<B: Buffer>(&mut self, from: u8, entry: &[u8], to: &mut B) -> Result<(), Code>
-        requires room { length (B.bytes to.old) + most_pldm_reply_data ≤ B.capacity }
-        ensures { Serves B.bytes self.old self.new
-            (first_part from entry.now)
-            result to.old to.new }
-    {
-        let limits = self.limits_named(named_in(entry));
-        let next = self.activity.stagings.start(limits.as_ref(), from, entry)?;
-        show(&next.to_le_bytes(), to)
-    }
-
-    /// Stages a part that has others before it and behind it.
-    fn add_to_set<B: Buffer>(
-        &mut self,
-        from: u8,
-        handle: u32,
-        bytes: &[u8],
-        to: &mut B,
-    ) -> Result<(), Code>
-        requires room { length (B.bytes to.old) + most_pldm_reply_data ≤ B.capacity }
-        ensures { Serves B.bytes self.old self.new
-            (part_between from handle bytes.now)
-            result to.old to.new }
-    {
-        let next = self.activity.stagings.add(from, handle, bytes)?;
-        show(&next.to_le_bytes(), to)
-    }
-
-    /// Carries out the Set of the whole entry, which this part ends. Its parts are joined here, and stay here.
-    #[inline(never)]
-    fn end_set<B: Buffer>(
-        &mut self,
-        from: u8,
-        handle: u32,
-        bytes: &[u8],
-        to: &mut B,
-    ) -> Result<(), Code>
-        requires room { length (B.bytes to.old) + most_pldm_reply_data ≤ B.capacity }
-        ensures { Serves B.bytes self.old self.new
-            (last_part from handle bytes.now)
-            result to.old to.new }
-    {
-        let mut place = Entry::new();
-        let op = self
-            .activity
-            .stagings
-            .ended(from, handle, bytes, &mut place)?;
-        self.set(&Op::BiosAttribute(op), to)?;
-        self.activity.stagings.end(from);
-        Ok(())
-    }
 
     /// Carries out the part of a Set that the data are.
     #[inline(never)]
@@ -108,11 +40,13 @@ impl<S: Store> Board<S> {
         ensures { Serves B.bytes self.old self.new (part_asked from body.now)
             result to.old to.new }
     {
-        match part_in(body)? {
-            SetPart::Start(entry) => self.start_set(from, entry.as_slice(), to),
-            SetPart::Middle(handle, bytes) => self.add_to_set(from, handle, bytes.as_slice(), to),
-            SetPart::End(handle, bytes) => self.end_set(from, handle, bytes.as_slice(), to),
-        }
+        let part = part_in(body)?;
+        let live = &mut self.activity.live;
+        let stagings = &mut self.activity.stagings;
+        self.records
+            .set_part(&self.setup, part, live, stagings, from, to)?;
+        outdate(&mut self.kept);
+        Ok(())
     }
 
     /// Carries out the Set that the data are, whole.
@@ -152,7 +86,7 @@ impl<S: Store> Board<S> {
             (serve_by self.now (request.LaterPart handle transfer)).0 }
     {
         let key = Key::BiosAttribute(handle);
-        match (self.setup.limits(&key), self.store.get(&key)) {
+        match (self.setup.limits(&key), self.records.store.get(&key)) {
             (Some(limits), Some(value)) => {
                 let mut shown = RecordData::new();
                 limits.get_data(value, &self.activity.live, &mut shown);

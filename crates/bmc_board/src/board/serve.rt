@@ -1,18 +1,15 @@
 //! What a board does with requests.
-ghost use Rattle.std.specs.Prelude.{◌≡◌, ◌≢◌, ◌+◌, ◌≤◌, IfOk, Some, [], length};
+ghost use Rattle.std.specs.Prelude.{◌≡◌, ◌≢◌, ◌+◌, ◌≤◌, IfOk, [], length};
 ghost use Rattle.two_wire.specs.Codes.{node_busy, pldm_not_ready};
 ghost use Rattle.cfg_records.specs.Records.{records_of};
 ghost use Rattle.cfg_records.specs.Boards.{pairs_of};
 ghost use Rattle.record_base.specs.Meaning.{room_for};
 ghost use Rattle.record_base.specs.declared.message.Answered.{Answered as Reply};
-ghost use Rattle.record_kinds.specs.Limits.{key_of};
-ghost use Rattle.record_kinds.specs.Sound.{IsSound};
 ghost use Rattle.bios_attr.specs.Tables.{AreTables};
 ghost use Rattle.bmc_board.specs.State.{opening};
 ghost use Rattle.bmc_board.specs.Gives.{Gives, Appends};
-ghost use Rattle.bmc_board.specs.Replies.{done, unknown_code};
+ghost use Rattle.bmc_board.specs.Replies.{done};
 ghost use Rattle.bmc_board.specs.Sensing.{value_at};
-ghost use Rattle.bmc_board.specs.Serves.{Makes};
 ghost use Rattle.bmc_board.specs.declared.board.Kept.TheVariants.{Stale};
 
 use crate::activity::Activity;
@@ -21,18 +18,18 @@ use crate::board::{Board, Kept};
 use crate::command::Command;
 use crate::live::{
     LiveCommand, NO_ERROR, PLDM_TYPES, already_in_progress, device_data, progress_data,
-    sessionless_channel,
 };
 use crate::request::{read_request, requester};
 use crate::storage::{
     add_entry, clear, part_in, sdr_info, sel_info, show_entry, show_sdr, time_in,
 };
 use bios_attr::{BiosTable, Tables};
+use board_records::{KeptRecords, place_to_make, unknown_code};
 use cfg_records::{
     Answered, Asked, BoardFile, CommandReader, Key, Op, RecordKind, Store, Value, byte_at,
 };
 use record_base::{AccessStore, ChannelNumber, SetChannelAccess, StoredAccess, UserNumber};
-use record_kinds::{Limits, PlainKind, Setup, of_each_plain_kind};
+use record_kinds::{PlainKind, Setup, of_each_plain_kind};
 use sensor_recs::taken::reading_data;
 use std::alloc::{AllocError, Global};
 use two_wire::size::MOST_PLDM_REPLY_DATA;
@@ -41,27 +38,6 @@ use user_chan::channel_request::{ChannelRequest, channel_request_in, stored_in};
 use user_chan::password::{PasswordChange, change_of, set_enabled};
 use watch_boot::boot_request::{BootRequest, BootShown, boot_request_in, boot_shown_in};
 use watch_boot::watchdog;
-
-/// The code for a record that isn't there.
-pub(super) fn unknown_code(setup: &Setup, key: &Key) -> Code
-    ensures { result ≡ unknown_code setup.now key.now }
-{
-    // The policy, the watchdog and the enables are on every board.
-    match key {
-        Key::NumericEffecter(_) | Key::StateEffecter(_) => code::PLDM_INVALID_EFFECTER,
-        Key::BiosAttribute(_) => code::PLDM_INVALID_ATTRIBUTE,
-        Key::UserName(_) | Key::UserAccess(_) => code::INVALID_DATA_FIELD,
-        Key::LanParam(_) => code::INVALID_DATA_FIELD,
-        Key::ChannelAccess(at) => {
-            if setup.is_sessionless(at.channel) {
-                sessionless_channel()
-            } else {
-                code::INVALID_DATA_FIELD
-            }
-        }
-        _ => code::NOT_PRESENT,
-    }
-}
 
 /// The change of a record of the kind.
 macro_rules! changed {
@@ -92,21 +68,11 @@ pub(super) fn show<B: Buffer>(shown: &[u8], to: &mut B) -> Result<(), Code>
 }
 
 /// Says that the table of values is stale. What says so already isn't written: threads that share the board read it from their own caches.
-fn outdate(kept: &mut Kept)
+pub(super) fn outdate(kept: &mut Kept)
     ensures { kept.new ≡ Stale }
 {
     if *kept == Kept::Current {
         *kept = Kept::Stale;
-    }
-}
-
-/// Of two places, the one where this operation's new value is made: that of the bus over which its command comes. Either is right, and no clause says
-/// which: what lies there is overwritten before it's read, and means nothing once the record has the value. The choice keeps threads apart (`Board`).
-#[inline(always)]
-fn place_for<'a>(op: &Op<'_>, over_ipmi: &'a mut Value, over_pldm: &'a mut Value) -> &'a mut Value {
-    match op {
-        Op::NumericEffecter(_) | Op::StateEffecter(_) | Op::BiosAttribute(_) => over_pldm,
-        _ => over_ipmi,
     }
 }
 
@@ -117,14 +83,6 @@ fn answered(done: Result<(), Code>, body: Bytes<{ MOST_PLDM_REPLY_DATA }>) -> An
     match done {
         Ok(()) => Answered { code: 0, body },
         Err(code) => Answered::refused(code),
-    }
-}
-
-/// A place for a value that a Set makes, in memory of its own.
-fn place_to_make(alloc: Global) -> Result<Box<Value>, AllocError> {
-    match Box::new(alloc, Value::new()) {
-        Ok(place) => Ok(place),
-        Err(_) => Err(AllocError),
     }
 }
 
@@ -148,28 +106,6 @@ fn opened_parts(alloc: Global, file: &BoardFile) -> Result<Parts, AllocError>
         made_over_ipmi: place_to_make(alloc)?,
         activity: Activity::opening(alloc, file)?,
     })
-}
-
-/// Makes the value that the operation makes of its record, and gives the record's place: nothing is written.
-#[inline(always)]
-fn try_set<S: Store>(
-    setup: &Setup,
-    store: &S,
-    op: &Op<'_>,
-    made: &mut Value,
-) -> Result<S::Place, Code>
-    requires { IsSound setup.now (S.records store.now) }
-    ensures made { Makes setup.now (S.records store.now) op.now result made.new }
-    ensures place { IfOk result (λ at. S.places store.now (key_of op.now) ≡ Some at) }
-{
-    let key = Limits::key(op);
-    match (setup.limits(&key), store.find(&key)) {
-        (Some(limits), Some(place)) => {
-            limits.apply(op, store.value(place), made)?;
-            Ok(place)
-        }
-        _ => Err(unknown_code(setup, &key)),
-    }
 }
 
 impl<S: Store> Board<S> {
@@ -197,10 +133,8 @@ impl<S: Store> Board<S> {
                 Ok(setup) => Ok(Board {
                     setup,
                     activity: parts.activity,
-                    store,
-                    made_over_pldm: parts.made_over_pldm,
+                    records: KeptRecords::over(store, parts.made_over_pldm, parts.made_over_ipmi),
                     tables: parts.tables,
-                    made_over_ipmi: parts.made_over_ipmi,
                     kept: Kept::Stale,
                 }),
                 Err(why) => {
@@ -219,9 +153,9 @@ impl<S: Store> Board<S> {
 
     /// Where its records are.
     pub fn store(&self) -> &S
-        ensures { result.now ≡ self.now.store }
+        ensures { result.now ≡ self.now.records.store }
     {
-        &self.store
+        &self.records.store
     }
 
     /// Starts the watchdog timer, where it was set once.
@@ -229,10 +163,10 @@ impl<S: Store> Board<S> {
         ensures answer { Says result (live_by self.old LiveCommand.ResetWatchdog []).0 }
         ensures left { self.new.activity ≡
             (live_by self.old LiveCommand.ResetWatchdog []).1 }
-        ensures records { S.records self.new.store ≡ S.records self.old.store }
+        ensures records { S.records self.new.records.store ≡ S.records self.old.records.store }
         ensures setup { self.new.setup ≡ self.old.setup }
     {
-        let Some(value) = self.store.get(&Key::Watchdog) else {
+        let Some(value) = self.records.store.get(&Key::Watchdog) else {
             return Err(unknown_code(&self.setup, &Key::Watchdog));
         };
         match watchdog::live_after_reset(value, &self.activity.live) {
@@ -248,7 +182,7 @@ impl<S: Store> Board<S> {
     fn set_boot_progress(&mut self, byte: Option<u8>) -> Result<(), Code>
         ensures answer { Says result (progress_answer byte self.old.activity).0 }
         ensures left { self.new.activity ≡ (progress_answer byte self.old.activity).1 }
-        ensures records { S.records self.new.store ≡ S.records self.old.store }
+        ensures records { S.records self.new.records.store ≡ S.records self.old.records.store }
         ensures setup { self.new.setup ≡ self.old.setup }
     {
         let Some(byte) = byte else {
@@ -283,7 +217,7 @@ impl<S: Store> Board<S> {
             (live_by self.old LiveCommand.SetUserPassword body.now).0 }
         ensures left { self.new.activity ≡
             (live_by self.old LiveCommand.SetUserPassword body.now).1 }
-        ensures records { S.records self.new.store ≡ S.records self.old.store }
+        ensures records { S.records self.new.records.store ≡ S.records self.old.records.store }
         ensures setup { self.new.setup ≡ self.old.setup }
     {
         let user = UserNumber::of(byte_at(body, 0));
@@ -311,7 +245,7 @@ impl<S: Store> Board<S> {
         if self.setup.sensor(sensor).is_none() {
             return Err(unknown_code(&self.setup, &key));
         }
-        let events = value_at(&self.store, &key);
+        let events = value_at(&self.records.store, &key);
         show(
             &reading_data(events, &self.activity.readings.last(sensor)),
             to,
@@ -322,11 +256,13 @@ impl<S: Store> Board<S> {
     fn keep_values(&mut self)
         ensures kept { self.new.kept ≡ kept.Current }
         ensures activity { self.new.activity ≡ self.old.activity }
-        ensures store { self.new.store ≡ self.old.store }
+        ensures store { self.new.records.store ≡ self.old.records.store }
         ensures setup { self.new.setup ≡ self.old.setup }
     {
         if self.kept == Kept::Stale {
-            self.tables.show(&Standing { store: &self.store });
+            self.tables.show(&Standing {
+                store: &self.records.store,
+            });
             self.kept = Kept::Current;
         }
     }
@@ -348,7 +284,7 @@ impl<S: Store> Board<S> {
         ensures answer { Appends B.bytes result to.old to.new
             (table_by self.old body.now) }
         ensures activity { self.new.activity ≡ self.old.activity }
-        ensures store { self.new.store ≡ self.old.store }
+        ensures store { self.new.records.store ≡ self.old.records.store }
         ensures setup { self.new.setup ≡ self.old.setup }
     {
         let table = table_asked(self.setup.attributes(), byte_at(body, 5))?;
@@ -407,7 +343,7 @@ impl<S: Store> Board<S> {
         ensures { Appends B.bytes result to.old to.new
             (serve_by self.now (request.Get key.now)).0 }
     {
-        match (self.setup.limits(key), self.store.get(key)) {
+        match (self.setup.limits(key), self.records.store.get(key)) {
             (Some(limits), Some(value)) => {
                 limits.get_first(value, &self.activity.live, to);
                 Ok(())
@@ -423,12 +359,9 @@ impl<S: Store> Board<S> {
         ensures { Serves B.bytes self.old self.new (Ok (request.Set op.now))
             result to.old to.new }
     {
-        let new = place_for(op, &mut self.made_over_ipmi, &mut self.made_over_pldm);
-        let place = try_set(&self.setup, &self.store, op, new)?;
+        self.records
+            .set(&self.setup, op, &mut self.activity.live, to)?;
         outdate(&mut self.kept);
-        self.store.write(place, new.as_slice());
-        Limits::next_live(op, &mut self.activity.live);
-        Limits::set_reply(op, to);
         Ok(())
     }
 
@@ -491,13 +424,8 @@ impl<S: Store> Board<S> {
         ensures { ServesSilently self.old self.new
             (Ok (request.SetStores first.now second.now)) result }
     {
-        let new: &mut Value = &mut self.made_over_ipmi;
-        let place = try_set(&self.setup, &self.store, &Op::ChannelAccess(*first), new)?;
-        let made: Bytes<2> = Bytes::from_slice(new.as_slice());
-        let other = try_set(&self.setup, &self.store, &Op::ChannelAccess(*second), new)?;
+        self.records.set_stores(&self.setup, first, second)?;
         outdate(&mut self.kept);
-        self.store.write(place, made.as_slice());
-        self.store.write(other, new.as_slice());
         Ok(())
     }
 

@@ -6,7 +6,7 @@ pub invariant_of-self : goal.invariant_of-self
 invariant_of-self g c =
     let board = c.args.self.now in
     let items = board.setup.attributes.items in
-    let values = values_in (g.S.Store.records board.store) in
+    let values = values_in (g.S.Store.records board.records.store) in
     record {
       sound = board.sound;
       tell = shown_tell items board.tables c.show.new.self values board.tell c.show.ensures.shown;

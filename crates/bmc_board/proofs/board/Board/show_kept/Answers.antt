@@ -8,6 +8,6 @@ pub returns : goal.returns
 returns g c =
     let board = c.args.self.now in
     let items = board.setup.attributes.items in
-    let values = values_in (g.S.Store.records board.store) in
+    let values = values_in (g.S.Store.records board.records.store) in
     let given : c.table.result.now ≡ table_bytes items values c.args.table = c.table.ensures ∙ kept_is items board.tables values c.args.table board.kept board.tell board.is_kept c.requires.kept in
     subst (λ (t : List ℕ). Gives c.show_part.result (g.B.Buffer.bytes c.args.to.now) (g.B.Buffer.bytes c.show_part.new.to) (asked_part c.args.body.now t)) given c.show_part.ensures

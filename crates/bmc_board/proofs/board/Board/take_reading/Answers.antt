@@ -10,7 +10,7 @@ use Rattle.bmc_board.proofs.board.Board.take_reading.Goals as goal
 
 pub returns-then-logs_events-clause-left : goal.returns-then-logs_events-clause-left
 returns-then-logs_events-clause-left g c =
-    let records = g.S.Store.records c.args.self.now.store in
+    let records = g.S.Store.records c.args.self.now.records.store in
     let sensor = c.args.sensor.now in
     let before = c.args.self.now.activity in
     let s = c.compared-compared.result in
@@ -24,7 +24,7 @@ returns-then-logs_events-clause-left g c =
 
 pub returns-else-logs_events-clause-left : goal.returns-else-logs_events-clause-left
 returns-else-logs_events-clause-left g c =
-    let records = g.S.Store.records c.args.self.now.store in
+    let records = g.S.Store.records c.args.self.now.records.store in
     let sensor = c.args.sensor.now in
     let before = c.args.self.now.activity in
     let s = c.compared-compared.result in

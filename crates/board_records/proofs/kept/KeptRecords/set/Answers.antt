@@ -7,27 +7,26 @@ use Rattle.record_kinds.specs.Limits.{key_of}
 use Rattle.record_kinds.specs.LimitsLaws as laws
 use Rattle.record_kinds.specs.Sound.{IsSound}
 use Rattle.record_kinds.specs.SoundLaws.{sound_with}
-use Rattle.bmc_board.proofs.BothFacts.{IsWritten, written}
-use Rattle.bmc_board.proofs.BiosTableFacts.{stale_is}
-use Rattle.bmc_board.proofs.board.Board.set.Goals as goal
+use Rattle.board_records.proofs.Written.{IsWritten, written}
+use Rattle.board_records.proofs.kept.KeptRecords.set.Goals as goal
 
 pub write-requires : goal.write-requires
 write-requires g c =
-    let board = c.args.self.now in
+    let setup = c.args.setup.now in
     let op : Op = c.args.op.now in
     let new : List ℕ = c.try_set.new.made in
-    let is : IsWritten board.setup op new = written board.setup (g.S.Store.records board.store) _ _ _ op new refl refl board.sound (sym c.in_ok-place.ensures.made) in
+    let is : IsWritten setup op new = written setup (g.S.Store.records c.args.self.now.store) _ _ _ op new refl refl c.requires.sound (sym c.in_ok-place.ensures.made) in
     let fits : IsTrue (is_length (key_of op) (length new)) = (laws.record_laws is.limits).fits op is.old new is.is_set in
     (key_of op, c.in_ok-place.ensures.place, subst (λ (v : List ℕ). IsTrue (is_length (key_of op) (length v))) (sym c.as_slice.ensures.value) fits)
 
 -- the new value is one that its record's limits allow
-pub invariant_of-self-2 : goal.invariant_of-self-2
-invariant_of-self-2 g c =
-    let board = c.args.self.now in
+pub returns-clause-still : goal.returns-clause-still
+returns-clause-still g c =
+    let setup = c.args.setup.now in
     let op : Op = c.args.op.now in
     let new : List ℕ = c.try_set.new.made in
-    let records : Records = g.S.Store.records board.store in
-    let is : IsWritten board.setup op new = written board.setup records _ _ _ op new refl refl board.sound (sym c.in_ok-place.ensures.made) in
+    let records : Records = g.S.Store.records c.args.self.now.store in
+    let is : IsWritten setup op new = written setup records _ _ _ op new refl refl c.requires.sound (sym c.in_ok-place.ensures.made) in
     let wrote : g.S.Store.records c.write.new.self ≡ with_record records (key_of op) new = c.write.ensures.records (key_of op) c.in_ok-place.ensures.place ∙ ap (with_record records (key_of op)) c.as_slice.ensures.value in
-    let is_sound : IsSound board.setup (with_record records (key_of op) new) = sound_with board.setup records (key_of op) is.limits new board.sound is.at is.is_valid in
-    record { sound = subst (IsSound board.setup) (sym wrote) is_sound; tell = board.tell; is_kept = stale_is _ _ _ _ c.outdate.ensures }
+    let is_sound : IsSound setup (with_record records (key_of op) new) = sound_with setup records (key_of op) is.limits new c.requires.sound is.at is.is_valid in
+    subst (IsSound setup) (sym wrote) is_sound

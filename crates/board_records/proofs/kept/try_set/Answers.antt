@@ -2,8 +2,8 @@ use Rattle.std.proofs.Common.{◌≡◌, Some, sym, ◌∙◌, subst}
 use Rattle.record_base.specs.declared.key.Key.{Key}
 use Rattle.record_kinds.specs.Limits.{key_of, is_of, valid, limits_at}
 use Rattle.record_kinds.specs.SoundLaws.{valid_at}
-use Rattle.bmc_board.proofs.AnswerFacts.{limits_are_of}
-use Rattle.bmc_board.proofs.board.serve.try_set.Goals as goal
+use Rattle.board_records.proofs.LimitsOf.{limits_are_of}
+use Rattle.board_records.proofs.kept.try_set.Goals as goal
 
 pub apply-requires : goal.apply-requires
 apply-requires g c =

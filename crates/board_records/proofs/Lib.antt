@@ -1,0 +1,2 @@
+pub mod LimitsOf
+pub mod Written
