@@ -86,7 +86,6 @@ fn add_to_set<B: Buffer>(
 
 impl<S: Store> KeptRecords<S> {
     ghost use Rattle.std.specs.Prelude.{OnErr, false};
-    ghost use Rattle.record_base.specs.declared.op.Op.TheVariants as of_kind;
     ghost use Rattle.board_records.specs.Keeps.{settable, whole_set_given};
     ghost use Rattle.board_records.specs.SetParts.{part_given_at};
 

@@ -1,5 +1,5 @@
 //! The commands of attributes, with values that are whole or come in parts.
-ghost use Rattle.std.specs.Prelude.{◌≡◌, ◌+◌, ◌≤◌, length, Ok};
+ghost use Rattle.std.specs.Prelude.{◌+◌, ◌≤◌, length, Ok};
 ghost use Rattle.bmc_board.specs.Gives.{Appends};
 ghost use Rattle.bmc_board.specs.BiosTables.{longest_part};
 ghost use Rattle.bmc_board.specs.AttributeParts.{later_part};
