@@ -65,11 +65,15 @@ SaysNothing stream text status = ⊥
 abbrev pub ports_line : (ipmb smbus : ℕ) → List ℕ
 ports_line ipmb smbus = codes "bmcnet: ipmb on 127.0.0.1:" ++ decimal ipmb ++ codes ", smbus on 127.0.0.1:" ++ decimal smbus ++ 10 ∷ []
 
--- standard error grows by the line of the ports that were taken for those of the words
+-- standard error grows by the line of these ports
+abbrev pub SaysPorts : {Stdout Stderr : Type 0} → (out : Stdout → Option (List ℕ)) → (err : Stderr → Option (List ℕ)) → (ipmb smbus : ℕ) → (old new : Console Stdout Stderr) → Type 0
+SaysPorts out err ipmb smbus old new = Written Error (ports_line ipmb smbus) (out old.out) (out new.out) (err old.err) (err new.err)
+
+-- it grows by that of the ports that were taken for those of the words
 abbrev pub TellsPorts : {Stdout Stderr : Type 0} → (out : Stdout → Option (List ℕ)) → (err : Stderr → Option (List ℕ)) → ServeWords → (old new : Console Stdout Stderr) → Type 0
 TellsPorts out err words old new =
     (ipmb : ℕ) × (smbus : ℕ) × IsTaken words.ipmb_port ipmb × IsTaken words.smbus_port smbus
-    × Written Error (ports_line ipmb smbus) (out old.out) (out new.out) (err old.err) (err new.err)
+    × SaysPorts out err ipmb smbus old new
 
 -- ---- the board
 

@@ -1,13 +1,12 @@
 //! `bmcnet serve`: a board's ports over UDP.
 ghost use Rattle.std.specs.Prelude.{◌≡◌, ◌⊎◌, ℕ, List, Option, option_map, IfOk, IfErr, OnOk, Ok, Err, string_bytes};
 ghost use Rattle.std.specs.Option.{option_copied};
-ghost use Rattle.bmc_lab.specs.declared.console.Stream.TheVariants.{Output, Error};
+ghost use Rattle.bmc_lab.specs.declared.console.Stream.TheVariants.{Output};
 ghost use Rattle.bmc_lab.specs.declared.status.Status.TheVariants.{Success};
-ghost use Rattle.bmc_lab.specs.Console.{Written};
 ghost use Rattle.bmc_lab.specs.Ending.{RunEnds, SaysReport, Tells};
 ghost use Rattle.text_board.specs.declared.fault.FileFault.TheVariants.{Memory};
 ghost use Rattle.text_board.specs.Holds.{Reads};
-ghost use Rattle.net_serve.specs.Run.{BesideEnds, IsTaken, SaysNothing, SaysUnserved, ServeEnds, StandsFor, TextEnds, ports_line};
+ghost use Rattle.net_serve.specs.Run.{BesideEnds, IsTaken, SaysNothing, SaysPorts, SaysUnserved, ServeEnds, StandsFor, TextEnds};
 ghost use Rattle.net_serve.specs.Served.{TellsServed, list_in};
 
 use crate::counting::served;
@@ -84,20 +83,19 @@ fn finish<W: io::Write, E: io::Write>(
     status
 }
 
-/// Tells of the ports of these ends, or gives the status of a run that can't tell of them.
+/// Tells of these ports, or gives the status of a run that can't tell of them.
 fn tell_ports<W: io::Write, E: io::Write>(
     alloc: Global,
-    ends: &Ends,
+    ipmb: u16,
+    smbus: u16,
     console: &mut Console<W, E>,
 ) -> Result<(), u8>
-    ensures told { OnOk result (Written Error
-        (ports_line ends.now.ipmb.port ends.now.smbus.port)
-        (W.contents console.old.out) (W.contents console.new.out)
-        (E.contents console.old.err) (E.contents console.new.err)) }
+    ensures told { OnOk result
+        (SaysPorts W.contents E.contents ipmb smbus console.old console.new) }
     ensures untold { IfErr result
         (RunEnds W.contents E.contents SaysNothing console.old console.new) }
 {
-    let Ok(text) = ports_text(alloc, ends.ipmb.port, ends.smbus.port) else {
+    let Ok(text) = ports_text(alloc, ipmb, smbus) else {
         return Err(finish(Err(Untold::Memory), console));
     };
     let written = console.write(Stream::Error, text.as_bytes());
@@ -127,7 +125,7 @@ fn serve_ends<W: io::Write, E: io::Write, R: Threads + Wait + Clock + Sync>(
         → StandsFor given (list_in readings.now)
         → TextEnds W.contents E.contents words.now board given console.old console.new result }
 {
-    match tell_ports(alloc, &ends, console) {
+    match tell_ports(alloc, ends.ipmb.port, ends.smbus.port, console) {
         Ok(()) => finish(
             served_report(rt, alloc, file, readings, ends, words),
             console,
