@@ -30,7 +30,8 @@ fn noted<'a>(
         NotesPlayOf file plan.steps plan.retries events.now stopped notes.new.items) }
 {
     match parts_of(play_noted(alloc, file, plan, events, notes)) {
-        Ok(Ended { played, stopped }) => {
+        Ok(ended) => {
+            let Ended { played, stopped } = ended;
             drop(played);
             Ok(stopped)
         }

@@ -66,7 +66,8 @@ fn played_report(
 {
     let Inputs { file, plan, events } = inputs;
     match parts_of(play(alloc, file, plan, events.as_slice())) {
-        Ok(Ended { played, stopped }) => {
+        Ok(ended) => {
+            let Ended { played, stopped } = ended;
             let account = account_of(&played, stopped);
             let report = account_report(alloc, frames, premises, &account);
             drop(played);
