@@ -15,9 +15,9 @@ use two_wire::{Buffer, Bytes, Code};
 
 /// The records of a board in a store of any kind, and the places where Sets make records' new values.
 ///
-/// A Set over IPMI makes the record's new value in another place than one over PLDM. Each has memory of its own: where a thread for each bus shares
-/// the board, and the two places lie apart, neither writes a line of the processor's cache that the other reads.
-/// Inside the board a place's kilobyte was copied byte by byte wherever a board is moved, and LLVM took 10 to 30 s for such a function.
+/// A Set over IPMI makes the record's new value in another place than one over PLDM. Each has memory of its own, for two reasons. Where a thread
+/// for each bus shares the board, neither writes a line of the processor's cache that the other reads. And a board is small where it is moved:
+/// LLVM copies an array inside a value entry by entry, and takes 10 to 30 s for a function that moves a board with two such kilobytes.
 #[derive(Drop)]
 pub struct KeptRecords<S: Store> {
     /// Where the records are.

@@ -14,7 +14,6 @@ use Rattle.model_claim.proofs.Promised.{keeps_promise}
 use Rattle.model_headline.proofs.CleanPlays.{ends_clean}
 use Rattle.lab_run.specs.declared.lab_state.Lab.{Lab}
 use Rattle.lab_play.specs.declared.played.Played.{Played}
-use Rattle.lab_play.specs.declared.watch.Watch.{Watch}
 use Rattle.lab_play.specs.declared.played.LabFault.TheVariants as fault
 use Rattle.lab_play.specs.declared.run.Stopped.{Stopped}
 use Rattle.lab_run.specs.Shown.{Shows}

@@ -18,7 +18,7 @@ use Rattle.model_headline.specs.CleanPlays.{events_from, StartsClean, UndoesClea
 use Rattle.model_headline.specs.CleanLink.{RunsOnCleanLink}
 use Rattle.model_headline.proofs.CleanLink.{runs_on_clean_link}
 use Rattle.lab_run.specs.declared.frames.SentFrame.{SentFrame}
-use Rattle.lab_run.specs.Shown.{Shows, IsSentFrame}
+use Rattle.lab_run.specs.Shown.{IsSentFrame}
 use Rattle.lab_play.proofs.Running.{after_more}
 use Rattle.lab_schedule.specs.declared.drawing.Drawing.{Drawing}
 use Rattle.lab_schedule.specs.declared.drawing.Offer.TheVariants.{Taken}

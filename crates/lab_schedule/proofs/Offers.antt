@@ -22,7 +22,6 @@ use Rattle.lab_play.specs.Watched.{took_by, waits_long, opened_in, broken_at, Wa
 use Rattle.lab_play.proofs.Running.{after_more}
 use Rattle.lab_play.proofs.Watches.{no_packet, a_packet}
 use Rattle.lab_schedule.specs.declared.drawing.Drawing.{Drawing}
-use Rattle.lab_schedule.specs.declared.drawing.Offer.TheVariants.{Faulty}
 use Rattle.lab_schedule.specs.declared.drawing.Offer.{Offer}
 use Rattle.lab_schedule.specs.Drawn.{Drawn, NotTaken, Offered}
 
