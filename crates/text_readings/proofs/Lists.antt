@@ -1,7 +1,7 @@
 -- The lines of a text, and the lists that they tell.
-use Rattle.std.proofs.Common.{◌≡◌, inl, inr, ◌∷◌, ◌++◌, [], List, ℕ, ◌+◌, ◌<◌, ◌≤◌, ◌-◌, Bool, true, false, not, leb, Some, map, take, drop, length, get_or, slice_get, refl, sym, ◌∙◌, ap, subst, arith}
+use Rattle.std.proofs.Common.{◌≡◌, inl, inr, ◌∷◌, ◌++◌, [], List, ℕ, ◌+◌, ◌<◌, ◌-◌, Bool, true, false, not, leb, Some, map, take, drop, length, get_or, slice_get, refl, sym, ◌∙◌, ap, subst, arith}
 use Rattle.std.proofs.lemmas.Bool.{cases_lt, leb-true, le-leb}
-use Rattle.std.proofs.lemmas.List.{map_more, take-take, take-map, take-append-drop, length-map, length-append, append-nil, take_all, get_or_append_left, get_or-append-add}
+use Rattle.std.proofs.lemmas.List.{map_more, take-take, take-map, take-append-drop, length-map, length-append, get_or_append_left, get_or-append-add}
 use Rattle.std.proofs.lemmas.Option.{slice_get_within, unwrap_or-slice_get}
 use Rattle.std.proofs.lemmas.List.Elements.{filter-append}
 use Rattle.std.proofs.lemmas.List.Sorted.{IsNonDecreasingBy-push}
@@ -104,26 +104,11 @@ one_first lines m n one two =
       ]
     ]
 
--- ---- the reader's loop
-
--- a skipped line tells nothing
-pub skipped_told : (lines : List (Bor (List ℕ))) (place : ℕ) (d : Bor (List ℕ)) → place < length lines → is_skipped (get_or lines place d).now ≡ true
-    → (list : List Timed) → Tell (map (λ x. x.now) (take place lines)) list → Tell (map (λ x. x.now) (take (place + 1) lines)) list
-skipped_told lines place d within skipped list told =
-    let before : List (List ℕ) = map (λ (x : Bor (List ℕ)). x.now) (take place lines) in
-    let same : spoken (map (λ (x : Bor (List ℕ)). x.now) (take (place + 1) lines)) ≡ spoken before =
-    ap spoken (map_more (λ (x : Bor (List ℕ)). x.now) lines place d within) ∙ filter-append (λ l. not (is_skipped l)) before ((get_or lines place d).now ∷ []) ∙ rw skipped (append-nil (spoken before)) in
-    record { each = subst (λ (said : List (List ℕ)). AllZip Says said list) (sym same) told.each; order = told.order }
+-- ---- the reader's loop, before its lines and at one that isn't skipped
 
 -- no lines tell no list
 pub none_told : (list : List Timed) → list ≡ [] → Tell [] list
 none_told list none = subst (λ (l : List Timed). Tell [] l) (sym none) (record { each = tt; order = λ i j d le within. absurd (omega (arith, within)) })
-
--- all lines tell it at the end
-pub all_told : (lines : List (Bor (List ℕ))) (place : ℕ) (list : List Timed) → length lines ≤ place → Tell (map (λ x. x.now) (take place lines)) list → Tell (map (λ x. x.now) lines) list
-all_told lines place list past told = subst (λ (ls : List (Bor (List ℕ))). Tell (map (λ x. x.now) ls) list) (take_all place lines past) told
-
--- at a line that isn't skipped
 
 module _ (lines : List (Bor (List ℕ))) (place : ℕ) (d : Bor (List ℕ)) (within : place < length lines) (spoke : is_skipped (get_or lines place d).now ≡ false) where
   abbrev line : List ℕ

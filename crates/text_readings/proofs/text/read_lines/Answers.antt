@@ -2,7 +2,7 @@ use Rattle.std.proofs.Common.{◌≡◌, ◌+◌, ◌++◌, ◌∷◌, ℕ, List
 use Rattle.std.specs.Borrow.{Bor}
 use Rattle.bmc_ports.specs.declared.timed.Timed.{Timed}
 use Rattle.text_readings.specs.Text.{NeverFalls, Tell}
-use Rattle.text_readings.proofs.Lists.{all_told, goes_on, falls, next_told, none_told, silent_first, skipped_told, falling_first}
+use Rattle.text_readings.proofs.Lists.{goes_on, falls, next_told, none_told, silent_first, falling_first}
 use Rattle.text_readings.proofs.text.read_lines.Goals as goal
 
 -- what stands where there is no line
@@ -33,16 +33,8 @@ loop-place-preserved c =
     (next_told c.args.lines.now c.loop-place.place none c.loop-place-test.true (sym c.is_skipped.ensures ∙ c.if-is_skipped.false) c.loop-place.list.items c.in-Some.timed c.loop-place.invariant says
     (goes_on c.as_slice.result.now c.loop-place.list.items c.in-Some.timed c.comes_behind.result c.as_slice.ensures.value c.comes_behind.ensures c.if-not-comes_behind.false))
 
-pub loop-place-preserved-then-is_skipped : goal.loop-place-preserved-then-is_skipped
-unfolding none
-loop-place-preserved-then-is_skipped c =
-    skipped_told c.args.lines.now c.loop-place.place none c.loop-place-test.true (sym c.is_skipped.ensures ∙ c.if-is_skipped.true) c.loop-place.list.items c.loop-place.invariant
-
 pub loop-place-init : goal.loop-place-init
 loop-place-init c = none_told c.new-list.result.items c.new-list.ensures.items
-
-pub returns : goal.returns
-returns c = all_told c.args.lines.now c.loop-place.place c.loop-place.list.items c.loop-place-test.false c.loop-place.invariant
 
 pub comes_behind-requires : goal.comes_behind-requires
 comes_behind-requires c = subst (λ (l : List Timed). NeverFalls l) (sym c.as_slice.ensures.value) c.loop-place.invariant.order

@@ -1,6 +1,5 @@
 use Rattle.std.proofs.Common.{◌≡◌, ℕ, List, Option, Some, true, false, sym, ap, ◌∙◌, subst, None}
 use Rattle.std.specs.Option.{IsSomeAnd}
-use Rattle.std.proofs.lemmas.Bool.{false≢true}
 use Rattle.record_base.specs.declared.attribute_range.AttributeRange.{AttributeRange}
 use Rattle.record_base.specs.declared.attribute_value.AttributeValue.{AttributeValue}
 use Rattle.record_base.specs.declared.bios_attribute.SetBiosAttribute.{SetBiosAttribute}
@@ -9,7 +8,6 @@ use Rattle.record_base.specs.AttributeRangeLaws.{true_allows, allows_true}
 use Rattle.record_base.specs.AttributeValue.{value_in}
 use Rattle.bios_attr.specs.declared.bios_attribute.AttributeLimits.{AttributeLimits}
 use Rattle.bios_attr.specs.BiosAttribute.{SetsAttribute}
-use Rattle.bios_attr.proofs.bios_attribute.AttributeLimitsRecordKind.apply.Goals.{then-op-type_code-via-then-op-type_code, then-op-type_code-via-else-op-type_code+then-self}
 use Rattle.bios_attr.proofs.bios_attribute.AttributeLimitsRecordKind.apply.Goals as goal
 
 -- an operation with a value that the attribute can't have sets nothing
@@ -40,10 +38,6 @@ returns-clause-decides c =
       is_new = c.replace.ensures ∙ c.as_slice-bytes.ensures.value;
       is_value = subst (λ (o : Option AttributeValue). IsSomeAnd o (Allows allowed)) (sym found) can;
     }
-
-pub returns-then-op-type_code-clause-decides : goal.returns-then-op-type_code-clause-decides
-returns-then-op-type_code-clause-decides c = λ new s.
-    elim c.then-op-type_code.branch [ then-op-type_code-via-then-op-type_code w ↦ w.if-op-type_code.true (s.of_type ∙ sym c.type_code.ensures) | then-op-type_code-via-else-op-type_code+then-self w ↦ false≢true (sym s.can_be_set ∙ w.if-self.true) ]
 
 -- an operation with bytes that are no value of the attribute's type sets nothing
 none_sets : (limits : AttributeLimits) (op : SetBiosAttribute) (new : List ℕ) → value_in op.attribute_type op.value ≡ None → SetsAttribute limits op new → ⊥
