@@ -1,5 +1,5 @@
 -- The tables of a board's attributes are those that its definitions name.
-use Rattle.std.proofs.Common.{◌≡◌, ℕ, List, ◌++◌, map, ◌∙◌, ap, refl, sym, subst}
+use Rattle.std.proofs.Common.{◌≡◌, ℕ, List, ◌++◌, map, ◌∙◌, ap, refl, subst}
 use Rattle.std.specs.Int.{w32, to_le_bytes}
 use Rattle.record_base.specs.declared.attribute.Attribute.{Attribute}
 use Rattle.pldm_base.specs.Crc.{crc_of}
@@ -10,7 +10,7 @@ use Rattle.bios_attr.specs.declared.bios_table.BiosTable.TheVariants.{Strings, A
 use Rattle.bios_attr.specs.Tables.{padded, IsTable, Opened, AreTables, ShowsValues, table_named}
 use Rattle.bmc_board.specs.BiosTables.{table_bytes}
 use Rattle.bmc_board.specs.declared.board.Kept.{Kept}
-use Rattle.bmc_board.specs.declared.board.Kept.TheVariants.{Stale, Current}
+use Rattle.bmc_board.specs.declared.board.Kept.TheVariants.{Current}
 use Rattle.bmc_board.specs.ToldTables.{table_of, Tells, IsKept}
 
 -- entries have one table
@@ -43,7 +43,3 @@ pub kept_is : (attributes : List Attribute) (tables : Opened) (values : ℕ → 
 kept_is attributes tables values Strings kept tell is current = tell.strings
 kept_is attributes tables values Attributes kept tell is current = tell.described
 kept_is attributes tables values Values kept tell is current = subst (λ (k : Kept). IsKept k attributes values tables) (current refl) is
-
--- what is stale is the table of any values
-pub stale_is : (kept : Kept) (attributes : List Attribute) (values : ℕ → List ℕ) (tables : Opened) → kept ≡ Stale → IsKept kept attributes values tables
-stale_is kept attributes values tables stale = subst (λ (k : Kept). IsKept k attributes values tables) (sym stale) tt

@@ -8,7 +8,6 @@ use Rattle.bios_attr.specs.BiosAttribute.{attribute_in, attribute_shown_in, star
 use Rattle.bios_attr.specs.declared.bios_attribute.AskedPart.{AskedPart}
 use Rattle.bios_attr.specs.declared.bios_attribute.AskedPart.TheVariants.{First, Later}
 use Rattle.attribute_parts.specs.declared.set_part.SetPart.{SetPart}
-use Rattle.attribute_parts.specs.declared.set_part.SetPart.TheVariants as part
 use Rattle.attribute_parts.specs.SetParts.{part_in}
 use Rattle.bmc_board.specs.Asks.{Request}
 use Rattle.bmc_board.specs.Asks.{Get, Set, PartOfSet, LaterPart}
@@ -32,16 +31,6 @@ part_set from (Err code) = Err code
 -- what the data of a part ask for
 abbrev pub part_asked : (from : ℕ) → List ℕ → Result Request ℕ
 part_asked from body = part_set from (part_in body)
-
--- the parts of a Set: its first, one between, and its last
-abbrev pub first_part : (from : ℕ) → List ℕ → Result Request ℕ
-first_part from entry = Ok (PartOfSet from (part.Start entry))
-
-abbrev pub part_between : (from handle : ℕ) → List ℕ → Result Request ℕ
-part_between from handle bytes = Ok (PartOfSet from (part.Middle handle bytes))
-
-abbrev pub last_part : (from handle : ℕ) → List ℕ → Result Request ℕ
-last_part from handle bytes = Ok (PartOfSet from (part.End handle bytes))
 
 -- the flag says whether the data are whole
 abbrev pub attribute_set : (from : ℕ) → List ℕ → Result Request ℕ

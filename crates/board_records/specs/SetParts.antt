@@ -1,5 +1,5 @@
 -- Sets of BIOS attributes whose values come in parts (DSP0247, "SetBIOSAttributeCurrentValue"): the answers, and what they leave.
-use Rattle.std.specs.Prelude.{ℕ, List, length, Option, Result, Ok, Err, ◌==◌, if◌then◌else◌}
+use Rattle.std.specs.Prelude.{ℕ, List, length, Bool, true, false, Option, Result, Ok, Err, ◌==◌, if◌then◌else◌}
 use Rattle.std.specs.Int.{w32, to_le_bytes}
 use Rattle.std.specs.Option.{option_map}
 use Rattle.two_wire.specs.Codes.{success}
@@ -69,6 +69,12 @@ ends_staging from given = (given.0, record given.1 { staged = still_staged from 
 abbrev pub whole_given : BoardFile → (from : ℕ) → Settable → Result SetBiosAttribute ℕ → SetGiven
 whole_given setup from before (Ok op) = ends_staging from (set_given_at setup before (of_kind.BiosAttribute op))
 whole_given setup from before (Err code) = (refused code, before)
+
+-- the part is the last of its Set, which alone changes a record
+abbrev pub is_last : SetPart → Bool
+is_last (Start entry) = false
+is_last (Middle handle bytes) = false
+is_last (End handle bytes) = true
 
 -- what comes of a part
 abbrev pub part_given_at : BoardFile → (from : ℕ) → Settable → SetPart → SetGiven

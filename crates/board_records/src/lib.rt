@@ -6,4 +6,5 @@ pub mod parts;
 pub mod unknown;
 
 pub use kept::{KeptRecords, place_to_make};
+pub use parts::is_last;
 pub use unknown::{sessionless_channel, unknown_code};

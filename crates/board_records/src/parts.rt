@@ -5,7 +5,7 @@ ghost use Rattle.two_wire.specs.Sizes.{most_pldm_reply_data};
 ghost use Rattle.attribute_parts.specs.Stagings.{after_part, add_outcome};
 ghost use Rattle.record_kinds.specs.Sound.{IsSound};
 ghost use Rattle.board_records.specs.Gives.{Appends};
-ghost use Rattle.board_records.specs.SetParts.{named_in, limits_named, started, staged_answer};
+ghost use Rattle.board_records.specs.SetParts.{named_in, limits_named, started, staged_answer, is_last};
 
 use crate::kept::KeptRecords;
 use attribute_parts::{Entry, SetPart, Stagings};
@@ -28,6 +28,13 @@ fn limits_named(setup: &Setup, handle: u16) -> Option<AttributeLimits>
 {
     let attribute = setup.attribute(handle)?;
     Some(AttributeLimits::of(handle, attribute))
+}
+
+/// Whether the part is the last of its Set, which alone changes a record.
+pub fn is_last(part: &SetPart<'_>) -> bool
+    ensures { result ≡ is_last part.now }
+{
+    matches!(part, SetPart::End(..))
 }
 
 /// Appends the handle of the part behind one that was staged.
@@ -78,8 +85,7 @@ fn add_to_set<B: Buffer>(
 }
 
 impl<S: Store> KeptRecords<S> {
-    ghost use Rattle.std.specs.Prelude.{OnErr};
-    ghost use Rattle.record_base.specs.declared.op.Op.TheVariants as of_kind;
+    ghost use Rattle.std.specs.Prelude.{OnErr, false};
     ghost use Rattle.board_records.specs.Keeps.{settable, whole_set_given};
     ghost use Rattle.board_records.specs.SetParts.{part_given_at};
 
@@ -129,8 +135,10 @@ impl<S: Store> KeptRecords<S> {
             ≡ (part_given_at setup.now from
             (settable (S.records self.old.store) live.old stagings.old) part.entry).1 }
         ensures still { IsSound setup.now (S.records self.new.store) }
-        // A refusal changes no record.
+        // A refusal changes no record, and neither does a part with others behind it.
         ensures refused { OnErr result (S.records self.new.store ≡ S.records self.old.store) }
+        ensures earlier { is_last part.entry ≡ false
+            → S.records self.new.store ≡ S.records self.old.store }
     {
         match part {
             SetPart::Start(entry) => start_set(setup, stagings, from, entry.as_slice(), to),

@@ -1,5 +1,5 @@
 //! The commands of attributes, with values that are whole or come in parts.
-ghost use Rattle.std.specs.Prelude.{◌≡◌, ◌+◌, ◌≤◌, length, Ok};
+ghost use Rattle.std.specs.Prelude.{◌+◌, ◌≤◌, length, Ok};
 ghost use Rattle.bmc_board.specs.Gives.{Appends};
 ghost use Rattle.bmc_board.specs.BiosTables.{longest_part};
 ghost use Rattle.bmc_board.specs.AttributeParts.{later_part};
@@ -11,7 +11,7 @@ use attribute_parts::part_in;
 use bios_attr::AskedPart;
 use bios_attr::bios_attribute::{START_AND_END, attribute_in, attribute_shown_in};
 use bios_attr::entry_parts::entry_in;
-use board_records::unknown_code;
+use board_records::{is_last, unknown_code};
 use cfg_records::{Key, Op, RecordData, RecordKind, Store, byte_at};
 use pldm_base::{GET_NEXT_PART, entry_part};
 use two_wire::{Buffer, Code};
@@ -41,11 +41,14 @@ impl<S: Store> Board<S> {
             result to.old to.new }
     {
         let part = part_in(body)?;
+        let ends = is_last(&part);
         let live = &mut self.activity.live;
         let stagings = &mut self.activity.stagings;
         self.records
             .set_part(&self.setup, part, live, stagings, from, to)?;
-        outdate(&mut self.kept);
+        if ends {
+            outdate(&mut self.kept);
+        }
         Ok(())
     }
 
