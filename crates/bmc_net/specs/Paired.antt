@@ -1,7 +1,10 @@
 -- What a board and a manager came to that ran side by side, and what is said of it.
-use Rattle.std.specs.Prelude.{◌≡◌, ℕ, false, List, [], ◌++◌, Option, Some, None}
+use Rattle.std.specs.Prelude.{◌≡◌, ℕ, false, List, [], ◌++◌, Option, Some, None, IfSome}
 use Rattle.text_lines.specs.Cuts.{ended}
 use Rattle.cfg_records.specs.declared.board_file.BoardFile.{BoardFile}
+use Rattle.cfg_records.specs.Boards.{pairs_of}
+use Rattle.cfg_records.specs.Records.{Pair}
+use Rattle.bmc_board.specs.State.{opened}
 use Rattle.undo_plans.specs.declared.plan.Plan.{Plan}
 use Rattle.model_undo.specs.declared.phase.Phase.{Phase}
 use Rattle.model_lab.specs.Meaning.{lab_names}
@@ -13,7 +16,8 @@ use Rattle.bmc_drive.specs.Driving.{Links}
 use Rattle.changed_records.specs.Changed.{records_line}
 use Rattle.bmc_lab.specs.declared.status.Status.{Status}
 use Rattle.bmc_lab.specs.declared.status.Status.TheVariants.{Success, Stopped}
-use Rattle.net_serve.specs.Served.{Tallies}
+use Rattle.net_serve.specs.declared.board.Served.{Served}
+use Rattle.net_serve.specs.Served.{IsServed, Tallies, most_events}
 use Rattle.net_run.specs.Driven.{State, Goes, opened_with, fresh_links}
 use Rattle.net_run.specs.Lines.{phase_line}
 use Rattle.bmc_net.specs.declared.side.Driver.{Driver}
@@ -39,6 +43,11 @@ pub record RunsAndUndoes (plan : Plan) (turns : ℕ) (run undone : Phase) : Type
 abbrev pub IsChanged : BoardFile → Option ℕ → Type 0
 IsChanged file None = Unit {0}
 IsChanged file (Some changed) = (events : ℕ) × Tallies false None file events changed
+
+-- so many have changed of the records that a file's board began with, where it was served with one history
+abbrev pub CountsChanged : (start : List Pair) → (served : Option Served) → (changed : Option ℕ) → Type 0
+CountsChanged start served changed =
+    (file : BoardFile) → start ≡ pairs_of file → IfSome served (IsServed file (opened file) most_events) → IsChanged file changed
 
 -- the line of the records, where it is known
 abbrev pub last_line : Option ℕ → List ℕ

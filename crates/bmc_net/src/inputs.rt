@@ -37,10 +37,7 @@ pub fn read_inputs(alloc: Global, board: &str, plan: &str) -> Result<Inputs, Inp
     };
     match read_plan(alloc, plan) {
         Ok(plan) => Ok(Inputs { file, plan }),
-        Err(why) => {
-            drop(file);
-            Err(InputFault::Plan(why))
-        }
+        Err(why) => Err(InputFault::Plan(why)),
     }
 }
 

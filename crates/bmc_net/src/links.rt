@@ -16,13 +16,8 @@ pub(crate) struct Ends {
 /// The controller's ends, at free ports.
 pub(crate) fn controller_ends<R: Net>(rt: &R) -> Result<Ends, LinkFault> {
     let ipmb = UdpLink::bind(rt, 0, WAIT_MS)?;
-    match UdpLink::bind(rt, 0, WAIT_MS) {
-        Ok(smbus) => Ok(Ends { ipmb, smbus }),
-        Err(why) => {
-            drop(ipmb);
-            Err(why)
-        }
-    }
+    let smbus = UdpLink::bind(rt, 0, WAIT_MS)?;
+    Ok(Ends { ipmb, smbus })
 }
 
 /// The manager's ends, which send to those of the controller.
@@ -33,11 +28,6 @@ pub(crate) fn manager_ends<R: Net>(rt: &R, controller: &Ends) -> Result<Ends, Li
     let ipmb_port = controller.ipmb.port()?;
     let smbus_port = controller.smbus.port()?;
     let ipmb = UdpLink::to(rt, ipmb_port, WAIT_MS)?;
-    match UdpLink::to(rt, smbus_port, WAIT_MS) {
-        Ok(smbus) => Ok(Ends { ipmb, smbus }),
-        Err(why) => {
-            drop(ipmb);
-            Err(why)
-        }
-    }
+    let smbus = UdpLink::to(rt, smbus_port, WAIT_MS)?;
+    Ok(Ends { ipmb, smbus })
 }

@@ -1,14 +1,11 @@
 //! `bmcnet pair`: a controller and a manager in one process, over UDP.
-ghost use Rattle.std.specs.Prelude.{◌≡◌, ◌++◌, IfOk, IfErr, IfSome, OnOk, string_bytes};
+ghost use Rattle.std.specs.Prelude.{◌≡◌, ◌++◌, IfOk, IfErr, OnOk, string_bytes};
 ghost use Rattle.cfg_records.specs.declared.board_file.BoardFile.{BoardFile as AnyFile};
-ghost use Rattle.cfg_records.specs.Boards.{pairs_of};
 ghost use Rattle.undo_plans.specs.declared.plan.Plan.{Plan as AnyPlan};
-ghost use Rattle.bmc_board.specs.State.{opened};
-ghost use Rattle.net_serve.specs.Served.{IsServed, most_events};
 ghost use Rattle.bmc_lab.specs.declared.console.Stream.TheVariants.{Output};
 ghost use Rattle.bmc_lab.specs.Ending.{RunEnds, Tells};
 ghost use Rattle.bmc_lab.specs.Files.{FirstUnread};
-ghost use Rattle.bmc_net.specs.Paired.{IsChanged, IsReady, RunsAndUndoes, TellsPair, last_line, status_of, text_of};
+ghost use Rattle.bmc_net.specs.Paired.{CountsChanged, IsChanged, IsReady, RunsAndUndoes, TellsPair, last_line, status_of, text_of};
 ghost use Rattle.bmc_net.specs.Run.{AreTexts, Says, SaysOfFiles, words_of};
 
 use crate::inputs::{Inputs, is_memory, read_inputs, refusal};
@@ -111,8 +108,7 @@ fn open_sides<R: Net>(rt: &R, alloc: Global, plan: Plan) -> Result<(Controller, 
 
 /// How many of these records changed on a board that was served, if it was.
 fn changed_of(start: &[(Key, StartValue)], served: &Option<Served>) -> Option<usize>
-    ensures { (file : AnyFile) → start.now ≡ pairs_of file
-        → IfSome served.now (IsServed file (opened file) most_events) → IsChanged file result }
+    ensures { CountsChanged start.now served.now result }
 {
     match served {
         Some(served) => Some(tally_of(start, served).changed),
@@ -123,9 +119,7 @@ fn changed_of(start: &[(Key, StartValue)], served: &Option<Served>) -> Option<us
 /// What is told of a pair whose board began with these records. Both are let go.
 fn account_of(start: Vec<(Key, StartValue)>, paired: Paired) -> Account
     ensures phases { result.phases ≡ paired.phases }
-    ensures changed { (file : AnyFile) → start.items ≡ pairs_of file
-        → IfSome paired.served (IsServed file (opened file) most_events)
-        → IsChanged file result.changed }
+    ensures changed { CountsChanged start.items paired.served result.changed }
 {
     let account = Account {
         phases: paired.phases,
@@ -271,13 +265,8 @@ fn texts_of<'a, F: TextFiles>(files: &F, words: &'a PairWords) -> Result<Texts, 
         (words_of words.now) unread.word.now unread.why) }
 {
     let board = text_of(files, words.board.as_str())?;
-    match text_of(files, words.plan.as_str()) {
-        Ok(plan) => Ok(Texts { board, plan }),
-        Err(unread) => {
-            drop(board);
-            Err(unread)
-        }
-    }
+    let plan = text_of(files, words.plan.as_str())?;
+    Ok(Texts { board, plan })
 }
 
 /// Serves the board of a file in threads, runs a plan on it over UDP beside them, undoes it, and writes to standard output in which phase the
