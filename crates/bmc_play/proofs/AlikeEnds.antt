@@ -4,7 +4,6 @@ use Rattle.text_schedule.specs.declared.event.Event.{Event}
 use Rattle.cfg_records.specs.declared.board_file.BoardFile.{BoardFile}
 use Rattle.record_base.specs.declared.op.Op.{Op}
 use Rattle.model_lab.specs.declared.fault.Fault.{Fault}
-use Rattle.model_lab.specs.declared.fault.Fault.TheVariants as fault
 use Rattle.model_lab.specs.Played.{Ending, Whole, Stops, IsPlayed}
 use Rattle.bmc_play.specs.declared.account.Account.{Account}
 use Rattle.lab_play.specs.declared.run.Stopped.{Stopped}

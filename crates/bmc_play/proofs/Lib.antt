@@ -8,3 +8,4 @@ pub mod OneRun
 pub mod OnePremise
 pub mod Plays
 pub mod Readers
+pub mod Told

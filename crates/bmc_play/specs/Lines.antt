@@ -67,6 +67,13 @@ abbrev pub premised : Bool → Option ℕ → Option Stopped → List (List ℕ)
 premised true broken stopped = premise_lines broken stopped
 premised false broken stopped = []
 
+-- the lines before the frames: the phase, how many frames there are, the requests, the records
+abbrev pub start_lines : Account → List (List ℕ)
+start_lines told =
+    said (codes "phase") (phase_name told.phase)
+    ∷ said (codes "frames") (decimal (length told.frames.now))
+    ∷ (undo_lines told.undo.now.members ++ records_line told.changed ∷ [])
+
 -- the lines: the phase, how many frames there are, the requests, the records, the frames, the premise, and the event that wasn't taken
 abbrev pub lines_of : (frames premises : Bool) → Account → List (List ℕ)
 lines_of frames premises told =

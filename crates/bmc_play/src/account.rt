@@ -2,7 +2,7 @@
 ghost use Rattle.std.specs.Prelude.{◌≡◌, ◌++◌, IfOk, OnOk, string_bytes};
 ghost use Rattle.std.specs.List.{flat_map};
 ghost use Rattle.text_lines.specs.Cuts.{ended};
-ghost use Rattle.bmc_play.specs.Lines.{ending, premised, text_of};
+ghost use Rattle.bmc_play.specs.Lines.{ending, premised, start_lines, text_of};
 
 use crate::lines::{push_frames, push_premise, push_stopped};
 use changed_records::push_records;
@@ -38,19 +38,27 @@ impl Account<'_> {
         ensures { IfOk result (λ text. string_bytes text ≡ text_of frames premises self.now) }
     {
         let mut text = String::new(alloc);
+        self.push_start(alloc, &mut text)?;
+        if frames {
+            push_frames(alloc, &mut text, self.frames)?;
+        }
+        self.push_end(&mut text, premises)?;
+        Ok(text)
+    }
+
+    /// Adds the lines before the frames.
+    fn push_start(&self, alloc: Global, text: &mut String) -> Result<(), AllocError>
+        ensures { OnOk result (string_bytes text.new
+            ≡ string_bytes text.old ++ flat_map ended (start_lines self.now)) }
+    {
         let phase = self.phase;
         let sent = self.frames.len();
         let requests = self.undo.len();
         writeln!(text, "phase {phase}")?;
         writeln!(text, "frames {sent}")?;
         writeln!(text, "undo {requests}")?;
-        push_requests(alloc, &mut text, self.undo)?;
-        push_records(&mut text, self.changed)?;
-        if frames {
-            push_frames(alloc, &mut text, self.frames)?;
-        }
-        self.push_end(&mut text, premises)?;
-        Ok(text)
+        push_requests(alloc, text, self.undo)?;
+        push_records(text, self.changed)
     }
 
     /// Adds the lines behind the frames.

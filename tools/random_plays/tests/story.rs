@@ -388,7 +388,7 @@ struct Made {
     events: Vec<Event>,
     /// The records that the board began with.
     start: Vec<(Key, StartValue)>,
-    lab: Lab,
+    lab: Box<Lab>,
     /// How many events were offered since the plan was undone.
     later: u64,
     /// How many events it took until the plan first was done or halted, and where it stood then.
