@@ -1,6 +1,5 @@
 //! `bmcnet pair`: a controller and a manager in one process, over UDP.
 ghost use Rattle.std.specs.Prelude.{◌≡◌, ◌++◌, IfOk, IfErr, OnOk, string_bytes};
-ghost use Rattle.cfg_records.specs.declared.board_file.BoardFile.{BoardFile as AnyFile};
 ghost use Rattle.undo_plans.specs.declared.plan.Plan.{Plan as AnyPlan};
 ghost use Rattle.bmc_lab.specs.declared.console.Stream.TheVariants.{Output};
 ghost use Rattle.bmc_lab.specs.Ending.{RunEnds, Tells};
