@@ -13,10 +13,11 @@ use Rattle.record_kinds.specs.declared.limits.Limits.{Limits}
 use Rattle.record_kinds.specs.Limits.{key_of, limits_at, sets}
 use Rattle.record_kinds.specs.LimitsLaws as laws
 use Rattle.attribute_parts.specs.declared.set_part.SetPart.TheVariants.{Start, Middle, End}
-use Rattle.attribute_parts.specs.Stagings.{end_outcome}
+use Rattle.attribute_parts.specs.Stagings.{start_outcome, add_outcome, end_outcome}
 use Rattle.bmc_board.specs.Request.{Request, Live, Get, Set, SetStores, PartOfSet, LaterPart, asked_by}
 use Rattle.bmc_board.specs.State.{State}
 use Rattle.bmc_board.specs.Replies.{unknown_code}
+use Rattle.bmc_board.specs.AttributeParts.{named_in, limits_named}
 use Rattle.bmc_board.specs.Answer.{Given, get_answer, serve}
 use Rattle.bmc_board.specs.Stores.{ChangesNeither}
 use Rattle.bmc_board.specs.Row.{Sets, Ends, Replies}
@@ -114,8 +115,9 @@ module _ (setup : BoardFile) where
       ap (λ (g : Given). g.1.records) row
       ∙ both_served before (serve setup before (SetStores first second)) (λ both. ap (λ (b : Answered). b.code) both.replied) (both_or_none setup before first second)
       (λ same. fault (ap (λ (g : Given). g.0.code) row ∙ same))
-  row_served (Ok (PartOfSet from (Start entry))) before a after row = inl (ap (λ (g : Given). g.1.records) row ∙ staged_records from before _)
-  row_served (Ok (PartOfSet from (Middle handle bytes))) before a after row = inl (ap (λ (g : Given). g.1.records) row ∙ staged_records from before _)
+  row_served (Ok (PartOfSet from (Start entry))) before a after row =
+      inl (ap (λ (g : Given). g.1.records) row ∙ staged_records from before (start_outcome (limits_named setup (named_in entry)) before.activity.stagings from entry))
+  row_served (Ok (PartOfSet from (Middle handle bytes))) before a after row = inl (ap (λ (g : Given). g.1.records) row ∙ staged_records from before (add_outcome before.activity.stagings from handle bytes))
   row_served (Ok (PartOfSet from (End handle bytes))) before a after row = last_served from (end_outcome before.activity.stagings from handle bytes) before a after row
   row_served (Ok (LaterPart handle transfer)) before a after row = ap (λ (g : Given). g.1.records) row
   row_served (Err code) before a after row = ap (λ (g : Given). g.1.records) row

@@ -35,6 +35,7 @@ impl Manager {
             return Err(OpenFault::Memory);
         };
         let Plan { steps, .. } = plan;
+        let _steps = steps.len();
         let Ok(requests) = room_for(alloc, &steps) else {
             return Err(OpenFault::Memory);
         };

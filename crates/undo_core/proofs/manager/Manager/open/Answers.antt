@@ -1,8 +1,5 @@
-use Rattle.std.proofs.Common.{rules, ◌≡◌, ◌≤◌, ℕ, List, length, refl, sym, ◌∙◌, ap, lit<, arith}
-use Rattle.std.proofs.lemmas.List.{length-map}
+use Rattle.std.proofs.Common.{rules, ◌≡◌, ◌≤◌, ℕ, List, length, refl, sym, ap, lit<, arith}
 use Rattle.record_base.specs.declared.message.Asked.{Asked}
-use Rattle.record_base.specs.declared.op.Op.{Op}
-use Rattle.undo_plans.specs.Kept.{kept_op}
 use Rattle.undo_plans.specs.Steps.{most_steps}
 use Rattle.undo_core.specs.Shown.{backs}
 use Rattle.undo_core.proofs.manager.Manager.open.Goals as goal
@@ -26,10 +23,7 @@ returns-clause-opened c = record {
 
 pub invariant_of-result : goal.invariant_of-result
 invariant_of-result c =
-    let steps = c.steps.inside in
-    let all : length c.args.plan.steps ≡ length steps.ops.items =
-    ap (λ (l : List Op). length l) (sym c.steps.view_is) ∙ length-map steps.ops.items (kept_op steps.values.items) in
-    let few : length c.args.plan.steps ≤ most_steps = omega (arith, all, c.steps.invariant.0) in
+    let few : length c.args.plan.steps ≤ most_steps = omega (arith, c.len-steps.ensures.value, c.len-steps.ensures.few) in
     let none : length c.in-Ok-room_for.requests.members ≡ 0 = ap (λ (l : List Asked). length l) c.in-Ok-room_for.ensures.members in
     let empty : length c.in-Ok-open.replies ≡ 0 = ap (λ (l : List ℕ). length l) c.in-Ok-open.ensures in
     record {
