@@ -1,7 +1,7 @@
 //! One run: two workers and a scanner share a board, which is closed then.
 use super::fault::NotMade;
 use super::gate::Mixed;
-use super::long_asset::with_long_asset;
+use super::long_asset::put_long_asset;
 use super::scripts::{ENDPOINT, REQUESTER, Script};
 use bmc_board::{Bench, Board, Records};
 use bmc_core::{At, Port};
@@ -29,7 +29,7 @@ pub(super) struct Told {
 /// The sample board, whose text may be longer.
 pub(super) fn open_sample(alloc: Global) -> Result<Board<Records>, AllocError> {
     let mut file = sample_board(alloc)?;
-    file.attributes = with_long_asset(alloc, file.attributes)?;
+    put_long_asset(alloc, &mut file.attributes)?;
     Board::of_file(alloc, file)
 }
 

@@ -1,6 +1,9 @@
 //! The sample board's text, where it may be longer: its Gets and Sets go in parts.
-use record_base::{Attribute, AttributeKind, Attributes, StringAttribute, Text, TextLengths};
+use record_base::{
+    Attribute, AttributeKind, Attributes, Items, StringAttribute, Text, TextLengths,
+};
 use std::alloc::{AllocError, Global};
+use std::mem::replace;
 
 /// The handle of the sample board's text, and how many bytes it has here at most.
 pub(super) const ASSET: u16 = 1;
@@ -19,18 +22,20 @@ fn asset(alloc: Global) -> Result<Attribute, AllocError> {
     })
 }
 
-/// These attributes, with that text in its place.
-pub(super) fn with_long_asset(
+/// Puts that text in its place among these attributes.
+pub(super) fn put_long_asset(
     alloc: Global,
-    attributes: Attributes,
-) -> Result<Attributes, AllocError> {
+    attributes: &mut Attributes,
+) -> Result<(), AllocError> {
     let mut items = Vec::new(alloc);
-    for attribute in attributes.items.into_vec() {
+    let before = replace(&mut attributes.items, Items::new(Vec::new(alloc)));
+    for attribute in before.into_vec() {
         if attribute.handle == ASSET {
             items.push(asset(alloc)?)?;
         } else {
             items.push(attribute)?;
         }
     }
-    Ok(Attributes::new(items).unwrap())
+    *attributes = Attributes::new(items).unwrap();
+    Ok(())
 }

@@ -1,7 +1,7 @@
 //! Random plans, and the boards on which they run.
 use super::dice::Dice;
 use super::lan::lans;
-use super::long_asset::{ASSET, MOST_TEXT, with_long_asset};
+use super::long_asset::{ASSET, MOST_TEXT, put_long_asset};
 use super::settings::{STATES, Setting, any_setting};
 use cfg_records::{BoardFile, Distinct, Key, Op, Items, Value, sample_board};
 use record_base::{
@@ -135,7 +135,7 @@ pub(super) fn board_with_more(alloc: Global) -> Result<BoardFile, Fail> {
     file.state_effecters = Distinct::new(state_effecters).ok_or("state effecters")?;
     file.numeric_effecters = Distinct::new(effecters).ok_or("effecters")?;
     file.lans = lans(alloc)?;
-    file.attributes = with_long_asset(alloc, file.attributes)?;
+    put_long_asset(alloc, &mut file.attributes)?;
     Ok(file)
 }
 
