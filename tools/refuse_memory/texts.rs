@@ -30,7 +30,7 @@ pub fn plan<R: Print>(rt: &R, alloc: Global) -> Result<(), Unwell> {
         rt,
         || read_plan(alloc, PLAN),
         |plan| {
-            let steps = plan.steps.as_slice().len();
+            let steps = plan.steps.len();
             Ok(format!(in alloc; "steps {steps} retries {}", plan.retries.number())?)
         },
     )
