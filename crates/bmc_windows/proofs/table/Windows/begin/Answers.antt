@@ -1,4 +1,4 @@
-use Rattle.std.proofs.Common.{ℕ, ◌∷◌, sym, ◌∙◌, ap, subst, arith, length}
+use Rattle.std.proofs.Common.{ℕ, ◌∷◌, sym, ◌∙◌, ap, subst, arith, length, refl}
 use Rattle.std.specs.List.{position}
 use Rattle.std.specs.Option.{is_none}
 use Rattle.bmc_windows.specs.Window.{Pair, IsKept}
@@ -14,6 +14,9 @@ returns-in_default-clause-carried g c reading log keeps new =
     absurd (busy_differs g.row.NUMBERS c.self.invariant.circle reading c.args.self.now log keeps r.requester r.number (r.first ∷ r.rest.now)
     (omega (arith, c.number-number.ensures.below, c.number-number.ensures.value)) c.requires.none
     (ap (λ (h : Held). length h.owners) (sym c.self.view_is) ∙ c.self.invariant.owners) (sym c.free.ensures ∙ c.in_default.is) new)
+
+pub returns-in_default-clause-busy : goal.returns-in_default-clause-busy
+returns-in_default-clause-busy g c reading log keeps busy = refl
 
 pub returns-clause-carried : goal.returns-clause-carried
 returns-clause-carried g c reading log keeps new =
