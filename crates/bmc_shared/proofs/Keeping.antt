@@ -79,10 +79,14 @@ fits_behind setup before after events later seat asked (Ok given) start old new 
     subst (λ (xs : List ℕ). length new ≤ length xs + most_pldm_reply_data) (sym first) (omega (arith, most, few, room))
 fits_behind setup before after events later seat asked (Err why) start old new first done = tt
 
+-- a list has room for as many as were counted where more may be
+pub has_room : (calls amount room most : ℕ) → calls ≡ amount → room ≡ most → amount < most → calls < room
+has_room calls amount room most counted roomy place = omega (arith, counted, roomy, place)
+
 -- where the history had a place, so has the seat's list
 pub has_place : {A : Type 0} {E : Type 0} (result : Result A E) (calls amount room most : ℕ) → calls ≡ amount → room ≡ most
     → OnOk result (amount < most) → OnOk result (calls < room)
-has_place (Ok given) calls amount room most counted roomy place = omega (arith, counted, roomy, place)
+has_place (Ok given) calls amount room most counted roomy place = has_room calls amount room most counted roomy place
 has_place (Err why) calls amount room most counted roomy place = tt
 
 -- the seat's share counts what its list gained
@@ -93,6 +97,16 @@ still_counted (Ok given) calls kept call amount later counted gained same more n
     let all : length kept ≡ length calls + 1 = ap (λ (xs : List Call). length xs) gained ∙ length-append calls (call given ∷ []) in omega (arith, all, counted, more)
 still_counted (Err why) calls kept call amount later counted gained same more none =
     let all : length kept ≡ length calls = ap (λ (xs : List Call). length xs) same in omega (arith, all, counted, none)
+
+-- a list that gained one is as long as is counted, where one more is counted
+pub one_more_counted : {A : Type 0} (held kept : List A) (gained : A) (count seen later : ℕ) → length held ≡ count → kept ≡ held ++ gained ∷ []
+    → seen ≡ count → later ≡ seen + 1 → length kept ≡ later
+one_more_counted {A = A} held kept gained count seen later counted gains same more =
+    let all : length kept ≡ length held + 1 = ap (λ (xs : List A). length xs) gains ∙ length-append held (gained ∷ []) in omega (arith, all, counted, same, more)
+
+-- a share that has one part has some
+pub has_part : (parts before : ℕ) → parts ≡ before → before ≡ 1 → 0 < parts
+has_part parts before same one = omega (arith, same, one)
 
 -- the seat is left so, whichever of two equal results says it
 pub leaves_seat : {J A : Type 0} {g h : _} (told result : Result A PeriodFull) (before : Seat J g) (after : Seat J h) → told ≡ result

@@ -1,6 +1,28 @@
-use Rattle.std.proofs.Common.{ℕ, ◌+◌, ◌∙◌, ap}
-use Rattle.bmc_shared.proofs.Keeping.{has_place_left, clash}
+use Rattle.std.proofs.Common.{ℕ, ◌+◌, ◌∙◌, ap, sym, length}
+use Rattle.bmc_carry.specs.Asking.{meant}
+use Rattle.bmc_history.specs.declared.event.Call.TheVariants.{Exchanged}
+use Rattle.bmc_shared.proofs.Keeping.{has_place_left, has_part, one_more_counted, clash}
 use Rattle.bmc_shared.proofs.shared.Locked.answer.Goals as goal
+
+pub exchange_here-requires : goal.exchange_here-requires
+exchange_here-requires g c = record { room = c.requires.room }
+
+pub add-requires : goal.add-requires
+add-requires g c = has_part c.audit.new.share.parts c.args.share.now.parts c.audit.ensures.parts c.requires.part
+
+pub invariant_of-self : goal.invariant_of-self
+invariant_of-self g c =
+    let done = c.in-Ok.ensures.exchanged in
+    record {
+      counted = one_more_counted c.args.self.now.held.history.items c.exchange_here.new.self.history.items
+          (record { seat = c.args.number; call = Exchanged (meant c.args.asked.now) done.answered })
+          c.args.self.now.book.total c.audit.new.self.total c.add.new.self.total
+          c.args.self.now.counted done.gained c.audit.ensures.total c.add.ensures.total;
+    }
+
+pub invariant_of-self-in-Err-1 : goal.invariant_of-self-in-Err-1
+invariant_of-self-in-Err-1 g c =
+    record { counted = ap (λ held. length held.history.items) c.in-Err.ensures.same ∙ c.args.self.now.counted ∙ sym c.audit.ensures.total }
 
 pub returns-in-Ok : goal.returns-in-Ok
 returns-in-Ok g c =
