@@ -1,6 +1,6 @@
 -- A worker's turns, one after another.
 use Rattle.std.specs.Prelude.{Result, Ok, Err, OnOk, OnErr, Option, Some}
-use Rattle.std.proofs.Common.{◌≡◌, ◌≤◌, refl, ◌+◌, ◌++◌, ℕ, suc, List, [], ◌∷◌, length, ap, sym, ◌∙◌, subst, arith, lit≤}
+use Rattle.std.proofs.Common.{◌≡◌, ◌≤◌, ◌<◌, refl, ◌+◌, ◌++◌, ℕ, suc, List, [], ◌∷◌, length, ap, sym, ◌∙◌, subst, arith, lit≤}
 use Rattle.std.proofs.lemmas.List.{append_assoc, length-append, append-nil}
 use Rattle.bmc_core.specs.declared.out.Out.{Out}
 use Rattle.bmc_core.specs.declared.step.Step.TheVariants.{Ask, Done}
@@ -8,7 +8,9 @@ use Rattle.bmc_core.specs.declared.port.Port.{Port}
 use Rattle.bmc_core.specs.declared.port.Pending.{Pending}
 use Rattle.bmc_core.specs.Port.{IsStep}
 use Rattle.bmc_links.specs.declared.link.Counts.{Counts}
-use Rattle.bmc_links.specs.Counted.{one_more, counted_on}
+use Rattle.bmc_links.specs.declared.link.Heard.{Heard}
+use Rattle.bmc_links.specs.declared.link.Heard.TheVariants.{Frame}
+use Rattle.bmc_links.specs.Counted.{one_more, counted_on, after_next}
 use Rattle.bmc_links.proofs.Counting.{counted_twice}
 use Rattle.bmc_history.specs.declared.event.Call.{Call}
 use Rattle.bmc_history.specs.declared.held.PeriodFull.{PeriodFull}
@@ -96,6 +98,16 @@ full_early made turns before after held kept counted counts within worked = reco
   serves = worked.serves;
 }
 
+-- a worker that made as many turns as it was to make has made them all
+pub all_made : (made turns : ℕ) (before after : Port) (held kept : List Call) (counted counts : Counts) → made ≤ turns → turns ≤ made
+    → Worked Turns made before after held kept counted counts → Worked Turns turns before after held kept counted counts
+all_made made turns before after held kept counted counts within ended worked =
+    let all : made ≡ turns = omega (arith, within, ended) in subst (λ (n : ℕ). Worked Turns n before after held kept counted counts) all worked
+
+-- one more turn is within those that are to be made
+pub one_more_turn : (made turns : ℕ) → made < turns → made + 1 ≤ turns
+one_more_turn made turns more = omega (arith, more)
+
 -- ---- one frame that a port took
 module _ (before : Port) (frame : List ℕ) where
   -- nothing was asked
@@ -132,6 +144,13 @@ module _ (before : Port) (frame : List ℕ) where
   }
 
 -- ---- one turn
+
+-- a frame that `next` heard was counted, with its call
+pub heard_frame : (heard : Heard) (frame : List ℕ) (counted counts : Counts) → counts ≡ after_next (Ok heard) counted → heard ≡ Frame frame
+    → CallsNext (frame ∷ []) counted counts
+heard_frame heard frame counted counts counts_so is =
+    let all : counts ≡ after_next (Ok (Frame frame)) counted = counts_so ∙ ap (λ (h : Heard). after_next (Ok h) counted) is in
+    record { calls = ap (λ (c : Counts). c.calls) all; heard = ap (λ (c : Counts). c.heard) all }
 
 -- a frame was heard and taken, and what came of it left the link's counts alone
 pub taken : (end : End) (frame : List ℕ) (before after : Port) (held kept : List Call) (counted mid counts : Counts)
