@@ -1,4 +1,4 @@
-use Rattle.std.proofs.Common.{ℕ, ◌+◌, ◌∙◌, ap, sym, length}
+use Rattle.std.proofs.Common.{ℕ, ◌+◌, ◌∙◌, ap}
 use Rattle.bmc_carry.specs.Asking.{meant}
 use Rattle.bmc_history.specs.declared.event.Call.TheVariants.{Exchanged}
 use Rattle.bmc_shared.proofs.Keeping.{has_place_left, has_part, one_more_counted, clash}
@@ -19,10 +19,6 @@ invariant_of-self g c =
           c.args.self.now.book.total c.audit.new.self.total c.add.new.self.total
           c.args.self.now.counted done.gained c.audit.ensures.total c.add.ensures.total;
     }
-
-pub invariant_of-self-in-Err-1 : goal.invariant_of-self-in-Err-1
-invariant_of-self-in-Err-1 g c =
-    record { counted = ap (λ held. length held.history.items) c.in-Err.ensures.same ∙ c.args.self.now.counted ∙ sym c.audit.ensures.total }
 
 pub returns-in-Ok : goal.returns-in-Ok
 returns-in-Ok g c =

@@ -1,4 +1,4 @@
-use Rattle.std.proofs.Common.{◌∙◌, refl, ap, sym, length}
+use Rattle.std.proofs.Common.{◌∙◌, refl, sym, length}
 use Rattle.bmc_history.specs.declared.event.Call.TheVariants.{Benched}
 use Rattle.bmc_shared.proofs.Keeping.{has_place_left, has_room, has_part, one_more_counted, clash}
 use Rattle.bmc_shared.proofs.shared.Locked.bench.Goals as goal
@@ -21,10 +21,6 @@ invariant_of-self g c = record {
       c.args.self.now.book.total c.audit.new.self.total c.add.new.self.total
       c.args.self.now.counted c.in-Ok.ensures.history c.audit.ensures.total c.add.ensures.total;
 }
-
-pub invariant_of-self-in-Err-1 : goal.invariant_of-self-in-Err-1
-invariant_of-self-in-Err-1 g c =
-    record { counted = ap (λ held. length held.history.items) c.in-Err.ensures.same ∙ c.args.self.now.counted ∙ sym c.audit.ensures.total }
 
 pub invariant_of-seat : goal.invariant_of-seat
 invariant_of-seat g c =
