@@ -10,3 +10,4 @@ pub mod Going
 pub mod Replied
 pub mod ShortValues
 pub mod JoinedBodies
+pub mod Begun

@@ -14,6 +14,7 @@ use Rattle.undo_core.proofs.Replies.{set_goes_on, set_ends, waited}
 use Rattle.undo_core.specs.declared.stage.Stage.TheVariants.{Opened}
 use Rattle.undo_core.specs.declared.stage.Task.TheVariants.{Sets}
 use Rattle.undo_core.proofs.Replied as replied
+use Rattle.undo_core.proofs.Begun.{is_there, none_replied}
 use Rattle.undo_core.proofs.entering.after_set.Goals as goal
 
 pub returns-in-Some-clause-after : goal.returns-in-Some-clause-after
@@ -79,3 +80,27 @@ pub returns-in-None-clause-few : goal.returns-in-None-clause-few
 returns-in-None-clause-few c =
     let one = one_kept c.args.requests.now.members c.keep.new.self.members c.args.requests.now.waiting c.keep.ensures.members in
     omega (arith, c.requires.few, c.step_stage.ensures.few, one)
+
+pub unwrap-op-requires : goal.unwrap-op-requires
+unwrap-op-requires c = is_there c.args.steps.now c.args.step c.get.result c.get.ensures c.requires.step
+
+pub returns-in-Some-clause-few : goal.returns-in-Some-clause-few
+returns-in-Some-clause-few c = omega (arith, c.requires.few, c.requires.step, c.len-steps.ensures)
+
+pub returns-in-Some-clause-room : goal.returns-in-Some-clause-room
+returns-in-Some-clause-room c = record { places = omega arith; room = omega arith }
+
+pub returns-in-Some-set_next-clause-room : goal.returns-in-Some-set_next-clause-room
+returns-in-Some-set_next-clause-room c = c.requires.room
+
+pub returns-in-Some-set_next-clause-planned : goal.returns-in-Some-set_next-clause-planned
+returns-in-Some-set_next-clause-planned c = c.requires.step
+
+pub returns-in-None-clause-free : goal.returns-in-None-clause-free
+returns-in-None-clause-free c = none_replied c.step_stage.result c.step_stage.ensures.first
+
+pub step_stage-requires : goal.step_stage-requires
+step_stage-requires c = omega (arith, c.requires.step)
+
+pub overflow_add-step : goal.overflow_add-step
+overflow_add-step c = omega (arith, c.requires.step, c.len-steps.ensures, c.len-steps.type_inv)

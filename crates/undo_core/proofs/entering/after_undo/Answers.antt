@@ -7,6 +7,7 @@ use Rattle.model_bus.specs.Answered.{Answered}
 use Rattle.undo_core.proofs.Replies.{undo_goes_on, undo_ends, undo_refused}
 use Rattle.undo_core.specs.declared.stage.Stage.TheVariants.{Opened, AtRefused}
 use Rattle.undo_core.specs.declared.stage.Task.TheVariants.{Undoes}
+use Rattle.undo_core.proofs.Begun.{none_replied}
 use Rattle.undo_core.proofs.Replied as replied
 use Rattle.undo_core.proofs.entering.after_undo.Goals as goal
 
@@ -43,3 +44,6 @@ returns-in-Some-request-clause-left c plan any = omega (arith, c.requires.parts)
 
 pub returns-in-None-clause-left : goal.returns-in-None-clause-left
 returns-in-None-clause-left c plan any = omega (arith, c.requires.parts, c.undo_stage.ensures.left (length plan) (length any.members))
+
+pub returns-in-None-clause-free : goal.returns-in-None-clause-free
+returns-in-None-clause-free c = none_replied c.undo_stage.result c.undo_stage.ensures.first

@@ -14,6 +14,7 @@ use Rattle.undo_core.specs.declared.stage.Task.TheVariants.{Gets}
 use Rattle.undo_core.proofs.Going.{one_more, next_got, more_stage, last_stage}
 use Rattle.undo_core.proofs.Replied as replied
 use Rattle.undo_core.proofs.JoinedBodies.{are_joined}
+use Rattle.undo_core.proofs.Begun.{is_there}
 use Rattle.undo_core.proofs.getting.after_get.Goals as goal
 
 -- a reply that came first shows its own body
@@ -115,3 +116,6 @@ returns-in-Some-next_part-clause-filled c =
 
 pub end-requires-clause-few : goal.end-requires-clause-few
 end-requires-clause-few c = c.requires.filled
+
+pub unwrap-op-requires : goal.unwrap-op-requires
+unwrap-op-requires c = is_there c.args.steps.now c.args.step c.get.result c.get.ensures c.requires.step

@@ -13,6 +13,7 @@ use Rattle.undo_core.specs.Shown.{words_of, own, IsStage}
 use Rattle.undo_core.specs.Room.{most_data}
 use Rattle.undo_core.proofs.Rooms.{begins_with, same_kind, place_for, bytes_for_one, room_left}
 use Rattle.undo_core.proofs.ShortValues.{short_undo}
+use Rattle.undo_core.proofs.Begun.{is_there}
 use Rattle.undo_core.proofs.getting.got_stage.Goals as goal
 
 pub returns-in_default-clause-stage : goal.returns-in_default-clause-stage
@@ -58,3 +59,6 @@ returns-clause-room c =
     let kind : most_data c.in-Some.back ≡ most_data c.unwrap-op.result = same_kind c.unwrap-op.result c.in-Some.back c.args.shown.now (sym c.in-Some.ensures) in
     room_left c.args.steps.now c.args.step (most_data c.in-Some.back) c.unwrap-op.result c.args.requests.now c.prepare_set.new.requests there c.requires.room
     (omega (arith, kind)) c.prepare_set.ensures.places c.prepare_set.ensures.room
+
+pub unwrap-op-requires : goal.unwrap-op-requires
+unwrap-op-requires c = is_there c.args.steps.now c.args.step c.get.result c.get.ensures c.requires.step
