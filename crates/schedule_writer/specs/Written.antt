@@ -1,7 +1,8 @@
 -- How a schedule is written: a line for each event, numbers in decimal and bytes in upper-case hexadecimal.
-use Rattle.std.specs.Prelude.{◌≡◌, ℕ, Bool, true, false, List, [], ◌∷◌, ◌++◌, map, nat_lt}
+use Rattle.std.specs.Prelude.{◌≡◌, ℕ, Bool, true, false, List, [], ◌∷◌, ◌++◌, map, nat_lt, Result, OnOk, string_bytes}
 use Rattle.std.specs.List.{flat_map}
 use Rattle.std.specs.Fmt.{decimal}
+use Rattle.std.proofs.Common.{String}
 use Rattle.hex.specs.Hex.{encode_upper}
 use Rattle.text_lines.specs.Cuts.{Lacks, line_feed, ended}
 use Rattle.text_schedule.specs.declared.event.Event.{Event}
@@ -51,3 +52,11 @@ pub record Stands (line : List ℕ) (event : Event) : Type 0 where
   pub says : Says line event
   pub spoken : is_skipped line ≡ false
   pub whole : Lacks line_feed line
+
+-- so it is of the line that is written for the event
+abbrev pub IsSaid : Event → Type 0
+IsSaid event = Stands (line_of event) event
+
+-- unless memory was refused, the text has the event's line behind what it had
+abbrev pub Adds : {Z : Type 0} {A E : Type 0} → Event → Result A E → (old new : String Z) → Type 0
+Adds event result old new = OnOk result (string_bytes new ≡ string_bytes old ++ ended (line_of event))

@@ -1,13 +1,12 @@
 //! Schedules, written.
-ghost use Rattle.std.specs.Prelude.{◌≡◌, ◌<◌, ◌≤◌, length, ◌++◌, ◌∷◌, true, IfOk, OnOk, string_bytes};
+ghost use Rattle.std.specs.Prelude.{◌≡◌, ◌<◌, ◌≤◌, length, ◌∷◌, true, IfOk, string_bytes};
 ghost use Rattle.std.specs.List.{AllByRecursion};
 ghost use Rattle.hex.specs.Hex.{IsBytes, encode_upper};
-ghost use Rattle.text_lines.specs.Cuts.{ended};
 ghost use Rattle.text_schedule.specs.Text.{lines_of};
 ghost use Rattle.two_wire.specs.Sizes.{most_ipmi_request_data};
 ghost use Rattle.text_schedule.specs.Line.{AreSome, IsRequest, bytes_of, most_noise};
 ghost use Rattle.text_schedule.specs.Schedule.{Say};
-ghost use Rattle.schedule_writer.specs.Written.{Stands, byte_digits, has_line, line_of, text_of};
+ghost use Rattle.schedule_writer.specs.Written.{Adds, IsSaid, byte_digits, has_line, text_of};
 
 use std::alloc::{AllocError, Global};
 use text_schedule::{BenchEvent, Event, OtherMessage, OtherRequest};
@@ -73,9 +72,8 @@ fn bytes_of(request: &OtherRequest) -> Bytes<MOST_REQUEST>
 
 /// Adds the line of somebody else's request.
 fn push_request(alloc: Global, text: &mut String, request: &OtherRequest) -> Result<(), AllocError>
-    ensures text { OnOk result (string_bytes text.new
-        ≡ string_bytes text.old ++ ended (line_of (Event.OtherIpmb request.now))) }
-    ensures stands { Stands (line_of (Event.OtherIpmb request.now)) (Event.OtherIpmb request.now) }
+    ensures text { Adds (Event.OtherIpmb request.now) result text.old text.new }
+    ensures stands { IsSaid (Event.OtherIpmb request.now) }
 {
     let bytes = bytes_of(request);
     let digits = digits_of(alloc, bytes.as_slice());
@@ -86,10 +84,8 @@ fn push_request(alloc: Global, text: &mut String, request: &OtherRequest) -> Res
 
 /// Adds the line of somebody else's message.
 fn push_message(alloc: Global, text: &mut String, message: &OtherMessage) -> Result<(), AllocError>
-    ensures text { OnOk result (string_bytes text.new
-        ≡ string_bytes text.old ++ ended (line_of (Event.OtherSmbus message.now))) }
-    ensures stands { Stands (line_of (Event.OtherSmbus message.now))
-        (Event.OtherSmbus message.now) }
+    ensures text { Adds (Event.OtherSmbus message.now) result text.old text.new }
+    ensures stands { IsSaid (Event.OtherSmbus message.now) }
 {
     let body = message.body.as_slice();
     let digits = digits_of(alloc, body);
@@ -101,9 +97,8 @@ fn push_message(alloc: Global, text: &mut String, message: &OtherMessage) -> Res
 /// Adds the line of noise.
 fn push_noise(alloc: Global, text: &mut String, on: Bus, bytes: &[u8]) -> Result<(), AllocError>
     requires { AreSome most_noise bytes.now }
-    ensures text { OnOk result (string_bytes text.new
-        ≡ string_bytes text.old ++ ended (line_of (Event.Noise on bytes.now))) }
-    ensures stands { Stands (line_of (Event.Noise on bytes.now)) (Event.Noise on bytes.now) }
+    ensures text { Adds (Event.Noise on bytes.now) result text.old text.new }
+    ensures stands { IsSaid (Event.Noise on bytes.now) }
 {
     let bus = on.name();
     let digits = digits_of(alloc, bytes)?;
@@ -112,9 +107,8 @@ fn push_noise(alloc: Global, text: &mut String, on: Bus, bytes: &[u8]) -> Result
 
 /// Adds the line of a window that is forgotten.
 fn push_idle(alloc: Global, text: &mut String, on: Bus, requester: u8) -> Result<(), AllocError>
-    ensures text { OnOk result (string_bytes text.new
-        ≡ string_bytes text.old ++ ended (line_of (Event.Idle on requester))) }
-    ensures stands { Stands (line_of (Event.Idle on requester)) (Event.Idle on requester) }
+    ensures text { Adds (Event.Idle on requester) result text.old text.new }
+    ensures stands { IsSaid (Event.Idle on requester) }
 {
     let bus = on.name();
     let from = byte_digits(alloc, requester)?;
@@ -123,10 +117,8 @@ fn push_idle(alloc: Global, text: &mut String, on: Bus, requester: u8) -> Result
 
 /// Adds the line of a reading.
 fn push_scan(alloc: Global, text: &mut String, sensor: u8, reading: u8) -> Result<(), AllocError>
-    ensures text { OnOk result (string_bytes text.new
-        ≡ string_bytes text.old ++ ended (line_of (Event.OnBench (BenchEvent.Scan sensor reading)))) }
-    ensures stands { Stands (line_of (Event.OnBench (BenchEvent.Scan sensor reading)))
-        (Event.OnBench (BenchEvent.Scan sensor reading)) }
+    ensures text { Adds (Event.OnBench (BenchEvent.Scan sensor reading)) result text.old text.new }
+    ensures stands { IsSaid (Event.OnBench (BenchEvent.Scan sensor reading)) }
 {
     let sensor = byte_digits(alloc, sensor)?;
     let reading = byte_digits(alloc, reading)?;
@@ -135,9 +127,8 @@ fn push_scan(alloc: Global, text: &mut String, sensor: u8, reading: u8) -> Resul
 
 /// Adds the line of an event.
 pub fn push_event(alloc: Global, text: &mut String, event: &Event) -> Result<(), AllocError>
-    ensures text { OnOk result (string_bytes text.new
-        ≡ string_bytes text.old ++ ended (line_of event.now)) }
-    ensures stands { has_line event.now ≡ true → Stands (line_of event.now) event.now }
+    ensures text { Adds event.now result text.old text.new }
+    ensures stands { has_line event.now ≡ true → IsSaid event.now }
 {
     match event {
         Event::ToBmc(number) => writeln!(text, "to-bmc {number}"),
