@@ -78,6 +78,10 @@ is_told_at of value = option_map_or (is_told of) (as_table value) false
 abbrev pub is_told_in : Group → Field → Members → Bool
 is_told_in of array tree = list_any (is_told_at of) (members_in array tree)
 
+-- something is told of one of the tables that a file has in one of these arrays
+abbrev pub is_told_arrays : List (Group × Field) → Members → Bool
+is_told_arrays arrays tree = list_any (λ array. is_told_in array.0 array.1 tree) arrays
+
 -- something is told of `[device]`
 abbrev pub is_told_device : Members → Bool
 is_told_device tree = option_map_or (is_told_at group.Device) (in_field field.Device tree) false

@@ -46,9 +46,13 @@ looks_from lines (Some line) =
     else (if is_toml (trim line) then (if list_any begins_board lines then Board else Plan)
     else Schedule)
 
+-- the first of the lines that says something
+abbrev pub first_spoken : List (List ℕ) → Option (List ℕ)
+first_spoken lines = find (λ line. not (is_silent line)) lines
+
 -- what lines look like
 abbrev pub looks_by : List (List ℕ) → Looks
-looks_by lines = looks_from lines (find (λ line. not (is_silent line)) lines)
+looks_by lines = looks_from lines (first_spoken lines)
 
 -- what a text looks like
 abbrev pub looks_of : List ℕ → Looks

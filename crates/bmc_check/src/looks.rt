@@ -2,7 +2,7 @@
 ghost use Rattle.std.specs.Prelude.{◌≡◌, ◌≤◌, IsTrue, IfOk, length, map, not, option_map};
 ghost use Rattle.std.specs.List.{list_all, list_any, find};
 ghost use Rattle.text_schedule.specs.Text.{lines_of};
-ghost use Rattle.bmc_check.specs.Looks.{begins, is_digit, is_silent, is_number, is_undo, is_toml, begins_board, looks_by, looks_of};
+ghost use Rattle.bmc_check.specs.Looks.{begins, is_digit, is_silent, is_number, is_undo, is_toml, begins_board, first_spoken, looks_by, looks_of};
 
 use std::alloc::{AllocError, Global};
 
@@ -100,7 +100,7 @@ fn first_said<'a>(lines: &[&'a str]) -> Option<&'a str>
 /// The first of the lines that says something.
 fn first_line<'a>(lines: &[&'a str]) -> Option<&'a str>
     ensures { option_map (λ line. line.now) result
-        ≡ find (λ line. not (is_silent line)) (map (λ line. line.now) lines.now) }
+        ≡ first_spoken (map (λ line. line.now) lines.now) }
 {
     first_said(lines)
 }

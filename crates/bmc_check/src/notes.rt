@@ -2,7 +2,7 @@
 ghost use Rattle.std.specs.Prelude.{◌≡◌, IfOk, map};
 ghost use Rattle.std.specs.List.{list_any};
 ghost use Rattle.toml.specs.View.{view, table_view};
-ghost use Rattle.bmc_check.specs.Known.{has_one, has_unknown, is_told, is_told_at, is_told_in, is_told_device, is_told_board, is_told_plan};
+ghost use Rattle.bmc_check.specs.Known.{has_one, has_unknown, is_told, is_told_at, is_told_in, is_told_arrays, is_told_device, is_told_board, is_told_plan};
 
 use crate::group::{Group, known_rows};
 use crate::keys::{is_known, push_key, unused};
@@ -184,8 +184,7 @@ fn tell_arrays(
     arrays: &[(Group, Field)],
     tree: &Table,
 ) -> Result<bool, AllocError>
-    ensures { IfOk result (λ told.
-        told ≡ list_any (λ array. is_told_in array.0 array.1 (table_view tree.now)) arrays.now) }
+    ensures { IfOk result (λ told. told ≡ is_told_arrays arrays.now (table_view tree.now)) }
 {
     let mut told = false;
     for (group, array) in arrays {
