@@ -3,6 +3,7 @@ mod attribute;
 mod attributes;
 mod bench;
 mod both_stores;
+mod by_definition;
 mod calls;
 mod commands;
 mod effecters;

@@ -1,0 +1,3 @@
+mod PartsSet
+mod StoresSet
+mod WholeSet

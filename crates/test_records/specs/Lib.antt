@@ -1,0 +1,3 @@
+pub mod PartsSet
+pub mod StoresSet
+pub mod WholeSet
