@@ -61,7 +61,7 @@ returns-then-as_slice-ne-UNIT_SIZE c =
     ] in
     in_sequence c.args.own a p c.if-packet.number true _ (ours c.args.own p.envelope.destination_eid c.else-destination_eid-own.either)
     (ap (λ (n : ℕ). not p.start && (n == 0)) (sym c.taken_at-taken.ensures) ∙ started p.start c.taken_at-taken.result c.else-not-packet.either)
-    joined c.if-number-ge4.false (sym c.number.ensures.value ∙ sym c.from.ensures ∙ c.if-from-number.false)
+    joined (omega arith) (sym c.number.ensures.value ∙ sym c.from.ensures ∙ c.if-from-number.false)
     (part_unit p.end (length p.payload) c.if-not-packet-2.true (λ all. c.if-as_slice-ne-UNIT_SIZE.true (ap length c.as_slice.ensures.value ∙ all))) refl
 
 pub returns-then-used_beside-ge-MOST_ASSEMBLIES : goal.returns-then-used_beside-ge-MOST_ASSEMBLIES
@@ -78,7 +78,7 @@ returns-then-used_beside-ge-MOST_ASSEMBLIES c =
     ] in
     in_sequence c.args.own a p c.if-packet.number false true (ours c.args.own p.envelope.destination_eid c.else-destination_eid-own.either)
     (ap (λ (n : ℕ). not p.start && (n == 0)) (sym c.taken_at-taken.ensures) ∙ started p.start c.taken_at-taken.result c.else-not-packet.either)
-    joined c.if-number-ge4.false (sym c.number.ensures.value ∙ sym c.from.ensures ∙ c.if-from-number.false)
+    joined (omega arith) (sym c.number.ensures.value ∙ sym c.from.ensures ∙ c.if-from-number.false)
     sized (no_slot p.start p.end (open_beside (name_of p.envelope) a) c.if-packet-2.true c.if-not-packet-3.true (omega (arith, c.used_beside.ensures, c.if-used_beside-ge-MOST_ASSEMBLIES.true)))
 
 pub returns : goal.returns
@@ -100,5 +100,5 @@ returns c =
     ] in
     in_sequence c.args.own a p c.if-packet.number false false (ours c.args.own p.envelope.destination_eid c.else-destination_eid-own.either)
     (ap (λ (n : ℕ). not p.start && (n == 0)) (sym c.taken_at-taken.ensures) ∙ started p.start c.taken_at-taken.result c.else-not-packet.either)
-    joined c.if-number-ge4.false (sym c.number.ensures.value ∙ sym c.from.ensures ∙ c.if-from-number.false)
+    joined (omega arith) (sym c.number.ensures.value ∙ sym c.from.ensures ∙ c.if-from-number.false)
     sized (slot_left p.start p.end (open_beside (name_of p.envelope) a) left)

@@ -5,9 +5,9 @@ use borrow.Rule.Slice.PartMut.{put_mid}
 use Rattle.packed_store.proofs.image.write_at.Goals as goal
 
 -- the bytes after a length and a value were written at an offset
-wrote : (old value : List ℕ) (at count : ℕ) → at + 2 + length value ≤ length old → count ≡ length value
-    → WroteAt old (put_mid (at + 2) count (set (set old at (length value % 256)) (at + 1) (length value / 256)) value) at value
-wrote old value at count room is = record {
+wrote : (old value part : List ℕ) (at count : ℕ) → at + 2 + length value ≤ length old → count ≡ length value → part ≡ value
+    → WroteAt old (put_mid (at + 2) count (set (set old at (length value % 256)) (at + 1) (length value / 256)) part) at value
+wrote old value part at count room all same = rw same record {
   same_length = grind (arith, common_steps);
   low = grind (arith, common_steps);
   high = grind (arith, common_steps);
@@ -18,4 +18,4 @@ wrote old value at count room is = record {
 
 pub returns : goal.returns
 returns c =
-    rw c.copy_from_slice.ensures.after (wrote c.args.bytes.now c.args.value.now c.args.at _ c.requires.room (omega arith))
+    wrote c.args.bytes.now c.args.value.now c.copy_from_slice.new.self c.args.at _ c.requires.room (omega arith) c.copy_from_slice.ensures.after
