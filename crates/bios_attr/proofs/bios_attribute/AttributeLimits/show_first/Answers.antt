@@ -1,4 +1,4 @@
-use Rattle.std.proofs.Common.{◌≡◌, ◌+◌, ◌≤◌, ◌<◌, ◌++◌, ◌∷◌, [], ℕ, List, length, take, Bool, true, false, nat_le, if◌then◌else◌, sym, ◌∙◌, ap, arith}
+use Rattle.std.proofs.Common.{◌≡◌, ◌+◌, ◌≤◌, ◌<◌, ◌++◌, ◌∷◌, [], ℕ, List, length, take, Bool, true, false, nat_le, if◌then◌else◌, refl, sym, ◌∙◌, ap, arith}
 use Rattle.std.proofs.lemmas.Bool.Decides.{nat_tests}
 use Rattle.std.proofs.lemmas.List.{length-take}
 use Rattle.std.specs.Int.{w32, to_le_bytes}
@@ -11,6 +11,7 @@ use Rattle.bios_attr.specs.AttributeLaws.{four_pieces}
 use Rattle.bios_attr.specs.BiosAttribute.{attribute_view}
 use Rattle.bios_attr.specs.EntryParts.{first_part, part_with}
 use Rattle.bios_attr.specs.ValueEntry.{shown_type}
+use Rattle.bios_attr.proofs.Pieces.{room_for, room_for_one, room_left, length_of}
 use Rattle.bios_attr.proofs.bios_attribute.AttributeLimits.show_first.Goals as goal
 
 not_le : (n most : ℕ) → most < n → nat_le n most ≡ false
@@ -57,3 +58,24 @@ returns g c =
 
 pub slice_bounds-first-length : goal.slice_bounds-first-length
 slice_bounds-first-length g c = grind (arith, nat_tests, length-take 189 c.args.value.now, c.if-value-le-MOST_WHOLE.false)
+
+-- the room for all of the first part's pieces
+part_room : (limits : AttributeLimits) (value : List ℕ) (before most : ℕ) → 205 < 3 + length value → before + length (first_part (attribute_view limits value)) ≤ most
+    → before + (4 + (1 + (3 + length (take 189 value)))) ≤ most
+part_room limits value before most over room = let size = ap (λ (xs : List ℕ). length xs) (shows_part limits value over) in omega (arith, size, room)
+
+pub extend_from_slice-requires : goal.extend_from_slice-requires
+extend_from_slice-requires g c =
+    room_for _ 4 _ _ c.to_le_bytes.result (part_room c.args.self.now c.args.value.now _ _ c.if-value-le-MOST_WHOLE.false c.requires) (length_of c.to_le_bytes.ensures)
+
+pub push-requires : goal.push-requires
+push-requires g c =
+    let all = part_room c.args.self.now c.args.value.now _ _ c.if-value-le-MOST_WHOLE.false c.requires in
+    let one = room_left (g.B.Buffer.bytes c.args.reply.now) c.to_le_bytes.result (g.B.Buffer.bytes c.extend_from_slice.new.self) 4 _ _ all (length_of c.to_le_bytes.ensures) c.extend_from_slice.ensures in
+    room_for_one (length (g.B.Buffer.bytes c.extend_from_slice.new.self)) _ g.B.Buffer.capacity one
+
+pub write_entry-requires : goal.write_entry-requires
+write_entry-requires g c =
+    let all = part_room c.args.self.now c.args.value.now _ _ c.if-value-le-MOST_WHOLE.false c.requires in
+    let one = room_left (g.B.Buffer.bytes c.args.reply.now) c.to_le_bytes.result (g.B.Buffer.bytes c.extend_from_slice.new.self) 4 _ _ all (length_of c.to_le_bytes.ensures) c.extend_from_slice.ensures in
+    room_left (g.B.Buffer.bytes c.extend_from_slice.new.self) (c.byte.result ∷ []) (g.B.Buffer.bytes c.push.new.self) 1 (3 + length (take 189 c.args.value.now)) _ one refl c.push.ensures
