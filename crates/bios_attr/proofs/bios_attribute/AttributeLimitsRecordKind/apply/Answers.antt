@@ -93,8 +93,9 @@ returns-then-op-type_code c =
     let limits = c.args.self.now in
     let op = c.args.op.now in
     let not_settable : is_settable limits op ≡ false = elim c.then-op-type_code.branch [
-      then-op-type_code-via-then-op-type_code w ↦ of_another_type limits op (λ same. w.if-op-type_code.true (same ∙ sym c.type_code.ensures))
-      | then-op-type_code-via-else-op-type_code+then-self w ↦ only_read limits op w.if-self.true ] in
+      | then-op-type_code-via-then-op-type_code w ↦ of_another_type limits op (λ same. w.if-op-type_code.true (same ∙ sym c.type_code.ensures))
+      | then-op-type_code-via-else-op-type_code+then-self w ↦ only_read limits op w.if-self.true
+    ] in
     record {
       decides = λ new s. absurd (false≢true (sym not_settable ∙ can_be_set limits op s.of_type s.can_be_set));
       outcome = sym (outcome_is limits op false (value_given limits op) c.requires.of_record not_settable refl);
