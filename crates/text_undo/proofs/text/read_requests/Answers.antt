@@ -1,7 +1,9 @@
-use Rattle.std.proofs.Common.{◌≡◌, ◌+◌, ◌∷◌, [], inr, List, length, refl, sym, ◌∙◌, ap, subst, arith, rules}
+use Rattle.std.proofs.Common.{◌≡◌, ◌+◌, ◌<◌, ◌++◌, ◌==◌, ◌∷◌, [], ℕ, true, inr, List, length, refl, sym, ◌∙◌, ap, subst, arith, rules}
+use Rattle.std.proofs.lemmas.Bool.{eqb-true}
 use Rattle.std.proofs.lemmas.List.{length-append}
 use Rattle.record_base.specs.declared.message.Asked.{Asked}
 use Rattle.undo_version.specs.Versions.{head_length}
+use Rattle.text_undo.specs.UndoText.{AreLinesOf}
 use Rattle.text_undo.proofs.UndoLists.{Begun, begun_more, begun_bad, no_request, past, not_empty}
 use Rattle.text_undo.proofs.text.read_requests.Goals as goal
 
@@ -39,3 +41,33 @@ loop-rest-preserved c =
       omega (arith, longer, c.loop-rest.invariant.2, c.if-len-eq-MOST_REQUESTS.false, c.len-in-loop-rest.ensures.value),
       c.add_first.ensures.none,
     )
+
+nil_behind : (xs : List ℕ) → xs ++ [] ≡ xs
+nil_behind [] = refl
+nil_behind (x ∷ xs) = ap (λ (ys : List ℕ). x ∷ ys) (nil_behind xs)
+
+-- a text with nothing behind its lines is those lines
+all_lines : (text : List ℕ) (requests : List Asked) (rest : List ℕ) → Begun text requests rest → (length rest == 0) ≡ true → AreLinesOf text requests
+all_lines text requests [] begun empty = record {
+  lines = begun.lines;
+  spelt = begun.spelt ∙ nil_behind _;
+  each = begun.each;
+}
+all_lines text requests (b ∷ rest) begun empty = let none : length (b ∷ rest) ≡ 0 = eqb-true _ _ empty in absurd (omega (arith, none))
+
+pub returns : goal.returns
+returns c = record {
+  lines = all_lines c.args.text.now c.loop-rest.requests.members c.loop-rest.rest.now c.loop-rest.invariant.1 (sym c.is_empty.ensures ∙ c.loop-rest-test.false);
+  few = c.loop-rest.invariant.2;
+  waiting = c.loop-rest.invariant.3;
+  fault = tt;
+}
+
+-- what is behind a line is shorter than the text
+shorter : (line rest behind : List ℕ) (feed : ℕ) → rest ≡ line ++ feed ∷ behind → length behind < length rest
+shorter line rest behind feed is = let size = ap (λ (xs : List ℕ). length xs) is in let both = length-append line (feed ∷ behind) in omega (arith, size, both)
+
+pub loop-rest-smaller : goal.loop-rest-smaller
+loop-rest-smaller c =
+    let found = rw c.in-Some.is at c.in-Ok-add_first.ensures.lines in
+    shorter found.2.0 c.loop-rest.rest.now c.in-Some.behind.now _ found.2.1
