@@ -4,14 +4,15 @@ use Rattle.bmc_history.specs.declared.event.Call.{Call}
 use Rattle.bmc_shared.specs.declared.seat.Seat.{Seat}
 use Rattle.bmc_shared.specs.declared.seat.Seats.{Seats}
 use Rattle.bmc_worker.specs.declared.worker.End.{End}
-use Rattle.bmc_worker.specs.declared.worker.End.TheVariants.{Full}
+use Rattle.bmc_worker.specs.declared.worker.End.TheVariants.{Turns, Full}
 
--- it's the seat of the same number, its list begins with what it held, and it's marked where its thread found no room
+-- it's the seat of the same number, its list begins with what it held, and it's marked where its thread found no room and else as it was
 pub record ComesBack {J : Type 0} {g h : _} (before : Seat J g) (after : Seat J h) (end : End) : Type 0 where
   pub number : after.number ≡ before.number
   pub gained : List Call
   pub list : after.calls.items ≡ before.calls.items ++ gained
   pub marked : end ≡ Full → after.refused ≡ true
+  pub mark : end ≡ Turns → after.refused ≡ before.refused
 
 -- each seat does, with why its thread ended
 abbrev pub AllComeBack : {J : Type 0} {g h : _} → (first second scanner : Seat J g) → Seats J h → List End → Type 0
