@@ -1,4 +1,5 @@
 pub mod AtOnce
+pub mod Lending
 pub mod Scanning
 pub mod Seated
 pub mod Since

@@ -1,7 +1,7 @@
 //! Two port workers and a scanner that are lent what they work with, round by round, and give it back.
 ghost use Rattle.std.specs.Prelude.{◌≡◌, ◌↔◌, IsTrue, IfOk};
-ghost use Rattle.bmc_ports.specs.Slices.{IsBack, IsDone, NoRoom};
-ghost use Rattle.bmc_ports.specs.Timing.{IsPlayed};
+ghost use Rattle.bmc_ports.specs.Lending.{AreBack};
+ghost use Rattle.bmc_ports.specs.Slices.{IsDone, NoRoom};
 
 use crate::at_once::{NoThread, Three, run_three};
 use crate::bell::Bell;
@@ -83,12 +83,8 @@ where
     B: Link + Send + Drop,
     G: Gate + Sync,
     R: Threads + Wait + Clock + Sync,
-    ensures first { IfOk result (λ run. IsBack A.counts_of seats.first lanes.first
-        run.seats.first run.lanes.first run.first_end) }
-    ensures second { IfOk result (λ run. IsBack B.counts_of seats.second lanes.second
-        run.seats.second run.lanes.second run.second_end) }
-    ensures scanner { IfOk result (λ run. IsPlayed table.entry.list.now table.entry.next run.next
-        seats.scanner run.seats.scanner run.scanner_end) }
+    ensures { IfOk result
+        (λ run. AreBack A.counts_of B.counts_of seats lanes table.entry run) }
 {
     let Seats {
         first: first_seat,
@@ -181,12 +177,8 @@ where
     B: Link + Send + Drop,
     G: Gate + Sync,
     R: Threads + Wait + Clock + Sync,
-    ensures first { IfOk result (λ run. IsBack A.counts_of seats.first lanes.first
-        run.seats.first run.lanes.first run.first_end) }
-    ensures second { IfOk result (λ run. IsBack B.counts_of seats.second lanes.second
-        run.seats.second run.lanes.second run.second_end) }
-    ensures scanner { IfOk result (λ run. IsPlayed table.entry.list.now table.entry.next run.next
-        seats.scanner run.seats.scanner run.scanner_end) }
+    ensures back { IfOk result
+        (λ run. AreBack A.counts_of B.counts_of seats lanes table.entry run) }
     ensures done { IfOk result (λ run. IsDone least run.first_end run.second_end
         run.scanner_end run.lanes) }
 {
