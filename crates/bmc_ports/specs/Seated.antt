@@ -6,7 +6,7 @@ use Rattle.bmc_shared.specs.declared.seat.Seats.{Seats}
 use Rattle.bmc_worker.specs.declared.worker.End.{End}
 use Rattle.bmc_worker.specs.declared.worker.End.TheVariants.{Turns, Full}
 
--- it's the seat of the same number, its list begins with what it held, and it's marked where its thread found no room and else as it was
+-- It's the seat of the same number, and its list begins with what it held. It's marked where its thread found no room, and else as it was marked before.
 pub record ComesBack {J : Type 0} {g h : _} (before : Seat J g) (after : Seat J h) (end : End) : Type 0 where
   pub number : after.number ≡ before.number
   pub gained : List Call
