@@ -1,6 +1,6 @@
 //! What comes of a text: what is read of it, or its fault.
 use bmc_check::checked;
-use bmc_play::read_inputs;
+use bmc_play::{Inputs, read_inputs};
 use cfg_records::{Op, RecordKind};
 use plan_file::read_plan;
 use record_kinds::Limits;
@@ -203,11 +203,27 @@ fn parted(texts: &str) -> (&str, &str) {
     texts.split_once("---\n").unwrap_or((texts, ""))
 }
 
-/// The texts of a play, with `---` between them, show what Rust writes of them.
+/// What the texts of a play are read as: the board and the events as Rust writes them, and between them what the plan sends.
+fn played(rt: &impl Abort, alloc: Global, inputs: Inputs) -> String {
+    let Inputs { file, plan, events } = inputs;
+    let mut text = format!(in alloc; "{file:?}").expect(rt, "memory");
+    let sent = sent(rt, alloc, &plan);
+    write!(text, ", {}, {events:?}", sent.as_str()).expect(rt, "memory");
+    drop(sent);
+    drop(file);
+    drop(plan);
+    drop(events);
+    text
+}
+
+/// The texts of a play, with `---` between them, show what is read of each.
 fn came_of_play(rt: &impl Abort, alloc: Global, text: &str) -> Came {
     let (board, others) = parted(text);
     let (plan, schedule) = parted(others);
-    shown(rt, alloc, read_inputs(alloc, board, plan, schedule))
+    match read_inputs(alloc, board, plan, schedule) {
+        Ok(inputs) => read_as(played(rt, alloc, inputs)),
+        Err(fault) => refused(rt, alloc, &fault),
+    }
 }
 
 /// A file that is looked at shows what is told of it, and then what came of it.

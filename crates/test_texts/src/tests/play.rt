@@ -18,8 +18,8 @@ retries = 16\n---\nbegin => plan Range retries
 [[step]]\nkind = "watchdog"\nflags_clear = 0\n---\n => plan 0 NoGet FlagsClear
 behind retries = 2\n[[step]]\nkind = "power-policy"\npolicy = 2\n---\n
 start\n\nbegin\n => schedule Line 3
-start\n\nto-bmc 0\n => holds 1 Inputs { file: BoardFile { tid: 5,
-start\n\nto-bmc 0\n => holds 1 plan: Plan { steps: Steps { ops: [PowerPolicy(SetPowerPolicy { policy: 2 })], values: [] }, retries: Below { number: 2 } }, events: Schedule { events: [Calls(Start), ToBmc(0)] } }
+start\n\nto-bmc 0\n => holds 1 BoardFile { tid: 5,
+start\n\nto-bmc 0\n => holds 1 , 2: ipmb 000602, Schedule { events: [Calls(Start), ToBmc(0)] }
 "#;
 
 #[test]
