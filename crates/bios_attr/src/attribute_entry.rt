@@ -37,7 +37,7 @@ pub struct TextFields<'a> {
 }
 
 /// What an entry says of an integer.
-#[derive(Clone, Copy, PartialEq, Eq)]
+#[derive(Clone, Copy)]
 pub struct IntegerFields {
     pub lower: u64,
     pub upper: u64,

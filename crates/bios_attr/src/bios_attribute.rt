@@ -37,7 +37,7 @@ const LEAST_SET: usize = BEFORE_PART + 1;
 const NO_HANDLE: [u8; 4] = [0; 4];
 
 /// What can be done with an attribute: its handle, whether it can only be read, and which values it can have.
-#[derive(Clone, Copy, PartialEq, Eq)]
+#[derive(Clone, Copy)]
 pub struct AttributeLimits {
     pub handle: u16,
     pub read_only: bool,
@@ -45,7 +45,7 @@ pub struct AttributeLimits {
 }
 
 /// Which part of an attribute's entry the data of a Get ask for.
-#[derive(Clone, Copy, PartialEq, Eq)]
+#[derive(Clone, Copy)]
 pub enum AskedPart {
     /// The first part, of the attribute with this handle.
     First(u16),

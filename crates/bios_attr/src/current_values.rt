@@ -12,7 +12,7 @@ use record_base::Attribute;
 use std::alloc::{AllocError, Global};
 
 /// What an entry of the value table has before the value: the attribute, and its type.
-#[derive(Clone, Copy, PartialEq, Eq)]
+#[derive(Clone, Copy)]
 pub struct EntryHead {
     pub attribute: u16,
     pub code: u8,

@@ -12,7 +12,7 @@ use text_fields::{Field, Need, Row, Shape};
 use toml::Table;
 
 /// Tables of a file that are of one sort.
-#[derive(Clone, Copy, PartialEq, Eq)]
+#[derive(Clone, Copy)]
 pub enum Group {
     /// A board file's own table.
     Top,

@@ -19,7 +19,7 @@ use std::alloc::{AllocError, Global};
 use two_wire::{Address, Bus};
 
 /// Where the controller is on a bus: its two-wire address, and the EID that its endpoint begins with, which a port on IPMB ignores.
-#[derive(Clone, Copy, PartialEq, Eq)]
+#[derive(Clone, Copy)]
 pub struct At {
     pub wire: Address,
     pub eid: EndpointId,

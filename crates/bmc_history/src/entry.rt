@@ -10,7 +10,7 @@ use record_base::{Answered, Asked};
 use two_wire::{Below, Bytes, Lun, NetFn};
 
 /// What a call is, beside the bytes of its request and its reply.
-#[derive(Clone, Copy, Debug)]
+#[derive(Clone, Copy)]
 pub(crate) enum Head {
     /// An IPMI request, and its completion code.
     IpmiAsked {
@@ -124,7 +124,7 @@ impl Head {
 }
 
 /// A call without its bytes, the number of the seat that made it, and where its bytes lie.
-#[derive(Clone, Copy, Debug)]
+#[derive(Clone, Copy)]
 pub(crate) struct Mark {
     pub(crate) seat: u8,
     pub(crate) head: Head,

@@ -10,7 +10,7 @@ use std::alloc::{AllocError, Global};
 use std::io;
 
 /// Why a file gives no text.
-#[derive(Clone, Copy, PartialEq, Eq)]
+#[derive(Clone, Copy)]
 pub enum Cause {
     /// It isn't there.
     Missing,

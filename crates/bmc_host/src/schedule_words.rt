@@ -24,7 +24,7 @@ pub struct ScheduleWords {
 }
 
 /// The options by which a schedule is drawn, each where it is given.
-#[derive(Clone, Copy, PartialEq, Eq)]
+#[derive(Clone, Copy)]
 pub struct Options {
     pub lose: Option<Percent>,
     pub repeat: Option<Percent>,

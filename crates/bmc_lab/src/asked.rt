@@ -10,7 +10,7 @@ use std::alloc::Global;
 use two_wire::Bus;
 
 /// The bytes of a frame, and the bus that they are heard on.
-#[derive(Debug, Drop)]
+#[derive(Drop)]
 pub struct AskedFrame {
     pub bus: Bus,
     pub bytes: Vec<u8>,

@@ -5,7 +5,7 @@ ghost use Rattle.bmc_lab.specs.Console.{HasFailed, Written, Notes};
 use std::io;
 
 /// One of the two.
-#[derive(Clone, Copy, Debug, PartialEq, Eq)]
+#[derive(Clone, Copy)]
 pub enum Stream {
     /// Standard output.
     Output,

@@ -10,7 +10,7 @@ use text_schedule::{Schedule, ScheduleFault, read_schedule};
 use undo_plans::Plan;
 
 /// What a play begins with, and what happens in it.
-#[derive(Debug, Drop)]
+#[derive(Drop)]
 pub struct Inputs {
     pub file: BoardFile,
     pub plan: Plan,

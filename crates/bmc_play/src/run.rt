@@ -19,7 +19,7 @@ use text_board::FileFault;
 use text_schedule::ScheduleFault;
 
 /// How what was played is shown.
-#[derive(Clone, Copy, Debug, PartialEq, Eq)]
+#[derive(Clone, Copy)]
 pub enum Shown {
     /// In lines, with those of the frames or without, and with that of the premise on packets or without.
     Lines { frames: bool, premises: bool },

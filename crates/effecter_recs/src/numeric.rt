@@ -17,7 +17,7 @@ const SET_NUMERIC_EFFECTER_VALUE: u8 = 0x31;
 const GET_NUMERIC_EFFECTER_VALUE: u8 = 0x32;
 
 /// Whether a Set can set the effecter, and the numbers to which a Set can set it.
-#[derive(Clone, Copy, PartialEq, Eq)]
+#[derive(Clone, Copy)]
 pub struct NumericLimits {
     pub enabled: bool,
     pub range: NumericRange,

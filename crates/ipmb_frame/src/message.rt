@@ -14,7 +14,7 @@ pub struct Party {
 }
 
 /// What a request and its responses have in common.
-#[derive(Clone, Copy, Debug, PartialEq, Eq)]
+#[derive(Clone, Copy, PartialEq, Eq)]
 pub struct Header {
     /// Who carries the request out, and answers it.
     pub responder: Party,

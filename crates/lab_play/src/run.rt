@@ -11,7 +11,7 @@ use std::alloc::AllocError;
 use text_schedule::Event;
 
 /// The event that a lab didn't take.
-#[derive(Clone, Copy, Debug, PartialEq, Eq)]
+#[derive(Clone, Copy)]
 pub struct Stopped {
     /// Its place among the events, counted from 1.
     pub place: usize,

@@ -17,7 +17,7 @@ use two_wire::circles::TAGS;
 const COUNT: usize = TAGS as usize;
 
 /// What is known of the packets of the manager that wait at the controller's port.
-#[derive(Clone, Copy, PartialEq, Eq)]
+#[derive(Clone, Copy)]
 pub struct Watch {
     /// Under each tag, the request whose start came last to the port.
     opened: [usize; COUNT],

@@ -9,7 +9,7 @@ use model_lab::{Fault, Way};
 use two_wire::Bus;
 
 /// What tells on both buses which frames are too old.
-#[derive(Clone, Copy, PartialEq, Eq)]
+#[derive(Clone, Copy)]
 pub struct Marks {
     pub ipmb: Known,
     pub smbus: Known,

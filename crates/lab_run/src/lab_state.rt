@@ -18,7 +18,7 @@ use undo_core::{Manager, OpenFault};
 use undo_plans::{Names, Plan};
 
 /// How often the manager's window was forgotten, on each bus.
-#[derive(Clone, Copy, PartialEq, Eq)]
+#[derive(Clone, Copy)]
 pub(crate) struct Idles {
     pub ipmb: usize,
     pub smbus: usize,

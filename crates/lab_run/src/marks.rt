@@ -10,7 +10,7 @@ use two_wire::Bus;
 use undo_plans::Names;
 
 /// All of a frame that tells how old it is.
-#[derive(Clone, Copy, Debug, PartialEq, Eq)]
+#[derive(Clone, Copy)]
 pub struct Mark {
     pub on: Bus,
     /// The manager's request that it carries, or whose frame's delivery brought it, counted from 0 on its bus.
@@ -20,7 +20,7 @@ pub struct Mark {
 }
 
 /// What tells on a bus which frames are too old.
-#[derive(Clone, Copy, PartialEq, Eq)]
+#[derive(Clone, Copy)]
 pub struct Known {
     /// How many requests the manager began there.
     pub begun: usize,

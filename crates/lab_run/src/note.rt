@@ -5,7 +5,7 @@ use two_wire::Bus;
 use undo_core::Phase;
 
 /// A frame that came to an end.
-#[derive(Clone, Copy, PartialEq, Eq)]
+#[derive(Clone, Copy)]
 pub struct Came {
     /// The bus that it came over.
     pub on: Bus,

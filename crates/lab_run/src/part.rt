@@ -11,7 +11,7 @@ use text_schedule::Event;
 use two_wire::Bus;
 
 /// A packet of the manager that comes to the controller's port on the System Management Bus.
-#[derive(Clone, Copy, PartialEq, Eq)]
+#[derive(Clone, Copy)]
 pub struct ManagerPart {
     /// Whether it is the first of its message.
     pub start: bool,

@@ -9,7 +9,7 @@ use two_wire::Below;
 pub type Percent = Below<101>;
 
 /// What may happen on buses that are honest, and how often.
-#[derive(Clone, Copy, PartialEq, Eq)]
+#[derive(Clone, Copy)]
 pub struct Chances {
     /// A frame is lost.
     pub lose: Percent,

@@ -31,7 +31,7 @@ pub(crate) fn delivery(frames: &[SentFrame], number: u32) -> Option<Event>
 }
 
 /// What came of an event that was offered.
-#[derive(Clone, Copy, PartialEq, Eq)]
+#[derive(Clone, Copy)]
 pub(crate) enum Offer {
     /// It happened.
     Taken,

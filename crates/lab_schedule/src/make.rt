@@ -17,7 +17,7 @@ use undo_plans::Plan;
 const MOST_OFFERS: usize = 1_000_000;
 
 /// What the buses of a schedule do.
-#[derive(Clone, Copy, PartialEq, Eq)]
+#[derive(Clone, Copy)]
 pub enum Links {
     /// Nothing is lost, repeated or delayed, and nobody else asks.
     Clean,
@@ -26,7 +26,7 @@ pub enum Links {
 }
 
 /// The schedule that is wanted.
-#[derive(Clone, Copy, PartialEq, Eq)]
+#[derive(Clone, Copy)]
 pub struct Wanted {
     pub links: Links,
     /// Whether the plan is undone once it is done or halted.

@@ -28,7 +28,7 @@ pub struct Name {
 }
 
 /// The sender, the receiver and the tag of a message.
-#[derive(Clone, Copy, Debug, PartialEq, Eq)]
+#[derive(Clone, Copy, PartialEq, Eq)]
 pub struct Envelope {
     /// The two-wire address to which it is sent.
     pub destination: Address,
@@ -72,7 +72,7 @@ impl Envelope {
 ///
 /// The count is that of the bytes from the source on, without the packet error code (PEC). Bits 7:4 of the version byte,
 /// `i`, are ignored where a packet is read, and 0 where one is written.
-#[derive(Debug, Drop)]
+#[derive(Drop)]
 pub struct Packet<'a> {
     pub envelope: Envelope,
     /// Whether it is the first of its message.

@@ -5,7 +5,7 @@ use std::marker::Model;
 use two_wire::Data;
 
 /// One to `CAP` bytes of somebody else's, where they lie.
-#[derive(Debug, Drop)]
+#[derive(Drop)]
 pub struct SomeData<'a, const CAP: usize> {
     bytes: Data<'a, CAP>,
 }

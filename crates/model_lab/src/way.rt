@@ -1,7 +1,7 @@
 //! To whom frames go.
 
 /// To whom a frame goes.
-#[derive(Clone, Copy, PartialEq, Eq)]
+#[derive(Clone, Copy)]
 pub enum Way {
     ToPort,
     ToManager,

@@ -9,7 +9,7 @@ use host_base::{Argument, new_command, new_program, with_command};
 use std::alloc::{AllocError, Global};
 
 /// What `bmcnet` can do.
-#[derive(Clone, Copy, PartialEq, Eq)]
+#[derive(Clone, Copy)]
 pub enum Task {
     Serve,
     Run,

@@ -11,7 +11,7 @@ use undo_core::Phase;
 use undo_plans::Steps;
 
 /// Where a manager is, as a line tells it.
-#[derive(Clone, Copy, PartialEq, Eq)]
+#[derive(Clone, Copy)]
 pub struct Moment {
     pub phase: Phase,
     /// How often the open request was sent again.

@@ -27,7 +27,7 @@ use toml::Table;
 use two_wire::Bytes;
 
 /// A kind of step, by the kind of record that it changes.
-#[derive(Clone, Copy, PartialEq, Eq)]
+#[derive(Clone, Copy)]
 pub enum Kind {
     Thresholds,
     Hysteresis,

@@ -20,7 +20,7 @@ pub type PldmBytes<'a> = Data<'a, 255>;
 /// byte 1   version (00b)    type
 /// byte 2   command
 /// ```
-#[derive(Clone, Copy, Debug, PartialEq, Eq)]
+#[derive(Clone, Copy, PartialEq, Eq)]
 pub struct Header {
     pub instance: Instance,
     pub pldm_type: PldmType,
@@ -29,7 +29,7 @@ pub struct Header {
 }
 
 /// A request: bit 7 is set, bit 6 is clear, and the command's data follows the header.
-#[derive(Debug, Drop)]
+#[derive(Drop)]
 pub struct PldmRequest<'a> {
     pub header: Header,
     /// The command's data, where they lie.
@@ -38,7 +38,7 @@ pub struct PldmRequest<'a> {
 
 /// A reply: bits 7 and 6 are clear, and the completion code, which is 00h for success, and the data follow the header.
 /// It has the header of its request.
-#[derive(Debug, Drop)]
+#[derive(Drop)]
 pub struct PldmReply<'a> {
     pub header: Header,
     pub code: u8,

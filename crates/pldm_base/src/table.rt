@@ -34,7 +34,7 @@ impl TransferFlag {
 }
 
 /// A part of a table.
-#[derive(Clone, Copy, Debug)]
+#[derive(Clone, Copy)]
 pub struct Part<'a> {
     /// The handle of the part behind this one, or 0 where this is the last.
     pub next: u32,

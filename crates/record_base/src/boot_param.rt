@@ -17,7 +17,7 @@ pub enum BootParameter {
 }
 
 /// The boot flags, by the five data bytes of parameter 5 (IPMI 2.0).
-#[derive(Clone, Copy, Debug, PartialEq, Eq)]
+#[derive(Clone, Copy, Debug)]
 pub struct BootFlags {
     /// Whether the flags are valid, and for how long.
     pub validity: u8,
@@ -42,14 +42,14 @@ pub struct BootOptions {
 }
 
 /// The bits of parameter 4 that a Set writes, and their new values.
-#[derive(Clone, Copy, Debug, PartialEq, Eq)]
+#[derive(Clone, Copy)]
 pub struct MaskedBits {
     pub mask: u8,
     pub bits: u8,
 }
 
 /// A change of a boot parameter's data.
-#[derive(Clone, Copy, Debug, PartialEq, Eq)]
+#[derive(Clone, Copy)]
 pub enum BootChange {
     /// The data stay.
     MarkAlone(BootParameter),
@@ -62,7 +62,7 @@ pub enum BootChange {
 }
 
 /// Sets a boot parameter: whether it is marked as invalid, and its data.
-#[derive(Clone, Copy, Debug, PartialEq, Eq)]
+#[derive(Clone, Copy)]
 pub struct SetBootParam {
     pub invalid: bool,
     pub change: BootChange,

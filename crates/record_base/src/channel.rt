@@ -58,7 +58,7 @@ pub type SessionlessChannels = Distinct<ChannelNumber, { MOST_CHANNELS }>;
 pub type SixBits = BitField<6>;
 
 /// Which of a channel's access and limit become what a request says. Of a limit only bits 3:0 count.
-#[derive(Clone, Copy, Debug, PartialEq, Eq)]
+#[derive(Clone, Copy)]
 pub enum ChannelChange {
     Access(SixBits),
     Limit(SixBits),
@@ -66,7 +66,7 @@ pub enum ChannelChange {
 }
 
 /// Sets the access of a channel in one store.
-#[derive(Clone, Copy, Debug, PartialEq, Eq)]
+#[derive(Clone, Copy)]
 pub struct SetChannelAccess {
     pub channel: ChannelNumber,
     pub store: AccessStore,

@@ -2,7 +2,7 @@
 ghost use Rattle.std.specs.Prelude.{◌<◌, ◌/◌, ◌%◌, ◌^◌};
 
 /// Two decimal digits in a byte, the tens in its upper half (BCD).
-#[derive(Clone, Copy, Debug, PartialEq, Eq)]
+#[derive(Clone, Copy, Debug)]
 pub struct Bcd {
     pub byte: u8,
     ghost tens: { byte / 16 < 10 },
@@ -10,14 +10,14 @@ pub struct Bcd {
 }
 
 /// The number of a manufacturer, in 24 bits.
-#[derive(Clone, Copy, Debug, PartialEq, Eq)]
+#[derive(Clone, Copy, Debug)]
 pub struct ManufacturerId {
     pub number: u32,
     ghost three_bytes: { number < 2 ^ 24 },
 }
 
 /// The data of the Get Device ID reply (IPMI 2.0). The minor revision is in decimal digits.
-#[derive(Clone, Copy, Debug, PartialEq, Eq)]
+#[derive(Clone, Copy, Debug)]
 pub struct Device {
     pub id: u8,
     pub revision: u8,

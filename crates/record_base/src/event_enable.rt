@@ -13,7 +13,7 @@ pub const MESSAGES_PLACE: usize = 7;
 pub const SCANNING_PLACE: usize = 6;
 
 /// Two sets of a sensor's events: bit i of a mask stands for the event of offset i.
-#[derive(Clone, Copy, Debug, PartialEq, Eq)]
+#[derive(Clone, Copy, Debug)]
 pub struct EventMasks {
     /// Events that are asserted.
     pub assertions: u16,
@@ -36,7 +36,7 @@ pub struct EventEnable {
 }
 
 /// A change of the enabled events, by the selection of the request.
-#[derive(Clone, Copy, Debug, PartialEq, Eq)]
+#[derive(Clone, Copy)]
 pub enum EventChange {
     /// The enabled events stay.
     Leave,
@@ -49,7 +49,7 @@ pub enum EventChange {
 }
 
 /// Sets whether the sensor makes event messages and whether readings are taken, and enables or disables events.
-#[derive(Clone, Copy, Debug, PartialEq, Eq)]
+#[derive(Clone, Copy)]
 pub struct SetEventEnable {
     pub sensor: u8,
     pub messages: bool,

@@ -9,14 +9,14 @@ use std::marker::Model;
 const MOST_CHANGES: usize = MOST_STATE_FIELDS + 1;
 
 /// A request's change of a field: a byte, 00h where the field stays and 01h where the request sets it, and the new state.
-#[derive(Clone, Copy, Debug, Default, PartialEq, Eq)]
+#[derive(Clone, Copy, Default)]
 pub struct FieldChange {
     pub choice: u8,
     pub state: u8,
 }
 
 /// At most 9 changes of fields, in the fields' order. They lie in the value itself.
-#[derive(Debug, PartialEq, Eq, Drop)]
+#[derive(Drop)]
 pub struct FieldChanges {
     items: ArrayVec<FieldChange, { MOST_CHANGES }>,
 }

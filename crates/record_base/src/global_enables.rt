@@ -19,7 +19,7 @@ pub struct GlobalEnables {
 }
 
 /// Sets the global enables, by the byte of the request.
-#[derive(Clone, Copy, Debug, PartialEq, Eq)]
+#[derive(Clone, Copy)]
 pub struct SetGlobalEnables {
     pub byte: u8,
 }

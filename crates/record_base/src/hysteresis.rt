@@ -6,7 +6,7 @@ use crate::key::Key;
 use crate::start_value::StartValue;
 
 /// How far a reading goes back before an event is taken back: for rising and for falling thresholds, in raw units.
-#[derive(Clone, Copy, Debug, PartialEq, Eq)]
+#[derive(Clone, Copy, Debug)]
 pub struct Hysteresis {
     pub positive: u8,
     pub negative: u8,
@@ -21,7 +21,7 @@ impl From<[u8; 2]> for Hysteresis {
 }
 
 /// Sets both hysteresis values.
-#[derive(Clone, Copy, Debug, PartialEq, Eq)]
+#[derive(Clone, Copy)]
 pub struct SetHysteresis {
     pub sensor: u8,
     pub positive: u8,

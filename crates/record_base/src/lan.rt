@@ -34,7 +34,7 @@ pub struct ParameterOnChannel {
 }
 
 /// An address of the Internet Protocol, version 4, the most significant byte first.
-#[derive(Clone, Copy, Debug, PartialEq, Eq)]
+#[derive(Clone, Copy, Debug)]
 pub struct Ipv4Address {
     pub first: u8,
     pub second: u8,
@@ -43,14 +43,14 @@ pub struct Ipv4Address {
 }
 
 /// The data of parameter 20: the low byte of the VLAN ID, and a byte with its high bits in bits 3:0, which bit 7 enables.
-#[derive(Clone, Copy, Debug, PartialEq, Eq)]
+#[derive(Clone, Copy, Debug)]
 pub struct VlanBytes {
     pub low: u8,
     pub high: u8,
 }
 
 /// A change of a LAN parameter, by the data of the request.
-#[derive(Clone, Copy, Debug, PartialEq, Eq)]
+#[derive(Clone, Copy)]
 pub enum LanChange {
     /// The parameter of this name becomes this address.
     Address(LanAddress, Ipv4Address),
@@ -61,7 +61,7 @@ pub enum LanChange {
 }
 
 /// Sets a LAN parameter of a channel.
-#[derive(Clone, Copy, Debug, PartialEq, Eq)]
+#[derive(Clone, Copy)]
 pub struct SetLanParam {
     pub channel: ChannelNumber,
     pub change: LanChange,

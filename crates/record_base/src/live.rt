@@ -5,7 +5,7 @@ ghost use Rattle.record_base.specs.Opening.{opening};
 use two_wire::Below;
 
 /// The state that a board shows beside its records, and that operations may change beside them.
-#[derive(Clone, Copy, PartialEq, Eq)]
+#[derive(Clone, Copy)]
 pub struct Live {
     /// Bits 4:0 of the chassis status (IPMI 2.0).
     pub chassis: Below<32>,

@@ -5,7 +5,7 @@ ghost use Rattle.two_wire.specs.LogSize.{least_log_records, most_log_records};
 use two_wire::log_size::{LEAST_LOG_RECORDS, MOST_LOG_RECORDS};
 
 /// How many records the System Event Log can have: `LEAST_LOG_RECORDS` to `MOST_LOG_RECORDS`.
-#[derive(Clone, Copy, Debug, PartialEq, Eq)]
+#[derive(Clone, Copy, Debug)]
 pub struct LogCapacity {
     pub records: u16,
     ghost least: { least_log_records ≤ records },

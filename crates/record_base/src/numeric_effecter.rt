@@ -26,7 +26,7 @@ pub struct NumericEffecter {
 pub type NumericEffecters = Distinct<NumericEffecter, { MOST_EFFECTERS }>;
 
 /// The bytes of a value in a request, the low byte first: as many as a size has, or another number of bytes.
-#[derive(Clone, Copy, Debug, PartialEq, Eq)]
+#[derive(Clone, Copy)]
 pub enum NumericBytes {
     One(u8),
     Two(u8, u8),
@@ -36,7 +36,7 @@ pub enum NumericBytes {
 }
 
 /// Sets a numeric effecter. The request's bytes are the number that stands for the value's size, and the value.
-#[derive(Clone, Copy, Debug, PartialEq, Eq)]
+#[derive(Clone, Copy)]
 pub struct SetNumericEffecter {
     pub effecter: u16,
     pub size: u8,

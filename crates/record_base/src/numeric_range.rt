@@ -6,7 +6,7 @@ use crate::numeric_size::{NumericSize, number_in};
 
 /// The numbers that a request can set a numeric effecter to: the numbers of its size from the lower to the upper bound. The
 /// fields have the bits of the bounds.
-#[derive(Clone, Copy, Debug, PartialEq, Eq)]
+#[derive(Clone, Copy, Debug)]
 pub struct NumericRange {
     pub size: NumericSize,
     pub lower: u32,

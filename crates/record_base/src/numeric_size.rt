@@ -6,7 +6,7 @@ use crate::message::byte_at;
 use two_wire::Bytes;
 
 /// The size of a numeric effecter's numbers (DSP0248). Signed numbers are in two's complement.
-#[derive(Clone, Copy, Debug, PartialEq, Eq)]
+#[derive(Clone, Copy, Debug)]
 pub enum NumericSize {
     U8,
     S8,

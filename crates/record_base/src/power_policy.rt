@@ -14,7 +14,7 @@ pub struct PowerPolicy {
 }
 
 /// Sets the power restore policy, by the byte of the request: bits 2:0 are the policy, and 3 changes nothing.
-#[derive(Clone, Copy, Debug, PartialEq, Eq)]
+#[derive(Clone, Copy)]
 pub struct SetPowerPolicy {
     pub policy: u8,
 }

@@ -17,7 +17,7 @@ pub struct Thresholds {
 }
 
 /// Sets each threshold of the mask (bit i for the byte at place i) to the byte at its place.
-#[derive(Clone, Copy, Debug, PartialEq, Eq)]
+#[derive(Clone, Copy)]
 pub struct SetThresholds {
     pub sensor: u8,
     pub mask: u8,

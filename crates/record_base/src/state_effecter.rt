@@ -57,7 +57,7 @@ pub type StateEffecters = Distinct<StateEffecter, { MOST_EFFECTERS }>;
 
 /// Sets fields of a state effecter, by the bytes of the request. No effecter has more than 8 fields. So 9 changes stand for the
 /// changes of any longer request: every effecter refuses them.
-#[derive(Debug, PartialEq, Eq, Drop)]
+#[derive(Drop)]
 pub struct SetStateEffecter {
     pub effecter: u16,
     pub changes: FieldChanges,

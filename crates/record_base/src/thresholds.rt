@@ -5,7 +5,7 @@ use crate::mask::has;
 
 /// The thresholds of a sensor that requests can read, and those that they can set: bit i for the threshold at place i, no other
 /// bits. The sensor has the thresholds of either mask.
-#[derive(Clone, Copy, Debug, PartialEq, Eq)]
+#[derive(Clone, Copy, Debug)]
 pub struct ThresholdMasks {
     pub readable: u8,
     pub settable: u8,

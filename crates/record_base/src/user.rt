@@ -45,7 +45,7 @@ pub type UserAccesses = Distinct<UserAccess, { MOST_ACCESSES }>;
 /// Sets what a user may do on a channel, by the bytes of the request: the first has bit 7 where bits 6:4 are to become the user's,
 /// and the channel in bits 3:0; the user's number, in bits 5:0; the limit of privileges, in bits 3:0; and the limit of sessions, if it
 /// is there, which isn't kept.
-#[derive(Clone, Copy, Debug, PartialEq, Eq)]
+#[derive(Clone, Copy)]
 pub struct SetUserAccess {
     pub first: u8,
     pub user: u8,
@@ -54,7 +54,7 @@ pub struct SetUserAccess {
 }
 
 /// Sets the name of a user, whose number is in bits 5:0 of the byte.
-#[derive(Clone, Copy, Debug, PartialEq, Eq)]
+#[derive(Clone, Copy)]
 pub struct SetUserName {
     pub user: u8,
     pub name: [u8; USER_NAME_SIZE],

@@ -20,7 +20,7 @@ pub struct Watchdog {
 /// Sets the watchdog timer, by the bytes of the request: the timer use (bit 7 don't log, bit 6 don't stop, bits 2:0 the use),
 /// the actions (bits 6:4 the interrupt, bits 2:0 the action), the pre-timeout interval in seconds, the expiration flags to
 /// clear, and the countdown's first number, in 100 ms.
-#[derive(Clone, Copy, Debug, PartialEq, Eq)]
+#[derive(Clone, Copy)]
 pub struct SetWatchdog {
     pub timer_use: u8,
     pub actions: u8,

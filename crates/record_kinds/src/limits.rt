@@ -14,7 +14,7 @@ use watch_boot::*;
 
 /// A kind of record with one command to show a record and one command to change it. Each command names the record and the change by its
 /// data alone, and any data name some.
-#[derive(Clone, Copy, PartialEq, Eq)]
+#[derive(Clone, Copy)]
 pub enum PlainKind {
     Thresholds,
     Hysteresis,

@@ -8,7 +8,7 @@ use two_wire::Below;
 const TICKS_A_SECOND: u8 = 10;
 
 /// A clock of seconds, which ticks ten times a second and stays at its last second.
-#[derive(Clone, Copy, PartialEq, Eq)]
+#[derive(Clone, Copy)]
 pub struct Clock {
     seconds: u32,
     ticks: Below<10>,

@@ -1,7 +1,7 @@
 //! What is told of the log.
 
 /// What Get SEL Info tells.
-#[derive(Clone, Copy, PartialEq, Eq)]
+#[derive(Clone, Copy)]
 pub struct Info {
     /// How many records the log has.
     pub count: u16,

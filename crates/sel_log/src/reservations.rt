@@ -3,7 +3,7 @@ ghost use Rattle.std.specs.Prelude.{◌≡◌, ◌<◌};
 ghost use Rattle.sel_log.specs.Reservations.{no_reservation, next_number, is_present};
 
 /// The present reservation, if there is one, and the last one that was given.
-#[derive(Clone, Copy, PartialEq, Eq)]
+#[derive(Clone, Copy)]
 pub struct Reservations {
     // 0000h where there is none
     present: u16,

@@ -22,7 +22,7 @@ const SET_SENSOR_EVENT_ENABLE: u8 = 0x28;
 const GET_SENSOR_EVENT_ENABLE: u8 = 0x29;
 
 /// The events that the sensor supports. A Set can enable and disable these events alone.
-#[derive(Clone, Copy, PartialEq, Eq)]
+#[derive(Clone, Copy)]
 pub struct EventEnableLimits {
     pub supported: u16,
 }

@@ -19,7 +19,7 @@ const GET_SENSOR_HYSTERESIS: u8 = 0x25;
 const HYSTERESIS_MASK: u8 = 0xFF;
 
 /// A Set can set any hysteresis.
-#[derive(Clone, Copy, PartialEq, Eq)]
+#[derive(Clone, Copy)]
 pub struct HysteresisLimits;
 
 impl HysteresisLimits {

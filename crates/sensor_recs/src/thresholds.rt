@@ -21,7 +21,7 @@ const GET_SENSOR_THRESHOLDS: u8 = 0x27;
 const ZEROS: [u8; 6] = [0; 6];
 
 /// The thresholds that the sensor has. A Set can give the settable thresholds any values that leave all thresholds in order.
-#[derive(Clone, Copy, PartialEq, Eq)]
+#[derive(Clone, Copy)]
 pub struct ThresholdLimits {
     pub masks: ThresholdMasks,
 }

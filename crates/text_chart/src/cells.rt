@@ -22,7 +22,7 @@ pub(crate) fn call_cell(event: &Event) -> &'static str
 }
 
 /// To which end a frame goes.
-#[derive(Clone, Copy, PartialEq, Eq)]
+#[derive(Clone, Copy)]
 pub(crate) enum Side {
     Manager,
     Controller,

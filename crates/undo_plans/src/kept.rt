@@ -6,7 +6,7 @@ ghost use Rattle.undo_plans.specs.Kept.{value_of, kept_op, IsAmong, Keeps};
 use record_base::*;
 
 /// The operation on an attribute, but for the value that it gives: that lies elsewhere, from a place on.
-#[derive(Debug, Drop)]
+#[derive(Drop)]
 pub struct KeptAttribute {
     pub attribute: u16,
     pub attribute_type: u8,
@@ -15,7 +15,7 @@ pub struct KeptAttribute {
 }
 
 /// An operation as a plan keeps it. It borrows nothing.
-#[derive(Debug, Drop)]
+#[derive(Drop)]
 pub enum Kept {
     Thresholds(SetThresholds),
     Hysteresis(SetHysteresis),

@@ -13,7 +13,6 @@ pub const MOST_STEPS: usize = 256;
 
 /// The steps of a plan, in its order: an operation each, and at most `MOST_STEPS`. A step takes the room of a small operation, and that
 /// of the value that it gives to an attribute.
-#[derive(Debug)]
 pub struct Steps {
     ops: Vec<Kept>,
     /// The values, one behind another.
@@ -86,7 +85,7 @@ impl Steps {
 }
 
 /// A plan.
-#[derive(Debug, Drop)]
+#[derive(Drop)]
 pub struct Plan {
     pub steps: Steps,
     pub retries: Retries,

@@ -13,7 +13,6 @@ use std::marker::Model;
 
 /// At most `MOST_STEPS` requests, each of which undoes a step, in the order of the steps. One more may wait behind them, until its step was
 /// done. `prepare` and `keep` take no memory.
-#[derive(Debug)]
 pub struct Requests {
     /// The last is that of the request that waits, if there is one.
     marks: Vec<Mark>,

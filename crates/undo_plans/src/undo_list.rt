@@ -14,7 +14,7 @@ pub struct NextNumbers {
 }
 
 /// The requests that undo the steps that were done, the numbers of the next requests, and between whom they go.
-#[derive(Debug, Drop)]
+#[derive(Drop)]
 pub struct UndoList {
     /// They are sent from the last to the first.
     pub requests: Requests,

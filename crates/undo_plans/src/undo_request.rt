@@ -24,7 +24,7 @@ pub enum UndoRequest<'a> {
 }
 
 /// What a request is, beside its data.
-#[derive(Clone, Copy, Debug)]
+#[derive(Clone, Copy)]
 pub(crate) enum Head {
     IpmiHead {
         net_fn: NetFn,
@@ -38,7 +38,7 @@ pub(crate) enum Head {
 }
 
 /// A request without its data, and where these lie.
-#[derive(Clone, Copy, Debug)]
+#[derive(Clone, Copy)]
 pub(crate) struct Mark {
     pub(crate) head: Head,
     pub(crate) start: usize,

@@ -18,7 +18,7 @@ const SET_CHANNEL_ACCESS: u8 = 0x40;
 const GET_CHANNEL_ACCESS: u8 = 0x41;
 
 /// A Set can set any known mode and any limit.
-#[derive(Clone, Copy, PartialEq, Eq)]
+#[derive(Clone, Copy)]
 pub struct ChannelAccessLimits;
 
 /// Whether bits 3:0 of a limit's byte are a limit.

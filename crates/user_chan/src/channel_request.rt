@@ -7,7 +7,7 @@ use record_base::{
 };
 
 /// A request of Set Channel Access.
-#[derive(Clone, Copy, PartialEq, Eq)]
+#[derive(Clone, Copy)]
 pub enum ChannelRequest {
     /// Nothing of the channel changes.
     Leave(ChannelNumber),

@@ -21,7 +21,7 @@ const GET_LAN_CONFIGURATION_PARAMETERS: u8 = 0x02;
 const REVISION: u8 = 0x11;
 
 /// The limits of one LAN parameter: its name.
-#[derive(Clone, Copy, PartialEq, Eq)]
+#[derive(Clone, Copy)]
 pub struct LanParamLimits {
     pub parameter: LanParameter,
 }

@@ -9,7 +9,7 @@ use record_base::{
 };
 
 /// The answer to a request on LAN parameters that asks for no record, on a channel that has such parameters.
-#[derive(Clone, Copy, PartialEq, Eq)]
+#[derive(Clone, Copy)]
 pub enum LanAnswer {
     /// The revision alone.
     Revision,
@@ -20,7 +20,7 @@ pub enum LanAnswer {
 }
 
 /// A request of Set LAN Configuration Parameters.
-#[derive(Clone, Copy, PartialEq, Eq)]
+#[derive(Clone, Copy)]
 pub enum LanRequest {
     /// A parameter changes.
     Param(SetLanParam),
@@ -29,7 +29,7 @@ pub enum LanRequest {
 }
 
 /// A request of Get LAN Configuration Parameters.
-#[derive(Clone, Copy, PartialEq, Eq)]
+#[derive(Clone, Copy)]
 pub enum LanShown {
     /// A parameter.
     Param(ParameterOnChannel),

@@ -22,7 +22,7 @@ const GET_USER_ACCESS: u8 = 0x44;
 const CHANGE_PLACE: usize = 7;
 
 /// The user whose access the record is, and how many users a board has at most.
-#[derive(Clone, Copy, PartialEq, Eq)]
+#[derive(Clone, Copy)]
 pub struct UserAccessLimits {
     pub user: UserNumber,
     pub most: u8,

@@ -21,7 +21,7 @@ const GET_USER_NAME: u8 = 0x46;
 const NAMELESS: u8 = 1;
 
 /// Any user but user 1 can have any name.
-#[derive(Clone, Copy, PartialEq, Eq)]
+#[derive(Clone, Copy)]
 pub struct UserNameLimits;
 
 /// The name that a reply shows. Missing bytes are 00h.

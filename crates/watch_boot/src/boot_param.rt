@@ -24,7 +24,7 @@ const VERSION: u8 = 0x01;
 const INVALID_PLACE: usize = 7;
 
 /// The limits of one boot parameter: its name.
-#[derive(Clone, Copy, PartialEq, Eq)]
+#[derive(Clone, Copy)]
 pub struct BootParamLimits {
     pub parameter: BootParameter,
 }

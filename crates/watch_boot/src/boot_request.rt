@@ -8,7 +8,7 @@ use two_wire::Code;
 use two_wire::code::INVALID_LENGTH;
 
 /// A request of Set System Boot Options.
-#[derive(Clone, Copy, PartialEq, Eq)]
+#[derive(Clone, Copy)]
 pub enum BootRequest {
     /// Parameter 0, set in progress, becomes this byte, or stays where there is none.
     Progress(Option<u8>),
@@ -17,7 +17,7 @@ pub enum BootRequest {
 }
 
 /// A request of Get System Boot Options.
-#[derive(Clone, Copy, PartialEq, Eq)]
+#[derive(Clone, Copy)]
 pub enum BootShown {
     /// Parameter 0, set in progress.
     Progress,

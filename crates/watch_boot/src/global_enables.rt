@@ -17,7 +17,7 @@ const SET_GLOBAL_ENABLES: u8 = 0x2E;
 const GET_GLOBAL_ENABLES: u8 = 0x2F;
 
 /// A Set can set any enables without the reserved bit.
-#[derive(Clone, Copy, PartialEq, Eq)]
+#[derive(Clone, Copy)]
 pub struct GlobalEnablesLimits;
 
 /// The operation with these data.

@@ -22,7 +22,7 @@ const UNKNOWN: u8 = 3;
 const SUPPORTED: u8 = 0x07;
 
 /// A Set can set any known policy.
-#[derive(Clone, Copy, PartialEq, Eq)]
+#[derive(Clone, Copy)]
 pub struct PowerPolicyLimits;
 
 /// The operation with these data.

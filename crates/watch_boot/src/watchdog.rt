@@ -22,7 +22,7 @@ const GET_WATCHDOG_TIMER: u8 = 0x25;
 const RUNNING_PLACE: usize = 6;
 
 /// A Set can set any settings with a known use, interrupt and action.
-#[derive(Clone, Copy, PartialEq, Eq)]
+#[derive(Clone, Copy)]
 pub struct WatchdogLimits;
 
 /// The bits of a timer use byte that a Set keeps: don't log in bit 7 and the use in bits 2:0.
