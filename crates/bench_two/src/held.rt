@@ -4,8 +4,7 @@ ghost use Rattle.bmc_board.specs.State.{state_of};
 
 use crate::alone::open_sample;
 use crate::asked::Asked;
-use bmc_board::{Board, Records};
-use bmc_carry::{AskedHere, Carrier, Reply};
+use bmc_board::{AskedHere, Board, Carrier, Records, Reply};
 use bmc_core::{Out, Port};
 use bmc_ports::{Held, MOST_EVENTS, Opening, PeriodFull};
 use net_serve::controller_ports;

@@ -23,3 +23,4 @@ pub mod Undone
 pub mod BiosTableFacts
 pub mod AttributeValues
 mod AttributeSets
+pub mod Fitting

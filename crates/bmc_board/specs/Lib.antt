@@ -31,3 +31,5 @@ pub mod BiosTables
 pub mod BiosTableLaws
 pub mod StandingValues
 pub mod OwnStore
+pub mod Asking
+pub mod Carrying

@@ -8,7 +8,7 @@ use Rattle.bmc_board.specs.declared.board.Board.{Board}
 use Rattle.bmc_board.specs.State.{State, state_of}
 use Rattle.bmc_board.specs.Answer.{Given}
 use Rattle.bmc_board.specs.Serves.{given_by}
-use Rattle.bmc_carry.specs.Carrying.{IsAnswered}
+use Rattle.bmc_board.specs.Carrying.{IsAnswered}
 use Rattle.bmc_windows.specs.Keeps.{Held}
 use Rattle.model_ports.specs.PortSteps.{PortState, asked_in}
 use Rattle.bmc_core.specs.declared.out.Out.{Out}

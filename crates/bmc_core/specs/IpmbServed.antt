@@ -8,7 +8,7 @@ use Rattle.ipmb_frame.specs.Grammar.{IsHeader, IsResponse, response_start}
 use Rattle.record_base.specs.declared.message.Asked.{Asked}
 use Rattle.record_base.specs.declared.message.Answered.{Answered}
 use Rattle.bmc_board.specs.Gives.{Gives}
-use Rattle.bmc_carry.specs.declared.carrier.Carrier.{Ghosts}
+use Rattle.bmc_board.specs.declared.carrier.Carrier.{Ghosts}
 use Rattle.bmc_windows.specs.Keeps.{Held}
 use Rattle.model_ports.specs.PortSteps.{asked_in}
 use Rattle.bmc_core.specs.declared.out.Out.{Out}

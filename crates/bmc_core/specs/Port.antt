@@ -8,7 +8,7 @@ use Rattle.record_base.specs.declared.message.Answered.{Answered}
 use Rattle.bmc_board.specs.declared.board.Board.{Board}
 use Rattle.bmc_board.specs.State.{State, state_of}
 use Rattle.bmc_board.specs.Answer.{answer_of}
-use Rattle.bmc_carry.specs.declared.carrier.Carrier.{Ghosts}
+use Rattle.bmc_board.specs.declared.carrier.Carrier.{Ghosts}
 use Rattle.model_ports.specs.PortSteps.{PortState, asked_in}
 use Rattle.bmc_core.specs.declared.out.Out.{Out}
 use Rattle.bmc_core.specs.declared.step.Served.{Served}

@@ -6,7 +6,7 @@ use Rattle.record_base.specs.declared.message.Asked.{Asked}
 use Rattle.record_base.specs.declared.message.Answered.{Answered}
 use Rattle.model_bus.specs.Bytes.{pldm_message_type}
 use Rattle.bmc_board.specs.Gives.{Gives}
-use Rattle.bmc_carry.specs.declared.carrier.Carrier.{Ghosts}
+use Rattle.bmc_board.specs.declared.carrier.Carrier.{Ghosts}
 use Rattle.bmc_core.specs.declared.out.Out.{Out}
 use Rattle.bmc_core.specs.declared.step.Served.{Served}
 use Rattle.bmc_core.specs.declared.smbus_port.SmbusPort.{SmbusPort}

@@ -14,8 +14,7 @@ mod replying;
 
 use crate::out::{Out, Reason};
 use crate::step::{Served, Step};
-use bmc_board::Board;
-use bmc_carry::{Alone, Carrier};
+use bmc_board::{Alone, Board, Carrier};
 use cfg_records::{Answered, Store};
 use ipmb_frame::{Msg, Request, read_frame};
 pub use pending::IpmbPending;

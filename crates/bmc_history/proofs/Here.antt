@@ -14,9 +14,9 @@ use Rattle.bmc_board.specs.Gives.{Gives}
 use Rattle.bmc_board.specs.Answer.{Given}
 use Rattle.bmc_board.specs.Row.{Row}
 use Rattle.bmc_board.proofs.OneAnswer.{has_answer}
-use Rattle.bmc_carry.specs.declared.asked.AskedHere.{AskedHere}
-use Rattle.bmc_carry.specs.Asking.{meant}
-use Rattle.bmc_carry.specs.Carrying.{code_given}
+use Rattle.bmc_board.specs.declared.asked.AskedHere.{AskedHere}
+use Rattle.bmc_board.specs.Asking.{meant}
+use Rattle.bmc_board.specs.Carrying.{code_given}
 use Rattle.bmc_history.specs.declared.event.Call.TheVariants.{Exchanged}
 use Rattle.bmc_history.specs.Entries.{exchanged}
 use Rattle.bmc_history.specs.declared.event.Event.{Event}

@@ -11,8 +11,7 @@ ghost use Rattle.bmc_history.specs.declared.event.Call.TheVariants.{Benched};
 
 use crate::entry::{Head, Mark};
 use crate::event::{Call, Event};
-use bmc_board::{Bench, NoSensor};
-use bmc_carry::AskedHere;
+use bmc_board::{AskedHere, Bench, NoSensor};
 use std::alloc::{AllocError, Global};
 use std::marker::Model;
 use two_wire::size::{MOST_PLDM_REPLY_DATA, MOST_PLDM_REQUEST_DATA};

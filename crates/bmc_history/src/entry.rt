@@ -4,8 +4,7 @@ ghost use Rattle.two_wire.specs.Sizes.{most_pldm_reply_data};
 ghost use Rattle.bmc_history.specs.Entries.{call_of, event_of, exchanged, most_request, Lies};
 
 use crate::event::{Call, Event};
-use bmc_board::{Bench, NoSensor};
-use bmc_carry::AskedHere;
+use bmc_board::{AskedHere, Bench, NoSensor};
 use record_base::{Answered, Asked};
 use two_wire::{Below, Bytes, Lun, NetFn};
 

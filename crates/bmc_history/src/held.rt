@@ -2,7 +2,7 @@
 ghost use Rattle.std.specs.Prelude.{◌≡◌, ◌+◌, ◌≤◌, ◌<◌, ◌↔◌, [], IfOk, IfErr, OnOk, OnErr, IsErr, IsTrue, length};
 ghost use Rattle.record_base.specs.Meaning.{room_for};
 ghost use Rattle.bmc_board.specs.State.{state_of};
-ghost use Rattle.bmc_carry.specs.Asking.{meant};
+ghost use Rattle.bmc_board.specs.Asking.{meant};
 ghost use Rattle.bmc_history.specs.Replay.{Replays, IsRoom};
 ghost use Rattle.bmc_history.specs.Matching.{Matches};
 ghost use Rattle.bmc_history.specs.Calls.{IsRow, IsReply, IsHappening, GainsEvent, ExchangesHere};
@@ -13,8 +13,7 @@ ghost use Rattle.bmc_history.specs.declared.held.OpenFault.TheVariants.{Room};
 use crate::entries::{Calls, Events};
 use crate::history::{History, are_calls};
 use crate::opening::Opening;
-use bmc_board::{Bench, Board, NoSensor};
-use bmc_carry::{AskedHere, Reply, answer_here, answered, code_of};
+use bmc_board::{AskedHere, Bench, Board, NoSensor, Reply, answer_here, answered, code_of};
 use cfg_records::{Answered, Asked, Store};
 use std::alloc::Global;
 use std::marker::PhantomData;

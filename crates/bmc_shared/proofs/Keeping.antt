@@ -9,9 +9,9 @@ use Rattle.record_base.specs.Meaning.{room_for}
 use Rattle.cfg_records.specs.declared.board_file.BoardFile.{BoardFile}
 use Rattle.bmc_board.specs.declared.board.Board.{Board}
 use Rattle.bmc_board.specs.Gives.{Gives}
-use Rattle.bmc_carry.specs.declared.asked.AskedHere.{AskedHere}
-use Rattle.bmc_carry.specs.Asking.{meant}
-use Rattle.bmc_carry.specs.Carrying.{code_given}
+use Rattle.bmc_board.specs.declared.asked.AskedHere.{AskedHere}
+use Rattle.bmc_board.specs.Asking.{meant}
+use Rattle.bmc_board.specs.Carrying.{code_given}
 use Rattle.bmc_history.specs.declared.event.Call.{Call}
 use Rattle.bmc_history.specs.declared.event.Call.TheVariants.{Exchanged}
 use Rattle.bmc_history.specs.declared.event.Event.{Event}

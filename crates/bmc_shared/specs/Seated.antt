@@ -1,7 +1,7 @@
 -- What the seats of a board hold together.
 use Rattle.std.specs.Prelude.{◌≡◌, ◌+◌, ℕ, List, [], true, false, length, drop, Result, IfOk, OnOk, OnErr}
-use Rattle.bmc_carry.specs.declared.asked.AskedHere.{AskedHere}
-use Rattle.bmc_carry.specs.Carrying.{code_given}
+use Rattle.bmc_board.specs.declared.asked.AskedHere.{AskedHere}
+use Rattle.bmc_board.specs.Carrying.{code_given}
 use Rattle.bmc_history.specs.Calls.{GainsCall}
 use Rattle.bmc_history.specs.Entries.{CallList, exchanged}
 use Rattle.bmc_history.specs.declared.event.Event.{Event}

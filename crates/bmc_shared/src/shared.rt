@@ -3,7 +3,7 @@ ghost use Rattle.std.specs.Prelude.{◌≡◌, ◌+◌, ◌≤◌, ◌<◌, ◌^
 ghost use Rattle.two_wire.specs.Sizes.{most_pldm_reply_data};
 ghost use Rattle.record_base.specs.Meaning.{room_for};
 ghost use Rattle.bmc_board.specs.State.{state_of};
-ghost use Rattle.bmc_carry.specs.Asking.{meant};
+ghost use Rattle.bmc_board.specs.Asking.{meant};
 ghost use Rattle.bmc_history.specs.Entries.{IsBlank};
 ghost use Rattle.bmc_history.specs.Replay.{Replays, IsRoom};
 ghost use Rattle.bmc_history.specs.Calls.{IsRow, IsReply, IsHappening, GainsEvent, GainsCall, ExchangesHere, KeepsHere};
@@ -13,8 +13,7 @@ ghost use Rattle.bmc_shared.specs.Seated.{IsFresh, KeepsGiven, LeavesSeat, SeatM
 ghost use Rattle.bmc_shared.specs.declared.shared.CloseFault.TheVariants.{Mismatch};
 
 use crate::seat::{Seat, Seats};
-use bmc_board::{Bench, Board, NoSensor};
-use bmc_carry::{AskedHere, Reply, answered, code_of};
+use bmc_board::{AskedHere, Bench, Board, NoSensor, Reply, answered, code_of};
 use bmc_history::{Calls, Held, History, OpenFault, Opening, PeriodFull};
 use cfg_records::{Answered, Asked, Store};
 use std::alloc::Global;

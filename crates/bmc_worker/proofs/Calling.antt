@@ -2,7 +2,7 @@
 use Rattle.std.specs.Prelude.{Result, Ok, Err, IfOk, IfErr, OnOk, OnErr}
 use Rattle.std.proofs.Common.{◌≡◌, ℕ, List, [], ◌∷◌, true, refl, sym, ap, subst}
 use Rattle.record_base.specs.declared.message.Asked.{Asked}
-use Rattle.bmc_carry.specs.Carrying.{IsCarried}
+use Rattle.bmc_board.specs.Carrying.{IsCarried}
 use Rattle.bmc_core.specs.declared.out.Out.{Out}
 use Rattle.bmc_core.specs.declared.port.Port.{Port}
 use Rattle.bmc_core.specs.declared.step.Served.{Served}

@@ -1,6 +1,6 @@
 //! What carries out what a worker's port hears: the board that workers share.
 use crate::gate::Gate;
-use bmc_carry::{AskedHere, Carrier, Reply};
+use bmc_board::{AskedHere, Carrier, Reply};
 use bmc_shared::{Opening, PeriodFull, Seat, Shared};
 use cfg_records::Store;
 use std::sync::Wait;

@@ -2,12 +2,12 @@
 ghost use Rattle.std.specs.Prelude.{◌≡◌, ◌≤◌, length, drop};
 ghost use Rattle.ipmb_frame.specs.Grammar.{request_bytes};
 ghost use Rattle.bmc_windows.specs.Heard.{request_of};
-ghost use Rattle.bmc_carry.specs.Asking.{meant};
+ghost use Rattle.bmc_board.specs.Asking.{meant};
 ghost use Rattle.model_ports.specs.Bytes.{heard_in};
 ghost use Rattle.model_ports.specs.PortSteps.{asked_in};
 ghost use Rattle.bmc_core.specs.IpmbShown.{reading, HasUnits};
 
-use bmc_carry::AskedHere;
+use bmc_board::AskedHere;
 use cfg_records::Asked;
 use ipmb_frame::{Header, Request};
 use std::marker::Model;

@@ -8,7 +8,7 @@ ghost use Rattle.bmc_core.specs.IpmbServed.{IsBegun, IsEnded, AnswersBy, Carries
 
 use super::pending::RequestInFrame;
 use crate::out::{Done, Out};
-use bmc_carry::Carrier;
+use bmc_board::Carrier;
 use bmc_windows::{Found, Windows};
 use cfg_records::{Answered, byte_at};
 use ipmb_frame::{Header, begin_response, end_response, write_response_into};

@@ -3,11 +3,11 @@ ghost use Rattle.std.specs.Prelude.{◌≡◌, ◌≤◌, length};
 ghost use Rattle.two_wire.specs.Sizes.{most_message_bytes};
 ghost use Rattle.pldm_base.specs.Message.{request_bytes};
 ghost use Rattle.bmc_windows.specs.Heard.{request_of};
-ghost use Rattle.bmc_carry.specs.Asking.{meant};
+ghost use Rattle.bmc_board.specs.Asking.{meant};
 ghost use Rattle.bmc_core.specs.SmbusHeard.{asking, asked_of, behind_first};
 ghost use Rattle.bmc_core.specs.SmbusShown.{pldm_reading, request_in, pending_of};
 
-use bmc_carry::AskedHere;
+use bmc_board::AskedHere;
 use cfg_records::Asked;
 use mctp_net::Envelope;
 use pldm_base::{Header, PldmRequest, write_pldm};

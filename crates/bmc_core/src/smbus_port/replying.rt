@@ -10,7 +10,7 @@ ghost use Rattle.bmc_core.specs.SmbusServed.{reply_before_data, IsEnded, Answers
 use super::pending::RequestInMessage;
 use crate::out::{Done, Out};
 use crate::port::At;
-use bmc_carry::Carrier;
+use bmc_board::Carrier;
 use bmc_windows::{Found, Windows};
 use cfg_records::Answered;
 use mctp_net::{Envelope, Message, SomeData, split_into};

@@ -4,7 +4,7 @@ use Rattle.ipmb_frame.specs.Grammar.{response_start, IsResponse}
 use Rattle.record_base.specs.declared.message.Asked.{Asked}
 use Rattle.record_base.specs.Meaning.{room_for}
 use Rattle.bmc_board.specs.Gives.{Gives}
-use Rattle.bmc_carry.specs.Asking.{meant}
+use Rattle.bmc_board.specs.Asking.{meant}
 use Rattle.bmc_core.specs.IpmbShown.{response}
 use Rattle.bmc_core.proofs.ipmb_port.replying.respond.Goals as goal
 

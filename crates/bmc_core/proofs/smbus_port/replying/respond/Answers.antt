@@ -4,7 +4,7 @@ use Rattle.pldm_base.specs.Message.{reply_start}
 use Rattle.record_base.specs.declared.message.Asked.{Asked}
 use Rattle.record_base.specs.Meaning.{room_for}
 use Rattle.bmc_board.specs.Gives.{Gives}
-use Rattle.bmc_carry.specs.Asking.{meant}
+use Rattle.bmc_board.specs.Asking.{meant}
 use Rattle.bmc_core.specs.SmbusHeard.{InMessage}
 use Rattle.bmc_core.proofs.SmbusReplies.{spelled_so}
 use Rattle.bmc_core.proofs.smbus_port.replying.respond.Goals as goal

@@ -3,7 +3,7 @@ use Rattle.cfg_records.specs.declared.board_file.BoardFile.{BoardFile}
 use Rattle.bmc_board.specs.State.{State, state_of}
 use Rattle.bmc_board.specs.Serves.{given_by}
 use Rattle.bmc_board.specs.Answer.{Given, answer_of}
-use Rattle.bmc_carry.specs.Asking.{meant}
+use Rattle.bmc_board.specs.Asking.{meant}
 use Rattle.bmc_history.specs.declared.event.Call.{Call}
 use Rattle.bmc_history.specs.declared.event.Event.{Event}
 use Rattle.bmc_history.specs.declared.event.Call.TheVariants.{Exchanged}

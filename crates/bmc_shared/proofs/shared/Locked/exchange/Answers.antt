@@ -1,7 +1,7 @@
 use Rattle.std.proofs.Common.{◌≡◌, ◌≤◌, ℕ, List, length, ap, subst, arith}
 use Rattle.record_base.specs.Meaning.{room_for}
 use Rattle.bmc_board.specs.Gives.{Gives}
-use Rattle.bmc_carry.specs.Asking.{meant}
+use Rattle.bmc_board.specs.Asking.{meant}
 use Rattle.bmc_history.proofs.Here.{room_is, exchanged_as}
 use Rattle.bmc_shared.proofs.Keeping.{kept_as}
 use Rattle.bmc_shared.proofs.shared.Locked.exchange.Goals as goal

@@ -1,7 +1,7 @@
 use Rattle.std.proofs.Common.{◌≡◌, ℕ, List, length, drop, refl, sym, ◌∙◌, ap, subst}
 use Rattle.std.specs.Prelude.{OnErr}
-use Rattle.bmc_carry.specs.Asking.{meant}
-use Rattle.bmc_carry.specs.Carrying.{code_given}
+use Rattle.bmc_board.specs.Asking.{meant}
+use Rattle.bmc_board.specs.Carrying.{code_given}
 use Rattle.bmc_history.specs.Entries.{exchanged}
 use Rattle.bmc_shared.proofs.Keeping.{keeps_here, starts_within, fits_behind, has_place, still_counted, leaves_seat}
 use Rattle.bmc_shared.proofs.shared.Locked.exchange_here.Goals as goal

@@ -1,4 +1,4 @@
-use Rattle.bmc_carry.specs.Asking.{meant}
+use Rattle.bmc_board.specs.Asking.{meant}
 use Rattle.bmc_worker.proofs.Calling.{called, found_no_room}
 use Rattle.bmc_worker.proofs.caller.CallerCarrier.carry.Goals as goal
 

@@ -9,8 +9,8 @@ pub trait Carrier {
     ghost use Rattle.record_base.specs.declared.message.Asked.{Asked};
     ghost use Rattle.record_base.specs.declared.message.Answered.{Answered};
     ghost use Rattle.record_base.specs.Meaning.{room_for};
-    ghost use Rattle.bmc_carry.specs.Asking.{meant};
-    ghost use Rattle.bmc_carry.specs.Carrying.{IsCarried};
+    ghost use Rattle.bmc_board.specs.Asking.{meant};
+    ghost use Rattle.bmc_board.specs.Carrying.{IsCarried};
 
     /// What it changes.
     type Kept;

@@ -2,8 +2,8 @@
 use Rattle.std.specs.Prelude.{ℕ, List}
 use Rattle.record_base.specs.declared.message.Asked.{Asked}
 use Rattle.record_base.specs.declared.message.Asked.TheVariants as asked
-use Rattle.bmc_carry.specs.declared.asked.AskedHere.{AskedHere}
-use Rattle.bmc_carry.specs.declared.asked.AskedHere.TheVariants.{Ipmi, Pldm}
+use Rattle.bmc_board.specs.declared.asked.AskedHere.{AskedHere}
+use Rattle.bmc_board.specs.declared.asked.AskedHere.TheVariants.{Ipmi, Pldm}
 
 -- the request
 abbrev pub meant : AskedHere → Asked

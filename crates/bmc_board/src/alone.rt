@@ -4,12 +4,12 @@ ghost use Rattle.record_base.specs.Meaning.{room_for};
 ghost use Rattle.bmc_board.specs.Gives.{Gives};
 ghost use Rattle.bmc_board.specs.Serves.{given_by};
 ghost use Rattle.bmc_board.specs.State.{state_of};
-ghost use Rattle.bmc_carry.specs.Asking.{meant};
+ghost use Rattle.bmc_board.specs.Asking.{meant};
 
 use crate::asked::AskedHere;
+use crate::board::Board;
 use crate::carrier::Carrier;
 use crate::reply::Reply;
-use bmc_board::Board;
 use cfg_records::Store;
 use std::convert::Infallible;
 use std::marker::PhantomData;
@@ -48,7 +48,7 @@ impl<S> Alone<S> {
 }
 
 impl<S: Store> Carrier for Alone<S> {
-    ghost use Rattle.bmc_carry.specs.Carrying.{IsAnswered};
+    ghost use Rattle.bmc_board.specs.Carrying.{IsAnswered};
 
     type Kept = Board<S>;
 

@@ -8,9 +8,9 @@ use Rattle.bmc_board.specs.State.{state_of}
 use Rattle.bmc_board.specs.Table.{is_changing}
 use Rattle.bmc_board.proofs.AskedFacts.{asked_right}
 use Rattle.bmc_board.proofs.AnswerFacts.{answers_fit}
-use Rattle.bmc_carry.specs.Asking.{meant}
-use Rattle.bmc_carry.proofs.Fitting.{fits_behind}
-use Rattle.bmc_carry.proofs.alone.answer_here.Goals as goal
+use Rattle.bmc_board.specs.Asking.{meant}
+use Rattle.bmc_board.proofs.Fitting.{fits_behind}
+use Rattle.bmc_board.proofs.alone.answer_here.Goals as goal
 
 pub reply-requires : goal.reply-requires
 reply-requires g c =

@@ -1,10 +1,10 @@
 //! Requests that are looked at where they lie.
 ghost use Rattle.std.specs.Prelude.{◌≡◌};
 ghost use Rattle.bmc_board.specs.Request.{asked_of, asked_by, requester};
-ghost use Rattle.bmc_carry.specs.Asking.{meant, data_of};
+ghost use Rattle.bmc_board.specs.Asking.{meant, data_of};
 
-use bmc_board::Command;
-use bmc_board::request::{read_ipmi, read_pldm};
+use crate::command::Command;
+use crate::request::{read_ipmi, read_pldm};
 use record_base::Asked;
 use two_wire::size::{MOST_IPMI_REQUEST_DATA, MOST_PLDM_REQUEST_DATA};
 use two_wire::{Below, Code, Data, Lun, NetFn};

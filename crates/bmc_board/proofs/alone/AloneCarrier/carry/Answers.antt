@@ -1,6 +1,6 @@
 use Rattle.bmc_board.specs.Serves.{given_by}
-use Rattle.bmc_carry.specs.Asking.{meant}
-use Rattle.bmc_carry.proofs.alone.AloneCarrier.carry.Goals as goal
+use Rattle.bmc_board.specs.Asking.{meant}
+use Rattle.bmc_board.proofs.alone.AloneCarrier.carry.Goals as goal
 
 pub returns-clause-carried : goal.returns-clause-carried
 returns-clause-carried g c =

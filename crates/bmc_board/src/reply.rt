@@ -2,7 +2,7 @@
 ghost use Rattle.std.specs.Prelude.{◌≡◌, []};
 ghost use Rattle.record_base.specs.declared.message.Answered.{Answered as AnyAnswer};
 ghost use Rattle.bmc_board.specs.Gives.{Gives};
-ghost use Rattle.bmc_carry.specs.Carrying.{code_given};
+ghost use Rattle.bmc_board.specs.Carrying.{code_given};
 
 use record_base::Answered;
 use two_wire::size::MOST_PLDM_REPLY_DATA;

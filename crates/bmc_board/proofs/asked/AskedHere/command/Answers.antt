@@ -1,9 +1,9 @@
 use Rattle.std.proofs.Common.{◌≡◌, ℕ, List, sym, subst}
 use Rattle.record_base.specs.declared.message.Asked.TheVariants as asked
 use Rattle.bmc_board.specs.Request.{asked_of, asked_by, requester}
-use Rattle.bmc_carry.specs.declared.asked.AskedHere.{AskedHere}
-use Rattle.bmc_carry.specs.Asking.{meant, data_of}
-use Rattle.bmc_carry.proofs.asked.AskedHere.command.Goals as goal
+use Rattle.bmc_board.specs.declared.asked.AskedHere.{AskedHere}
+use Rattle.bmc_board.specs.Asking.{meant, data_of}
+use Rattle.bmc_board.proofs.asked.AskedHere.command.Goals as goal
 
 pub returns-in-Ipmi : goal.returns-in-Ipmi
 returns-in-Ipmi c =
