@@ -8,8 +8,8 @@ use Rattle.bmc_links.specs.Counted.{counted_on}
 use Rattle.bmc_links.proofs.Counting.{counted_twice}
 use Rattle.bmc_history.specs.declared.event.Call.{Call}
 use Rattle.bmc_shared.specs.declared.seat.Seat.{Seat}
-use Rattle.bmc_worker.specs.declared.worker.End.{End}
-use Rattle.bmc_worker.specs.declared.worker.End.TheVariants.{Turns, Full}
+use Rattle.bmc_shared.specs.declared.worker.End.{End}
+use Rattle.bmc_shared.specs.declared.worker.End.TheVariants.{Turns, Full}
 use Rattle.bmc_ports.specs.declared.lane.Lane.{Lane}
 use Rattle.bmc_ports.specs.declared.silence.Silence.{Silence}
 use Rattle.bmc_ports.specs.Since.{Hearing}

@@ -3,8 +3,8 @@ use Rattle.std.specs.Prelude.{◌≡◌, ◌++◌, List, [], ◌∷◌, true}
 use Rattle.bmc_history.specs.declared.event.Call.{Call}
 use Rattle.bmc_shared.specs.declared.seat.Seat.{Seat}
 use Rattle.bmc_shared.specs.declared.seat.Seats.{Seats}
-use Rattle.bmc_worker.specs.declared.worker.End.{End}
-use Rattle.bmc_worker.specs.declared.worker.End.TheVariants.{Turns, Full}
+use Rattle.bmc_shared.specs.declared.worker.End.{End}
+use Rattle.bmc_shared.specs.declared.worker.End.TheVariants.{Turns, Full}
 
 -- It's the seat of the same number, and its list begins with what it held. It's marked where its thread found no room, and else as it was marked before.
 pub record ComesBack {J : Type 0} {g h : _} (before : Seat J g) (after : Seat J h) (end : End) : Type 0 where

@@ -6,9 +6,9 @@ use Rattle.bmc_links.specs.declared.link.Counts.{Counts}
 use Rattle.bmc_links.specs.Counted.{counted_on}
 use Rattle.bmc_history.specs.declared.event.Call.{Call}
 use Rattle.bmc_shared.specs.declared.seat.Seat.{Seat}
-use Rattle.bmc_worker.specs.declared.worker.End.{End}
-use Rattle.bmc_worker.specs.declared.worker.End.TheVariants.{Turns, Full}
-use Rattle.bmc_worker.specs.Serving.{MakesTurn}
+use Rattle.bmc_shared.specs.declared.worker.End.{End}
+use Rattle.bmc_shared.specs.declared.worker.End.TheVariants.{Turns, Full}
+use Rattle.bmc_shared.specs.Serving.{MakesTurn}
 use Rattle.bmc_ports.specs.declared.lane.Lane.{Lane}
 use Rattle.bmc_ports.specs.declared.lane.Lanes.{Lanes}
 use Rattle.bmc_ports.specs.declared.slices.Lent.{Lent}

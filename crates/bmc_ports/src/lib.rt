@@ -1,4 +1,4 @@
-//! Workers that serve a board's ports in threads of their own, under one lock. It passes on names of `bmc_worker`, `bmc_history` and `bmc_links`.
+//! Workers that serve a board's ports in threads of their own, under one lock. It passes on names of `bmc_shared` and `bmc_links`.
 #![tactic(auto)]
 
 mod at_once;
@@ -16,10 +16,9 @@ pub mod timed;
 pub use at_once::NoThread;
 pub use bmc_links::{Counts, Heard, Link, LinkFault, MOST_KEPT, MemFault, MemLink};
 pub use bmc_shared::{
-    Call, Calls, CloseFault, Event, Events, Held, History, Locked, MOST_EVENTS, OpenFault, Opening,
-    PeriodFull, Seat, Seats, Shared,
+    Call, Calls, CloseFault, End, Event, Events, Gate, Held, History, Locked, MOST_EVENTS,
+    OpenFault, Opening, PeriodFull, Seat, Seats, Shared, serve_port,
 };
-pub use bmc_worker::{End, Gate, serve_port};
 pub use lane::{Lane, Lanes};
 pub use lending::{Sliced, run_slices};
 pub use run::run_two;

@@ -1,11 +1,10 @@
 //! The scanner: what happens on a board beside requests.
 ghost use Rattle.std.specs.Prelude.{◌≡◌, true};
-ghost use Rattle.bmc_worker.specs.declared.worker.End.TheVariants.{Turns, Full};
+ghost use Rattle.bmc_shared.specs.declared.worker.End.TheVariants.{Turns, Full};
 ghost use Rattle.bmc_ports.specs.Scanning.{Scanned};
 
 use bmc_board::Bench;
-use bmc_shared::{Opening, PeriodFull, Seat, Shared};
-use bmc_worker::End;
+use bmc_shared::{End, Opening, PeriodFull, Seat, Shared};
 use cfg_records::Store;
 use std::sync::Wait;
 

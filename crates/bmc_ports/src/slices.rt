@@ -1,6 +1,6 @@
 //! Two port workers that are lent ports and links, and give them back after some of their turns.
 ghost use Rattle.std.specs.Prelude.{◌≡◌, ◌≤◌, true, [], ◌∷◌};
-ghost use Rattle.bmc_worker.specs.declared.worker.End.TheVariants.{Turns, Full};
+ghost use Rattle.bmc_shared.specs.declared.worker.End.TheVariants.{Turns, Full};
 ghost use Rattle.bmc_ports.specs.Slices.{IsQuiet, SomeTurn, GoesOn};
 
 use crate::at_once::Work;
@@ -9,8 +9,7 @@ use crate::lane::Lane;
 use crate::silence::forget_silent;
 use bmc_board::Records;
 use bmc_links::Link;
-use bmc_shared::{Opening, Seat, Shared};
-use bmc_worker::{Desk, End, Gate, turn};
+use bmc_shared::{Desk, End, Gate, Opening, Seat, Shared, turn};
 use cfg_records::Store;
 use std::sync::Wait;
 use two_wire::Frame;

@@ -1,1 +1,3 @@
 pub mod Seated
+pub mod Serving
+pub mod Calling

@@ -11,8 +11,8 @@ use Rattle.bmc_history.specs.declared.event.Event.{Event}
 use Rattle.bmc_history.specs.Replay.{calls_of}
 use Rattle.bmc_shared.specs.declared.seat.Seats.{Seats}
 use Rattle.bmc_shared.specs.Seated.{IsFresh}
-use Rattle.bmc_worker.specs.declared.worker.End.{End}
-use Rattle.bmc_worker.specs.declared.worker.End.TheVariants.{Full}
+use Rattle.bmc_shared.specs.declared.worker.End.{End}
+use Rattle.bmc_shared.specs.declared.worker.End.TheVariants.{Full}
 use Rattle.bmc_ports.specs.declared.lane.Lane.{Lane}
 use Rattle.bmc_ports.specs.declared.lane.Lanes.{Lanes}
 use Rattle.bmc_ports.specs.declared.timed.Timed.{Timed}

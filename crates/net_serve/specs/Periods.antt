@@ -8,7 +8,7 @@ use Rattle.bmc_history.specs.declared.event.Event.{Event}
 use Rattle.bmc_history.specs.Replay.{Replays, calls_of}
 use Rattle.bmc_shared.specs.declared.seat.Seats.{Seats}
 use Rattle.bmc_shared.specs.Seated.{SeatMatches}
-use Rattle.bmc_worker.specs.declared.worker.End.{End}
+use Rattle.bmc_shared.specs.declared.worker.End.{End}
 use Rattle.bmc_ports.specs.declared.lane.Lanes.{Lanes}
 use Rattle.bmc_ports.specs.declared.timed.Timed.{Timed}
 use Rattle.bmc_ports.specs.declared.timed.TimedEnd.{TimedEnd}

@@ -1,6 +1,6 @@
 use Rattle.std.proofs.Common.{◌++◌, ◌∷◌, [], ◌∙◌, refl, arith}
 use Rattle.std.proofs.lemmas.List.{length-append}
-use Rattle.bmc_worker.specs.declared.worker.End.TheVariants.{Turns, Full}
+use Rattle.bmc_shared.specs.declared.worker.End.TheVariants.{Turns, Full}
 use Rattle.bmc_ports.proofs.Slicing.{makes_still, makes_more, ends_so, ends_with_all}
 use Rattle.bmc_ports.proofs.slices.serve_slices.Goals as goal
 

@@ -1,5 +1,5 @@
 use Rattle.std.proofs.Common.{◌≡◌, List, length}
-use Rattle.bmc_worker.specs.declared.worker.End.TheVariants.{Turns}
+use Rattle.bmc_shared.specs.declared.worker.End.TheVariants.{Turns}
 use Rattle.bmc_ports.specs.Since.{Hearing}
 use Rattle.bmc_ports.specs.Slices.{Makes}
 use Rattle.bmc_ports.proofs.slices.serve_slices.Given as goal

@@ -14,9 +14,9 @@ use Rattle.bmc_links.specs.Counted.{one_more, counted_on, after_next}
 use Rattle.bmc_links.proofs.Counting.{counted_twice}
 use Rattle.bmc_history.specs.declared.event.Call.{Call}
 use Rattle.bmc_history.specs.declared.held.PeriodFull.{PeriodFull}
-use Rattle.bmc_worker.specs.Serving.{CallsNext, Carries, MakesTurn, Serves, ServesTo, MadeAll, Takes, Worked, end_of, frames_in}
-use Rattle.bmc_worker.specs.declared.worker.End.{End}
-use Rattle.bmc_worker.specs.declared.worker.End.TheVariants.{Turns, Full}
+use Rattle.bmc_shared.specs.Serving.{CallsNext, Carries, MakesTurn, Serves, ServesTo, MadeAll, Takes, Worked, end_of, frames_in}
+use Rattle.bmc_shared.specs.declared.worker.End.{End}
+use Rattle.bmc_shared.specs.declared.worker.End.TheVariants.{Turns, Full}
 
 -- frames that are heard, and then others
 pub serves_both : (first later : List (List ℕ)) (before mid after : Port) (calls rest : List Call)

@@ -1,5 +1,5 @@
-use Rattle.bmc_worker.proofs.Calling.{takes, mark_left, number_left, drops}
-use Rattle.bmc_worker.proofs.worker.take_frame.Goals as goal
+use Rattle.bmc_shared.proofs.Calling.{takes, mark_left, number_left, drops}
+use Rattle.bmc_shared.proofs.worker.take_frame.Goals as goal
 
 pub returns-in-Ok-clause-takes : goal.returns-in-Ok-clause-takes
 returns-in-Ok-clause-takes g c = takes c.args.port.now c.serve.new.self c.args.frame.now c.args.seat.now c.serve.new.kept c.serve.new.out c.in-Ok.served c.in-Ok.ensures.served

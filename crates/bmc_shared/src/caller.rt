@@ -1,7 +1,9 @@
 //! What carries out what a worker's port hears: the board that workers share.
 use crate::gate::Gate;
+use crate::seat::Seat;
+use crate::shared::Shared;
 use bmc_board::{AskedHere, Carrier, Reply};
-use bmc_shared::{Opening, PeriodFull, Seat, Shared};
+use bmc_history::{Opening, PeriodFull};
 use cfg_records::Store;
 use std::sync::Wait;
 use two_wire::Code;
@@ -29,7 +31,7 @@ impl<'a, J: Opening, S: Store + Drop, G: Gate, R: Wait> Caller<'a, J, S, G, R> {
 }
 
 impl<'a, J: Opening, S: Store + Drop, G: Gate, R: Wait> Carrier for Caller<'a, J, S, G, R> {
-    ghost use Rattle.bmc_worker.specs.Calling.{HasCalled, HasFoundNoRoom};
+    ghost use Rattle.bmc_shared.specs.Calling.{HasCalled, HasFoundNoRoom};
 
     type Kept = Seat<J>;
 

@@ -1,5 +1,5 @@
-use Rattle.bmc_worker.proofs.Turning.{works}
-use Rattle.bmc_worker.proofs.worker.work_once.Goals as goal
+use Rattle.bmc_shared.proofs.Turning.{works}
+use Rattle.bmc_shared.proofs.worker.work_once.Goals as goal
 
 pub returns-clause-worked : goal.returns-clause-worked
 returns-clause-worked g c =

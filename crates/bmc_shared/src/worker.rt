@@ -1,14 +1,16 @@
 //! A worker of one port: it hears frames over a link, has the board answer what they ask, and sends the replies.
 ghost use Rattle.std.specs.Prelude.{◌≡◌, true, [], ◌∷◌, OnOk, OnErr};
 ghost use Rattle.bmc_core.specs.Port.{bus_of};
-ghost use Rattle.bmc_worker.specs.Serving.{CallsNext, frames_in, Takes, MakesTurn, Worked, end_of};
-ghost use Rattle.bmc_worker.specs.declared.worker.End.TheVariants.{Turns, Full};
+ghost use Rattle.bmc_shared.specs.Serving.{CallsNext, frames_in, Takes, MakesTurn, Worked, end_of};
+ghost use Rattle.bmc_shared.specs.declared.worker.End.TheVariants.{Turns, Full};
 
 use crate::caller::Caller;
 use crate::gate::Gate;
+use crate::seat::Seat;
+use crate::shared::Shared;
 use bmc_core::{Out, Port, Served};
+use bmc_history::{Opening, PeriodFull};
 use bmc_links::{Heard, Link};
-use bmc_shared::{Opening, PeriodFull, Seat, Shared};
 use cfg_records::Store;
 use std::sync::Wait;
 use two_wire::Frame;

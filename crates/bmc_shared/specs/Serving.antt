@@ -12,8 +12,8 @@ use Rattle.bmc_links.specs.Counted.{counted_on}
 use Rattle.bmc_history.specs.declared.event.Call.{Call}
 use Rattle.bmc_history.specs.declared.event.Call.TheVariants.{Exchanged}
 use Rattle.bmc_history.specs.declared.held.PeriodFull.{PeriodFull}
-use Rattle.bmc_worker.specs.declared.worker.End.{End}
-use Rattle.bmc_worker.specs.declared.worker.End.TheVariants.{Turns, Full}
+use Rattle.bmc_shared.specs.declared.worker.End.{End}
+use Rattle.bmc_shared.specs.declared.worker.End.TheVariants.{Turns, Full}
 
 -- one call of `next` was counted, and what it heard
 pub record CallsNext (frames : List (List ℕ)) (before after : Counts) : Type 0 where

@@ -1,5 +1,5 @@
-use Rattle.bmc_worker.proofs.Turning.{heard_frame}
-use Rattle.bmc_worker.proofs.worker.hear_next.Goals as goal
+use Rattle.bmc_shared.proofs.Turning.{heard_frame}
+use Rattle.bmc_shared.proofs.worker.hear_next.Goals as goal
 
 pub returns-in-Ok-Frame : goal.returns-in-Ok-Frame
 returns-in-Ok-Frame g c =

@@ -1,8 +1,8 @@
 use Rattle.std.proofs.Common.{◌≡◌}
 use Rattle.bmc_core.specs.Port.{bus_of}
-use Rattle.bmc_worker.specs.Serving.{Worked}
-use Rattle.bmc_worker.specs.declared.worker.End.TheVariants.{Turns}
-use Rattle.bmc_worker.proofs.worker.serve_port.Given as goal
+use Rattle.bmc_shared.specs.Serving.{Worked}
+use Rattle.bmc_shared.specs.declared.worker.End.TheVariants.{Turns}
+use Rattle.bmc_shared.proofs.worker.serve_port.Given as goal
 
 abbrev pub invariant-loop : goal.invariant-loop
 invariant-loop g l =

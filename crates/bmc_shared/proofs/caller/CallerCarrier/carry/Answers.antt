@@ -1,6 +1,6 @@
 use Rattle.bmc_board.specs.Asking.{meant}
-use Rattle.bmc_worker.proofs.Calling.{called, found_no_room}
-use Rattle.bmc_worker.proofs.caller.CallerCarrier.carry.Goals as goal
+use Rattle.bmc_shared.proofs.Calling.{called, found_no_room}
+use Rattle.bmc_shared.proofs.caller.CallerCarrier.carry.Goals as goal
 
 pub returns-clause-carried : goal.returns-clause-carried
 returns-clause-carried g c =

@@ -1,7 +1,7 @@
 use Rattle.std.proofs.Common.{◌+◌, ◌∙◌, refl}
-use Rattle.bmc_worker.specs.declared.worker.End.TheVariants.{Turns, Full}
-use Rattle.bmc_worker.proofs.Turning.{works_on, full_early, all_made, one_more_turn}
-use Rattle.bmc_worker.proofs.worker.serve_port.Goals as goal
+use Rattle.bmc_shared.specs.declared.worker.End.TheVariants.{Turns, Full}
+use Rattle.bmc_shared.proofs.Turning.{works_on, full_early, all_made, one_more_turn}
+use Rattle.bmc_shared.proofs.worker.serve_port.Goals as goal
 
 pub loop-preserved : goal.loop-preserved
 loop-preserved g c = (

@@ -13,10 +13,10 @@ use Rattle.bmc_history.specs.declared.event.Call.TheVariants.{Exchanged}
 use Rattle.bmc_history.specs.declared.held.PeriodFull.{PeriodFull}
 use Rattle.bmc_history.specs.Calls.{KeepsHere}
 use Rattle.bmc_shared.specs.declared.seat.Seat.{Seat}
-use Rattle.bmc_worker.specs.Calling.{HasCalled, HasFoundNoRoom}
-use Rattle.bmc_worker.specs.Serving.{Takes}
-use Rattle.bmc_worker.specs.declared.worker.End.TheVariants.{Turns, Full}
-use Rattle.bmc_worker.proofs.Turning.{settled, answered_or_refused}
+use Rattle.bmc_shared.specs.Calling.{HasCalled, HasFoundNoRoom}
+use Rattle.bmc_shared.specs.Serving.{Takes}
+use Rattle.bmc_shared.specs.declared.worker.End.TheVariants.{Turns, Full}
+use Rattle.bmc_shared.proofs.Turning.{settled, answered_or_refused}
 
 module _ {J : Type 0} {g : _} (port next : Port) (frame : List ℕ) (seat now : Seat J g) (out : Out) where
   -- the port served the frame by a call of the shared board, if it made one

@@ -1,5 +1,5 @@
 use Rattle.std.proofs.Common.{◌≡◌}
-use Rattle.bmc_worker.proofs.worker.send_all.Given as goal
+use Rattle.bmc_shared.proofs.worker.send_all.Given as goal
 
 abbrev pub invariant-loop-frame : goal.invariant-loop-frame
 invariant-loop-frame g l =
