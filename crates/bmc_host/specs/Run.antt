@@ -7,7 +7,7 @@ use Rattle.bmc_lab.specs.Ending.{Saying}
 use Rattle.bmc_lab.specs.Files.{Readings, SaysOfFile}
 use Rattle.bmc_play.specs.Files.{SaysOfFiles}
 use Rattle.bmc_play.specs.Run.{tells_of}
-use Rattle.schedule_run.specs.Files.{SaysOfFiles as SaysOfScheduled}
+use Rattle.bmc_host.specs.ScheduledFiles.{SaysOfFiles as SaysOfScheduled}
 use Rattle.bmc_host.specs.declared.words.Words.{Words}
 use Rattle.bmc_host.specs.declared.words.Words.TheVariants.{Frame, Play, Schedule, Check}
 use Rattle.bmc_host.specs.Asked.{AsksFor}

@@ -1,14 +1,20 @@
-//! `bmclab` but its `main`: the words of its command line, why a file of the host gives no text, and what it does with both.
+//! `bmclab` but its `main`: the words of its command line, why a file of the host gives no text, what it does with both, and what `bmclab schedule`
+//! does, over files and writers of any kind: it reads a board file and a plan, and writes a schedule of the plan on that board.
 #![tactic(auto)]
 
 pub mod check;
 mod file;
 mod number;
 pub mod run;
+pub mod schedule_files;
+pub mod schedule_text;
 pub mod schedule_words;
 pub mod words;
 
 pub use check::{Cause, TellsCause, check_files};
+pub use lab_schedule::{Chances, Links, Percent, Wanted};
 pub use run::run_line;
+pub use schedule_files::{ScheduleFiles, schedule_of_files};
+pub use schedule_text::schedule_run;
 pub use schedule_words::ScheduleWords;
 pub use words::{CheckWords, FrameWords, PlayWords, Words};

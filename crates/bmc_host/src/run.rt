@@ -4,12 +4,12 @@ ghost use Rattle.bmc_lab.specs.Ending.{RunEnds};
 ghost use Rattle.bmc_host.specs.Run.{SaysOfLine, SaysOfWords};
 
 use crate::check::{TellsCause, check_files};
+use crate::schedule_files::{ScheduleFiles, schedule_of_files};
 use crate::schedule_words::ScheduleWords;
 use crate::words::{CheckWords, FrameWords, PlayWords, Words, read};
 use bmc_lab::{Console, TextFiles, frame_of_file};
 use bmc_play::{PlayFiles, play_of_files};
 use host_base::refuse;
-use schedule_run::{ScheduleFiles, schedule_of_files};
 use std::alloc::Global;
 use std::io;
 

@@ -2,11 +2,10 @@
 use super::runs::words_of;
 use super::text::parted;
 use bmc_host::words::read;
-use bmc_host::{ScheduleWords, Words};
+use bmc_host::{Links, ScheduleWords, Words};
 use bmc_lab::{AskedFrame, Status, asked_frame};
 use bmc_play::Shown;
 use host_base::Refusal;
-use schedule_run::Links;
 use std::alloc::{AllocError, Global};
 
 /// Appends a frame's bus and its bytes.

@@ -1,6 +1,6 @@
 use Rattle.std.proofs.Common.{ℕ, List, [], ◌∷◌, subst}
 use Rattle.bmc_lab.specs.Ending.{RunEnds}
-use Rattle.schedule_run.specs.Files.{SaysOfFiles}
+use Rattle.bmc_host.specs.ScheduledFiles.{SaysOfFiles}
 use Rattle.bmc_host.proofs.run.write.Goals as goal
 
 pub returns : goal.returns

@@ -3,7 +3,7 @@ ghost use Rattle.std.specs.Prelude.{◌≡◌, [], IfOk, string_bytes};
 ghost use Rattle.bmc_lab.specs.declared.console.Stream.TheVariants.{Output};
 ghost use Rattle.bmc_lab.specs.Ending.{RunEnds};
 ghost use Rattle.bmc_play.specs.Run.{Says};
-ghost use Rattle.schedule_run.specs.Writes.{Writes};
+ghost use Rattle.bmc_host.specs.Writes.{Writes};
 
 use bmc_lab::{Console, Ending, Report, Status, Stream};
 use bmc_play::{Inputs, is_memory, read_inputs, refusal_report};

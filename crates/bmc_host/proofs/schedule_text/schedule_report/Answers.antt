@@ -1,7 +1,7 @@
 use Rattle.std.proofs.Common.{[]}
 use Rattle.bmc_play.proofs.Plays.{says_play}
-use Rattle.schedule_run.specs.Writes.{Writes}
-use Rattle.schedule_run.proofs.run.schedule_report.Goals as goal
+use Rattle.bmc_host.specs.Writes.{Writes}
+use Rattle.bmc_host.proofs.schedule_text.schedule_report.Goals as goal
 
 pub returns-in-Ok : goal.returns-in-Ok
 returns-in-Ok c =

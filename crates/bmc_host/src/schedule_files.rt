@@ -2,9 +2,9 @@
 ghost use Rattle.std.specs.Prelude.{IfOk, IfErr, string_bytes};
 ghost use Rattle.bmc_lab.specs.Ending.{RunEnds};
 ghost use Rattle.bmc_lab.specs.Files.{FirstUnread};
-ghost use Rattle.schedule_run.specs.Files.{words_of, AreTexts, SaysOfFiles};
+ghost use Rattle.bmc_host.specs.ScheduledFiles.{words_of, AreTexts, SaysOfFiles};
 
-use crate::run::schedule_run;
+use crate::schedule_text::schedule_run;
 use bmc_lab::{Console, TextFiles, Unread, refuse, text_of};
 use lab_schedule::Wanted;
 use std::alloc::Global;

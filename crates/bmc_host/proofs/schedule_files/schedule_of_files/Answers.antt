@@ -1,8 +1,8 @@
 use Rattle.std.proofs.Common.{inr}
 use Rattle.bmc_lab.specs.EndingLaws.{run_ends_as}
 use Rattle.bmc_lab.specs.Files.{Refuses}
-use Rattle.schedule_run.specs.Files.{words_of, SaysOfFiles}
-use Rattle.schedule_run.proofs.files.schedule_of_files.Goals as goal
+use Rattle.bmc_host.specs.ScheduledFiles.{words_of, SaysOfFiles}
+use Rattle.bmc_host.proofs.schedule_files.schedule_of_files.Goals as goal
 
 pub returns-in-Err : goal.returns-in-Err
 returns-in-Err g c =

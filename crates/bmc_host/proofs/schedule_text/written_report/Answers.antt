@@ -2,7 +2,7 @@ use Rattle.std.proofs.Common.{◌≡◌, List, Ok, refl, string_bytes, subst}
 use Rattle.text_schedule.specs.declared.event.Event.{Event}
 use Rattle.text_schedule.specs.Schedule.{IsRead}
 use Rattle.schedule_writer.specs.Written.{text_of}
-use Rattle.schedule_run.proofs.run.written_report.Goals as goal
+use Rattle.bmc_host.proofs.schedule_text.written_report.Goals as goal
 
 pub returns-clause-written : goal.returns-clause-written
 returns-clause-written c =

@@ -5,8 +5,8 @@ use Rattle.bmc_lab.specs.Ending.{Saying}
 use Rattle.bmc_lab.specs.Files.{Readings, Give, FirstUnread, Refuses}
 use Rattle.bmc_play.specs.Run.{Says}
 use Rattle.lab_schedule.specs.declared.make.Wanted.{Wanted}
-use Rattle.schedule_run.specs.declared.files.ScheduleFiles.{ScheduleFiles}
-use Rattle.schedule_run.specs.Writes.{Writes}
+use Rattle.bmc_host.specs.declared.schedule_files.ScheduleFiles.{ScheduleFiles}
+use Rattle.bmc_host.specs.Writes.{Writes}
 
 -- the words, in their order
 abbrev pub words_of : ScheduleFiles → List (List ℕ)
