@@ -1,6 +1,8 @@
 pub mod AlikeEnds
+pub mod Arriving
 pub mod Counted
 pub mod Frames
+pub mod LineParts
 pub mod Noted
 pub mod OneAccount
 pub mod OneChart
@@ -8,4 +10,6 @@ pub mod OneRun
 pub mod OnePremise
 pub mod Plays
 pub mod Readers
+pub mod Rows
 pub mod Told
+pub mod Widths

@@ -14,9 +14,9 @@ use Rattle.model_lab.specs.Meaning.{lab_names}
 use Rattle.model_lab.specs.Played.{plans, Ending, Whole, Stops}
 use Rattle.lab_run.specs.declared.note.Came.{Came}
 use Rattle.lab_run.specs.declared.note.Note.{Note}
-use Rattle.text_chart.specs.Columns.{at_most, in_column}
-use Rattle.text_chart.specs.Arrivals.{delivers, came_at, lost_from}
-use Rattle.text_chart.specs.Chart.{call_cell, comes_cell, count_of, sends_cell, done_cell, head_line, event_line, chart_of}
+use Rattle.bmc_play.specs.Columns.{at_most, in_column}
+use Rattle.bmc_play.specs.Arrivals.{delivers, came_at, lost_from}
+use Rattle.bmc_play.specs.Chart.{call_cell, comes_cell, count_of, sends_cell, done_cell, head_line, event_line, chart_of}
 use Rattle.lab_play.specs.Noted.{Noted, IsNote, noted_from, AreNotes}
 use Rattle.lab_play.specs.declared.run.Stopped.{Stopped}
 use Rattle.bmc_play.specs.Lines.{ending}

@@ -8,7 +8,7 @@ use Rattle.text_schedule.specs.declared.event.Event.{Event}
 use Rattle.model_lab.specs.Played.{Ending, Whole, Stops, IsPlayed}
 use Rattle.model_headline.specs.Plays.{StandsIfKept}
 use Rattle.lab_run.specs.declared.note.Note.{Note}
-use Rattle.text_chart.specs.Chart.{chart_of}
+use Rattle.bmc_play.specs.Chart.{chart_of}
 use Rattle.lab_play.specs.Noted.{AreNotes}
 use Rattle.bmc_play.specs.declared.inputs.Inputs.{Inputs}
 use Rattle.lab_play.specs.declared.run.Stopped.{Stopped}

@@ -1,5 +1,8 @@
 pub mod Account
 pub mod Alike
+pub mod Arrivals
+pub mod Chart
+pub mod Columns
 pub mod Determined
 pub mod Drawn
 pub mod Ended

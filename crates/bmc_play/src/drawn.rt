@@ -4,6 +4,7 @@ ghost use Rattle.bmc_lab.specs.declared.console.Stream.TheVariants.{Output};
 ghost use Rattle.bmc_play.specs.Account.{status_of};
 ghost use Rattle.bmc_play.specs.Drawn.{NotesPlayOf, Draws, drawing};
 
+use crate::chart_text::chart;
 use crate::ended::{Ended, parts_of};
 use crate::inputs::Inputs;
 use crate::lines::push_stopped;
@@ -13,7 +14,6 @@ use cfg_records::BoardFile;
 use lab_play::{Stopped, play_noted};
 use lab_run::Note;
 use std::alloc::{AllocError, Global};
-use text_chart::chart;
 use text_schedule::Event;
 use undo_plans::Plan;
 

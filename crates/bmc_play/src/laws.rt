@@ -1,10 +1,18 @@
 //! What holds of plays that are shown in either way.
-ghost use Rattle.std.specs.Prelude.{ℕ, List};
+ghost use Rattle.std.specs.Prelude.{◌≤◌, ℕ, List, length};
+ghost use Rattle.std.specs.List.{All};
+ghost use Rattle.lab_run.specs.declared.note.Note.{Note as AnyNote};
 ghost use Rattle.bmc_play.specs.declared.inputs.Inputs.{Inputs};
 ghost use Rattle.bmc_play.specs.declared.run.Shown.{Shown};
 ghost use Rattle.bmc_play.specs.Alike.{EndAlike};
+ghost use Rattle.bmc_play.specs.Chart.{chart_lines};
 ghost use Rattle.bmc_play.specs.Determined.{OneText, SaysOne};
 ghost use Rattle.bmc_play.specs.Run.{tells_of, Says};
+
+/// No line of a chart is longer than eighty columns.
+pub fn lines_have_eighty_columns()
+    ensures { (notes : List AnyNote) → All (λ line. length line ≤ 80) (chart_lines notes) }
+{}
 
 /// The lines of a play and its chart end alike: with the line of the same fault, or without one, and with one status.
 pub fn charts_end_as_lines()

@@ -1,8 +1,12 @@
 //! What `bmclab play` does, over files and writers of any kind: a plan run and undone by a schedule. It reads the board file, the
-//! plan and the schedule that tell a play, and writes the lines that are said of it.
+//! plan and the schedule that tell a play, and writes the lines that are said of it, or the chart that its notes are drawn as.
 #![tactic(auto)]
 
 mod account;
+mod arrivals;
+mod cells;
+mod chart_text;
+mod columns;
 mod drawn;
 mod ended;
 pub mod files;

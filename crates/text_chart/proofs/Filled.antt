@@ -1,1 +1,0 @@
--- Bytes that are all the same.

@@ -1,5 +1,0 @@
-pub mod Filled
-pub mod Arriving
-pub mod Rows
-pub mod Widths
-pub mod Lines
