@@ -5,7 +5,7 @@ use Rattle.cfg_records.specs.declared.board_file.BoardFile.{BoardFile}
 use Rattle.cfg_records.specs.Records.{Pair}
 use Rattle.cfg_records.specs.Boards.{pairs_of}
 use Rattle.bmc_board.specs.State.{State, state_of, opened}
-use Rattle.changed_records.specs.Changed.{changed_in}
+use Rattle.cfg_records.specs.Changed.{changed_in}
 use Rattle.net_serve.specs.declared.board.Served.{Served}
 use Rattle.net_serve.specs.Served.{IsServed, Tallies, most_events}
 

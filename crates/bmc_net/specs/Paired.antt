@@ -13,7 +13,7 @@ use Rattle.undo_core.specs.declared.manager.Manager.{Manager}
 use Rattle.undo_core.specs.Shown.{Shows}
 use Rattle.bmc_links.specs.Counted.{none_counted}
 use Rattle.bmc_drive.specs.Driving.{Links}
-use Rattle.changed_records.specs.Changed.{records_line}
+use Rattle.text_lines.specs.RecordsLine.{records_line}
 use Rattle.bmc_lab.specs.declared.status.Status.{Status}
 use Rattle.bmc_lab.specs.declared.status.Status.TheVariants.{Success, Stopped}
 use Rattle.net_serve.specs.declared.board.Served.{Served}

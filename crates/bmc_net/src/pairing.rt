@@ -14,7 +14,6 @@ use bmc_lab::{
     Console, Report, Status, Stream, TextFiles, Unread, Untold, end_run, refuse, text_of,
 };
 use cfg_records::{BoardFile, Key, StartValue};
-use changed_records::push_records;
 use net_run::{open_manager, push_phase};
 use net_serve::{Begun, Served, begin, controller_ports, tally_of};
 use std::alloc::{AllocError, Global};
@@ -22,6 +21,7 @@ use std::io;
 use std::net::Net;
 use std::sync::Wait;
 use std::thread::Threads;
+use text_lines::push_records;
 use undo_plans::Plan;
 
 /// What the words of `bmcnet pair` ask for.

@@ -17,7 +17,8 @@ use Rattle.lab_run.specs.declared.frames.SentFrame.{SentFrame}
 use Rattle.model_lab.specs.Played.{Told, Ending, Whole, Stops}
 use Rattle.lab_run.specs.Shown.{IsSentFrame}
 use Rattle.model_headline.specs.Plays.{taken_by, TellsPremise}
-use Rattle.changed_records.specs.Changed.{is_value, records_line}
+use Rattle.cfg_records.specs.Changed.{is_value}
+use Rattle.text_lines.specs.RecordsLine.{records_line}
 use Rattle.bmc_play.specs.declared.account.Account.{Account}
 use Rattle.bmc_play.specs.Lines.{said, undo_lines, shown, premised, ending, text_of}
 use Rattle.bmc_play.specs.Account.{AreChanged, Accounts, IsAccountOf, status_of}

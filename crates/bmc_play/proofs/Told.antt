@@ -4,7 +4,7 @@ use Rattle.std.specs.List.{flat_map}
 use Rattle.std.proofs.lemmas.Grind.{flat_map-append}
 use Rattle.std.proofs.lemmas.List.{append_assoc}
 use Rattle.text_lines.specs.Cuts.{ended}
-use Rattle.changed_records.specs.Changed.{records_line}
+use Rattle.text_lines.specs.RecordsLine.{records_line}
 use Rattle.model_undo.specs.PhaseNames.{phase_name}
 use Rattle.std.specs.Prelude.{codes, length}
 use Rattle.std.specs.Fmt.{decimal}

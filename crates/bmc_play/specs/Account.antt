@@ -5,7 +5,7 @@ use Rattle.cfg_records.specs.Records.{Pair, KeysDiffer, records_of}
 use Rattle.undo_core.specs.Shown.{backs}
 use Rattle.model_lab.specs.Played.{Told, Ending, Whole, Stops}
 use Rattle.lab_run.specs.Shown.{IsSentFrame}
-use Rattle.changed_records.specs.Changed.{changed_in}
+use Rattle.cfg_records.specs.Changed.{changed_in}
 use Rattle.bmc_play.specs.declared.account.Account.{Account}
 use Rattle.lab_play.specs.declared.run.Stopped.{Stopped}
 use Rattle.bmc_lab.specs.declared.status.Status.{Status}

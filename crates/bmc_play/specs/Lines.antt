@@ -11,7 +11,7 @@ use Rattle.model_undo.specs.PhaseNames.{phase_name}
 use Rattle.model_lab.specs.declared.way.Way.{Way}
 use Rattle.model_lab.specs.declared.way.Way.TheVariants.{ToPort, ToManager, ToOthers}
 use Rattle.lab_run.specs.declared.frames.SentFrame.{SentFrame}
-use Rattle.changed_records.specs.Changed.{records_line}
+use Rattle.text_lines.specs.RecordsLine.{records_line}
 use Rattle.model_lab.specs.FaultNames.{fault_name}
 use Rattle.bmc_play.specs.declared.account.Account.{Account}
 use Rattle.lab_play.specs.declared.run.Stopped.{Stopped}

@@ -5,10 +5,10 @@ ghost use Rattle.text_lines.specs.Cuts.{ended};
 ghost use Rattle.bmc_play.specs.Lines.{ending, premised, start_lines, text_of};
 
 use crate::lines::{push_frames, push_premise, push_stopped};
-use changed_records::push_records;
 use lab_play::Stopped;
 use lab_run::SentFrame;
 use std::alloc::{AllocError, Global};
+use text_lines::push_records;
 use text_undo::push_requests;
 use undo_core::Phase;
 use undo_plans::Requests;

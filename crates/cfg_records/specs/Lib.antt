@@ -3,6 +3,7 @@ pub mod Places
 pub mod Index
 pub mod PlacesLaws
 pub mod RecordLaws
+pub mod Changed
 pub mod LanBoards
 pub mod BoardChannels
 pub mod Boards

@@ -1,8 +1,9 @@
-//! Where the configuration records of a board are kept, and the board file that they begin from. It passes on the names of
-//! `record_base`, but for those of one kind of record alone.
+//! Where the configuration records of a board are kept, the board file that they begin from, and how many are changed since. It passes on the names
+//! of `record_base`, but for those of one kind of record alone.
 #![tactic(auto)]
 
 pub mod board_file;
+pub mod changed;
 pub mod index;
 mod kept_record;
 pub mod lan_records;
@@ -11,6 +12,7 @@ pub mod sample;
 pub mod store;
 
 pub use board_file::BoardFile;
+pub use changed::changed_count;
 pub use plain_store::{PlainStore, StoreFault};
 pub use record_base::{
     Answered, Asked, Bcd, CommandReader, Device, Distinct, Items, Key, Live, LogCapacity,

@@ -7,15 +7,14 @@ ghost use Rattle.undo_core.specs.Shown.{backs};
 ghost use Rattle.model_lab.specs.Played.{Told};
 ghost use Rattle.lab_run.specs.Shown.{IsSentFrame, idles_in};
 ghost use Rattle.lab_play.specs.Noted.{NotesPlay};
-ghost use Rattle.changed_records.specs.Changed.{changed_in};
+ghost use Rattle.cfg_records.specs.Changed.{changed_in};
 ghost use Rattle.lab_play.specs.Ends.{Tells, Plays, Begins, given};
 
 use crate::noted::run_noted;
 use crate::run::{Stopped, run};
 use crate::watch::Watch;
 use bmc_board::Records;
-use cfg_records::{BoardFile, Key, StartValue, Store};
-use changed_records::changed_count;
+use cfg_records::{BoardFile, Key, StartValue, Store, changed_count};
 use lab_run::{Fault, Lab, Note, SentFrame};
 use std::alloc::{AllocError, Global};
 use text_schedule::Event;

@@ -14,7 +14,7 @@ use Rattle.bmc_ports.specs.declared.timed.Timed.{Timed}
 use Rattle.bmc_ports.specs.declared.timed.Timetable.{Timetable}
 use Rattle.bmc_ports.specs.Timing.{Gains}
 use Rattle.bmc_ports.specs.declared.lane.Lanes.{Lanes}
-use Rattle.changed_records.specs.Changed.{changed_in}
+use Rattle.cfg_records.specs.Changed.{changed_in}
 use Rattle.text_board.specs.Holds.{Reads}
 use Rattle.bmc_lab.specs.declared.console.Console.{Console}
 use Rattle.bmc_lab.specs.declared.report.Report.{Report}

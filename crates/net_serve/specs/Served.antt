@@ -11,7 +11,8 @@ use Rattle.bmc_history.specs.Replay.{Replays, calls_of}
 use Rattle.bmc_ports.specs.declared.timed.Timed.{Timed}
 use Rattle.bmc_ports.specs.declared.timed.Timetable.{Timetable}
 use Rattle.bmc_ports.specs.Timing.{Gains}
-use Rattle.changed_records.specs.Changed.{changed_in, records_line}
+use Rattle.cfg_records.specs.Changed.{changed_in}
+use Rattle.text_lines.specs.RecordsLine.{records_line}
 use Rattle.net_serve.specs.declared.board.Served.{Served}
 use Rattle.net_serve.specs.declared.tally.Begun.{Begun}
 

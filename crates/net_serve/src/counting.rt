@@ -3,7 +3,7 @@ ghost use Rattle.std.specs.Prelude.{◌≡◌, false, true, List, Option, None, 
 ghost use Rattle.cfg_records.specs.declared.board_file.BoardFile.{BoardFile as AnyFile};
 ghost use Rattle.bmc_ports.specs.declared.timed.Timed.{Timed as AnyTimed};
 ghost use Rattle.bmc_board.specs.State.{state_of};
-ghost use Rattle.changed_records.specs.Changed.{changed_in};
+ghost use Rattle.cfg_records.specs.Changed.{changed_in};
 ghost use Rattle.net_serve.specs.Served.{IsAll, IsBegun, Tallies, list_in};
 
 use crate::board::{controller_ports, serve_over};

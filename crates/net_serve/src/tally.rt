@@ -4,15 +4,15 @@ ghost use Rattle.cfg_records.specs.Boards.{pairs_of};
 ghost use Rattle.bmc_board.specs.State.{state_of, opened};
 ghost use Rattle.bmc_lab.specs.declared.console.Stream.TheVariants.{Output};
 ghost use Rattle.bmc_lab.specs.declared.status.Status.TheVariants.{Success};
-ghost use Rattle.changed_records.specs.Changed.{changed_in};
+ghost use Rattle.cfg_records.specs.Changed.{changed_in};
 ghost use Rattle.net_serve.specs.Served.{text_of};
 
 use crate::board::Served;
 use bmc_board::{Board, Records};
 use bmc_lab::{Report, Status, Stream};
-use cfg_records::{BoardFile, Key, StartValue};
-use changed_records::{changed_count, push_records};
+use cfg_records::{BoardFile, Key, StartValue, changed_count};
 use std::alloc::{AllocError, Global};
+use text_lines::push_records;
 
 /// A board that is to be served, and the records that it begins with.
 #[derive(Drop)]

@@ -1,7 +1,7 @@
 use Rattle.std.proofs.Common.{ap, ◌∙◌, List}
 use Rattle.cfg_records.specs.Records.{Records, Pair}
 use Rattle.bmc_board.specs.OwnStore.{own_records}
-use Rattle.changed_records.specs.Changed.{changed_in}
+use Rattle.cfg_records.specs.Changed.{changed_in}
 use Rattle.lab_play.proofs.played.Played.changed.Goals as goal
 
 pub returns : goal.returns

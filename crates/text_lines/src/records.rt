@@ -1,7 +1,7 @@
 //! The line that says how many records are changed.
 ghost use Rattle.std.specs.Prelude.{◌≡◌, ◌++◌, OnOk, string_bytes};
 ghost use Rattle.text_lines.specs.Cuts.{ended};
-ghost use Rattle.changed_records.specs.Changed.{records_line};
+ghost use Rattle.text_lines.specs.RecordsLine.{records_line};
 
 use std::alloc::AllocError;
 
