@@ -1,5 +1,5 @@
-//! Tests of the ports that bring requests to a board. They stand apart from the ports' crate, which would be proved once more with
-//! tests of its own.
+//! Tests of the ports that bring requests to a board, of boards with a history, which threads share, and of the link in memory. They stand apart from
+//! the crates that they test, each of which would be proved once more with tests of its own.
 #![tactic(auto)]
 
 #[cfg(test)]

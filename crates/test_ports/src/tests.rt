@@ -1,8 +1,9 @@
-//! What ports do with requests that come again, with damage and with floods, on the sample board.
+//! What ports do with requests that come again, with damage and with floods, on the sample board, and boards with a history.
 mod board;
 mod damage;
 mod either;
 mod floods;
+mod history;
 mod ipmb;
 mod smbus;
 mod told_wrong;

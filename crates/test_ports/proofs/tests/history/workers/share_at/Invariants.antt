@@ -1,5 +1,5 @@
 use Rattle.bmc_board.specs.State.{state_of}
-use Rattle.test_history.proofs.tests.workers.share_at.Given as goal
+use Rattle.test_ports.proofs.tests.history.workers.share_at.Given as goal
 
 abbrev pub ghosts-share-J-Opening : goal.ghosts-share-J-Opening
 ghosts-share-J-Opening g a = record { setup = a.board.setup; opening = state_of a.board; room = a.room }

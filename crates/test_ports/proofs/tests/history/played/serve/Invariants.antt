@@ -1,5 +1,5 @@
 use Rattle.bmc_board.specs.State.{state_of}
-use Rattle.test_history.proofs.tests.played.serve.Given as goal
+use Rattle.test_ports.proofs.tests.history.played.serve.Given as goal
 
 abbrev pub ghosts-serve_opened-J-Opening : goal.ghosts-serve_opened-J-Opening
 ghosts-serve_opened-J-Opening g a = record { setup = a.board.setup; opening = state_of a.board; room = a.room }

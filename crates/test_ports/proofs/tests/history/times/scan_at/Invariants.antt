@@ -1,5 +1,5 @@
 use Rattle.bmc_board.specs.State.{state_of}
-use Rattle.test_history.proofs.tests.times.scan_at.Given as goal
+use Rattle.test_ports.proofs.tests.history.times.scan_at.Given as goal
 
 abbrev pub ghosts-scan-J-Opening : goal.ghosts-scan-J-Opening
 ghosts-scan-J-Opening g a = record { setup = a.board.setup; opening = state_of a.board; room = a.room }

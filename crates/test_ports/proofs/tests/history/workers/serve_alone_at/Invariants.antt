@@ -1,5 +1,5 @@
 use Rattle.bmc_board.specs.State.{state_of}
-use Rattle.test_history.proofs.tests.workers.serve_alone_at.Given as goal
+use Rattle.test_ports.proofs.tests.history.workers.serve_alone_at.Given as goal
 
 abbrev pub ghosts-serve_alone-J-Opening : goal.ghosts-serve_alone-J-Opening
 ghosts-serve_alone-J-Opening g a = record { setup = a.board.setup; opening = state_of a.board; room = a.room }
