@@ -1,7 +1,8 @@
-//! Links that fail, under a manager and under a worker, and links over UDP.
+//! Links that fail, under a manager and under a worker, links over UDP, and what `bmcnet` does.
 mod driven;
 mod forgotten;
 mod lent;
+mod program;
 mod served;
 mod shared;
 mod udp;
