@@ -1,4 +1,4 @@
-//! What runs write and how they end: stories by theme, and calls one by one.
+//! What runs write and how they end, and a manager against the frames of a controller: stories by theme, and calls one by one.
 mod ages;
 mod asked;
 mod calls;
@@ -9,6 +9,7 @@ mod frames;
 mod host_files;
 mod lines;
 mod long_texts;
+mod manager;
 mod paper;
 mod parts_text;
 mod player;

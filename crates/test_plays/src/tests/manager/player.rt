@@ -1,15 +1,11 @@
-//! What stories and tests have in common: a line's first word, what is appended, and that all comes as told.
+//! What stories and tests have in common: what is appended, and that all comes as told.
 use super::scene::Managed;
+use crate::tests::expect_equal;
 use std::alloc::Global;
 use std::fmt::Debug;
 use std::process::Abort;
 use story_lines::{NoOutcome, report_of};
 use undo_core::Phase;
-
-/// The first word, and the words behind it.
-pub fn parted(words: &str) -> (&str, &str) {
-    words.split_once(' ').unwrap_or((words, ""))
-}
 
 /// Appends what the phase is called.
 pub fn push_phase(phase: Phase, text: &mut String) -> Result<(), NoOutcome> {
@@ -32,9 +28,4 @@ pub fn expect_report(rt: &impl Abort, alloc: Global, text: &str, report: &str) {
 /// All comes as the stories of the text tell.
 pub fn expect_told(rt: &impl Abort, alloc: Global, text: &str) {
     expect_report(rt, alloc, text, "");
-}
-
-/// The value is the one that is wanted.
-pub fn expect_equal<T: Copy + Debug + PartialEq>(rt: &impl Abort, value: T, wanted: T) {
-    assert_eq!(rt; value, wanted);
 }

@@ -1,5 +1,6 @@
 //! A manager, and the lines of what comes to it.
-use super::player::{parted, push_fault, push_phase};
+use super::player::{push_fault, push_phase};
+use crate::tests::text::parted;
 use record_base::{Asked, Op, SetBiosAttribute, SetThresholds};
 use std::alloc::{AllocError, Global};
 use story_lines::{NoOutcome, NoScene, Scene};
