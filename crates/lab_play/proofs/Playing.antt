@@ -10,7 +10,7 @@ use Rattle.model_lab.specs.declared.fault.Fault.{Fault}
 use Rattle.model_lab.specs.Meaning.{lab_names}
 use Rattle.model_lab.specs.Played.{plans, Told, Whole, Stops, told_of, after, IsPlayed}
 use Rattle.model_headline.proofs.Plays.{plays_stand}
-use Rattle.model_claim.proofs.Promised.{keeps_promise}
+use Rattle.model_headline.proofs.Promised.{keeps_promise}
 use Rattle.model_headline.proofs.CleanPlays.{ends_clean}
 use Rattle.lab_run.specs.declared.lab_state.Lab.{Lab}
 use Rattle.lab_play.specs.declared.played.Played.{Played}

@@ -37,3 +37,22 @@ pub mod CleanBack
 pub mod CleanOnes
 pub mod CleanLink
 pub mod CleanPlays
+mod Holds
+mod Packets
+mod Repeats
+mod Answers
+mod Cuts
+mod Machine
+mod Sends
+mod ClaimSeries
+mod ClaimReturns
+mod Ports
+mod Labs
+mod Honesty
+mod Grows
+mod Meaning
+mod Claim
+mod Controller
+mod Refined
+mod Strong
+pub mod Promised

@@ -8,3 +8,11 @@ pub mod Plays
 pub mod CleanParts
 pub mod CleanLink
 pub mod CleanPlays
+pub mod Frames
+pub mod Manager
+pub mod Lab
+pub mod Claim
+pub mod Seen
+pub mod Refines
+pub mod Promise
+pub mod Keeps
