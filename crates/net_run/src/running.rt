@@ -54,7 +54,7 @@ pub struct RunWords {
 }
 
 /// What came of a run.
-#[derive(Clone, Copy, Debug, PartialEq, Eq)]
+#[derive(Clone, Copy)]
 pub enum Outcome {
     /// It left the manager in this phase. The list is kept where the plan ended or halted, or the file can't be written or get its name.
     Ran(Phase, Result<(), Unwritten>),
@@ -228,9 +228,20 @@ fn make_ready(alloc: Global, plan: Plan) -> Result<Ready, AllocError>
     ensures manager { IfOk result (λ ready. Shows lab_names ready.manager (opened_with plan)) }
     ensures kinds { IfOk result (λ ready. ready.kinds.items ≡ map kind_of plan.steps) }
 {
-    let kinds = kinds_of(alloc, &plan.steps)?;
-    let manager = open_manager(alloc, plan)?;
-    Ok(Ready { manager, kinds })
+    let kinds = match kinds_of(alloc, &plan.steps) {
+        Ok(kinds) => kinds,
+        Err(why) => {
+            drop(plan);
+            return Err(why);
+        }
+    };
+    match open_manager(alloc, plan) {
+        Ok(manager) => Ok(Ready { manager, kinds }),
+        Err(why) => {
+            drop(kinds);
+            Err(why)
+        }
+    }
 }
 
 /// Makes the file of the list so far, with the list of a manager that did nothing. Then the manager runs the plan, and its list is kept.
