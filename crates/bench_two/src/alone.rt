@@ -1,11 +1,14 @@
 //! Frames that are served one after another, with no lock and no history.
 use crate::asked::Asked;
+use crate::since::since;
 use bmc_board::{Board, Records};
-use bmc_core::{Out, Port};
+use bmc_core::{At, Out, Port};
 use cfg_records::sample_board;
-use net_serve::controller_ports;
-use std::alloc::Global;
+use mctp_net::EndpointId;
+use std::alloc::{AllocError, Global};
 use std::time::{Clock, Duration, Instant};
+use two_wire::places::{CONTROLLER_EID, CONTROLLER_WIRE};
+use two_wire::{Address, Bus};
 
 /// Hands each frame to the port.
 fn serve_round(port: &mut Port, board: &mut Board<Records>, frames: &[Vec<u8>], out: &mut Out) {
@@ -20,6 +23,18 @@ fn serve_all(mut port: Port, board: &mut Board<Records>, frames: &[Vec<u8>], tim
     for _ in 0..times {
         serve_round(&mut port, board, frames, &mut out);
     }
+}
+
+/// The controller's ports on both buses, which have heard nothing yet.
+pub fn open_ports(alloc: Global) -> Result<[Port; 2], AllocError> {
+    let at = At {
+        wire: Address::new(CONTROLLER_WIRE).unwrap(),
+        eid: EndpointId::new(CONTROLLER_EID).unwrap(),
+    };
+    Ok([
+        Port::new(alloc, Bus::Ipmb, at)?,
+        Port::new(alloc, Bus::Smbus, at)?,
+    ])
 }
 
 /// The sample board.
@@ -41,12 +56,12 @@ fn time_ports<R: Clock>(
     let start = Instant::now(rt).ok();
     serve_all(ipmb, board, asked.ipmb.as_slice(), asked.times);
     serve_all(smbus, board, asked.smbus.as_slice(), asked.times);
-    start.and_then(|start| start.elapsed(rt).ok())
+    since(rt, start)
 }
 
 /// How long the frames of both ports take on the sample board.
 pub fn time_alone<R: Clock>(rt: &R, alloc: Global, asked: &Asked) -> Option<Duration> {
-    let Ok(ports) = controller_ports(alloc) else {
+    let Ok(ports) = open_ports(alloc) else {
         return None;
     };
     match open_sample(alloc) {

@@ -1,6 +1,7 @@
 //! What the words of the program ask for.
 use crate::frames::frames_of;
-use host_base::words_of_process;
+use std::alloc::AllocError;
+use std::env;
 use std::fs::read_to_string;
 use std::rt::{Env, Files};
 
@@ -41,11 +42,18 @@ fn asked_by<R: Files + AllocGlobal>(
     }
 }
 
-/// What the process was asked for, where its words are these.
-pub fn read_asked<R: Env + Files + AllocGlobal>(rt: &R) -> Option<Asked> {
-    let Ok(words) = words_of_process(rt) else {
+/// The words that the process was given, the program's own name first among them.
+fn words_of<R: Env + AllocGlobal>(rt: &R) -> Option<Vec<String>> {
+    let Ok(args) = env::args(rt) else {
         return None;
     };
+    let words: Result<Vec<String>, AllocError> = args.collect(rt.alloc());
+    words.ok()
+}
+
+/// What the process was asked for, where its words are these.
+pub fn read_asked<R: Env + Files + AllocGlobal>(rt: &R) -> Option<Asked> {
+    let words = words_of(rt)?;
     match words.as_slice() {
         [_, ipmb, smbus, times, rounds] => match (times.parse::<u32>(), rounds.parse::<u32>()) {
             (Ok(times), Ok(rounds)) => asked_by(rt, ipmb.as_str(), smbus.as_str(), times, rounds),

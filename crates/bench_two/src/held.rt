@@ -2,12 +2,12 @@
 ghost use Rattle.std.specs.Prelude.{◌≡◌};
 ghost use Rattle.bmc_board.specs.State.{state_of};
 
-use crate::alone::open_sample;
+use crate::alone::{open_ports, open_sample};
 use crate::asked::Asked;
+use crate::since::since;
 use bmc_board::{AskedHere, Board, Carrier, Records, Reply};
 use bmc_core::{Out, Port};
 use bmc_ports::{Held, MOST_EVENTS, Opening, PeriodFull};
-use net_serve::controller_ports;
 use std::alloc::Global;
 use std::marker::{Brand, PhantomData};
 use std::time::{Clock, Duration, Instant};
@@ -88,7 +88,7 @@ fn time_ports<J: Opening, R: Clock>(
     let start = Instant::now(rt).ok();
     serve_all(held, 0, ipmb, asked.ipmb.as_slice(), asked.times);
     serve_all(held, 1, smbus, asked.smbus.as_slice(), asked.times);
-    start.and_then(|start| start.elapsed(rt).ok())
+    since(rt, start)
 }
 
 /// How long the frames of both ports take at a board that keeps its history.
@@ -98,7 +98,7 @@ fn time_keeping<J: Opening, R: Clock>(
     mut held: Held<J, Records>,
     asked: &Asked,
 ) -> Option<Duration> {
-    match controller_ports(alloc) {
+    match open_ports(alloc) {
         Ok(ports) => time_ports(rt, &mut held, ports, asked),
         Err(_) => None,
     }

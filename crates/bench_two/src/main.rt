@@ -12,6 +12,7 @@ mod asked;
 mod frames;
 mod held;
 mod measure;
+mod since;
 mod workers;
 
 use asked::read_asked;

@@ -69,14 +69,19 @@ fn fastest<R: Threads + Wait + Clock + Sync>(
     Some(least)
 }
 
+/// Writes how long a round took in the way of this name.
+fn write_time<W: io::Write>(out: &mut W, way: &str, took: Duration) -> io::Result<()> {
+    writeln!(out, "{way} {}", took.as_nanos())
+}
+
 /// Writes what the rounds came to, with their times where these are wanted.
 fn write_report<W: io::Write>(out: &mut W, least: Measured, is_timed: bool) -> io::Result<()> {
     writeln!(out, "events {}", least.two.events)?;
     if is_timed {
-        writeln!(out, "two {}", least.two.took.as_nanos())?;
-        writeln!(out, "in-turn {}", least.in_turn.as_nanos())?;
-        writeln!(out, "held {}", least.held.as_nanos())?;
-        writeln!(out, "alone {}", least.alone.as_nanos())?;
+        write_time(out, "two", least.two.took)?;
+        write_time(out, "in-turn", least.in_turn)?;
+        write_time(out, "held", least.held)?;
+        write_time(out, "alone", least.alone)?;
     }
     Ok(())
 }

@@ -2,13 +2,15 @@
 ghost use Rattle.std.specs.Prelude.{◌≡◌};
 ghost use Rattle.bmc_board.specs.State.{state_of};
 
-use crate::alone::open_sample;
+use crate::alone::{open_ports, open_sample};
 use crate::asked::Asked;
 use crate::frames::link_of;
+use crate::since::since;
 use bmc_board::{Board, Records};
 use bmc_core::Port;
-use bmc_ports::{Gate, MOST_EVENTS, MemLink, Opening, Seat, Seats, Shared, serve_port};
-use net_serve::{close_board, controller_ports, work};
+use bmc_ports::{
+    Gate, MOST_EVENTS, MemLink, NoThread, Opening, Seat, Seats, Shared, run_two, serve_port,
+};
 use std::alloc::Global;
 use std::marker::Brand;
 use std::sync::Wait;
@@ -66,7 +68,7 @@ fn links_of(alloc: Global, asked: &Asked) -> Option<(MemLink, MemLink)> {
 fn sides_of(alloc: Global, asked: &Asked) -> Option<Sides> {
     let turns = turns_of(asked)?;
     let (ipmb, smbus) = links_of(alloc, asked)?;
-    match controller_ports(alloc) {
+    match open_ports(alloc) {
         Ok(ports) => Some(Sides {
             ports,
             ipmb,
@@ -123,7 +125,20 @@ fn serve_together<J: Opening + Send + Sync, R: Threads + Wait + Sync>(
         mut smbus,
         turns,
     } = sides;
-    work(rt, shared, seats, ports, &mut ipmb, &mut smbus, turns).ok()
+    match run_two(
+        rt,
+        shared,
+        seats,
+        ports,
+        &mut ipmb,
+        &mut smbus,
+        &[],
+        &Open,
+        turns,
+    ) {
+        Ok((seats, _)) => Some(seats),
+        Err(NoThread) => None,
+    }
 }
 
 /// The workers' seats and how long they worked.
@@ -139,7 +154,7 @@ fn time_work<J: Opening + Send + Sync, R: Threads + Wait + Clock + Sync>(
         Way::Together => serve_together(rt, shared, seats, sides),
         Way::InTurn => Some(serve_in_turn(rt, shared, seats, sides)),
     };
-    let took = start.and_then(|start| start.elapsed(rt).ok());
+    let took = since(rt, start);
     match (seats, took) {
         (Some(seats), Some(took)) => Some((seats, took)),
         _ => None,
@@ -150,12 +165,14 @@ fn time_work<J: Opening + Send + Sync, R: Threads + Wait + Clock + Sync>(
 fn run_of<J: Opening>(shared: Shared<J, Records>, seats: Seats<J>, took: Duration) -> Option<Run>
     requires three { J.parts ≡ 3 }
 {
-    match close_board(shared, seats) {
-        Some(served) => Some(Run {
-            events: served.history.len(),
-            took,
-        }),
-        None => None,
+    match shared.close(seats) {
+        Ok((board, history)) => {
+            drop(board);
+            let events = history.len();
+            drop(history);
+            Some(Run { events, took })
+        }
+        Err(_) => None,
     }
 }
 
