@@ -1,6 +1,12 @@
 -- What is read off the words that clap matched.
-use Rattle.std.proofs.Common.{◌≡◌, ◌∙◌, ◌⊎◌, ℕ, List, Bool, Option, Some, None, inl, inr, refl, sym, subst, codes}
-use Rattle.clap.specs.Words.{Row, Text, first_of}
+use Rattle.std.proofs.Common.{◌≡◌, ◌∙◌, ◌⊎◌, ℕ, List, Bool, true, false, Option, Some, None, option_map, inl, inr, refl, sym, ap, subst, codes}
+use Rattle.std.specs.Prelude.{Box}
+use Rattle.std.specs.Box.{box_value}
+use Rattle.std.proofs.lemmas.Bool.{false≢true}
+use Rattle.clap.specs.Words.{Row, Text, first_of, subcommand_name_of, subcommand_rows, subcommand_rows_of}
+use Rattle.clap.specs.declared.parser.matches.ArgMatches.{ArgMatches}
+use Rattle.clap.specs.declared.parser.matches.ArgMatches.TheViews.{out-ArgMatches, out-SubCommand}
+use Rattle.clap.specs.declared.parser.matches.SubCommand.{SubCommand}
 use Rattle.two_wire.specs.declared.Bus.{Bus}
 use Rattle.bmc_lab.specs.Asked.{Asks}
 use Rattle.bmc_lab.specs.declared.status.Status.{Status}
@@ -12,9 +18,11 @@ use Rattle.host_base.specs.Asked.{Refuses}
 use Rattle.host_base.proofs.Readings.{alike, apart, refuses_none, refuses_unless, some_same}
 use Rattle.bmc_host.specs.declared.words.Words.{Words}
 use Rattle.bmc_host.specs.declared.words.Words.TheVariants.{Frame, Play, Schedule, Check}
+use Rattle.bmc_host.specs.declared.words.CheckWords.{CheckWords}
 use Rattle.bmc_host.specs.declared.words.FrameWords.{FrameWords}
+use Rattle.bmc_host.specs.declared.words.PlayWords.{PlayWords}
 use Rattle.bmc_host.specs.declared.schedule_words.ScheduleWords.{ScheduleWords}
-use Rattle.bmc_host.specs.Asked.{AsksBy, AsksFrame, shown_of}
+use Rattle.bmc_host.specs.Asked.{AsksBy, AsksCheck, AsksFrame, AsksPlay, shown_of}
 use Rattle.bmc_host.specs.Drawn.{AsksSchedule}
 
 -- the promises of `asked_frame` and of the refusal of what it refuses, as one
@@ -59,3 +67,36 @@ schedule_behind met rows is (Schedule words) asks = (words, subst (λ (r : List 
 schedule_behind met rows is (Frame words) asks = absurd (apart met (codes "schedule") (codes "frame") rows asks.0 refl is asks.1)
 schedule_behind met rows is (Play words) asks = absurd (apart met (codes "schedule") (codes "play") rows asks.0 refl is asks.1)
 schedule_behind met rows is (Check words) asks = absurd (apart met (codes "schedule") (codes "check") rows asks.0 refl is asks.1)
+
+-- what asks for anything behind `play` asks for a play
+pub play_behind : (met : Option (Text × List Row)) (rows : List Row) → met ≡ Some (codes "play", rows) → (asked : Words) → AsksBy met asked
+    → (words : PlayWords) × AsksPlay rows words
+play_behind met rows is (Play words) asks = (words, subst (λ (r : List Row). AsksPlay r words) (alike met (codes "play") asks.0 rows asks.1 is) asks.2)
+play_behind met rows is (Frame words) asks = absurd (apart met (codes "play") (codes "frame") rows asks.0 refl is asks.1)
+play_behind met rows is (Schedule words) asks = absurd (apart met (codes "play") (codes "schedule") rows asks.0 refl is asks.1)
+play_behind met rows is (Check words) asks = absurd (apart met (codes "play") (codes "check") rows asks.0 refl is asks.1)
+
+-- what asks for anything behind `check` asks for a check
+pub check_behind : (met : Option (Text × List Row)) (rows : List Row) → met ≡ Some (codes "check", rows) → (asked : Words) → AsksBy met asked
+    → (words : CheckWords) × AsksCheck rows words
+check_behind met rows is (Check words) asks = (words, subst (λ (r : List Row). AsksCheck r words) (alike met (codes "check") asks.0 rows asks.1 is) asks.2)
+check_behind met rows is (Frame words) asks = absurd (apart met (codes "check") (codes "frame") rows asks.0 refl is asks.1)
+check_behind met rows is (Play words) asks = absurd (apart met (codes "check") (codes "play") rows asks.0 refl is asks.1)
+check_behind met rows is (Schedule words) asks = absurd (apart met (codes "check") (codes "schedule") rows asks.0 refl is asks.1)
+
+-- a subcommand that wasn't met under this name has it nowhere
+pub unnamed : (m : ArgMatches) (name : Text) → (subcommand_name_of m ≡ Some name → false ≡ true) → (rows : List Row) → subcommand_rows_of m ≡ Some (name, rows) → ⊥
+unnamed m name none rows is = false≢true (none (go (out-ArgMatches m).subcommand is))
+  where
+    go : {Z : Type 0} (o : Option (Box SubCommand Z)) → subcommand_rows o ≡ Some (name, rows) → option_map (λ b. (out-SubCommand (box_value b)).name.now) o ≡ Some name
+    go None there = ap (λ (o : Option (Text × List Row)). option_map (λ p. p.0) o) there
+    go (Some b) there = ap (λ (o : Option (Text × List Row)). option_map (λ p. p.0) o) there
+
+-- where none of the subcommands was met, nothing is asked for
+pub none_behind : (m : ArgMatches) → (subcommand_name_of m ≡ Some (codes "frame") → false ≡ true) → (subcommand_name_of m ≡ Some (codes "play") → false ≡ true)
+    → (subcommand_name_of m ≡ Some (codes "schedule") → false ≡ true) → (subcommand_name_of m ≡ Some (codes "check") → false ≡ true)
+    → (asked : Words) → AsksBy (subcommand_rows_of m) asked → ⊥
+none_behind m frame play schedule check (Frame words) asks = unnamed m (codes "frame") frame asks.0 asks.1
+none_behind m frame play schedule check (Play words) asks = unnamed m (codes "play") play asks.0 asks.1
+none_behind m frame play schedule check (Schedule words) asks = unnamed m (codes "schedule") schedule asks.0 asks.1
+none_behind m frame play schedule check (Check words) asks = unnamed m (codes "check") check asks.0 asks.1
