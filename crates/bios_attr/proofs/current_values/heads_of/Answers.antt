@@ -1,5 +1,5 @@
 use Rattle.std.proofs.Common.{◌≡◌, ◌+◌, ◌++◌, ◌∷◌, [], List, take, map, sym, ◌∙◌, ap, arith}
-use Rattle.std.proofs.lemmas.List.{take_more, map-append}
+use Rattle.std.proofs.lemmas.List.{take_all, take_more, map-append}
 use Rattle.record_base.specs.declared.attribute.Attribute.{Attribute}
 use Rattle.bios_attr.specs.declared.current_values.EntryHead.{EntryHead}
 use Rattle.bios_attr.specs.Values.{head_of}
@@ -15,3 +15,6 @@ loop-attribute-preserved c =
     ∙ ap (λ (heads : List EntryHead). heads ++ c.head_of.result ∷ []) c.loop-attribute.invariant
     ∙ ap (λ (head : EntryHead). map head_of before ++ head ∷ []) c.head_of.ensures
     ∙ sym (ap (map head_of) more ∙ map-append head_of before (item ∷ []))
+
+pub returns : goal.returns
+returns c = c.loop-attribute.invariant ∙ ap (map head_of) (take_all c.loop-attribute.attribute-index c.args.attributes.now (omega arith))

@@ -1,5 +1,5 @@
 use Rattle.std.proofs.Common.{◌≡◌, ◌+◌, ◌++◌, ◌∷◌, [], ℕ, List, take, sym, ◌∙◌, ap, subst, arith}
-use Rattle.std.proofs.lemmas.List.{take_more, append_assoc}
+use Rattle.std.proofs.lemmas.List.{take_all, take_more, append_assoc}
 use Rattle.record_base.specs.declared.attribute.Attribute.{Attribute}
 use Rattle.bios_attr.specs.declared.bios_table.BiosTable.TheVariants.{Attributes}
 use Rattle.bios_attr.specs.Attributes.{attribute_entry, attribute_entries}
@@ -25,3 +25,12 @@ loop-attribute-preserved c =
       bytes,
       subst (λ (xs : List Attribute). AreOf Attributes (attribute_contents strings xs)) (sym more) (contents_more strings before item c.loop-attribute.invariant.1 c.in_ok-push_attribute.ensures.whole),
     )
+
+pub returns-clause-bytes : goal.returns-clause-bytes
+returns-clause-bytes c =
+    c.loop-attribute.invariant.0
+    ∙ ap (λ (xs : List Attribute). c.args.table.now.items ++ attribute_entries c.args.strings.now xs) (take_all c.loop-attribute.attribute-index c.args.attributes.now (omega arith))
+
+pub returns-clause-whole : goal.returns-clause-whole
+returns-clause-whole c =
+    subst (λ (xs : List Attribute). AreOf Attributes (attribute_contents c.args.strings.now xs)) (take_all c.loop-attribute.attribute-index c.args.attributes.now (omega arith)) c.loop-attribute.invariant.1
