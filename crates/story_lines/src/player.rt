@@ -26,6 +26,16 @@ fn otherwise<S: Scene>(
     Ok(Some(came))
 }
 
+/// Reports what came of a line.
+fn push_came(
+    report: &mut String,
+    (story, line): (&str, &str),
+    came: &str,
+) -> Result<(), AllocError> {
+    let came = if came.is_empty() { "nothing" } else { came };
+    writeln!(report, "{story}: {line} | came {came}")
+}
+
 /// Reports what comes of the line, where that isn't what it tells.
 fn tell<S: Scene>(
     alloc: Global,
@@ -35,8 +45,7 @@ fn tell<S: Scene>(
 ) -> Result<(), AllocError> {
     match otherwise(alloc, scene, line) {
         Ok(None) => Ok(()),
-        Ok(Some(came)) if came.is_empty() => writeln!(report, "{story}: {line} | came nothing"),
-        Ok(Some(came)) => writeln!(report, "{story}: {line} | came {}", came.as_str()),
+        Ok(Some(came)) => push_came(report, (story, line), came.as_str()),
         Err(NoOutcome::Unread) => writeln!(report, "{story}: {line} | unread"),
         Err(NoOutcome::Memory) => Err(AllocError),
     }
