@@ -23,4 +23,4 @@ returns c =
     let count : c.to_le_bytes-3.result ≡ two_bytes (length c.args.string.now.default) = search rules in
     pieces c.args.string.now c.args.table.now.items c.new-fields.result c.to_le_bytes.result c.to_le_bytes-2.result c.to_le_bytes-3.result _ _ _ _ _ _ _ _
     c.new-fields.ensures c.push.ensures c.extend_from_slice.ensures c.extend_from_slice-2.ensures c.extend_from_slice-3.ensures c.as_slice.ensures.value c.in_ok-extend_from_slice.ensures.items c.in_ok-extend_from_slice-2.ensures.items
-    (search rules) (search rules) count c.as_slice-default.ensures.value
+    (search rules) (search rules) count c.as_slice-default.ensures
