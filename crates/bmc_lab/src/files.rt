@@ -36,7 +36,7 @@ pub trait TextFiles {
 }
 
 /// A file that isn't read.
-#[derive(Drop)]
+#[derive(Debug, Drop)]
 pub struct Unread<'a> {
     /// The word that names it.
     pub word: &'a str,

@@ -17,7 +17,7 @@ use undo_plans::{Plan, UndoList};
 const UNDO_RETRIES: u8 = 3;
 
 /// Why no manager with the lab's names goes on from a list.
-#[derive(Clone, Copy)]
+#[derive(Clone, Copy, Debug)]
 pub enum Unresumed {
     /// Memory was refused.
     Memory,

@@ -1,7 +1,7 @@
 //! Files that texts are written to.
 
 /// A file isn't written, or doesn't get its name: it can't be opened or renamed, or not all of its text was taken.
-#[derive(Clone, Copy)]
+#[derive(Clone, Copy, Debug)]
 pub struct Unwritten;
 
 /// Files that take texts, by the words that name them.
