@@ -2,7 +2,7 @@
 ghost use Rattle.std.specs.Prelude.{◌<◌};
 
 /// A generator of numbers: a linear congruential one (Knuth's MMIX), of which the upper 31 bits are given.
-#[derive(Clone, Copy, Debug)]
+#[derive(Clone, Copy)]
 pub(super) struct Dice {
     state: u64,
 }

@@ -14,7 +14,7 @@ const END: u8 = 0x40;
 const TAG: u8 = 0x07;
 
 /// What waits at the controller, by the manager's tags.
-#[derive(Clone, Copy, Debug)]
+#[derive(Clone, Copy)]
 pub(super) struct Waiting {
     /// Under each tag, the oldest request of which a packet waits.
     oldest: [usize; TAGS],

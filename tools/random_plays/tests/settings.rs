@@ -28,7 +28,7 @@ const GREATEST: [u8; 2] = [2, 3];
 pub(super) const CHANNEL: u8 = 1;
 
 /// A step.
-#[derive(Clone, Copy, Debug)]
+#[derive(Clone, Copy)]
 pub(super) enum Setting {
     Policy(u8),
     Enables(u8),

@@ -25,7 +25,7 @@ const PLAN_TEXT: u64 = 1024;
 const FEW_PARTS_TEXT: u64 = 571;
 
 /// A text of one letter, so often.
-#[derive(Clone, Copy, Debug)]
+#[derive(Clone, Copy)]
 pub(super) struct Repeated {
     pub letter: u8,
     pub length: u16,
@@ -43,7 +43,7 @@ impl Repeated {
 }
 
 /// A step of a plan.
-#[derive(Clone, Copy, Debug)]
+#[derive(Clone, Copy)]
 pub(super) enum Step {
     Text(Repeated),
     Delay(u16),

@@ -136,7 +136,9 @@ fn newest(frames: &[SentFrame]) -> usize {
 
 /// Whether two frames are of one message, or of two copies of it: of one request, and one way.
 fn are_of_one(frame: &SentFrame, other: &SentFrame) -> bool {
-    frame.way.is(other.way) && frame.mark == other.mark
+    let (mark, copy) = (frame.mark, other.mark);
+    let is_of_one_request = mark.on == copy.on && mark.request == copy.request && mark.idles == copy.idles;
+    frame.way.is(other.way) && is_of_one_request
 }
 
 /// The number of the first frame of the newest message that didn't come yet, or of the newest frame where all came. A late first packet doesn't

@@ -5,7 +5,7 @@ use text_schedule::Event;
 use undo_core::{Phase, Why};
 
 /// Counts of events that were taken, of phases that were entered, and of what became of frames.
-#[derive(Clone, Copy, Debug)]
+#[derive(Clone, Copy)]
 pub(super) struct Tally {
     pub schedules: u64,
     pub events: u64,
