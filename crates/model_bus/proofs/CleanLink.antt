@@ -15,7 +15,7 @@ use Rattle.model_bus.specs.PacketSchedule.{JoinRule}
 use Rattle.model_bus.specs.CleanLink.{GoesThrough, OpenGoesThrough, OpenGoesThroughInPackets, sent_in, Completes, CutIsWhole}
 use Rattle.model_bus.proofs.Lists.{length_more}
 use Rattle.model_bus.proofs.NumberLaws.{IsNumbering, ipmb_numbers, smbus_numbers}
-use Rattle.model_bus.proofs.Repeats.{is_new}
+use Rattle.model_bus.proofs.Repeats.{new_in}
 use Rattle.model_bus.proofs.Sound.{Fits}
 use Rattle.model_bus.proofs.Steps.{Holds, start_holds, run_holds}
 use Rattle.model_bus.proofs.PacketEnds.{packet_run_holds, start_ends_hold}
@@ -33,7 +33,7 @@ module _ (b : Rules) (numbers : IsNumbering b) (s : BusState) (h : Holds b s) wh
   open_is_new bytes none free =
       let answered = h.sound.answered in
       let top = ended s.carried (length s.taken) none in
-      let r = is_new b numbers s.begun s.carried h.sound.in_order (carried_since b.manager s.log) [] h.floor (length s.carried) (length s.taken) bytes h.sound.since top (λ d from to. absurd (omega arith)) in
+      let r = new_in b numbers s.begun s.carried h.sound.in_order (carried_since b.manager s.log) h.floor (length s.taken) bytes h.sound.since (omega arith) in
       ap (λ (o : Option (List ℕ)). outcome_of o (is_busy b.manager s.log)) r ∙ ap (outcome_of None) free
 
   -- the reply that is kept for the open request is taken where it comes

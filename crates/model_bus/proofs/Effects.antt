@@ -11,7 +11,7 @@ use Rattle.model_bus.specs.Schedule.{IsLive, IsHonest}
 use Rattle.model_bus.specs.Effect.{IsKeptFor, SameRequests, IsBegun, IsCarried, IsTaken, HasEffect}
 use Rattle.model_bus.proofs.Lists.{at_end}
 use Rattle.model_bus.proofs.NumberLaws.{IsNumbering}
-use Rattle.model_bus.proofs.Repeats.{repeats, is_new}
+use Rattle.model_bus.proofs.Repeats.{repeats_in, new_in}
 use Rattle.model_bus.proofs.Strangers.{ignored}
 use Rattle.model_bus.proofs.Sound.{seen, Fits}
 use Rattle.model_bus.proofs.Steps.{Holds, heard}
@@ -48,10 +48,10 @@ module _ (b : Rules) (numbers : IsNumbering b) where
       let Says : Outcome → Type 0 = (λ o. MatchOption (new_bytes o bytes) (SameRequests s (heard b numbers s n k o)) (λ bytes. IsCarried s (heard b numbers s n k o) bytes answer)) in
       elim (cases_lt n (length s.carried)) [
         | inl before ↦
-            let r = repeats b numbers s.begun s.carried h.sound.in_order window.since [] h.floor (length s.carried) n bytes h.sound.since above before (omega arith) at refl in
+            let r = repeats_in b numbers s.begun s.carried h.sound.in_order window.since h.floor n bytes h.sound.since above before (omega arith) at in
             subst (λ (o : Option (List ℕ)). Says (outcome_of o busy)) (sym r.2) (record { begun = refl; carried = refl; taken = refl })
         | inr after ↦
-            let r = is_new b numbers s.begun s.carried h.sound.in_order window.since [] h.floor (length s.carried) n bytes h.sound.since after (λ d from to. absurd (omega arith)) in
+            let r = new_in b numbers s.begun s.carried h.sound.in_order window.since h.floor n bytes h.sound.since (omega arith) in
             subst (λ (o : Option (List ℕ)). Says (outcome_of o busy)) (sym r) (new_effect s h n bytes answer busy (omega arith) at)
       ]
 

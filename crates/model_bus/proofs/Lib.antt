@@ -25,3 +25,4 @@ pub mod PacketDecides
 pub mod Schedules
 pub mod Windows
 pub mod WindowSteps
+pub mod Greeting

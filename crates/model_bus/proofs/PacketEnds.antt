@@ -7,7 +7,7 @@ use Rattle.model_bus.specs.Request.{Request, Entry}
 use Rattle.model_bus.specs.Numbering.{Rules, tag_of}
 use Rattle.model_bus.specs.BusState.{BusState, Frame, Content, Ask, Reply, Event, Begins, SendsAgain, ReachesPort, ReachesManager, OtherAsks, OtherReplies, IsIdle, Resumes, is_open, begins, sends_again, request_of, hears, taken_content, takes_if, happens}
 use Rattle.model_bus.specs.Schedule.{IsLive, IsHonest}
-use Rattle.model_bus.specs.Start.{NothingUnderWay, EmptyWindow, NothingWaits}
+use Rattle.model_bus.specs.Start.{NothingUnderWay, FreshWindow, NothingWaits}
 use Rattle.model_bus.specs.Effect.{SameRequests}
 use Rattle.model_bus.specs.Repeat.{In}
 use Rattle.model_bus.specs.Packet.{Packet, IsCutting}
@@ -336,7 +336,7 @@ module _ (b : PacketBus) (cutting : IsCutting b.split) (before : List Entry) whe
   packet_run_holds (e ∷ es) x ok honest = packet_run_holds es (packet_happens b x e) (packet_step x e ok honest.0).0 honest.1
 
 -- a bus of packets with nothing under way, nothing waiting and an empty window
-pub start_ends_hold : (b : PacketBus) (cutting : IsCutting b.split) (x : Ends) → NothingUnderWay x.bus → NothingWaits b x → EmptyWindow (rules_of b) x.bus.log → EndsHold b cutting x.bus.log x
+pub start_ends_hold : (b : PacketBus) (cutting : IsCutting b.split) (x : Ends) → NothingUnderWay x.bus → NothingWaits b x → FreshWindow (rules_of b) x.bus.log → EndsHold b cutting x.bus.log x
 start_ends_hold b cutting x none waits empty = record {
   holds = start_holds (rules_of b) x.bus none empty;
   shows = start_shows (rules_of b) x.bus.log x.bus none refl;

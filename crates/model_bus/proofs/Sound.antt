@@ -1,5 +1,5 @@
 -- What holds of a bus at every event of an honest schedule, and how each step keeps it.
-use Rattle.std.proofs.Common.{◌≡◌, ℕ, ◌+◌, ◌<◌, ◌≤◌, List, [], ◌∷◌, ◌++◌, length, Option, Some, None, refl, sym, ◌∙◌, subst, arith, inl, inr}
+use Rattle.std.proofs.Common.{◌≡◌, ℕ, ◌+◌, ◌<◌, ◌≤◌, List, [], ◌∷◌, ◌++◌, length, Option, Some, None, refl, sym, ◌∙◌, ap, subst, arith, inl, inr}
 use Rattle.std.specs.Prelude.{slice_get}
 use Rattle.std.proofs.lemmas.Bool.{eq-eqb, ne_eqb}
 use Rattle.std.proofs.lemmas.Option.{slice_get_within}
@@ -9,7 +9,7 @@ use Rattle.model_bus.specs.BusState.{request_of, Content, Ask, Reply, Frame}
 use Rattle.model_bus.specs.Effect.{IsKeptFor}
 use Rattle.model_bus.proofs.Lists.{Grows, grows, at_end, one_more, length_more}
 use Rattle.model_bus.proofs.NumberLaws.{IsNumbering}
-use Rattle.model_bus.proofs.Repeats.{InOrder, IsRun}
+use Rattle.model_bus.proofs.Repeats.{InOrder, IsRun, IsSince}
 
 pub IsRun-grows : (carried more : List Kept) → Grows carried more → (low : ℕ) (ks : List Kept) (high : ℕ) → IsRun carried low ks high → IsRun more low ks high
 IsRun-grows carried more g low [] high r = r
@@ -52,11 +52,11 @@ pub record IsSent (b : Rules) (floor : ℕ) (begun : List (List ℕ)) (carried :
 abbrev pub AllSent : Rules → ℕ → List (List ℕ) → List Kept → ℕ → List Frame → Type 0
 AllSent b floor begun carried idles frames = (i : ℕ) (f : Frame) → slice_get frames i ≡ Some f → IsSent b floor begun carried idles f
 
--- the invariant: what the manager's window holds are the carried requests from the floor on, newest first
+-- the invariant: what the manager's window holds are the carried requests from the floor on, newest first, over what a start left
 pub record Sound (b : Rules) (floor : ℕ) (begun : List (List ℕ)) (carried : List Kept) (taken : List (List ℕ)) (s : Seen) (sent_frames : List Frame) : Type 0 where
   pub in_order : InOrder b begun carried
   pub replied : (n : ℕ) (reply : List ℕ) → slice_get taken n ≡ Some reply → IsKeptFor carried n reply
-  pub since : IsRun carried floor s.since (length carried)
+  pub since : IsSince b carried floor s.since
   pub floor_taken : floor ≤ length taken
   pub answered : length taken ≤ length carried
   pub below : length carried ≤ length begun
@@ -148,7 +148,13 @@ module _ (b : Rules) (numbers : IsNumbering b) where
               (subst (λ (n : ℕ). (slice_get begun n ≡ Some k.request.bytes) × (k.request ≡ request_of b n k.request.bytes)) (sym new.0) (at, is))
         ];
         replied = λ n reply t. IsKeptFor-grows carried _ g n reply (h.replied n reply t);
-        since = (length carried, omega arith, at_end carried k, IsRun-grows carried _ g floor s.since (length carried) h.since);
+        since = record {
+          newer = k ∷ h.since.newer;
+          older = h.since.older;
+          whole = ap (λ (ks : List Kept). k ∷ ks) h.since.whole;
+          run = (length carried, omega arith, at_end carried k, IsRun-grows carried _ g floor h.since.newer (length carried) h.since.run);
+          behind = h.since.behind;
+        };
         floor_taken = h.floor_taken;
         answered = omega arith;
         below = omega arith;
@@ -164,7 +170,7 @@ module _ (b : Rules) (numbers : IsNumbering b) where
       record {
         in_order = h.in_order;
         replied = h.replied;
-        since = refl;
+        since = record { newer = []; older = []; whole = refl; run = refl; behind = inl refl };
         floor_taken = omega arith;
         answered = h.answered;
         below = h.below;

@@ -3,16 +3,16 @@ use Rattle.std.proofs.Common.{◌≡◌, ℕ, ◌+◌, ◌≤◌, Bool, true, fa
 use Rattle.std.specs.Prelude.{slice_get, IfSome}
 use Rattle.std.proofs.lemmas.Bool.{and_parts, eqb-true, ltb-true, ltb-false, cond_both, cases_eq, cases_lt}
 use Rattle.std.proofs.lemmas.Option.{none-some, slice_get_within}
-use Rattle.model_bus.specs.Request.{Kept, Entry, idles_of}
+use Rattle.model_bus.specs.Request.{Kept, Entry, carried_since, idles_of}
 use Rattle.model_bus.specs.Carried.{Outcome, Repeats, IsBusy, IsNew, outcome, outcome_of, log_after, reply_after, carried_after, is_busy}
 use Rattle.model_bus.specs.Numbering.{Rules}
 use Rattle.model_bus.specs.BusState.{request_of, Content, Ask, Reply, Frame, BusState, Event, Begins, SendsAgain, ReachesPort, ReachesManager, OtherAsks, OtherReplies, IsIdle, Resumes, opening, is_open, sent, begins, sends_again, hears, comes, taken_content, takes_if, taken_now, at_port, happens, run}
 use Rattle.model_bus.specs.Schedule.{IsLive, IsHonest, AllHonest}
-use Rattle.model_bus.specs.Start.{NothingUnderWay, EmptyWindow}
+use Rattle.model_bus.specs.Start.{NothingUnderWay, FreshWindow}
 use Rattle.model_bus.specs.Effect.{IsKeptFor}
 use Rattle.model_bus.proofs.Lists.{at_end}
 use Rattle.model_bus.proofs.NumberLaws.{IsNumbering}
-use Rattle.model_bus.proofs.Repeats.{repeats, is_new}
+use Rattle.model_bus.proofs.Repeats.{repeats_in, new_in}
 use Rattle.model_bus.proofs.Strangers.{ignored}
 use Rattle.model_bus.proofs.Sound.{Seen, seen, seen-mine, seen-other, seen-idle, seen-idle_other, Fits, Sound, sound_begins, sound_again, sound_reply, sound_carried, sound_idle, sound_takes}
 
@@ -25,19 +25,19 @@ pub record Holds (b : Rules) (s : BusState) : Type 0 where
   pub floor : ℕ
   pub sound : SoundAt b floor s
 
-pub opening_holds : (b : Rules) (before : List Entry) → EmptyWindow b before → Holds b (opening before)
-opening_holds b before empty = record {
+pub opening_holds : (b : Rules) (before : List Entry) → FreshWindow b before → Holds b (opening before)
+opening_holds b before fresh = record {
   floor = 0;
-  sound = subst (λ (since : List Kept). Sound b 0 [] [] [] (record { since = since; idles = idles_of b.manager before }) []) (sym empty) (record {
+  sound = record {
     in_order = λ n k e. absurd (none-some k e);
     replied = λ n reply e. absurd (none-some reply e);
-    since = refl;
+    since = record { newer = []; older = carried_since b.manager before; whole = refl; run = refl; behind = inr (refl, fresh) };
     floor_taken = omega arith;
     answered = omega arith;
     below = omega arith;
     one_open = omega arith;
     frames = λ i f e. absurd (none-some f e);
-  });
+  };
 }
 
 -- with nothing under way the bus is at the opening
@@ -48,8 +48,8 @@ opens s start =
     ∙ ap (λ (l : List (List ℕ)). record { begun = s.begun; carried = s.carried; taken = l; log = s.log; frames = [] }) (sym start.taken)
     ∙ ap (λ (l : List Frame). record { begun = s.begun; carried = s.carried; taken = s.taken; log = s.log; frames = l }) (sym start.frames)
 
-pub start_holds : (b : Rules) (s : BusState) → NothingUnderWay s → EmptyWindow b s.log → Holds b s
-start_holds b s start empty = subst (Holds b) (opens s start) (opening_holds b s.log empty)
+pub start_holds : (b : Rules) (s : BusState) → NothingUnderWay s → FreshWindow b s.log → Holds b s
+start_holds b s start fresh = subst (Holds b) (opens s start) (opening_holds b s.log fresh)
 
 module _ (b : Rules) (numbers : IsNumbering b) where
   pub again_holds : (s : BusState) (o : Option (List ℕ)) → slice_get s.begun (length s.taken) ≡ o → Holds b s → Holds b (sends_again b o s)
@@ -91,11 +91,11 @@ module _ (b : Rules) (numbers : IsNumbering b) where
       let busy = is_busy b.manager s.log in
       elim (cases_lt n (length s.carried)) [
         | inl before ↦
-            let r = repeats b numbers s.begun s.carried h.sound.in_order window.since [] h.floor (length s.carried) n bytes h.sound.since above before (omega arith) at refl in
+            let r = repeats_in b numbers s.begun s.carried h.sound.in_order window.since h.floor n bytes h.sound.since above before (omega arith) at in
             subst (λ (o : Option (List ℕ)). Holds b (heard s n k (outcome_of o busy))) (sym r.2)
             (repeat_holds s h n r.0.reply above (record { kept = r.0; at = r.1; replied = refl }))
         | inr after ↦
-            let r = is_new b numbers s.begun s.carried h.sound.in_order window.since [] h.floor (length s.carried) n bytes h.sound.since after (λ d from to. absurd (omega arith)) in
+            let r = new_in b numbers s.begun s.carried h.sound.in_order window.since h.floor n bytes h.sound.since (omega arith) in
             subst (λ (o : Option (List ℕ)). Holds b (heard s n k (outcome_of o busy))) (sym r)
             (new_holds s h n bytes answer busy above (omega arith) at)
       ]

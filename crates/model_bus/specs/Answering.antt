@@ -5,7 +5,7 @@ use Rattle.model_bus.specs.Request.{Kept}
 use Rattle.model_bus.specs.Numbering.{Rules}
 use Rattle.model_bus.specs.BusState.{BusState, Frame, Content, Ask, Reply, Event, taken_content, run}
 use Rattle.model_bus.specs.Schedule.{IsLive, AllHonest}
-use Rattle.model_bus.specs.Start.{NothingUnderWay, EmptyWindow, NothingWaits}
+use Rattle.model_bus.specs.Start.{NothingUnderWay, FreshWindow, NothingWaits}
 use Rattle.model_bus.specs.Packet.{IsCutting}
 use Rattle.model_bus.specs.PacketBus.{PacketBus, rules_of, Ends, PacketEvent, packet_run}
 use Rattle.model_bus.specs.PacketSchedule.{JoinRule, AllPacketHonest}
@@ -30,13 +30,13 @@ TestsAgree on rules state = (which : ℕ) (frame : Frame) (opened : List ℕ) �
 
 -- so it is at every event of every honest schedule from a start
 abbrev pub TestIsModel : Bus → Rules → Type 0
-TestIsModel on rules = (start : BusState) (events : List Event) → NothingUnderWay start → EmptyWindow rules start.log
+TestIsModel on rules = (start : BusState) (events : List Event) → NothingUnderWay start → FreshWindow rules start.log
     → AllHonest rules events start → AreWritten on rules (run rules events start) → TestsAgree on rules (run rules events start)
 
 -- so it is at every event of every schedule of packets that is honest by the rule
 abbrev pub TestIsModelInPackets : Bus → JoinRule → Type 0
 TestIsModelInPackets on rule = (bus : PacketBus) → IsCutting bus.split → (start : Ends) (events : List PacketEvent)
-    → NothingUnderWay start.bus → NothingWaits bus start → EmptyWindow (rules_of bus) start.bus.log
+    → NothingUnderWay start.bus → NothingWaits bus start → FreshWindow (rules_of bus) start.bus.log
     → AllPacketHonest rule bus events start → AreWritten on (rules_of bus) (packet_run bus events start).bus → TestsAgree on (rules_of bus) (packet_run bus events start).bus
 
 -- no reply with either code of a busy port passes the test, on either bus, whatever it answers

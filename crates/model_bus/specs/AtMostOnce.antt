@@ -4,7 +4,7 @@ use Rattle.model_bus.specs.Request.{Kept, Entry, carried_by}
 use Rattle.model_bus.specs.Numbering.{Rules}
 use Rattle.model_bus.specs.BusState.{BusState, Event, request_of, run}
 use Rattle.model_bus.specs.Schedule.{AllHonest}
-use Rattle.model_bus.specs.Start.{NothingUnderWay, EmptyWindow}
+use Rattle.model_bus.specs.Start.{NothingUnderWay, FreshWindow}
 
 -- what holds of the bus in this state, over a port that did this before
 pub record AtMostOnce (rules : Rules) (before : List Entry) (state : BusState) : Type 0 where
@@ -23,5 +23,5 @@ pub record AtMostOnce (rules : Rules) (before : List Entry) (state : BusState) :
 
 -- at every event of every honest schedule from a start, whoever takes the manager's place on the way
 abbrev pub AlwaysAtMostOnce : Rules → Type 0
-AlwaysAtMostOnce rules = (start : BusState) (events later : List Event) → NothingUnderWay start → EmptyWindow rules start.log
+AlwaysAtMostOnce rules = (start : BusState) (events later : List Event) → NothingUnderWay start → FreshWindow rules start.log
     → AllHonest rules (events ++ later) start → AtMostOnce rules start.log (run rules events start)

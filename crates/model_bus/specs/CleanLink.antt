@@ -4,7 +4,7 @@ use Rattle.model_bus.specs.Carried.{is_busy}
 use Rattle.model_bus.specs.Numbering.{Rules}
 use Rattle.model_bus.specs.BusState.{BusState, Frame, Ask, Reply, Event, is_open, carried_now, taken_now, run}
 use Rattle.model_bus.specs.Schedule.{AllHonest}
-use Rattle.model_bus.specs.Start.{NothingUnderWay, EmptyWindow, NothingWaits}
+use Rattle.model_bus.specs.Start.{NothingUnderWay, FreshWindow, NothingWaits}
 use Rattle.model_bus.specs.Effect.{IsKeptFor}
 use Rattle.model_bus.specs.Packet.{Packet, IsCut, IsCutting}
 use Rattle.model_bus.specs.Assembly.{Sent, Waits, Whole, takes, message_of}
@@ -22,13 +22,13 @@ pub record GoesThrough (rules : Rules) (state : BusState) : Type 0 where
 
 -- so it is at every event of every honest schedule from a start
 abbrev pub OpenGoesThrough : Rules → Type 0
-OpenGoesThrough rules = (start : BusState) (events : List Event) → NothingUnderWay start → EmptyWindow rules start.log
+OpenGoesThrough rules = (start : BusState) (events : List Event) → NothingUnderWay start → FreshWindow rules start.log
     → AllHonest rules events start → GoesThrough rules (run rules events start)
 
 -- and in packets, by the rule
 abbrev pub OpenGoesThroughInPackets : JoinRule → Type 0
 OpenGoesThroughInPackets rule = (bus : PacketBus) → IsCutting bus.split → (start : Ends) (events : List PacketEvent)
-    → NothingUnderWay start.bus → NothingWaits bus start → EmptyWindow (rules_of bus) start.bus.log
+    → NothingUnderWay start.bus → NothingWaits bus start → FreshWindow (rules_of bus) start.bus.log
     → AllPacketHonest rule bus events start → GoesThrough (rules_of bus) (packet_run bus events start).bus
 
 -- packets as they are sent in a frame of this request

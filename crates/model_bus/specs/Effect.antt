@@ -4,7 +4,7 @@ use Rattle.model_bus.specs.Request.{Kept}
 use Rattle.model_bus.specs.Numbering.{Rules}
 use Rattle.model_bus.specs.BusState.{BusState, Event, Begins, SendsAgain, ReachesPort, ReachesManager, OtherAsks, OtherReplies, IsIdle, Resumes, is_open, happens, run, carried_now, taken_now}
 use Rattle.model_bus.specs.Schedule.{AllHonest}
-use Rattle.model_bus.specs.Start.{NothingUnderWay, EmptyWindow}
+use Rattle.model_bus.specs.Start.{NothingUnderWay, FreshWindow}
 
 -- the reply that is kept for the n-th request
 pub record IsKeptFor (carried : List Kept) (request : ℕ) (reply : List ℕ) : Type 0 where
@@ -59,5 +59,5 @@ HasEffect rules state Resumes = SameRequests state (happens rules state Resumes)
 
 -- of every event of every honest schedule from a start
 abbrev pub EventsHaveEffects : Rules → Type 0
-EventsHaveEffects rules = (start : BusState) (events : List Event) (event : Event) → NothingUnderWay start → EmptyWindow rules start.log
+EventsHaveEffects rules = (start : BusState) (events : List Event) (event : Event) → NothingUnderWay start → FreshWindow rules start.log
     → AllHonest rules (events ++ event ∷ []) start → HasEffect rules (run rules events start) event

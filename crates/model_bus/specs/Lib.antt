@@ -24,3 +24,5 @@ pub mod Example
 pub mod PacketExample
 pub mod Circle
 pub mod Premise
+pub mod Greeting
+pub mod GreetingPackets

@@ -8,7 +8,7 @@ use Rattle.model_bus.specs.Effect.{SameRequests, IsCarried, IsTaken, HasEffect}
 use Rattle.model_bus.specs.Packet.{Packet, IsCutting}
 use Rattle.model_bus.specs.Assembly.{Name, Sent, Step, Waits, Whole, Drops, takes, first_request, message_of}
 use Rattle.model_bus.specs.PacketBus.{PacketBus, rules_of, request_name, reply_name, is_awaited, other_request, Ends, PacketEvent, Plain, PacketReachesPort, PacketReachesManager, OtherPacket, OtherReplyPacket, Closes, Clears, PacketResumes, packet_happens, packet_run}
-use Rattle.model_bus.specs.Start.{NothingUnderWay, NothingWaits, EmptyWindow}
+use Rattle.model_bus.specs.Start.{NothingUnderWay, NothingWaits, FreshWindow}
 use Rattle.model_bus.specs.PacketSchedule.{JoinRule, AllPacketHonest}
 
 -- what an end does with a packet under a name; a frame has no packet at a place past its last
@@ -104,5 +104,5 @@ OthersAsk = (bus : PacketBus) (ends : Ends) (name : Name) (packet : Packet) (ans
 -- of every event of every honest schedule of packets, by the rule, from a start
 abbrev pub EventsHavePacketEffects : JoinRule → Type 0
 EventsHavePacketEffects rule = (bus : PacketBus) → IsCutting bus.split → (start : Ends) (events : List PacketEvent) (event : PacketEvent)
-    → NothingUnderWay start.bus → NothingWaits bus start → EmptyWindow (rules_of bus) start.bus.log
+    → NothingUnderWay start.bus → NothingWaits bus start → FreshWindow (rules_of bus) start.bus.log
     → AllPacketHonest rule bus (events ++ event ∷ []) start → HasPacketEffect bus (packet_run bus events start) event

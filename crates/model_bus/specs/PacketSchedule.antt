@@ -8,7 +8,7 @@ use Rattle.model_bus.specs.Repeat.{In}
 use Rattle.model_bus.specs.Packet.{Packet, IsCutting}
 use Rattle.model_bus.specs.Assembly.{Sent, IsWhole, IsJoined, takes, waiting}
 use Rattle.model_bus.specs.PacketBus.{PacketBus, rules_of, request_name, Ends, PacketEvent, Plain, PacketReachesPort, PacketReachesManager, OtherPacket, OtherReplyPacket, Closes, Clears, PacketResumes, packet_happens, packet_run}
-use Rattle.model_bus.specs.Start.{NothingUnderWay, NothingWaits, EmptyWindow}
+use Rattle.model_bus.specs.Start.{NothingUnderWay, NothingWaits, FreshWindow}
 use Rattle.model_bus.specs.AtMostOnce.{AtMostOnce}
 
 -- What is asked of the packets that wait at the port where another is joined to them. Nothing need be asked of the
@@ -70,7 +70,7 @@ AllPacketHonest rule bus (event ∷ events) ends = IsPacketHonest rule bus ends 
 -- at every event of every honest schedule of packets, by the rule, from a start, whoever takes the manager's place on the way
 abbrev pub AlwaysAtMostOnceInPackets : JoinRule → Type 0
 AlwaysAtMostOnceInPackets rule = (bus : PacketBus) → IsCutting bus.split → (start : Ends) (events later : List PacketEvent)
-    → NothingUnderWay start.bus → NothingWaits bus start → EmptyWindow (rules_of bus) start.bus.log
+    → NothingUnderWay start.bus → NothingWaits bus start → FreshWindow (rules_of bus) start.bus.log
     → AllPacketHonest rule bus (events ++ later) start → AtMostOnce (rules_of bus) start.bus.log (packet_run bus events start).bus
 
 -- a schedule that is honest by the rule is honest by the weaker rule

@@ -3,6 +3,8 @@
 ghost use Rattle.model_bus.specs.Numbering.{ipmb, smbus};
 ghost use Rattle.model_bus.specs.Example.{EndsAnswered, ShowsRepeats, ipmb_example, smbus_example};
 ghost use Rattle.model_bus.specs.Premise.{Counts, InUseAtStart, too_old, forgotten_while_open, older_than_idle, in_the_managers_name, resumed_while_open};
+ghost use Rattle.model_bus.specs.Greeting.{OneIsNotEnough, BothAreEnough, HalfIsEnough};
+ghost use Rattle.model_bus.specs.GreetingPackets.{EachTagIsNeeded, SinglesClear};
 ghost use Rattle.model_bus.specs.PacketExample.{PacketsEndAnswered, PacketsShowRepeats, CarriesWhatNobodySent, example_bus, packet_example, stale_assembly};
 
 /// On IPMB, with sequence numbers from 60 on: a busy answer, an idle, a lost frame, a delayed reply, a second manager in the
@@ -41,4 +43,13 @@ pub fn premises_are_needed()
     ensures address { Counts (ipmb 44 32 0) in_the_managers_name 1 0 1 }
     ensures resume { Counts (ipmb 44 32 1) resumed_while_open 1 2 1 }
     ensures empty_window { InUseAtStart (ipmb 44 32 0) }
+{}
+
+/// Why a manager greets twice: one greeting under one number can itself be a repeat.
+pub fn greetings_are_two()
+    ensures one { OneIsNotEnough }
+    ensures both { BothAreEnough }
+    ensures half { HalfIsEnough }
+    ensures tags { EachTagIsNeeded }
+    ensures clear { SinglesClear }
 {}

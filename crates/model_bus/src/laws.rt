@@ -4,6 +4,7 @@ ghost use Rattle.std.specs.Prelude.{ℕ, Bool, List};
 ghost use Rattle.model_bus.specs.Request.{Entry};
 ghost use Rattle.model_bus.specs.Numbering.{ipmb, smbus, is_above};
 ghost use Rattle.model_bus.specs.Repeat.{RuleIsSentence, RequestersOf, EightSuffice};
+ghost use Rattle.model_bus.specs.Greeting.{GreetingForgets};
 ghost use Rattle.model_bus.specs.Window.{RowsAreTheRule, WindowsApart};
 ghost use Rattle.model_bus.specs.Schedule.{NoneOpenIsHonest, TestTells};
 ghost use Rattle.model_bus.specs.AtMostOnce.{AlwaysAtMostOnce};
@@ -147,4 +148,14 @@ pub fn packet_events_have_effects()
 pub fn runs_of_64_are_a_cutting()
     ensures cut { IsCutting packets_of }
     ensures each { CutsAll packets_of }
+{}
+
+/// A manager that greets makes a fresh start, whatever the port did before: after its two greetings, or after the one, the rule says
+/// of its requests, copies of them and everybody else's what it would say had the port forgotten what it had carried out for the
+/// manager before.
+pub fn greeting_is_a_fresh_start()
+    ensures ipmb { (manager controller first : ℕ)
+        → GreetingForgets sequence_numbers (ipmb manager controller first) }
+    ensures smbus { (manager controller first : ℕ)
+        → GreetingForgets instances (smbus manager controller first) }
 {}

@@ -38,8 +38,8 @@ module _ (setup : BoardFile) (others : Records) where
   does w bytes reply is = ((answer setup w.board (asked_from addresses Ipmb bytes)).0, is, has_answer setup w.board (asked_from addresses Ipmb bytes))
 
   is_quiet : (bus : Bus) → (messages bus).IsStart (quiet_messages bus)
-  is_quiet Ipmb = (record { begun = refl; carried = refl; taken = refl; frames = refl }, refl)
-  is_quiet Smbus = (record { begun = refl; carried = refl; taken = refl; frames = refl }, refl)
+  is_quiet Ipmb = (record { begun = refl; carried = refl; taken = refl; frames = refl }, tt)
+  is_quiet Smbus = (record { begun = refl; carried = refl; taken = refl; frames = refl }, tt)
 
   is_valid : AllValid (family setup addresses) others → AllValid (family setup addresses) (with_others others)
   is_valid all key.PowerPolicy v e = subst IsPowerPolicy (same_Some _ _ e) (record { one = refl; known = lit≤ tt })

@@ -9,6 +9,8 @@ ghost use Rattle.model_undo.specs.Headline.{AlwaysStands, UndoneForGood, StopsOn
 ghost use Rattle.model_undo.specs.Giving.{HaltsByAnswers};
 ghost use Rattle.model_undo.specs.RecordsRun.{RecordsStand};
 ghost use Rattle.model_undo.specs.Resume.{GoesOnAlike};
+ghost use Rattle.model_undo.specs.Restart.{IsKept};
+ghost use Rattle.model_undo.specs.Silence.{RestartsAreSilences};
 ghost use Rattle.model_undo.specs.Clean.{AnswersByRow};
 ghost use Rattle.model_undo.specs.CleanSeries.{AreFinite, AlwaysRunsThrough};
 ghost use Rattle.model_undo.specs.CleanBuses.{AlwaysRunsThroughBuses};
@@ -36,7 +38,7 @@ pub fn phases_stand()
 {}
 
 /// A halt has its cause in its own schedule. Refused, GetRefused and NotRestorable come only where the board gave that answer to the Set or to the
-/// Get of that step, at the records after the steps before it; Stop comes only where the manager was told to stop, or another went on from its list.
+/// Get of that step, at the records after the steps before it; Stop comes only where the manager was told to stop, another went on from its list, or it was made again.
 pub fn halts_by_given_answers()
     ensures { (setup : BoardFile) (at : Bus → Addresses)
         → OverBothBuses at (λ buses. HaltsByAnswers (family setup at) buses (wires at)) }
@@ -49,7 +51,7 @@ pub fn undone_is_for_good()
         → OverBothBuses at (λ buses. UndoneForGood (family setup at) buses (wires at)) }
 {}
 
-/// A plan halts because of a stop only where it was stopped, or where another manager went on from its list.
+/// A plan halts because of a stop only where it was stopped, where another manager went on from its list, or where the manager was made again.
 pub fn stops_only_if_told()
     ensures { (setup : BoardFile) (at : Bus → Addresses)
         → OverBothBuses at (λ buses. StopsOnlyIfTold (family setup at) buses (wires at)) }
@@ -59,6 +61,19 @@ pub fn stops_only_if_told()
 /// `undo` on it goes through the same phases and sends the same requests, under the same numbers, as the manager from which the list was taken.
 pub fn resumed_goes_on_alike()
     ensures { (at : Bus → Addresses) → GoesOnAlike (manager_words at) }
+{}
+
+/// A manager's process may end at any moment, and the manager be made again of what it wrote down. It is then as if it had been told to stop, where
+/// it was within a plan, and had heard nothing until its request was unsettled. Where no request is open, nothing changes.
+pub fn restarts_are_silences()
+    ensures { (setup : BoardFile) (at : Bus → Addresses)
+        → HoweverSent at (λ buses. RestartsAreSilences (family setup at) buses (wires at)) }
+{}
+
+/// The manager that is made again has the same request open under the same number, gives the same list, and sends nothing by itself. `quiet`, `again`
+/// and `stop` change nothing of what it is made of.
+pub fn restarted_keeps_its_place()
+    ensures { (at : Bus → Addresses) → IsKept (manager_words at) }
 {}
 
 /// Each series of requests that the manager makes has an end, whatever the replies are.

@@ -6,6 +6,7 @@ pub mod Sending
 pub mod Sent
 pub mod Begun
 pub mod Calls
+mod Restarts
 pub mod Live
 mod Joined
 pub mod Only
@@ -22,6 +23,7 @@ pub mod Delivered
 pub mod Steps
 pub mod Stopped
 pub mod Theorem
+mod Restarted
 pub mod Plays
 pub mod CleanQueue
 pub mod CleanFresh
@@ -56,3 +58,4 @@ mod Controller
 mod Refined
 mod Strong
 pub mod Promised
+pub mod Fresh

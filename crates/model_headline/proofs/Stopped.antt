@@ -185,7 +185,7 @@ module _ (P : Plans) where
     returned_same None x = refl
     returned_same (Some f) x = does_same (manager_hears P f.value x.manager) x (hears_same f.value x.manager)
 
-    step_same : (e : Event) (x : Lab P) → Unstopped x (step P setup x e) ⊎ (e ≡ Calls Stop)
+    pub step_same : (e : Event) (x : Lab P) → Unstopped x (step P setup x e) ⊎ (e ≡ Calls Stop)
     unfolding step
     step_same (Calls call) x = elim (call_same call x) [ inl same ↦ inl same | inr told ↦ inr (ap Calls told) ]
     step_same (ToBmc number) x = inl (delivered_same (slice_get x.frames number) x)

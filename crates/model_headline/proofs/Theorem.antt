@@ -183,7 +183,7 @@ module _ (setup : BoardFile) (names : Names) (plan : List Op) (start : Records) 
 
 module _ (setup : BoardFile) (names : Names) (plan : List Op) (retries : ℕ) where
   -- nothing has happened on either bus
-  abbrev quiet : States (own_lines setup names)
+  abbrev pub quiet : States (own_lines setup names)
   quiet Ipmb = opening_bus []
   quiet Smbus = opening_ends []
 
@@ -205,7 +205,7 @@ module _ (setup : BoardFile) (names : Names) (plan : List Op) (retries : ℕ) wh
   nothing_answered Ipmb = tt
   nothing_answered Smbus = tt
 
-  first_tied : IsTied setup names (first setup names plan retries) quiet
+  pub first_tied : IsTied setup names (first setup names plan retries) quiet
   first_tied = record {
     named = refl;
     ipmb_wire = refl;
@@ -223,13 +223,13 @@ module _ (setup : BoardFile) (names : Names) (plan : List Op) (retries : ℕ) wh
   }
 
   starts : (bus : Bus) → ((own_lines setup names) bus).IsStart (quiet bus)
-  starts Ipmb = (nothing_yet, refl)
-  starts Smbus = (nothing_yet, record { port = λ n e. refl; manager = λ n e. refl }, refl)
+  starts Ipmb = (nothing_yet, tt)
+  starts Smbus = (nothing_yet, record { port = λ n e. refl; manager = λ n e. refl }, tt)
 
-  is_start : IsStart (own_family setup names) (own_lines setup names) (own_wires setup names) quiet (first setup names plan retries).board
+  pub is_start : IsStart (own_family setup names) (own_lines setup names) (own_wires setup names) quiet (first setup names plan retries).board
   is_start = record { on_bus = starts; valid = (starts_valid setup (addresses names)).opened_valid; ready = starts_ready setup (addresses names) }
 
-  first_holds : Holds setup names plan (first setup names plan retries).board.records (world_of setup names (first setup names plan retries) quiet)
+  pub first_holds : Holds setup names plan (first setup names plan retries).board.records (world_of setup names (first setup names plan retries) quiet)
   first_holds = opening_holds (own_family setup names) (is_family setup (addresses names)) (own_lines setup names) (packet_lines (addresses names) packets_of packets_cut) (own_wires setup names) plan retries quiet (first setup names plan retries).board is_start
 
   -- ---- the theorem
@@ -254,17 +254,17 @@ module _ (setup : BoardFile) (names : Names) (plan : List Op) (retries : ℕ) wh
   first_own [] later x all = tt
   first_own (e ∷ es) later x all = (all.0, first_own es later (step (own_plans setup names) setup x e) all.1)
 
-  later_honest : (events later : List Event) (x : Lab (own_plans setup names)) → AllHonest (own_plans setup names) setup (events ++ later) x → AllHonest (own_plans setup names) setup later (run (own_plans setup names) setup events x)
+  pub later_honest : (events later : List Event) (x : Lab (own_plans setup names)) → AllHonest (own_plans setup names) setup (events ++ later) x → AllHonest (own_plans setup names) setup later (run (own_plans setup names) setup events x)
   unfolding run
   later_honest [] later x all = all
   later_honest (e ∷ es) later x all = later_honest es later (step (own_plans setup names) setup x e) all.1
 
-  later_own : (events later : List Event) (x : Lab (own_plans setup names)) → AllOwn (own_plans setup names) setup (events ++ later) x → AllOwn (own_plans setup names) setup later (run (own_plans setup names) setup events x)
+  pub later_own : (events later : List Event) (x : Lab (own_plans setup names)) → AllOwn (own_plans setup names) setup (events ++ later) x → AllOwn (own_plans setup names) setup later (run (own_plans setup names) setup events x)
   unfolding run
   later_own [] later x all = all
   later_own (e ∷ es) later x all = later_own es later (step (own_plans setup names) setup x e) all.1
 
-  both_run : (events later : List Event) (x : Lab (own_plans setup names)) → run (own_plans setup names) setup later (run (own_plans setup names) setup events x) ≡ run (own_plans setup names) setup (events ++ later) x
+  pub both_run : (events later : List Event) (x : Lab (own_plans setup names)) → run (own_plans setup names) setup later (run (own_plans setup names) setup events x) ≡ run (own_plans setup names) setup (events ++ later) x
   unfolding run
   both_run [] later x = refl
   both_run (e ∷ es) later x = both_run es later (step (own_plans setup names) setup x e)

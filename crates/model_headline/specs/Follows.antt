@@ -15,7 +15,7 @@ use Rattle.model_undo.proofs.TwoBuses.{packet_lines}
 use Rattle.model_family.proofs.IsFamily.{is_family}
 use Rattle.undo_plans.specs.declared.names.Names.{Names}
 use Rattle.model_undo.specs.declared.call.Call.{Call}
-use Rattle.model_lab.specs.ManagerSteps.{addresses}
+use Rattle.model_lab.specs.ManagerSteps.{addresses, remade}
 use Rattle.model_lab.specs.Own.{IsOwn}
 use Rattle.model_lab.specs.Honest.{IsDelivered, IsHonest}
 use Rattle.model_lab.specs.declared.way.Way.TheVariants.{ToPort, ToManager}
@@ -34,6 +34,11 @@ module _ (setup : BoardFile) (names : Names) (plan : List Op) (start : Records) 
   -- each call of the manager is followed
   abbrev pub CallsAreFollowed : Type 0
   CallsAreFollowed = (lab : Lab (own_plans setup names)) (call : Call) → IsFollowed lab (Calls call)
+
+  -- a restart of the manager, at any moment, is followed
+  abbrev pub RestartsAreFollowed : Type 0
+  RestartsAreFollowed = (lab : Lab (own_plans setup names)) (on : States (own_lines setup names)) → IsTied setup names lab on
+      → Goes setup names lab on (record lab { manager = remade (own_plans setup names) lab.manager })
 
   -- each live frame that comes to the manager is followed
   abbrev pub RepliesAreFollowed : Type 0

@@ -4,6 +4,7 @@ pub mod Answers
 pub mod Tied
 pub mod Follows
 pub mod Theorem
+pub mod Restarted
 pub mod Plays
 pub mod CleanParts
 pub mod CleanLink
@@ -16,3 +17,4 @@ pub mod Seen
 pub mod Refines
 pub mod Promise
 pub mod Keeps
+pub mod Fresh

@@ -6,8 +6,10 @@ ghost use Rattle.cfg_records.specs.declared.board_file.BoardFile.{BoardFile};
 ghost use Rattle.cfg_records.specs.Records.{Records};
 ghost use Rattle.undo_plans.specs.declared.names.Names.{Names};
 ghost use Rattle.undo_plans.specs.Steps.{most_steps};
-ghost use Rattle.model_headline.specs.Follows.{CallsAreFollowed, RepliesAreFollowed, RequestsAreFollowed, OthersAreFollowed};
+ghost use Rattle.model_headline.specs.Follows.{CallsAreFollowed, RestartsAreFollowed, RepliesAreFollowed, RequestsAreFollowed, OthersAreFollowed};
+ghost use Rattle.model_headline.specs.Fresh.{FreshStartsStand, GreetedIsFresh};
 ghost use Rattle.model_headline.specs.Theorem.{Headline, IsTrusted, IsTakenAndOwn, PremisesAgree};
+ghost use Rattle.model_headline.specs.Restarted.{StandsOverRestarts};
 ghost use Rattle.model_headline.specs.Plays.{PlaysStand};
 ghost use Rattle.model_headline.specs.CleanLink.{RunsOnCleanLink};
 ghost use Rattle.model_headline.specs.CleanParts.{TakesParts};
@@ -17,6 +19,12 @@ ghost use Rattle.model_headline.specs.CleanPlays.{PlaysRunClean};
 pub fn calls_are_followed()
     ensures { (setup : BoardFile) (names : Names) (plan : List Op) (start : Records)
         → CallsAreFollowed setup names plan start }
+{}
+
+/// Where the manager's process ends, at any moment, and it is made again, the model's world goes on to one that the lab shows then.
+pub fn restarts_are_followed()
+    ensures { (setup : BoardFile) (names : Names) (plan : List Op) (start : Records)
+        → RestartsAreFollowed setup names plan start }
 {}
 
 /// Where a live frame comes to the manager, whole on IPMB or a packet on SMBus, the model's world goes on to one that the lab shows then.
@@ -48,10 +56,26 @@ pub fn undo_takes_everything_back()
         → Headline setup names plan retries (IsTrusted setup names plan retries) }
 {}
 
+/// So it is from any start at which the manager's windows are fresh, whatever the controller did before, also for the manager, as
+/// where the manager has greeted it: the phase says what the records are, and once the plan is undone all is as it was at this start.
+pub fn fresh_starts_stand()
+    ensures stand { (setup : BoardFile) (names : Names) (plan : List Op) (retries : ℕ)
+        → FreshStartsStand setup names plan retries }
+    ensures greeted { (setup : BoardFile) (names : Names) (plan : List Op) (retries : ℕ)
+        → GreetedIsFresh setup names plan retries }
+{}
+
 /// So it is of every schedule that a lab takes and in which no packet joins another request's assembly.
 pub fn taken_schedules_are_undone()
     ensures { (setup : BoardFile) (names : Names) (plan : List Op) (retries : ℕ)
         → Headline setup names plan retries (IsTakenAndOwn setup names plan retries) }
+{}
+
+/// So it is where the manager's process ends, at any moment and as often as you like, and the manager is made again of what it wrote down. The cause
+/// of a halted plan may be a restart then, too.
+pub fn restarts_leave_everything_standing()
+    ensures { (setup : BoardFile) (names : Names) (plan : List Op) (retries : ℕ)
+        → StandsOverRestarts setup names plan retries }
 {}
 
 /// Where each event is honest, no packet joins one that has waited so long exactly where none joins another request's assembly; and what a

@@ -14,6 +14,7 @@ use Rattle.record_base.specs.declared.message.Asked.TheVariants.{Ipmi, Pldm}
 use Rattle.model_bus.specs.Bytes.{answers}
 use Rattle.model_undo.specs.Words.{Words}
 use Rattle.model_undo.specs.Machine.{count_of, Part as TaskPart, bus_at, Stage, Opened, Machine, Sending, Turn, call_of, reply_of, same_bus}
+use Rattle.model_undo.specs.Restart.{restarted}
 use Rattle.model_undo.specs.Wires.{number_of}
 use Rattle.model_bus.specs.Addresses.{Addresses}
 use Rattle.model_undo.specs.declared.call.Call.{Call}
@@ -124,6 +125,10 @@ module _ (plans : Plans) where
   -- the manager is called: none where the phase isn't one for the call, and then nothing changes
   unfoldable pub called : Call → ManagerState → Option ManagerDeed
   called call manager = option_map (goes_on (record manager { joined = waits_after call manager.joined })) (call_of plans.words call manager.machine)
+
+  -- the manager's process ended, and it is made again of what it wrote down: nothing waits at it
+  abbrev pub remade : ManagerState → ManagerState
+  remade manager = record manager { machine = restarted plans.words manager.machine; joined = nothing }
 
   -- ---- frames
 

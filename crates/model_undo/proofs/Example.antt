@@ -1,5 +1,5 @@
 -- The runs compute: a test tells that each thing may happen where it does.
-use Rattle.std.proofs.Common.{◌≡◌, suc, Bool, true, false, not, ◌&&◌, List, [], ◌∷◌, Option, Some, None, refl}
+use Rattle.std.proofs.Common.{◌≡◌, suc, Bool, true, false, not, ◌&&◌, List, [], ◌∷◌, ◌++◌, Option, Some, None, refl}
 use Rattle.std.specs.Prelude.{◌==◌}
 use Rattle.std.specs.Str.{bytes_eq}
 use Rattle.std.proofs.lemmas.Bool.{and_parts, and_from, eqb-true, false≢true, not-true}
@@ -16,9 +16,9 @@ use Rattle.model_bus.proofs.PacketDecides.{is_packet_honest, all_packet_honest-t
 use Rattle.model_bus.proofs.PacketLaws.{event_implies, live_is_recent}
 use Rattle.model_undo.specs.Wires.{Wires}
 use Rattle.model_undo.specs.Line.{Exchange, Line, whole, packets, IsOutsideWhole, IsOutsidePackets}
-use Rattle.model_undo.specs.World.{World, Happening, Calls, Resume, ToManager, OnBus, OnBench, BoardMay, May, AllMay, happens, opening}
+use Rattle.model_undo.specs.World.{World, Happening, Calls, Resume, Restart, ToManager, OnBus, OnBench, BoardMay, May, AllMay, happens, opening}
 use Rattle.model_undo.specs.Registers.{Halves, Asked, Board, answer, register_words, registers, wires}
-use Rattle.model_undo.specs.Example.{EndsUndone, board, plan, messages, quiet_messages, by_message, mixed, quiet_mixed, long_wires, by_packet, run_and_undo, run_resume_undo}
+use Rattle.model_undo.specs.Example.{EndsUndone, board, plan, messages, quiet_messages, by_message, mixed, quiet_mixed, long_wires, by_packet, run_and_undo, run_resume_undo, run_restart_undo, restarted_first, undo_of_first, HaltsThenUndone}
 
 -- ---- an event is honest, and none of the manager's doing
 
@@ -118,6 +118,7 @@ module _ (L : Bus → Line) (T : Tests L) (W : Wires register_words) where
   may w (OnBench after) = same_halves after.registers w.board.registers
   may w (Calls call) = true
   may w (Resume retries) = true
+  may w Restart = true
 
   may-tells : (w : World registers L) (e : Happening registers L) → may w e ≡ true → May registers L W w e
   may-tells w (ToManager bus e) t = let parts = and_parts _ _ t in (T.tells bus (w.on bus) e parts.0, parts.1)
@@ -128,6 +129,7 @@ module _ (L : Bus → Line) (T : Tests L) (W : Wires register_words) where
   may-tells w (OnBench after) t = (same_halves-tells after.registers w.board.registers t, λ series bodies ready. ready)
   may-tells w (Calls call) t = tt
   may-tells w (Resume retries) t = tt
+  may-tells w Restart t = tt
 
   abbrev all_may : List (Happening registers L) → World registers L → Bool
   all_may [] w = true
@@ -164,6 +166,23 @@ message_resume = record {
   records = refl;
 }
 
+pub message_restart : EndsUndone messages wires quiet_messages (run_restart_undo messages by_message)
+message_restart = record {
+  may = all_may-tells messages message_tests wires (run_restart_undo messages by_message) (opening registers messages plan 1 quiet_messages (board 1 9 0)) refl;
+  phase = refl;
+  records = refl;
+}
+
+pub message_halt : HaltsThenUndone messages wires quiet_messages by_message
+message_halt = record {
+  halts = refl;
+  undone = record {
+    may = all_may-tells messages message_tests wires (restarted_first messages by_message ++ undo_of_first messages by_message) (opening registers messages plan 1 quiet_messages (board 1 9 0)) refl;
+    phase = refl;
+    records = refl;
+  };
+}
+
 abbrev packet_bus : PacketBus
 packet_bus = record { manager = 8; controller = 10; first = 0; split = packets_of }
 
@@ -190,4 +209,21 @@ mixed_resume = record {
   may = all_may-tells mixed mixed_tests long_wires (run_resume_undo mixed by_packet) (opening registers mixed plan 1 quiet_mixed (board 1 9 0)) refl;
   phase = refl;
   records = refl;
+}
+
+pub mixed_restart : EndsUndone mixed long_wires quiet_mixed (run_restart_undo mixed by_packet)
+mixed_restart = record {
+  may = all_may-tells mixed mixed_tests long_wires (run_restart_undo mixed by_packet) (opening registers mixed plan 1 quiet_mixed (board 1 9 0)) refl;
+  phase = refl;
+  records = refl;
+}
+
+pub mixed_halt : HaltsThenUndone mixed long_wires quiet_mixed by_packet
+mixed_halt = record {
+  halts = refl;
+  undone = record {
+    may = all_may-tells mixed mixed_tests long_wires (restarted_first mixed by_packet ++ undo_of_first mixed by_packet) (opening registers mixed plan 1 quiet_mixed (board 1 9 0)) refl;
+    phase = refl;
+    records = refl;
+  };
 }

@@ -16,7 +16,7 @@ use Rattle.model_undo.specs.Wires.{Wires}
 use Rattle.model_undo.specs.Line.{Exchange, Line}
 use Rattle.model_undo.specs.declared.call.Call.TheVariants.{Start, Quiet, Stop as StopCall, Again, Undo}
 use Rattle.model_undo.specs.World as world
-use Rattle.model_undo.specs.World.{World, Happening, Calls, Resume, ToManager, OnBus, OnBench, BoardMay, happens, run, May, AllMay, opening}
+use Rattle.model_undo.specs.World.{World, Happening, Calls, Resume, Restart, ToManager, OnBus, OnBench, BoardMay, happens, run, May, AllMay, opening}
 use Rattle.model_undo.specs.Headline.{IsStart}
 use Rattle.model_undo.specs.Giving.{Giving, given_by, given_at, given_in, GaveIn, GaveGetIn, GaveSetIn, GaveUnrestorableIn, CausedIn, HaltsByAnswers}
 use Rattle.model_undo.proofs.Series.{all_answered_as}
@@ -85,6 +85,7 @@ module _ (F : Family) (laws : IsFamily F) (given : List (Giving F)) where
     abbrev event_given : Happening F L → Happening (giving F given) L
     event_given (Calls call) = Calls call
     event_given (Resume retries) = Resume retries
+    event_given Restart = Restart
     event_given (ToManager bus e) = ToManager bus e
     event_given (OnBus bus e after) = OnBus bus e after
     event_given (OnBench after) = OnBench after
@@ -137,6 +138,7 @@ module _ (F : Family) (laws : IsFamily F) (given : List (Giving F)) where
     happens_same w (Calls Again) = repeats_same (again_of F.words w.machine) w
     happens_same w (Calls Undo) = opens_same (undo_of F.words w.machine) w
     happens_same w (Resume retries) = resumes_same retries w.machine.stage w
+    happens_same w Restart = refl
     happens_same w (ToManager bus e) = returns_same bus e w.machine.stage w
     happens_same w (OnBus bus e after) = refl
     happens_same w (OnBench after) = refl
@@ -160,6 +162,7 @@ module _ (F : Family) (laws : IsFamily F) (given : List (Giving F)) where
     may_given : (w : World F L) (e : Happening F L) → ((g : Giving F) → Contains (given_at F L W w e) g → Contains given g) → May F L W w e → May (giving F given) L W (as_given w) (event_given e)
     may_given w (Calls call) all may = tt
     may_given w (Resume retries) all may = tt
+    may_given w Restart all may = tt
     may_given w (ToManager bus e) all may = may
     may_given w (OnBus bus e after) all may = (may.0, may.1, board_may bus ((L bus).carries (w.on bus) e) w.board after all may.2)
     may_given w (OnBench after) all may = may

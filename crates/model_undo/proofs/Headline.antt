@@ -16,12 +16,13 @@ use Rattle.model_undo.specs.declared.phase.Phase.{Phase}
 use Rattle.model_undo.specs.declared.phase.Phase.TheVariants.{Halted, Undone}
 use Rattle.model_undo.specs.Plan.{Stands, Halts}
 use Rattle.model_undo.specs.Machine.{count_of, Gets, Sets, Undoes, Stage, AtStart, Opened, AtEnd, AtHalt, AtUndone, AtRefused, Machine, Turn, phase_at, phase_of, bus_at, sending, starts, undoes, quiets, agains, stops, replies, takes, reply_of, same_bus}
+use Rattle.model_undo.specs.Restart.{restarts}
 use Rattle.model_undo.specs.Wires.{number_of, Wires}
 use Rattle.model_undo.specs.Joined.{IsClosed, Orderly}
 use Rattle.model_undo.specs.Line.{Line}
 use Rattle.model_undo.specs.World as world
 use Rattle.model_undo.specs.declared.call.Call.TheVariants.{Start, Quiet, Stop as StopCall, Again, Undo}
-use Rattle.model_undo.specs.World.{States, World, Happening, Calls, Resume, ToManager, OnBus, OnBench, happens, run, AllMay, opening}
+use Rattle.model_undo.specs.World.{States, World, Happening, Calls, Resume, Restart, ToManager, OnBus, OnBench, happens, run, AllMay, opening}
 use Rattle.model_undo.specs.Headline.{MakesStop, AnyMakesStop, ShowsSame, PartsShowSame, IsStart, AlwaysStands, UndoneForGood, StopsOnlyIfTold}
 use Rattle.model_undo.proofs.LineLaws.{IsLine}
 use Rattle.model_undo.proofs.Joined.{joined_stands, joined_halts}
@@ -66,6 +67,7 @@ module _ (F : Family) (L : Bus → Line) (W : Wires F.words) where
   undone_once w (Calls Again) at = subst (λ (s : Stage F.words). IsAtUndone (world.repeats F L W (agains F.words s w.machine) w)) (sym at) at
   undone_once w (Calls Undo) at = subst (λ (s : Stage F.words). IsAtUndone (world.opens F L W (undoes F.words s w.machine) w)) (sym at) at
   undone_once w (Resume retries) at = subst (λ (s : Stage F.words). IsAtUndone (world.resumes F L W retries s w)) (sym at) at
+  undone_once w Restart at = subst (λ (s : Stage F.words). (restarts F.words s w.machine).stage ≡ AtUndone) (sym at) at
   undone_once w (ToManager bus e) at = subst (λ (s : Stage F.words). IsAtUndone (world.returns F L W bus e s w)) (sym at) at
   undone_once w (OnBus bus e after) at = at
   undone_once w (OnBench after) at = at
@@ -154,6 +156,7 @@ module _ (F : Family) (L : Bus → Line) (W : Wires F.words) where
   one_stop w (Calls Again) = inl (again_stop w.machine.stage w)
   one_stop w (Calls Undo) = inl (undo_stop w.machine.stage w)
   one_stop w (Resume retries) = inr tt
+  one_stop w Restart = inr tt
   one_stop w (ToManager bus e) = inl (returns_stop bus e w.machine.stage w)
   one_stop w (OnBus bus e after) = inl refl
   one_stop w (OnBench after) = inl refl

@@ -24,4 +24,6 @@ pub mod SeriesExample
 pub mod PacketDelivery
 pub mod RegistersFit
 pub mod Unsettled
+pub mod Restart
+pub mod Silence
 pub mod OnBus

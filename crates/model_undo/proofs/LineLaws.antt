@@ -14,7 +14,7 @@ use Rattle.model_bus.specs.PacketEffect.{FrameAtPort, FrameAtManager, HasPacketE
 use Rattle.model_bus.proofs.NumberLaws.{IsNumbering, smbus_numbers}
 use Rattle.model_bus.proofs.Steps.{Holds, start_holds, happens_holds}
 use Rattle.model_bus.proofs.Effects.{has_effect, begins_effect}
-use Rattle.model_bus.proofs.PacketEnds.{EndsHold, start_ends_hold, packet_step}
+use Rattle.model_bus.proofs.PacketEnds.{same_requests, EndsHold, start_ends_hold, packet_step}
 use Rattle.model_undo.specs.Line.{Line, exchange, whole, packets, carried_at, brought_at}
 use Rattle.model_undo.specs.Joined.{IsClosed}
 
@@ -29,6 +29,7 @@ pub record IsLine (L : Line) : Type 1 where
   pub may_resume : (s : L.State) → IsClosed (L.requests s) → L.IsHonest s L.resumes
   pub begun : (s : L.State) (bytes : List ℕ) → Holds s → IsClosed (L.requests s) → IsBegun (L.requests s) (L.requests (L.happens s (L.begins bytes))) bytes
   pub sent : (s : L.State) → Holds s → SameRequests (L.requests s) (L.requests (L.happens s L.sends_again))
+  pub restarted : (s : L.State) → Holds s → Holds (L.restarts s) × SameRequests (L.requests s) (L.requests (L.restarts s))
   pub resumed : (s : L.State) → Holds s → IsClosed (L.requests s) → SameRequests (L.requests s) (L.requests (L.happens s L.resumes))
   -- what comes to the manager moves no request, or brings the reply that is kept for the open one
   pub to_manager : (s : L.State) (e : L.Event) → Holds s → L.IsOutside e → L.is_to_manager e ≡ true → L.IsHonest s e
@@ -84,6 +85,7 @@ module _ (b : Rules) (numbers : IsNumbering b) where
     may_resume = λ s closed. closed_is s closed;
     begun = begun_whole;
     sent = λ s h. has_effect b numbers s SendsAgain h tt;
+    restarted = λ s h. (h, same_requests s);
     resumed = λ s h closed. has_effect b numbers s Resumes h (closed_is s closed);
     to_manager = to_manager_whole;
     on_bus = on_bus_whole;
@@ -165,6 +167,7 @@ module _ (b : PacketBus) (cutting : IsCutting b.split) where
     may_resume = λ x closed. closed_is x.bus closed;
     begun = λ x bytes h closed. begun_whole (rules_of b) (smbus_numbers b.manager b.controller b.first) x.bus bytes h.1.holds closed;
     sent = λ x h. effect x (Plain SendsAgain) h (tt, tt);
+    restarted = λ x h. (step x Clears h tt, effect x Clears h tt);
     resumed = λ x h closed. effect x PacketResumes h (closed_is x.bus closed);
     to_manager = to_manager_packets;
     on_bus = on_bus_packets;

@@ -7,9 +7,10 @@ use Rattle.model_undo.specs.Family.{Family, AllValid, IsReady}
 use Rattle.model_undo.specs.IsFamily.{IsFamily}
 use Rattle.model_undo.specs.Machine.{Gets, Sets, Undoes, Stage, AtStart, Opened, AtEnd, AtHalt, AtUndone, AtRefused, Machine, Turn, sending, starts, undoes, quiets, agains, stops, replies, takes, start_of, quiet_of, stop_of, again_of, undo_of, reply_of}
 use Rattle.model_undo.specs.Resume.{list_of, resumed}
+use Rattle.model_undo.specs.Restart.{restarts}
 use Rattle.model_undo.specs.declared.call.Call.TheVariants.{Start, Quiet, Stop, Again, Undo}
 use Rattle.model_undo.specs.RecordsRun as desk
-use Rattle.model_undo.specs.RecordsRun.{Desk, DeskEvent, Calls, Resumes, Carries, Takes, Elsewhere, May, AllMay, run, happens, Answers, at_desk, RecordsStand}
+use Rattle.model_undo.specs.RecordsRun.{Desk, DeskEvent, Calls, Resumes, Restarts, Carries, Takes, Elsewhere, May, AllMay, run, happens, Answers, at_desk, RecordsStand}
 use Rattle.model_undo.specs.Undoable.{CanUndo}
 use Rattle.model_undo.proofs.Undoable.{length_of}
 use Rattle.model_undo.proofs.StageSound.{StageSound, stage_kept, stage_stands, stage_halts}
@@ -106,6 +107,17 @@ module _ (F : Family) (laws : IsFamily F) (plan : List F.words.Op) (start : F.Re
   resumes_hold retries AtUndone w s h = h
   resumes_hold retries (AtRefused k code) w s h = h
 
+  -- the manager is made again
+  restarts_sound : (stage : Stage F.words) (m : Machine F.words) (reply : Option Answered) (b : F.Board) → stage ≡ m.stage → SoundAt stage m reply b → let n = restarts F.words stage m in SoundAt n.stage n reply b
+  restarts_sound (Opened heeded (Gets k op) part) m reply b e h = stop_good F laws plan start m.plan (Opened false (Gets k op) part) reply m.stopped m.undo b h
+  restarts_sound (Opened heeded (Sets k op back) part) m reply b e h = stop_good F laws plan start m.plan (Opened false (Sets k op back) part) reply m.stopped m.undo b h
+  restarts_sound (Opened heeded (Undoes u us) part) m reply b e h = h
+  restarts_sound AtStart m reply b e h = subst (λ (s : Stage F.words). SoundAt s m reply b) e h
+  restarts_sound AtEnd m reply b e h = subst (λ (s : Stage F.words). SoundAt s m reply b) e h
+  restarts_sound (AtHalt k why) m reply b e h = subst (λ (s : Stage F.words). SoundAt s m reply b) e h
+  restarts_sound AtUndone m reply b e h = subst (λ (s : Stage F.words). SoundAt s m reply b) e h
+  restarts_sound (AtRefused k code) m reply b e h = subst (λ (s : Stage F.words). SoundAt s m reply b) e h
+
   carries_hold : (stage : Stage F.words) (reply : Option Answered) (a : Answered) (after : F.Board) (w : Desk F) → stage ≡ w.machine.stage → SoundAt stage w.machine reply w.board → Holds w → Answers F stage w.board a after
       → Holds (desk.carries F stage reply a after w)
   carries_hold (Opened heeded task part) None a after w e s h row =
@@ -133,6 +145,7 @@ module _ (F : Family) (laws : IsFamily F) (plan : List F.words.Op) (start : F.Re
   happens_holds w (Calls Again) h may = stayed_holds (again_of F.words w.machine) w h (agains_sound w.machine.stage w.machine w.reply w.board h.sound)
   happens_holds w (Calls Undo) h may = opened_holds (undo_of F.words w.machine) w h (undoes_sound w.machine.stage w.machine w.reply w.board h.sound h.free)
   happens_holds w (Resumes retries) h may = resumes_hold retries w.machine.stage w h.sound h
+  happens_holds w Restarts h may = record { sound = restarts_sound w.machine.stage w.machine w.reply w.board refl h.sound; valid = h.valid; free = h.free }
   happens_holds w (Carries a after) h may = carries_hold w.machine.stage w.reply a after w refl h.sound h may
   happens_holds w Takes h may = takes_hold w.reply w h.sound h
   happens_holds w (Elsewhere after) h may = record {

@@ -12,7 +12,7 @@ use Rattle.model_undo.specs.CleanSeries.{AreFinite}
 use Rattle.model_undo.specs.SeriesExample.{Pair, Asked, GetLow, GetHigh, GetAll, SetLow, SetHigh, Both, GetBoth, SetBoth, next, joined, inverse, pairs, Board, IsValid, replied, low_answer, high_answer, answer, Row, Ready, IsRestorable, pair_family, GoesOver}
 
 pub goes_over : GoesOver
-goes_over = record { undone = refl; stopped_get = refl; stopped_set = refl; refused_late = refl; too_short = refl }
+goes_over = record { undone = refl; stopped_get = refl; stopped_set = refl; restarted_set = refl; restarted_undo = refl; refused_late = refl; too_short = refl }
 
 -- ---- the record
 

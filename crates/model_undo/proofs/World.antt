@@ -13,12 +13,13 @@ use Rattle.model_undo.specs.Words.{is_busy}
 use Rattle.model_undo.specs.IsFamily.{IsFamily}
 use Rattle.model_undo.specs.Machine.{Counts, count_of, one_answered, Task, Part, Gets, Sets, Undoes, Stage, AtStart, Opened, AtEnd, AtHalt, AtUndone, AtRefused, Machine, Sending, Turn, bus_at, sending, sends_at, first_stage, undo_stage, starts, undoes, quiets, agains, stops, replies, takes, stage_after, undo_after, start_of, undo_of, quiet_of, again_of, stop_of, reply_of, same_bus}
 use Rattle.model_undo.specs.Resume.{list_of, resumed}
+use Rattle.model_undo.specs.Restart.{restarts}
 use Rattle.model_undo.specs.Wires.{number_of, Wires}
 use Rattle.model_undo.specs.Joined.{OthersStill, IsClosed, request_bytes, answer_at, AreCounted}
 use Rattle.model_undo.specs.Line.{Exchange, Line}
 use Rattle.model_undo.specs.World as world
 use Rattle.model_undo.specs.declared.call.Call.TheVariants.{Start, Quiet, Stop, Again, Undo}
-use Rattle.model_undo.specs.World.{States, update, World, Happening, Calls, Resume, ToManager, OnBus, OnBench, May, AllMay, run, happens, IsHonestOn, BoardMay}
+use Rattle.model_undo.specs.World.{States, update, World, Happening, Calls, Resume, Restart, ToManager, OnBus, OnBench, May, AllMay, run, happens, IsHonestOn, BoardMay}
 use Rattle.model_undo.specs.Undoable.{CanUndo}
 use Rattle.model_undo.proofs.Undoable.{length_of}
 use Rattle.model_undo.proofs.Calls.{first_good, undo_good, stop_good}
@@ -365,6 +366,28 @@ module _ (F : Family) (laws : IsFamily F) (L : Bus → Line) (lines : (bus : Bus
   resumes_hold retries AtUndone w at h = h
   resumes_hold retries (AtRefused k code) w at h = h
 
+  -- the manager is made again: the task and its requests stay, and a plan is to stop
+  restarts_hold : (stage : Stage F.words) (m : Machine F.words) (on : States L) (board : F.Board) → stage ≡ m.stage → Holding m.plan stage m.stopped m.undo m.counts on board → HoldsOf (restarts F.words stage m) on board
+  restarts_hold (Opened heeded (Gets k op) part) m on board e h = heeds_hold heeded false (Gets k op) part (record m { stopped = true }) on board (stop_holds (Opened heeded (Gets k op) part) m on board h)
+  restarts_hold (Opened heeded (Sets k op back) part) m on board e h = heeds_hold heeded false (Sets k op back) part (record m { stopped = true }) on board (stop_holds (Opened heeded (Sets k op back) part) m on board h)
+  restarts_hold (Opened heeded (Undoes u us) part) m on board e h = heeds_hold heeded false (Undoes u us) part m on board h
+  restarts_hold AtStart m on board e h = subst (λ (s : Stage F.words). Holding m.plan s m.stopped m.undo m.counts on board) e h
+  restarts_hold AtEnd m on board e h = subst (λ (s : Stage F.words). Holding m.plan s m.stopped m.undo m.counts on board) e h
+  restarts_hold (AtHalt k why) m on board e h = subst (λ (s : Stage F.words). Holding m.plan s m.stopped m.undo m.counts on board) e h
+  restarts_hold AtUndone m on board e h = subst (λ (s : Stage F.words). Holding m.plan s m.stopped m.undo m.counts on board) e h
+  restarts_hold (AtRefused k code) m on board e h = subst (λ (s : Stage F.words). Holding m.plan s m.stopped m.undo m.counts on board) e h
+
+  -- and no request moves on a bus
+  remade_holds : (m : Machine F.words) (on : States L) (board : F.Board) → HoldsOf m on board → HoldsOf m (λ bus. (L bus).restarts (on bus)) board
+  remade_holds m on board h =
+      let now : States L = (λ bus. (L bus).restarts (on bus)) in
+      let same : (bus : Bus) → SameRequests (requests on bus) (requests now bus) = (λ bus. ((lines bus).restarted (on bus) (h.holds bus)).1) in
+      record {
+        joined = still F laws W first plan start m.plan m.stage m.stopped m.undo (requests on) (requests now) board h.joined same;
+        counted = counted_still m.counts (requests on) (requests now) same h.counted;
+        holds = λ bus. ((lines bus).restarted (on bus) (h.holds bus)).0;
+      }
+
   pub happens_holds : (w : World F L) (e : Happening F L) → WorldHolds w → May F L W w e → WorldHolds (happens F L W w e)
   happens_holds w (Calls Start) h may = opened_holds (start_of F.words w.machine) w h (starts_hold w.machine.stage w.machine w.on w.board h)
   happens_holds w (Calls Quiet) h may = repeated_holds (quiet_of F.words w.machine) w h (quiets_hold w.machine.stage w.machine w.on w.board refl h)
@@ -372,6 +395,7 @@ module _ (F : Family) (laws : IsFamily F) (L : Bus → Line) (lines : (bus : Bus
   happens_holds w (Calls Again) h may = repeated_holds (again_of F.words w.machine) w h (agains_hold w.machine.stage w.machine w.on w.board h)
   happens_holds w (Calls Undo) h may = opened_holds (undo_of F.words w.machine) w h (undoes_hold w.machine.stage w.machine w.on w.board h)
   happens_holds w (Resume retries) h may = resumes_hold retries w.machine.stage w refl h
+  happens_holds w Restart h may = remade_holds (restarts F.words w.machine.stage w.machine) w.on w.board (restarts_hold w.machine.stage w.machine w.on w.board refl h)
   happens_holds w (ToManager bus e) h may = returns_hold bus e w.machine.stage w refl h may.0 may.1
   happens_holds w (OnBus bus e after) h may =
       on_bus_holds bus e after ((L bus).carries (w.on bus) e) w h may.0.1 ((lines bus).on_bus (w.on bus) e (h.holds bus) may.0.0 may.1 may.0.1) may.2

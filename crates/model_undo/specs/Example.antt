@@ -6,14 +6,15 @@ use Rattle.two_wire.specs.declared.Bus.TheVariants.{Ipmb, Smbus}
 use Rattle.model_bus.specs.BusState.{ReachesPort, ReachesManager, OtherAsks, opening as opening_bus}
 use Rattle.model_bus.specs.Packet.{packets_of}
 use Rattle.model_bus.specs.PacketBus.{Plain, PacketReachesPort, PacketReachesManager, opening_ends}
-use Rattle.model_undo.specs.declared.phase.Phase.TheVariants.{Undone}
+use Rattle.model_undo.specs.declared.phase.Why.TheVariants.{Stop}
+use Rattle.model_undo.specs.declared.phase.Phase.TheVariants.{Halted, Undone}
 use Rattle.model_undo.specs.Machine.{phase_of}
 use Rattle.model_undo.specs.Wires.{Wires}
 use Rattle.model_undo.specs.Line.{Line}
 use Rattle.model_bus.specs.Addresses.{Addresses}
 use Rattle.model_undo.specs.TwoBuses.{in_messages, with_packets}
 use Rattle.model_undo.specs.declared.call.Call.TheVariants.{Start, Quiet, Again, Undo}
-use Rattle.model_undo.specs.World.{States, Happening, Calls, Resume, ToManager, OnBus, AllMay, run, opening}
+use Rattle.model_undo.specs.World.{States, Happening, Calls, Resume, Restart, ToManager, OnBus, AllMay, run, opening}
 use Rattle.model_undo.specs.Registers.{Board, Write, register_words, registers, wires}
 
 -- the first register has 5 in its high half, the second 2 in its low half
@@ -79,6 +80,40 @@ module _ (L : Bus → Line) (R : Reaches L) where
   -- the same, where another manager goes on from the list, with the run's requests in the windows and its frames still live
   abbrev pub run_resume_undo : List (Happening registers L)
   run_resume_undo = first_step ++ second_step ++ Resume 1 ∷ undo_steps
+
+  -- The Set of register 1 (frame 2 on SMBus) is lost, and the manager's process ends. The manager that is made again sends the Set again (frame 3):
+  -- it is carried out, and the process ends while its reply comes (frame 4). Sent again (frame 5), it is answered by the kept reply (frame 6), and
+  -- the plan is done.
+  abbrev pub restarted_step : List (Happening registers L)
+  restarted_step =
+      R.port Smbus 0 (0 ∷ 0 ∷ 9 ∷ 2 ∷ 2 ∷ []) (board 3 9 2) (board 3 9 3) ++ R.manager Smbus 1
+      ++ Restart ∷ Calls Again ∷ R.port Smbus 3 (1 ∷ 0 ∷ []) (board 3 9 3) (board 3 7 4) ++ R.rest_to_manager 4
+      ++ Restart ∷ Calls Again ∷ R.port Smbus 5 [] (board 3 7 4) (board 3 7 4) ++ R.manager Smbus 6
+
+  -- So it is in the undo: that of register 1 is carried out (frame 7) before the process ends, that of register 0 (frame 9 on IPMB) is lost.
+  abbrev pub restarted_undo : List (Happening registers L)
+  restarted_undo =
+      Restart ∷ Calls Undo ∷ R.port Smbus 7 (2 ∷ 0 ∷ []) (board 3 7 4) (board 3 9 5) ++ Restart ∷ Calls Again ∷ R.port Smbus 9 [] (board 3 9 5) (board 3 9 5) ++ R.manager Smbus 10
+      ++ Restart ∷ Calls Again ∷ R.port Ipmb 10 (2 ∷ 0 ∷ []) (board 3 9 5) (board 1 9 6) ++ R.manager Ipmb 11 ++ Restart ∷ []
+
+  abbrev pub run_restart_undo : List (Happening registers L)
+  run_restart_undo = first_step ++ restarted_step ++ restarted_undo
+
+  -- The same in the first of two steps: the Set of register 0 is lost (frame 2 on IPMB), then carried out (frame 3), and each time the process ends.
+  -- Answered (frame 6), it is the plan's last.
+  abbrev pub restarted_first : List (Happening registers L)
+  restarted_first =
+      Restart ∷ Calls Start ∷ R.port Ipmb 0 (0 ∷ 0 ∷ 5 ∷ 1 ∷ 0 ∷ []) (board 1 9 0) (board 1 9 1) ++ R.manager Ipmb 1
+      ++ Restart ∷ Calls Again ∷ R.port Ipmb 3 (1 ∷ 0 ∷ []) (board 1 9 1) (board 3 9 2)
+      ++ Restart ∷ Calls Again ∷ R.port Ipmb 5 [] (board 3 9 2) (board 3 9 2) ++ R.manager Ipmb 6
+
+  abbrev pub undo_of_first : List (Happening registers L)
+  undo_of_first = Calls Undo ∷ R.port Ipmb 7 (2 ∷ 0 ∷ []) (board 3 9 2) (board 1 9 3) ++ R.manager Ipmb 8
+
+-- a run whose first step is restarted halts after that step, and its undo ends with the records of the start
+pub record HaltsThenUndone (L : Bus → Line) (W : Wires register_words) (on : States L) (R : Reaches L) : Type 0 where
+  pub halts : phase_of register_words (run registers L W (restarted_first L R) (opening registers L plan 1 on (board 1 9 0))).machine ≡ Halted 1 Stop
+  pub undone : EndsUndone L W on (restarted_first L R ++ undo_of_first L R)
 
 -- ---- in whole messages
 

@@ -12,12 +12,13 @@ use Rattle.model_undo.specs.Machine.{phase_of}
 use Rattle.model_undo.specs.Wires.{Wires}
 use Rattle.model_undo.specs.Line.{Line}
 use Rattle.model_undo.specs.declared.call.Call.TheVariants.{Stop as StopCall}
-use Rattle.model_undo.specs.World.{States, Happening, Calls, Resume, run, AllMay, opening}
+use Rattle.model_undo.specs.World.{States, Happening, Calls, Resume, Restart, run, AllMay, opening}
 
--- the schedule has a call of `stop`, or another manager goes on
+-- the schedule has a call of `stop`, or another manager goes on, or the manager is made again
 abbrev pub MakesStop : (family : Family) (lines : Bus → Line) → Happening family lines → Type 0
 MakesStop family lines (Calls StopCall) = Unit {0}
 MakesStop family lines (Resume retries) = Unit {0}
+MakesStop family lines Restart = Unit {0}
 MakesStop family lines _ = ⊥
 
 abbrev pub AnyMakesStop : (family : Family) (lines : Bus → Line) → List (Happening family lines) → Type 0

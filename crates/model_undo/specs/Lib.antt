@@ -6,6 +6,7 @@ pub mod Plan
 pub mod Undoable
 pub mod Machine
 pub mod Resume
+pub mod Restart
 pub mod Wires
 pub mod Joined
 pub mod Line
@@ -22,3 +23,4 @@ pub mod Delivery
 pub mod CleanBuses
 pub mod SeriesExample
 pub mod Unsettled
+pub mod Silence

@@ -3,8 +3,8 @@ use Rattle.std.specs.Prelude.{ℕ, Bool, true, false, List, Option, Some, None, 
 use Rattle.model_bus.specs.Numbering.{Rules}
 use Rattle.model_bus.specs.BusState.{BusState, Frame, Event, Begins, SendsAgain, ReachesPort, ReachesManager, OtherReplies, Resumes, carried_now, taken_now, happens}
 use Rattle.model_bus.specs.Schedule.{IsHonest}
-use Rattle.model_bus.specs.Start.{NothingUnderWay, EmptyWindow, NothingWaits}
-use Rattle.model_bus.specs.PacketBus.{PacketBus, rules_of, Ends, PacketEvent, Plain, PacketReachesPort, PacketReachesManager, OtherReplyPacket, PacketResumes, packet_happens}
+use Rattle.model_bus.specs.Start.{NothingUnderWay, FreshWindow, NothingWaits}
+use Rattle.model_bus.specs.PacketBus.{PacketBus, rules_of, Ends, PacketEvent, Plain, PacketReachesPort, PacketReachesManager, OtherReplyPacket, Clears, PacketResumes, packet_happens}
 use Rattle.model_bus.specs.PacketEffect.{completed_request, completed_reply, carried_of, taken_of}
 use Rattle.model_bus.specs.PacketSchedule.{RecentWhereWhole, IsPacketHonest}
 
@@ -27,6 +27,8 @@ pub record Line : Type 1 where
   pub begins : List ℕ → Event
   pub sends_again : Event
   pub resumes : Event
+  -- the manager's process ends, and is made again: of the bus it keeps nothing
+  pub restarts : State → State
   -- the event is none of these
   pub IsOutside : Event → Type 0
   -- something comes to the manager's end
@@ -68,12 +70,13 @@ whole rules = record {
   State = BusState;
   Event = Event;
   requests = λ state. state;
-  IsStart = λ state. NothingUnderWay state × EmptyWindow rules state.log;
+  IsStart = λ state. NothingUnderWay state × FreshWindow rules state.log;
   happens = happens rules;
   IsHonest = IsHonest rules;
   begins = Begins;
   sends_again = SendsAgain;
   resumes = Resumes;
+  restarts = λ state. state;
   IsOutside = IsOutsideWhole;
   is_to_manager = is_to_manager_whole;
   carries = carries_whole rules;
@@ -112,18 +115,19 @@ brings_packets bus ends (PacketReachesManager which place) = brought_at bus ends
 brings_packets bus ends _ = None
 
 -- A bus in packets. The packets of a message that becomes whole at the port must be of recent requests alone. No premise on packets that wait asks
--- less.
+-- less. A restart drops what waits at the manager.
 abbrev pub packets : PacketBus → Line
 packets bus = record {
   State = Ends;
   Event = PacketEvent;
   requests = λ ends. ends.bus;
-  IsStart = λ ends. NothingUnderWay ends.bus × NothingWaits bus ends × EmptyWindow (rules_of bus) ends.bus.log;
+  IsStart = λ ends. NothingUnderWay ends.bus × NothingWaits bus ends × FreshWindow (rules_of bus) ends.bus.log;
   happens = packet_happens bus;
   IsHonest = IsPacketHonest RecentWhereWhole bus;
   begins = λ bytes. Plain (Begins bytes);
   sends_again = Plain SendsAgain;
   resumes = PacketResumes;
+  restarts = λ ends. packet_happens bus ends Clears;
   IsOutside = IsOutsidePackets;
   is_to_manager = is_to_manager_packets;
   carries = carries_packets bus;

@@ -8,6 +8,7 @@ use Rattle.model_undo.specs.Family.{Family, AllValid, IsReady, Keeps}
 use Rattle.model_undo.specs.Plan.{Stands, Halts}
 use Rattle.model_undo.specs.Machine.{Stage, Opened, AtEnd, AtHalt, Machine, Turn, phase_of, start_of, quiet_of, stop_of, again_of, undo_of, reply_of, opened}
 use Rattle.model_undo.specs.Resume.{list_of, resumed}
+use Rattle.model_undo.specs.Restart.{restarted}
 
 -- `reply` is the answer to the open request, if that was carried out and the answer isn't taken yet
 pub record Desk (family : Family) : Type 0 where
@@ -20,6 +21,8 @@ pub data DeskEvent (family : Family) : Type 0 where
   Calls : (call : Call) → DeskEvent family
   -- another manager goes on from the list, where the plan ended or halted
   Resumes : (retries : ℕ) → DeskEvent family
+  -- the manager's process ends, and it is made again of what it wrote down
+  Restarts : DeskEvent family
   -- the open request is carried out, unless it was before
   Carries : (answered : Answered) (after : family.Board) → DeskEvent family
   -- the manager takes the reply, if there is one
@@ -58,6 +61,7 @@ module _ (family : Family) where
   happens desk (Calls Again) = stays (again_of family.words desk.machine) desk
   happens desk (Calls Undo) = opens (undo_of family.words desk.machine) desk
   happens desk (Resumes retries) = resumes retries desk.machine.stage desk
+  happens desk Restarts = record desk { machine = restarted family.words desk.machine }
   happens desk (Carries answered after) = carries desk.machine.stage desk.reply answered after desk
   happens desk Takes = takes desk.reply desk
   happens desk (Elsewhere after) = record desk { board = after }

@@ -13,6 +13,8 @@ use Rattle.model_undo.specs.declared.phase.Phase.{Phase}
 use Rattle.model_undo.specs.declared.phase.Phase.TheVariants.{Getting, Setting, Done, Halted, Undoing, Undone}
 use Rattle.model_undo.specs.Machine.{Machine, opened}
 use Rattle.model_undo.specs.Resume.{Input, Called, Replies, NumberedRequest, trace}
+use Rattle.model_undo.specs.Restart.{restarted}
+use Rattle.model_undo.specs.Unsettled.{run}
 
 -- an operation gives both bytes
 pub record Pair : Type 0 where
@@ -201,6 +203,10 @@ Seen = List (Phase × Option (NumberedRequest pairs))
 abbrev pub seen : List Input → Seen
 seen calls = trace pairs calls begun
 
+-- the same from the manager that is made again after some calls
+abbrev pub seen_again : List Input → List Input → Seen
+seen_again before calls = trace pairs calls (restarted pairs (run pairs before begun))
+
 -- the Get, and its two replies
 abbrev pub getting : List Input
 getting = (Called manager_call.Start) ∷ done (7 ∷ []) ∷ done (9 ∷ []) ∷ []
@@ -215,6 +221,10 @@ pub record GoesOver : Type 0 where
   -- a stop halts the plan at the next reply to a Get, and a Set only after its last
   pub stopped_get : seen ((Called manager_call.Start) ∷ (Called manager_call.Stop) ∷ done (7 ∷ []) ∷ []) ≡ (Getting 0, sent 0 GetLow) ∷ (Getting 0, None) ∷ (Halted 0 Stop, None) ∷ []
   pub stopped_set : seen (getting ++ (Called manager_call.Stop) ∷ done [] ∷ done [] ∷ []) ≡ got ++ (Setting 0, None) ∷ (Setting 0, sent 3 (SetHigh 2)) ∷ (Done, None) ∷ []
+  -- A restart between the requests of a Set: that goes on to its last, since what was answered is kept. Between those of an undo likewise.
+  pub restarted_set : seen_again (getting ++ done [] ∷ []) ((Called manager_call.Again) ∷ done [] ∷ []) ≡ (Setting 0, sent 3 (SetHigh 2)) ∷ (Done, None) ∷ []
+  pub restarted_undo : seen_again (getting ++ done [] ∷ done [] ∷ (Called manager_call.Undo) ∷ done [] ∷ []) ((Called manager_call.Again) ∷ done [] ∷ [])
+      ≡ (Undoing 0, sent 5 (SetHigh 9)) ∷ (Undone, None) ∷ []
   -- a refusal of the second request is one of the Set, and no undo is kept
   pub refused_late : seen (getting ++ done [] ∷ refused ∷ (Called manager_call.Undo) ∷ [])
       ≡ got ++ (Setting 0, sent 3 (SetHigh 2)) ∷ (Halted 0 (Refused invalid_data_field), None) ∷ (Undone, None) ∷ []

@@ -8,6 +8,7 @@ use Rattle.model_undo.specs.declared.call.Call.TheVariants.{Start, Quiet, Stop, 
 use Rattle.model_undo.specs.Family.{Family, Keeps}
 use Rattle.model_undo.specs.Machine.{Stage, Opened, AtEnd, AtHalt, Machine, Sending, Turn, bus_at, start_of, quiet_of, stop_of, again_of, undo_of, reply_of, opened, same_bus}
 use Rattle.model_undo.specs.Resume.{list_of, resumed}
+use Rattle.model_undo.specs.Restart.{restarted}
 use Rattle.model_undo.specs.Wires.{number_of, Wires}
 use Rattle.model_undo.specs.Line.{Exchange, Line}
 
@@ -33,6 +34,8 @@ pub data Happening (family : Family) (lines : Bus → Line) : Type 0 where
   Calls : (call : Call) → Happening family lines
   -- another manager goes on from the list of this one, where it ended or halted
   Resume : (retries : ℕ) → Happening family lines
+  -- the manager's process ends, at any moment, and it is made again of what it wrote down
+  Restart : Happening family lines
   -- something comes to the manager on a bus
   ToManager : (bus : Bus) (event : (lines bus).Event) → Happening family lines
   -- anything else happens on a bus, and leaves the board so
@@ -74,6 +77,10 @@ module _ (family : Family) (lines : Bus → Line) (wires : Wires family.words) w
   resumes retries (AtHalt step why) world = replaced retries world
   resumes retries _ world = world
 
+  -- the manager is made again
+  abbrev pub remade : World family lines → World family lines
+  remade world = record world { machine = restarted family.words world.machine; on = λ bus. (lines bus).restarts (world.on bus) }
+
   -- something happens on a bus
   abbrev pub moved : (bus : Bus) → (lines bus).Event → World family lines → States lines
   moved bus event world = update lines bus ((lines bus).happens (world.on bus) event) world.on
@@ -104,6 +111,7 @@ module _ (family : Family) (lines : Bus → Line) (wires : Wires family.words) w
   happens world (Calls Again) = repeats (again_of family.words world.machine) world
   happens world (Calls Undo) = opens (undo_of family.words world.machine) world
   happens world (Resume retries) = resumes retries world.machine.stage world
+  happens world Restart = remade world
   happens world (ToManager bus event) = returns bus event world.machine.stage world
   happens world (OnBus bus event after) = record world { on = moved bus event world; board = after }
   happens world (OnBench after) = record world { board = after }

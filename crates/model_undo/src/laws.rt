@@ -5,11 +5,13 @@ ghost use Rattle.two_wire.specs.declared.Bus.{Bus};
 ghost use Rattle.model_bus.specs.Packet.{packets_of};
 ghost use Rattle.model_undo.specs.IsFamily.{IsFamily};
 ghost use Rattle.model_bus.specs.Addresses.{Addresses};
-ghost use Rattle.model_undo.specs.TwoBuses.{with_packets, packets_come, OverBothBuses, DeliveredOverBothBuses};
+ghost use Rattle.model_undo.specs.TwoBuses.{with_packets, packets_come, OverBothBuses, DeliveredOverBothBuses, HoweverSent};
 ghost use Rattle.model_undo.specs.Headline.{AlwaysStands, UndoneForGood, StopsOnlyIfTold};
 ghost use Rattle.model_undo.specs.Giving.{HaltsByAnswers};
 ghost use Rattle.model_undo.specs.Resume.{GoesOnAlike};
 ghost use Rattle.model_undo.specs.Unsettled.{UnsettledByQuiet};
+ghost use Rattle.model_undo.specs.Silence.{RestartsAreSilences};
+ghost use Rattle.model_undo.specs.Restart.{IsKept};
 ghost use Rattle.model_undo.specs.RecordsRun.{RecordsStand};
 ghost use Rattle.model_undo.specs.Clean.{AnswersByRow, AlwaysRunsClean};
 ghost use Rattle.model_undo.specs.CleanBuses.{AllCanBeSent, AlwaysRunsOverBuses};
@@ -36,7 +38,7 @@ pub fn phases_stand()
 {}
 
 /// A halt has its cause in its own schedule. Refused, GetRefused and NotRestorable come only where the board gave that answer to the Set or to the
-/// Get of that step, at the records after the steps before it; Stop comes only where the manager was told to stop, or another went on from its list.
+/// Get of that step, at the records after the steps before it; Stop comes only where the manager was told to stop, another went on from its list, or it was made again.
 pub fn halts_by_given_answers()
     ensures { (at : Bus → Addresses)
         → OverBothBuses at (λ buses. HaltsByAnswers registers buses wires) }
@@ -49,7 +51,7 @@ pub fn undone_is_for_good()
         → OverBothBuses at (λ buses. UndoneForGood registers buses wires) }
 {}
 
-/// A plan halts because of a stop only where it was stopped, or where another manager went on from its list.
+/// A plan halts because of a stop only where it was stopped, where another manager went on from its list, or where the manager was made again.
 pub fn stops_only_if_told()
     ensures { (at : Bus → Addresses)
         → OverBothBuses at (λ buses. StopsOnlyIfTold registers buses wires) }
@@ -59,6 +61,19 @@ pub fn stops_only_if_told()
 /// `undo` on it goes through the same phases and sends the same requests, under the same numbers, as the manager from which the list was taken.
 pub fn resumed_goes_on_alike()
     ensures { GoesOnAlike register_words }
+{}
+
+/// A manager's process may end at any moment, and the manager be made again of what it wrote down. It is then as if it had been told to stop, where
+/// it was within a plan, and had heard nothing until its request was unsettled. Where no request is open, nothing changes.
+pub fn restarts_are_silences()
+    ensures { (at : Bus → Addresses)
+        → HoweverSent at (λ buses. RestartsAreSilences registers buses wires) }
+{}
+
+/// The manager that is made again has the same request open under the same number, gives the same list, and sends nothing by itself. `quiet`, `again`
+/// and `stop` change nothing of what it is made of.
+pub fn restarted_keeps_its_place()
+    ensures { IsKept register_words }
 {}
 
 /// A request comes to be unsettled only by a call of `quiet`, after its frames were sent again as often as is allowed since it was opened or

@@ -5,12 +5,14 @@ ghost use Rattle.two_wire.specs.declared.Bus.{Bus};
 ghost use Rattle.model_bus.specs.Addresses.{Addresses};
 ghost use Rattle.model_bus.specs.Answered.{Answered};
 ghost use Rattle.model_undo.specs.IsFamily.{IsFamily};
-ghost use Rattle.model_undo.specs.TwoBuses.{OverBothBuses, DeliveredOverBothBuses};
+ghost use Rattle.model_undo.specs.TwoBuses.{OverBothBuses, DeliveredOverBothBuses, HoweverSent};
 ghost use Rattle.model_undo.specs.Headline.{AlwaysStands, UndoneForGood, StopsOnlyIfTold};
 ghost use Rattle.model_undo.specs.Giving.{HaltsByAnswers};
 ghost use Rattle.model_undo.specs.RecordsRun.{RecordsStand};
 ghost use Rattle.model_undo.specs.Resume.{GoesOnAlike};
 ghost use Rattle.model_undo.specs.Unsettled.{UnsettledByQuiet};
+ghost use Rattle.model_undo.specs.Silence.{RestartsAreSilences};
+ghost use Rattle.model_undo.specs.Restart.{IsKept};
 ghost use Rattle.model_undo.specs.Clean.{AnswersByRow};
 ghost use Rattle.model_undo.specs.CleanSeries.{AlwaysRunsThrough};
 ghost use Rattle.model_undo.specs.CleanBuses.{AlwaysRunsThroughBuses};
@@ -44,7 +46,7 @@ pub fn pairs_are_undone_for_good()
         → OverBothBuses at (λ buses. UndoneForGood pair_family buses pair_wires) }
 {}
 
-/// A plan halts because of a stop only where it was stopped, or where another manager went on from its list.
+/// A plan halts because of a stop only where it was stopped, where another manager went on from its list, or where the manager was made again.
 pub fn pairs_stop_only_if_told()
     ensures { (at : Bus → Addresses)
         → OverBothBuses at (λ buses. StopsOnlyIfTold pair_family buses pair_wires) }
@@ -53,6 +55,17 @@ pub fn pairs_stop_only_if_told()
 /// A manager that goes on from a list of series does from `undo` on what the list's own manager would have done.
 pub fn resumed_pairs_go_on_alike()
     ensures { GoesOnAlike pairs }
+{}
+
+/// A restart is a stop and a silence, whichever request of a series is open.
+pub fn pair_restarts_are_silences()
+    ensures { (at : Bus → Addresses)
+        → HoweverSent at (λ buses. RestartsAreSilences pair_family buses pair_wires) }
+{}
+
+/// The manager that is made again has the same request of the series open, and the data of the replies before it.
+pub fn restarted_pairs_keep_their_place()
+    ensures { IsKept pairs }
 {}
 
 /// A request comes to be unsettled only by a call of `quiet`, whichever of its series it is.

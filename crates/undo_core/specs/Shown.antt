@@ -30,7 +30,7 @@ use Rattle.model_ports.specs.Bytes.{response_bytes}
 use Rattle.model_ports.specs.Wires.{bus_of, bytes_of, answered_from}
 use Rattle.model_ports.specs.Values.{written, IsFrameOn}
 use Rattle.model_undo.specs.declared.call.Call.{Call}
-use Rattle.model_lab.specs.ManagerSteps.{addresses, board_plans, Sent as AllSent, ManagerState, ManagerDeed, sent_of, called, rests, taken_or, hears_reply, hears_response, hears_packet, joins}
+use Rattle.model_lab.specs.ManagerSteps.{addresses, board_plans, Sent as AllSent, ManagerState, ManagerDeed, sent_of, called, remade, rests, taken_or, hears_reply, hears_response, hears_packet, joins}
 use Rattle.undo_core.specs.declared.entering.Reply.{Reply}
 use Rattle.undo_core.specs.declared.stage.Task.{Task}
 use Rattle.undo_core.specs.declared.stage.Task.TheVariants as task
@@ -159,6 +159,10 @@ IsCalled names before manager _ _ = ⊥
 -- whatever machine the manager showed, the call is the machine's
 abbrev pub Calls : Call → Manager → Manager → Result (Option Sent) WrongPhase → Type 0
 Calls call old new result = ForShown old (λ names s. IsCalled names s new result (called (board_plans names) call s))
+
+-- whatever machine the manager showed, it then shows that of a manager that is made again
+abbrev pub IsRemade : Manager → Manager → Type 0
+IsRemade old new = ForShown old (λ names s. Shows names new (remade (board_plans names) s))
 
 -- whatever machine the manager showed, it takes a reply that passed the test as the machine takes the reply
 abbrev pub Takes : Answered → Manager → Manager → Option Sent → Type 0

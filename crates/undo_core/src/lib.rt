@@ -11,6 +11,7 @@ pub mod laws;
 mod manager;
 mod opening;
 mod phase;
+mod restarting;
 mod room;
 mod sending;
 mod showing;
