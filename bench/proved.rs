@@ -1,4 +1,4 @@
-//! The proved controllers, which `crates/bench_port` and `crates/bench_list` put into a static library each.
+//! The proved controllers, which `bench/crates/bench_port` and `bench/crates/bench_list` put into a static library each.
 
 use crate::slots::{Bus, Kind, Slot};
 

@@ -9,7 +9,7 @@ use Rattle.bmc_board.specs.State.{State, opened}
 use Rattle.bmc_core.specs.Outs.{sent}
 use Rattle.model_ports.specs.PortSteps.{quiet_port}
 use Rattle.bmc_core.specs.Port.{bus_of, Shows, Hears}
-use Rattle.bmc_lab.specs.declared.report.Report.{Report}
+use Rattle.app_base.specs.declared.report.Report.{Report}
 use Rattle.bmc_lab.specs.Report.{text_of, status_of}
 use Rattle.bmc_lab.specs.Run.{controller, IsBoardOf, IsFresh, Tells}
 

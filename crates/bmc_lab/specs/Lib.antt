@@ -1,7 +1,2 @@
 pub mod Asked
-pub mod Console
-pub mod Ending
-pub mod EndingLaws
-pub mod Files
-pub mod Report
 pub mod Run

@@ -13,11 +13,12 @@ use Rattle.model_ports.specs.PortSteps.{quiet_port}
 use Rattle.bmc_core.specs.Port.{bus_of, Shows, Hears}
 use Rattle.text_board.specs.declared.fault.FileFault.{FileFault}
 use Rattle.text_board.specs.Holds.{Reads}
-use Rattle.bmc_lab.specs.declared.console.Stream.{Stream}
-use Rattle.bmc_lab.specs.declared.console.Stream.TheVariants.{Output, Error}
-use Rattle.bmc_lab.specs.declared.status.Status.{Status}
-use Rattle.bmc_lab.specs.declared.status.Status.TheVariants.{RefusedFile}
-use Rattle.bmc_lab.specs.Report.{text_of, status_of, board_line}
+use Rattle.app_base.specs.declared.console.Stream.{Stream}
+use Rattle.app_base.specs.declared.console.Stream.TheVariants.{Output, Error}
+use Rattle.app_base.specs.declared.status.Status.{Status}
+use Rattle.app_base.specs.declared.status.Status.TheVariants.{RefusedFile}
+use Rattle.app_base.specs.Report.{board_line}
+use Rattle.bmc_lab.specs.Report.{text_of, status_of}
 
 -- where the controller is
 abbrev pub controller : At

@@ -4,7 +4,7 @@ ghost use Rattle.std.specs.Option.{option_copied};
 ghost use Rattle.two_wire.specs.declared.Bus.{Bus as AnyBus};
 ghost use Rattle.bmc_lab.specs.Asked.{Means, Asks};
 
-use crate::status::Status;
+use app_base::Status;
 use hex::FromHexError;
 use std::alloc::Global;
 use two_wire::Bus;

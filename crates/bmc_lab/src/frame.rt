@@ -1,13 +1,11 @@
 //! `bmclab frame`: one frame to a fresh controller with a board.
 ghost use Rattle.std.specs.Prelude.{◌≡◌, ◌⊎◌, ℕ, List, Option, IfOk, IfErr, string_bytes};
 ghost use Rattle.std.specs.Option.{option_copied};
-ghost use Rattle.bmc_lab.specs.declared.console.Stream.TheVariants.{Output};
-ghost use Rattle.bmc_lab.specs.Ending.{RunEnds};
+ghost use Rattle.app_base.specs.declared.console.Stream.TheVariants.{Output};
+ghost use Rattle.app_base.specs.Ending.{RunEnds};
 ghost use Rattle.bmc_lab.specs.Run.{controller, IsBoardOf, IsFaultOf, Tells, Says};
 
-use crate::console::Console;
-use crate::ending::Ending;
-use crate::report::Report;
+use app_base::{Console, Ending, Report};
 use bmc_core::{At, Board, Out, Port};
 use cfg_records::{BoardFile, sample_board};
 use mctp_net::EndpointId;

@@ -1,6 +1,6 @@
 -- Workers that go on, round by round, as long as turns are left.
 use Rattle.std.proofs.Common.{◌≡◌, ◌≢◌, ◌≤◌, ◌+◌, ◌∙◌, ◌⊎◌, inl, inr, refl, sym, ℕ, zero, suc, Bool, true, false, List, Option, length, arith}
-use Rattle.bmc_links.specs.declared.link.Counts.{Counts}
+use Rattle.wire_links.specs.declared.link.Counts.{Counts}
 use Rattle.bmc_history.specs.declared.event.Call.{Call}
 use Rattle.bmc_shared.specs.declared.worker.End.{End}
 use Rattle.bmc_shared.specs.declared.worker.End.TheVariants.{Turns, Full}

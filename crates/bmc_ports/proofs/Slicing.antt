@@ -3,9 +3,9 @@ use Rattle.std.proofs.Common.{◌≡◌, ◌+◌, ◌++◌, ◌∙◌, refl, sym
 use Rattle.std.proofs.lemmas.List.{append_assoc, length-append}
 use Rattle.two_wire.specs.declared.Bus.{Bus}
 use Rattle.bmc_core.specs.Port.{bus_of}
-use Rattle.bmc_links.specs.declared.link.Counts.{Counts}
-use Rattle.bmc_links.specs.Counted.{counted_on}
-use Rattle.bmc_links.proofs.Counting.{counted_twice}
+use Rattle.wire_links.specs.declared.link.Counts.{Counts}
+use Rattle.wire_links.specs.Counted.{counted_on}
+use Rattle.wire_links.proofs.Counting.{counted_twice}
 use Rattle.bmc_history.specs.declared.event.Call.{Call}
 use Rattle.bmc_shared.specs.declared.seat.Seat.{Seat}
 use Rattle.bmc_shared.specs.declared.worker.End.{End}

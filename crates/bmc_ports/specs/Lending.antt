@@ -1,5 +1,5 @@
 -- What two workers and a scanner give back of what they were lent.
-use Rattle.bmc_links.specs.declared.link.Counts.{Counts}
+use Rattle.wire_links.specs.declared.link.Counts.{Counts}
 use Rattle.bmc_shared.specs.declared.seat.Seats.{Seats}
 use Rattle.bmc_ports.specs.declared.lane.Lanes.{Lanes}
 use Rattle.bmc_ports.specs.declared.timed.Timetable.{Timetable}

@@ -7,3 +7,4 @@ pub mod Senders
 pub mod Silence
 pub mod Slices
 pub mod Timing
+pub mod Driving

@@ -2,8 +2,8 @@
 use Rattle.std.specs.Prelude.{◌≡◌, ◌⊎◌, ◌+◌, ◌≤◌, ◌++◌, ◌∷◌, ℕ, List, [], length, Option, Some, None, true}
 use Rattle.bmc_core.specs.Port.{bus_of}
 use Rattle.bmc_core.specs.declared.port.Port.{Port}
-use Rattle.bmc_links.specs.declared.link.Counts.{Counts}
-use Rattle.bmc_links.specs.Counted.{counted_on}
+use Rattle.wire_links.specs.declared.link.Counts.{Counts}
+use Rattle.wire_links.specs.Counted.{counted_on}
 use Rattle.bmc_history.specs.declared.event.Call.{Call}
 use Rattle.bmc_shared.specs.declared.seat.Seat.{Seat}
 use Rattle.bmc_shared.specs.declared.worker.End.{End}

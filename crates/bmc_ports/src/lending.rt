@@ -10,11 +10,11 @@ use crate::scanned::{Played, Playing, Script};
 use crate::slices::{Lent, Returned, Serving};
 use crate::timed::{TimedEnd, Timetable};
 use bmc_board::Records;
-use bmc_links::Link;
 use bmc_shared::{End, Gate, Opening, Seats, Shared};
 use std::sync::Wait;
 use std::thread::Threads;
 use std::time::Clock;
+use wire_links::Link;
 
 /// What two workers and a scanner give back, and why each ended.
 #[derive(Drop)]

@@ -1,9 +1,11 @@
-//! Workers that serve a board's ports in threads of their own, under one lock. It passes on names of `bmc_shared` and `bmc_links`.
+//! Workers that serve a board's ports in threads of their own, under one lock. It passes on names of `bmc_shared` and `wire_links`.
 #![tactic(auto)]
 
 mod at_once;
 mod bell;
+mod driver;
 pub mod lane;
+mod laws;
 pub mod lending;
 pub mod run;
 pub mod scanned;
@@ -14,13 +16,15 @@ pub mod slices;
 pub mod timed;
 
 pub use at_once::NoThread;
-pub use bmc_links::{Counts, Heard, Link, LinkFault, MOST_KEPT, MemFault, MemLink};
 pub use bmc_shared::{
     Call, Calls, CloseFault, End, Event, Events, Gate, Held, History, Locked, MOST_EVENTS,
     OpenFault, Opening, PeriodFull, Seat, Seats, Shared, serve_port,
 };
+pub use driver::drive;
 pub use lane::{Lane, Lanes};
+pub use laws::drives_on;
 pub use lending::{Sliced, run_slices};
 pub use run::run_two;
 pub use silence::Silence;
 pub use timed::{Stops, Timed, TimedEnd, Timetable, happen_in_time};
+pub use wire_links::{Counts, Heard, Link, LinkFault, MOST_KEPT, MemFault, MemLink, UdpLink};

@@ -6,11 +6,11 @@ use crate::at_once::{NoThread, Three, Work, run_three};
 use crate::scanner::scan;
 use bmc_board::{Bench, Records};
 use bmc_core::Port;
-use bmc_links::Link;
 use bmc_shared::{End, Gate, Opening, Seat, Seats, Shared, serve_port};
 use std::sync::Wait;
 use std::sync::atomic::AtomicBool;
 use std::thread::Threads;
+use wire_links::Link;
 
 /// What a worker or the scanner gives back: its seat, with what it called, and why it ended.
 #[derive(Drop)]

@@ -8,11 +8,11 @@ use crate::bell::Rope;
 use crate::lane::Lane;
 use crate::silence::forget_silent;
 use bmc_board::Records;
-use bmc_links::Link;
 use bmc_shared::{Desk, End, Gate, Opening, Seat, Shared, turn};
 use cfg_records::Store;
 use std::sync::Wait;
 use two_wire::Frame;
+use wire_links::Link;
 
 /// What a worker is lent.
 #[derive(Drop)]

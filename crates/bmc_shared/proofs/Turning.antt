@@ -7,11 +7,11 @@ use Rattle.bmc_core.specs.declared.step.Step.TheVariants.{Ask, Done}
 use Rattle.bmc_core.specs.declared.port.Port.{Port}
 use Rattle.bmc_core.specs.declared.port.Pending.{Pending}
 use Rattle.bmc_core.specs.Port.{IsStep}
-use Rattle.bmc_links.specs.declared.link.Counts.{Counts}
-use Rattle.bmc_links.specs.declared.link.Heard.{Heard}
-use Rattle.bmc_links.specs.declared.link.Heard.TheVariants.{Frame}
-use Rattle.bmc_links.specs.Counted.{one_more, counted_on, after_next}
-use Rattle.bmc_links.proofs.Counting.{counted_twice}
+use Rattle.wire_links.specs.declared.link.Counts.{Counts}
+use Rattle.wire_links.specs.declared.link.Heard.{Heard}
+use Rattle.wire_links.specs.declared.link.Heard.TheVariants.{Frame}
+use Rattle.wire_links.specs.Counted.{one_more, counted_on, after_next}
+use Rattle.wire_links.proofs.Counting.{counted_twice}
 use Rattle.bmc_history.specs.declared.event.Call.{Call}
 use Rattle.bmc_history.specs.declared.held.PeriodFull.{PeriodFull}
 use Rattle.bmc_shared.specs.Serving.{CallsNext, Carries, MakesTurn, Serves, ServesTo, MadeAll, Takes, Worked, end_of, frames_in}

@@ -7,8 +7,8 @@ use Rattle.bmc_core.specs.declared.step.Step.TheVariants.{Ask, Done}
 use Rattle.bmc_core.specs.declared.port.Port.{Port}
 use Rattle.bmc_core.specs.declared.port.Pending.{Pending}
 use Rattle.bmc_core.specs.Port.{asked_of, IsStep, Answers}
-use Rattle.bmc_links.specs.declared.link.Counts.{Counts}
-use Rattle.bmc_links.specs.Counted.{counted_on}
+use Rattle.wire_links.specs.declared.link.Counts.{Counts}
+use Rattle.wire_links.specs.Counted.{counted_on}
 use Rattle.bmc_history.specs.declared.event.Call.{Call}
 use Rattle.bmc_history.specs.declared.event.Call.TheVariants.{Exchanged}
 use Rattle.bmc_history.specs.declared.held.PeriodFull.{PeriodFull}

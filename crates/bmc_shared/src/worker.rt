@@ -10,10 +10,10 @@ use crate::seat::Seat;
 use crate::shared::Shared;
 use bmc_core::{Out, Port, Served};
 use bmc_history::{Opening, PeriodFull};
-use bmc_links::{Heard, Link};
 use cfg_records::Store;
 use std::sync::Wait;
 use two_wire::Frame;
+use wire_links::{Heard, Link};
 
 /// Why a worker ended.
 #[derive(Clone, Copy, Debug, PartialEq, Eq)]

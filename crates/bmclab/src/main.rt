@@ -1,9 +1,8 @@
 //! The program `bmclab`: words in, lines out.
 #![tactic(auto)]
 
-use bmc_host::run_line;
-use bmc_lab::Console;
-use host_base::{HostFiles, refuse, words_of_process};
+use app_base::{Console, HostFiles, refuse, words_of_process};
+use app_bmclab::run_line;
 use std::process::ExitCode;
 
 fn main(rt: HostRuntime) -> ExitCode {

@@ -1,9 +1,8 @@
 //! The program `bmcnet`: words in, datagrams and lines out.
 #![tactic(auto)]
 
-use bmc_lab::Console;
-use host_base::{HostFiles, refuse, words_of_process};
-use net_host::{NetFiles, line_on, run_line};
+use app_base::{Console, HostFiles, refuse, words_of_process};
+use app_bmcnet::{NetFiles, line_on, run_line};
 use std::process::ExitCode;
 
 fn main(rt: HostRuntime) -> ExitCode {

@@ -5,7 +5,7 @@ use Rattle.std.specs.Box.{with_value}
 use Rattle.two_wire.specs.declared.Bus.TheVariants.{Smbus}
 use Rattle.cfg_records.specs.declared.board_file.BoardFile.{BoardFile}
 use Rattle.text_schedule.specs.declared.event.Event.{Event}
-use Rattle.schedule_writer.specs.Written.{has_line}
+use Rattle.text_schedule.specs.Written.{has_line}
 use Rattle.model_lab.specs.Lab.{Lab as LabModel}
 use Rattle.model_lab.specs.Faults.{begun_on}
 use Rattle.model_lab.specs.Played.{plans, fault_at, happens, after, AreTaken}

@@ -6,7 +6,7 @@ use Rattle.cfg_records.specs.declared.board_file.BoardFile.{BoardFile}
 use Rattle.model_undo.specs.declared.call.Call.{Call as Called}
 use Rattle.text_schedule.specs.declared.event.Event.{Event}
 use Rattle.text_schedule.specs.declared.event.Event.TheVariants.{Calls, ToBmc, ToMgr}
-use Rattle.schedule_writer.specs.Written.{has_line}
+use Rattle.text_schedule.specs.Written.{has_line}
 use Rattle.model_lab.specs.Lab as lab
 use Rattle.model_lab.specs.Lab.{Lab as LabModel, step}
 use Rattle.model_lab.specs.Faults.{AllTaken}

@@ -5,7 +5,7 @@ use Rattle.cfg_records.specs.declared.board_file.BoardFile.{BoardFile}
 use Rattle.record_base.specs.declared.op.Op.{Op}
 use Rattle.text_schedule.specs.declared.event.Event.{Event}
 use Rattle.undo_plans.specs.Steps.{most_steps}
-use Rattle.schedule_writer.specs.Written.{has_line}
+use Rattle.text_schedule.specs.Written.{has_line}
 use Rattle.model_lab.specs.Lab.{opening}
 use Rattle.model_lab.specs.Meaning.{lab_names}
 use Rattle.model_lab.specs.Played.{plans, Told, Whole, IsPlayed}

@@ -12,9 +12,8 @@ ghost use Rattle.lab_schedule.specs.Drawn.{Drawn, HasFew, NotTaken, Offered, del
 use cfg_records::BoardFile;
 use lab_play::{Watch, step_watched};
 use lab_run::{Fault, Lab, Refused, SentFrame, Way};
-use schedule_writer::has_line;
 use std::alloc::{AllocError, Global};
-use text_schedule::Event;
+use text_schedule::{Event, has_line};
 use two_wire::Bus;
 use undo_plans::Plan;
 

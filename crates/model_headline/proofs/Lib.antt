@@ -59,3 +59,7 @@ mod Refined
 mod Strong
 pub mod Promised
 pub mod Fresh
+pub mod Lists
+pub mod Carrying
+pub mod Hearing
+pub mod Running

@@ -18,3 +18,4 @@ pub mod Refines
 pub mod Promise
 pub mod Keeps
 pub mod Fresh
+pub mod Histories

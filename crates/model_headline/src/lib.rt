@@ -2,5 +2,6 @@
 //! that says that it holds. There is no code here: each law is the contract of a function without a body.
 #![tactic(auto)]
 
+pub mod histories;
 pub mod laws;
 pub mod statement;

@@ -3,3 +3,4 @@ pub mod Line
 pub mod Reads
 pub mod Schedule
 pub mod Names
+pub mod Written

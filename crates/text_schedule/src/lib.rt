@@ -7,9 +7,11 @@ mod line;
 mod octets;
 mod schedule;
 mod words;
+mod write;
 
 pub use event::{BenchEvent, Event, MOST_NOISE, OtherMessage, OtherRequest};
 pub use laws::{one_schedule, refused_or_told};
 pub use octets::Octets;
 pub use schedule::{Schedule, ScheduleFault, read_schedule};
 pub use words::call_name;
+pub use write::{has_line, push_event, write_schedule};

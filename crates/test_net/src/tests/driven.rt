@@ -1,8 +1,7 @@
 //! A manager that is driven over links that fail.
 use super::shared::expect_equal;
 use super::wired::{Faulty, Wired};
-use bmc_drive::drive;
-use bmc_links::{Link, MemLink};
+use bmc_ports::drive;
 use cfg_records::{Key, StartValue, changed_count, sample_board};
 use record_base::{Op, SetBiosAttribute, SetThresholds};
 use std::alloc::Global;
@@ -10,6 +9,7 @@ use std::process::Abort;
 use two_wire::{Address, Bus, Retries};
 use undo_core::{Manager, Phase, Sent};
 use undo_plans::{Names, Plan, Steps};
+use wire_links::{Link, MemLink};
 
 /// The most calls of a link that are tried to fail.
 const MOST_CALLS: u32 = 1_000;

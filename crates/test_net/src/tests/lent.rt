@@ -5,10 +5,9 @@ ghost use Rattle.bmc_board.specs.State.{state_of};
 use super::served::{GET, Open, SET};
 use super::shared::{close, expect_equal, open_shared};
 use super::wired::{open_sample, port_on};
+use app_serve::serve_periods;
 use bmc_board::{Board, Records};
-use bmc_links::MemLink;
 use bmc_ports::{End, Lane, Lanes, Opening, Seats, Shared, Sliced, Timetable, run_slices};
-use net_serve::serve_periods;
 use std::alloc::Global;
 use std::marker::Brand;
 use std::process::Abort;
@@ -17,6 +16,7 @@ use std::sync::ledger::Blank;
 use std::thread::Threads;
 use std::time::Clock;
 use two_wire::{Bus, Frame};
+use wire_links::MemLink;
 
 /// The Get under another number.
 const LATER_GET: [u8; 10] = [0x20, 0x00, 0xE0, 0x2C, 0x08, 0x09, 0x05, 0x00, 0x00, 0xBE];

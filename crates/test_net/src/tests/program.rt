@@ -5,8 +5,8 @@ mod refusals;
 mod terminals;
 mod texts;
 
-use bmc_lab::Console;
-use bmc_net::Progress;
+use app_base::Console;
+use app_run::Progress;
 use std::alloc::Global;
 use std::process::Abort;
 

@@ -5,7 +5,6 @@ ghost use Rattle.bmc_board.specs.State.{state_of};
 use super::shared::{close, expect_equal, open_shared};
 use super::wired::{Faulty, open_sample, port_on};
 use bmc_board::{Board, Records};
-use bmc_links::{Link, MemLink};
 use bmc_ports::{End, Gate, Opening, serve_port};
 use std::alloc::Global;
 use std::marker::Brand;
@@ -13,6 +12,7 @@ use std::process::Abort;
 use std::sync::Wait;
 use std::sync::ledger::Blank;
 use two_wire::Bus;
+use wire_links::{Link, MemLink};
 
 /// A Set of boot parameter 5.
 pub(super) const SET: [u8; 13] = [

@@ -2,10 +2,10 @@
 ghost use Rattle.std.specs.Prelude.{◌≤◌, length};
 
 use super::shared::expect_equal;
-use bmc_links::{Counts, Heard, Link, LinkFault, UdpLink};
 use std::net::{Net, UdpSocket};
 use std::process::Abort;
 use two_wire::Frame;
+use wire_links::{Counts, Heard, Link, LinkFault, UdpLink};
 
 /// So long a link waits for a datagram that was sent.
 const WAIT_MS: u32 = 5_000;

@@ -3,12 +3,12 @@ ghost use Rattle.std.specs.Prelude.{◌≡◌};
 
 use bmc_board::{Board, Records};
 use bmc_core::{At, Out, Port};
-use bmc_links::{Counts, Heard, Link, LinkFault};
 use cfg_records::sample_board;
 use mctp_net::EndpointId;
 use std::alloc::Global;
 use std::process::Abort;
 use two_wire::{Address, Bus, Frame};
+use wire_links::{Counts, Heard, Link, LinkFault};
 
 /// Nothing is counted.
 const NONE_COUNTED: Counts = Counts {

@@ -1,11 +1,11 @@
 //! What the words of a command line ask for, as a line.
 use super::runs::words_of;
 use super::text::parted;
-use bmc_host::words::read;
-use bmc_host::{Links, ScheduleWords, Words};
-use bmc_lab::{AskedFrame, Status, asked_frame};
-use bmc_play::Shown;
-use host_base::Refusal;
+use app_base::{Refusal, Status};
+use app_bmclab::words::read;
+use app_bmclab::{Links, ScheduleWords, Words};
+use app_play::Shown;
+use bmc_lab::{AskedFrame, asked_frame};
 use std::alloc::{AllocError, Global};
 
 /// Appends a frame's bus and its bytes.

@@ -1,6 +1,5 @@
 //! The files of the host.
-use bmc_lab::{TextFiles, Unreadable};
-use host_base::HostFiles;
+use app_base::{HostFiles, TextFiles, Unreadable};
 use std::fs;
 
 /// Whether the host's file of this name is read as this text, or isn't read for this reason.

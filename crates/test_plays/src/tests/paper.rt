@@ -1,5 +1,5 @@
 //! What runs write to, and how they end.
-use bmc_lab::Console;
+use app_base::Console;
 use std::alloc::Global;
 use std::io;
 use story_lines::NoOutcome;

@@ -3,7 +3,7 @@ use super::expect_equal;
 use super::runs::push_came;
 use super::scene::Scene;
 use super::text::{parted, push_lines};
-use bmc_lab::Unreadable;
+use app_base::Unreadable;
 use std::alloc::{AllocError, Global};
 use std::process::Abort;
 use story_lines::NoOutcome;

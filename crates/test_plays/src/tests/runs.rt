@@ -3,12 +3,12 @@ use super::asked::{push_asked, push_named};
 use super::paper::{Paper, push_ending};
 use super::scene::Scene;
 use super::text::parted;
-use bmc_host::{
+use app_base::{Ending, Refusal, Report, refuse};
+use app_bmclab::{
     Chances, Links, Percent, ScheduleFiles, Wanted, run_line, schedule_of_files, schedule_run,
 };
-use bmc_lab::{Ending, Report, frame_of_file, frame_run};
-use bmc_play::{PlayFiles, Shown, chart_run, play_of_files, play_run, show};
-use host_base::{Refusal, refuse};
+use app_play::{PlayFiles, Shown, chart_run, play_of_files, play_run, show};
+use bmc_lab::{frame_of_file, frame_run};
 use std::alloc::{AllocError, Global};
 use story_lines::NoOutcome;
 use two_wire::Bus;

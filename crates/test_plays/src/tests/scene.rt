@@ -1,8 +1,8 @@
 //! What the runs of a story find: its texts, as files in memory, `board.toml`, `plan.toml` and `schedule.txt`, and writers.
 use super::paper::{Paper, new_paper};
 use super::text::parted;
-use bmc_host::{Cause, TellsCause};
-use bmc_lab::{TextFiles, Unreadable};
+use app_base::{TextFiles, Unreadable};
+use app_bmclab::{Cause, TellsCause};
 use std::alloc::Global;
 use story_lines::NoOutcome;
 

@@ -2,7 +2,7 @@
 use super::came::{Came, Form, came_of, shown};
 use super::files::SAMPLE;
 use super::story::expect_equal;
-use bmc_play::{Account, Stopped};
+use app_play::{Account, Stopped};
 use cfg_records::{BoardFile, sample_board};
 use lab_run::Fault;
 use plan_file::read_plan;

@@ -1,6 +1,6 @@
 //! What comes of a text: what is read of it, or its fault.
-use bmc_check::checked;
-use bmc_play::{Inputs, read_inputs};
+use app_play::{Inputs, read_inputs};
+use app_serve::read_readings;
 use cfg_records::{Op, RecordKind};
 use plan_file::read_plan;
 use record_kinds::Limits;
@@ -8,8 +8,8 @@ use std::alloc::Global;
 use std::fmt::{Debug, Display};
 use std::process::Abort;
 use text_board::read_board;
+use text_check::checked;
 use text_lines::{behind, byte, bytes, first_line, first_word, number, plain_number};
-use text_readings::read_readings;
 use text_schedule::read_schedule;
 use text_undo::{push_requests, read_undo, write_undo};
 use undo_plans::{Plan, Requests, UndoList, UndoRequest};

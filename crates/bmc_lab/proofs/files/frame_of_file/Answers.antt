@@ -1,9 +1,10 @@
 use Rattle.std.proofs.Common.{◌∙◌, inr, Some, ap, subst, sym}
 use Rattle.std.specs.Option.{option_copied}
-use Rattle.bmc_lab.specs.Ending.{RunEnds}
-use Rattle.bmc_lab.specs.EndingLaws.{run_ends_as}
-use Rattle.bmc_lab.specs.Files.{Refuses, SaysOfFile}
-use Rattle.bmc_lab.specs.Report.{file_line}
+use Rattle.app_base.specs.Ending.{RunEnds}
+use Rattle.app_base.specs.EndingLaws.{run_ends_as}
+use Rattle.app_base.specs.Files.{Refuses}
+use Rattle.bmc_lab.specs.Files.{SaysOfFile}
+use Rattle.app_base.specs.Report.{file_line}
 use Rattle.bmc_lab.proofs.files.frame_of_file.Goals as goal
 
 pub returns-in-Err : goal.returns-in-Err

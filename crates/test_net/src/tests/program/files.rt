@@ -1,6 +1,6 @@
 //! Files in memory.
-use bmc_lab::{TextFiles, Unreadable};
-use bmc_net::{Unwritten, WritesFiles};
+use app_base::{TextFiles, Unreadable};
+use app_run::{Unwritten, WritesFiles};
 use std::alloc::{AllocError, Global};
 
 /// Files that hold these texts, each by its word, and take others, unless they are locked.

@@ -2,7 +2,7 @@
 use super::files::FakeFiles;
 use super::texts::{TWO_STEPS, UNDO};
 use super::{End, expect_end, expect_line, new_line, new_paper};
-use bmc_net::{RunWords, UndoWords, run, undo};
+use app_run::{RunWords, UndoWords, run, undo};
 use std::alloc::{AllocError, Global};
 use std::net::Net;
 use std::process::Abort;

@@ -1,0 +1,7 @@
+pub mod Console
+pub mod Ending
+pub mod EndingLaws
+pub mod Files
+pub mod Report
+pub mod Line
+pub mod Asked

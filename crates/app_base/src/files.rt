@@ -1,0 +1,99 @@
+//! The files that a run reads, by the words that name them.
+ghost use Rattle.std.specs.Prelude.{◌≡◌, ℕ, List, Result, Ok, Err, IfOk, IfErr, string_bytes};
+ghost use Rattle.std.specs.Option.{option_copied};
+ghost use Rattle.app_base.specs.Ending.{RunEnds};
+ghost use Rattle.app_base.specs.Files.{Refuses};
+ghost use Rattle.bmc_lab.specs.Files.{SaysOfFile};
+
+use crate::console::Console;
+use crate::ending::Ending;
+use crate::frame::frame_run;
+use crate::report::Report;
+use crate::status::Status;
+use std::alloc::Global;
+use std::io;
+use two_wire::Bus;
+
+/// Why a file isn't read.
+#[derive(Clone, Copy, Debug, PartialEq, Eq)]
+pub enum Unreadable {
+    /// It can't be opened or read, or it isn't UTF-8.
+    NoText,
+    /// Memory was refused.
+    Memory,
+}
+
+/// Files that hold texts, by the words that name them.
+pub trait TextFiles {
+    ghost use Rattle.app_base.specs.declared.files.Unreadable.{Unreadable};
+
+    /// What a reading of the file that this word names may give.
+    ghost gives: { Self → List ℕ → Result (List ℕ) Unreadable → Type 0 };
+
+    /// The text of the file that the word names.
+    fn text(&self, word: &str) -> Result<String, Unreadable>
+        ensures text { IfOk result (λ text. gives self.now word.now (Ok (string_bytes text))) }
+        ensures unread { IfErr result (λ why. gives self.now word.now (Err why)) };
+}
+
+/// A file that isn't read.
+#[derive(Debug, Drop)]
+pub struct Unread<'a> {
+    /// The word that names it.
+    pub word: &'a str,
+    /// Why it isn't read.
+    pub why: Unreadable,
+}
+
+/// The text of the file that the word names.
+pub fn text_of<'a, F: TextFiles>(files: &F, word: &'a str) -> Result<String, Unread<'a>>
+    ensures text { IfOk result (λ text. F.gives files.now word.now (Ok (string_bytes text))) }
+    ensures word { IfErr result (λ unread. unread.word.now ≡ word.now) }
+    ensures unread { IfErr result (λ unread. F.gives files.now word.now (Err unread.why)) }
+{
+    match files.text(word) {
+        Ok(text) => Ok(text),
+        Err(why) => Err(Unread { word, why }),
+    }
+}
+
+/// Says on standard error that a file isn't read, or that memory was refused, and gives the status.
+pub fn refuse<W: io::Write, E: io::Write>(
+    alloc: Global,
+    unread: &Unread,
+    console: &mut Console<W, E>,
+) -> u8
+    ensures { RunEnds W.contents E.contents (Refuses unread.now.why unread.now.word.now)
+        console.old console.new result }
+{
+    match unread.why {
+        Unreadable::NoText => {
+            let report = Report::of_file(alloc, unread.word);
+            u8::from(Ending::of(&report).write(console))
+        }
+        Unreadable::Memory => u8::from(Ending::without_report(Status::Memory).write(console)),
+    }
+}
+
+/// Sends one frame to a fresh controller with the board of the file that a word names, or with the sample board where no word is given: what
+/// `frame_run` does, once the file is read. Where it can't be read, standard error gets `file` and the word, and the status is 3.
+pub fn frame_of_file<F: TextFiles, W: io::Write, E: io::Write>(
+    alloc: Global,
+    files: &F,
+    bus: Bus,
+    board: Option<&str>,
+    bytes: &[u8],
+    console: &mut Console<W, E>,
+) -> u8
+    ensures { RunEnds W.contents E.contents
+        (SaysOfFile (F.gives files.now) (option_copied board.entry) bus bytes.now)
+        console.old console.new result }
+{
+    let Some(word) = board else {
+        return frame_run(alloc, bus, None, bytes, console);
+    };
+    match text_of(files, word) {
+        Ok(text) => frame_run(alloc, bus, Some(text.as_str()), bytes, console),
+        Err(unread) => refuse(alloc, &unread, console),
+    }
+}

@@ -1,0 +1,27 @@
+//! What the programs' command lines have in common: how one is built of the kit's `clap`, what was matched, why words are refused, the words of
+//! the process, and the files of the host.
+#![tactic(auto)]
+
+pub mod build;
+pub mod console;
+pub mod ending;
+pub mod file;
+pub mod files;
+pub mod matched;
+pub mod number;
+pub mod process;
+pub mod refusal;
+pub mod report;
+pub mod status;
+
+pub use build::{Argument, new_command, new_program, with_command};
+pub use console::{Console, Stream};
+pub use ending::{Ending, Untold, end_run};
+pub use file::HostFiles;
+pub use files::{TextFiles, Unread, Unreadable, text_of};
+pub use matched::{all_named, given, has_flag, lacking, named};
+pub use number::has_plus;
+pub use process::words_of_process;
+pub use refusal::{Refusal, refusal_by, refusal_of, refuse};
+pub use report::Report;
+pub use status::Status;

@@ -1,0 +1,102 @@
+-- What is read off the words that clap matched.
+use Rattle.std.proofs.Common.{◌≡◌, ◌∙◌, ◌⊎◌, ℕ, List, Bool, true, false, Option, Some, None, option_map, inl, inr, refl, sym, ap, subst, codes}
+use Rattle.std.specs.Prelude.{Box}
+use Rattle.std.specs.Box.{box_value}
+use Rattle.std.proofs.lemmas.Bool.{false≢true}
+use Rattle.clap.specs.Words.{Row, Text, first_of, subcommand_name_of, subcommand_rows, subcommand_rows_of}
+use Rattle.clap.specs.declared.parser.matches.ArgMatches.{ArgMatches}
+use Rattle.clap.specs.declared.parser.matches.ArgMatches.TheViews.{out-ArgMatches, out-SubCommand}
+use Rattle.clap.specs.declared.parser.matches.SubCommand.{SubCommand}
+use Rattle.two_wire.specs.declared.Bus.{Bus}
+use Rattle.bmc_lab.specs.Asked.{Asks}
+use Rattle.app_base.specs.declared.status.Status.{Status}
+use Rattle.app_base.specs.declared.status.Status.TheVariants.{RefusedWords, Memory}
+use Rattle.app_play.specs.declared.run.Shown.{Shown}
+use Rattle.app_base.specs.declared.refusal.Refusal.{Refusal}
+use Rattle.app_base.specs.declared.refusal.Refusal.TheVariants.{Memory as Lacking}
+use Rattle.app_base.specs.Asked.{Refuses}
+use Rattle.app_base.proofs.Readings.{alike, apart, refuses_none, refuses_unless, some_same}
+use Rattle.app_bmclab.specs.declared.words.Words.{Words}
+use Rattle.app_bmclab.specs.declared.words.Words.TheVariants.{Frame, Play, Schedule, Check}
+use Rattle.app_bmclab.specs.declared.words.CheckWords.{CheckWords}
+use Rattle.app_bmclab.specs.declared.words.FrameWords.{FrameWords}
+use Rattle.app_bmclab.specs.declared.words.PlayWords.{PlayWords}
+use Rattle.app_bmclab.specs.declared.schedule_words.ScheduleWords.{ScheduleWords}
+use Rattle.app_bmclab.specs.Asked.{AsksBy, AsksCheck, AsksFrame, AsksPlay, shown_of}
+use Rattle.app_bmclab.specs.Drawn.{AsksSchedule}
+
+-- the promises of `asked_frame` and of the refusal of what it refuses, as one
+pub frame_refuses : (word : Option Text) (digits : Text) (status : Status) (refusal : Refusal) → (status ≡ RefusedWords) ⊎ (status ≡ Memory)
+    → (status ≡ RefusedWords → (bus : Bus) (bytes : List ℕ) → Asks word digits bus bytes → ⊥) → (status ≡ Memory → refusal ≡ Lacking)
+    → Refuses (λ (p : Bus × List ℕ). Asks word digits p.0 p.1) refusal
+frame_refuses word digits status refusal (inl words) refused lacks = refuses_none _ refusal (λ p asks. refused words p.0 p.1 asks)
+frame_refuses word digits status refusal (inr memory) refused lacks = refuses_unless _ refusal (λ p asks. lacks memory)
+
+-- what was matched behind `frame` asks for a frame of these words
+pub frame_asked : (rows : List Row) (bus : Option Text) (digits : Text) → first_of (codes "bus") rows ≡ bus → first_of (codes "HEX") rows ≡ Some digits
+    → (asked : FrameWords) → AsksFrame rows asked → (p : Bus × List ℕ) × Asks bus digits p.0 p.1
+frame_asked rows bus digits named given asked asks =
+    let same : asks.digits ≡ digits = some_same (first_of (codes "HEX") rows) asks.digits digits asks.given given in (
+      (asked.frame.bus, asked.frame.bytes.items),
+      subst (λ (word : Option Text). Asks word digits asked.frame.bus asked.frame.bytes.items) named
+          (subst (λ (text : Text). Asks (first_of (codes "bus") rows) text asked.frame.bus asked.frame.bytes.items) same asks.frame),
+    )
+
+-- the same flags ask for the same to be shown
+pub shown_alike : (f frames p premises c chart : Bool) → f ≡ frames → p ≡ premises → c ≡ chart → shown_of f p c ≡ shown_of frames premises chart
+shown_alike f frames p premises c chart one two three = λ i. shown_of (one i) (two i) (three i)
+
+-- flags that give no way of showing give none
+pub shown_refuses : (frames premises chart : Bool) → shown_of frames premises chart ≡ None → (shown : Shown) → shown_of frames premises chart ≡ Some shown → ⊥
+shown_refuses frames premises chart none shown is =
+    let bad : None ≡ Some shown = sym none ∙ is in
+    cc
+
+-- what asks for anything behind `frame` asks for a frame
+pub frame_behind : (met : Option (Text × List Row)) (rows : List Row) → met ≡ Some (codes "frame", rows) → (asked : Words) → AsksBy met asked
+    → (words : FrameWords) × AsksFrame rows words
+frame_behind met rows is (Frame words) asks = (words, subst (λ (r : List Row). AsksFrame r words) (alike met (codes "frame") asks.0 rows asks.1 is) asks.2)
+frame_behind met rows is (Play words) asks = absurd (apart met (codes "frame") (codes "play") rows asks.0 refl is asks.1)
+frame_behind met rows is (Schedule words) asks = absurd (apart met (codes "frame") (codes "schedule") rows asks.0 refl is asks.1)
+frame_behind met rows is (Check words) asks = absurd (apart met (codes "frame") (codes "check") rows asks.0 refl is asks.1)
+
+-- what asks for anything behind `schedule` asks for a schedule
+pub schedule_behind : (met : Option (Text × List Row)) (rows : List Row) → met ≡ Some (codes "schedule", rows) → (asked : Words) → AsksBy met asked
+    → (words : ScheduleWords) × AsksSchedule rows words
+schedule_behind met rows is (Schedule words) asks = (words, subst (λ (r : List Row). AsksSchedule r words) (alike met (codes "schedule") asks.0 rows asks.1 is) asks.2)
+schedule_behind met rows is (Frame words) asks = absurd (apart met (codes "schedule") (codes "frame") rows asks.0 refl is asks.1)
+schedule_behind met rows is (Play words) asks = absurd (apart met (codes "schedule") (codes "play") rows asks.0 refl is asks.1)
+schedule_behind met rows is (Check words) asks = absurd (apart met (codes "schedule") (codes "check") rows asks.0 refl is asks.1)
+
+-- what asks for anything behind `play` asks for a play
+pub play_behind : (met : Option (Text × List Row)) (rows : List Row) → met ≡ Some (codes "play", rows) → (asked : Words) → AsksBy met asked
+    → (words : PlayWords) × AsksPlay rows words
+play_behind met rows is (Play words) asks = (words, subst (λ (r : List Row). AsksPlay r words) (alike met (codes "play") asks.0 rows asks.1 is) asks.2)
+play_behind met rows is (Frame words) asks = absurd (apart met (codes "play") (codes "frame") rows asks.0 refl is asks.1)
+play_behind met rows is (Schedule words) asks = absurd (apart met (codes "play") (codes "schedule") rows asks.0 refl is asks.1)
+play_behind met rows is (Check words) asks = absurd (apart met (codes "play") (codes "check") rows asks.0 refl is asks.1)
+
+-- what asks for anything behind `check` asks for a check
+pub check_behind : (met : Option (Text × List Row)) (rows : List Row) → met ≡ Some (codes "check", rows) → (asked : Words) → AsksBy met asked
+    → (words : CheckWords) × AsksCheck rows words
+check_behind met rows is (Check words) asks = (words, subst (λ (r : List Row). AsksCheck r words) (alike met (codes "check") asks.0 rows asks.1 is) asks.2)
+check_behind met rows is (Frame words) asks = absurd (apart met (codes "check") (codes "frame") rows asks.0 refl is asks.1)
+check_behind met rows is (Play words) asks = absurd (apart met (codes "check") (codes "play") rows asks.0 refl is asks.1)
+check_behind met rows is (Schedule words) asks = absurd (apart met (codes "check") (codes "schedule") rows asks.0 refl is asks.1)
+
+-- a subcommand that wasn't met under this name has it nowhere
+pub unnamed : (m : ArgMatches) (name : Text) → (subcommand_name_of m ≡ Some name → false ≡ true) → (rows : List Row) → subcommand_rows_of m ≡ Some (name, rows) → ⊥
+unnamed m name none rows is = false≢true (none (go (out-ArgMatches m).subcommand is))
+  where
+    go : {Z : Type 0} (o : Option (Box SubCommand Z)) → subcommand_rows o ≡ Some (name, rows) → option_map (λ b. (out-SubCommand (box_value b)).name.now) o ≡ Some name
+    go None there = ap (λ (o : Option (Text × List Row)). option_map (λ p. p.0) o) there
+    go (Some b) there = ap (λ (o : Option (Text × List Row)). option_map (λ p. p.0) o) there
+
+-- where none of the subcommands was met, nothing is asked for
+pub none_behind : (m : ArgMatches) → (subcommand_name_of m ≡ Some (codes "frame") → false ≡ true) → (subcommand_name_of m ≡ Some (codes "play") → false ≡ true)
+    → (subcommand_name_of m ≡ Some (codes "schedule") → false ≡ true) → (subcommand_name_of m ≡ Some (codes "check") → false ≡ true)
+    → (asked : Words) → AsksBy (subcommand_rows_of m) asked → ⊥
+none_behind m frame play schedule check (Frame words) asks = unnamed m (codes "frame") frame asks.0 asks.1
+none_behind m frame play schedule check (Play words) asks = unnamed m (codes "play") play asks.0 asks.1
+none_behind m frame play schedule check (Schedule words) asks = unnamed m (codes "schedule") schedule asks.0 asks.1
+none_behind m frame play schedule check (Check words) asks = unnamed m (codes "check") check asks.0 asks.1

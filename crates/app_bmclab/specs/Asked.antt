@@ -1,0 +1,51 @@
+-- What the words of the command line ask for.
+use Rattle.std.specs.Prelude.{◌≡◌, Bool, true, false, List, Option, None, Some, codes, map, option_map, string_bytes}
+use Rattle.clap.specs.Words.{Row, Text, all_of, first_of}
+use Rattle.bmc_lab.specs.Asked.{Asks}
+use Rattle.app_play.specs.declared.run.Shown.{Shown}
+use Rattle.app_play.specs.declared.run.Shown.TheVariants.{Lines, Chart}
+use Rattle.app_base.specs.Asked.{AsksOf, is_given}
+use Rattle.app_bmclab.specs.declared.words.Words.{Words}
+use Rattle.app_bmclab.specs.declared.words.Words.TheVariants.{Frame, Play, Schedule, Check}
+use Rattle.app_bmclab.specs.declared.words.FrameWords.{FrameWords}
+use Rattle.app_bmclab.specs.declared.words.PlayWords.{PlayWords}
+use Rattle.app_bmclab.specs.declared.words.CheckWords.{CheckWords}
+use Rattle.app_bmclab.specs.Drawn.{AsksSchedule}
+use Rattle.app_bmclab.specs.Line.{program}
+
+-- how a play is shown where the flags `--frames`, `--premises` and `--chart` are given or not: a chart has no lines of frames, and none of
+-- the premise on packets
+abbrev pub shown_of : (frames premises chart : Bool) → Option Shown
+shown_of frames premises false = Some (Lines frames premises)
+shown_of false false true = Some Chart
+shown_of true premises true = None
+shown_of false true true = None
+
+-- what was matched behind `frame` asks for this
+pub record AsksFrame (rows : List Row) (asked : FrameWords) : Type 0 where
+  pub board : option_map string_bytes asked.board ≡ first_of (codes "board") rows
+  pub digits : Text
+  pub given : first_of (codes "HEX") rows ≡ Some digits
+  pub frame : Asks (first_of (codes "bus") rows) digits asked.frame.bus asked.frame.bytes.items
+
+-- what was matched behind `play` asks for this
+pub record AsksPlay (rows : List Row) (asked : PlayWords) : Type 0 where
+  pub shown : shown_of (is_given (codes "frames") rows) (is_given (codes "premises") rows) (is_given (codes "chart") rows) ≡ Some asked.shown
+  pub board : first_of (codes "BOARD") rows ≡ Some (string_bytes asked.board)
+  pub plan : first_of (codes "PLAN") rows ≡ Some (string_bytes asked.plan)
+  pub schedule : first_of (codes "SCHEDULE") rows ≡ Some (string_bytes asked.schedule)
+
+-- what was matched behind `check` asks for this
+pub record AsksCheck (rows : List Row) (asked : CheckWords) : Type 0 where
+  pub files : all_of (codes "FILE") rows ≡ Some (map string_bytes asked.files.items)
+
+-- the subcommand, with what was matched behind it, asks for this
+abbrev pub AsksBy : Option (Text × List Row) → Words → Type 0
+AsksBy met (Frame asked) = (rows : List Row) × (met ≡ Some (codes "frame", rows)) × AsksFrame rows asked
+AsksBy met (Play asked) = (rows : List Row) × (met ≡ Some (codes "play", rows)) × AsksPlay rows asked
+AsksBy met (Schedule asked) = (rows : List Row) × (met ≡ Some (codes "schedule", rows)) × AsksSchedule rows asked
+AsksBy met (Check asked) = (rows : List Row) × (met ≡ Some (codes "check", rows)) × AsksCheck rows asked
+
+-- the words, the program's own name first among them, are of its command line, and ask for this
+abbrev pub AsksFor : (words : List Text) → (asked : Words) → Type 0
+AsksFor words asked = AsksOf program AsksBy words asked

@@ -1,0 +1,59 @@
+-- What the words behind `schedule` ask for.
+use Rattle.std.specs.Prelude.{◌≡◌, ◌<◌, ◌^◌, ℕ, Bool, false, ◌&&◌, List, Option, None, Some, codes, string_bytes, if◌then◌else◌}
+use Rattle.std.specs.Option.{is_none, unwrap_or}
+use Rattle.std.specs.Net.Grammar.{IsNumber}
+use Rattle.clap.specs.Words.{Row, Text, first_of}
+use Rattle.app_base.specs.Asked.{is_given}
+use Rattle.lab_schedule.specs.declared.make.Links.{Links}
+use Rattle.lab_schedule.specs.declared.make.Links.TheVariants.{Clean, Drawn}
+use Rattle.app_bmclab.specs.declared.schedule_words.Options.{Options}
+use Rattle.app_bmclab.specs.declared.schedule_words.ScheduleWords.{ScheduleWords}
+
+-- the word, where there is one, is this number in decimal digits, which is below the end
+abbrev pub NamesBelow : (end : ℕ) → Option Text → Option ℕ → Type 0
+NamesBelow end None number = number ≡ None
+NamesBelow end (Some word) number = (n : ℕ) × (number ≡ Some n) × IsNumber 10 word n × (n < end)
+
+-- the option of this name says so many of a hundred, where it is given
+abbrev pub NamesPercent : List Row → (name : Text) → Option ℕ → Type 0
+NamesPercent rows name percent = NamesBelow 101 (first_of name rows) percent
+
+-- this seed is given, where one is
+abbrev pub NamesSeed : List Row → Option ℕ → Type 0
+NamesSeed rows seed = NamesBelow (2 ^ 64) (first_of (codes "seed") rows) seed
+
+-- what was matched has these options
+pub record AsksOptions (rows : List Row) (options : Options) : Type 0 where
+  pub lose : NamesPercent rows (codes "lose") options.lose
+  pub repeat : NamesPercent rows (codes "repeat") options.repeat
+  pub delay : NamesPercent rows (codes "delay") options.delay
+  pub others : NamesPercent rows (codes "others") options.others
+  pub seed : NamesSeed rows options.seed
+
+-- no option is given
+abbrev pub is_empty : Options → Bool
+is_empty options = is_none options.lose && is_none options.repeat && is_none options.delay && is_none options.others && is_none options.seed
+
+-- What the buses do by these options: with none they are clean, and else what isn't given never happens, the seed is 0, and no packet may join
+-- one that waits too long.
+abbrev pub links_of : Options → Links
+links_of options =
+    if is_empty options
+    then Clean
+    else Drawn (record {
+      lose = unwrap_or options.lose 0;
+      repeat = unwrap_or options.repeat 0;
+      delay = unwrap_or options.delay 0;
+      others = unwrap_or options.others 0;
+      seed = unwrap_or options.seed 0;
+      late_joins = false;
+    })
+
+-- what was matched behind `schedule` asks for this
+pub record AsksSchedule (rows : List Row) (asked : ScheduleWords) : Type 0 where
+  pub options : Options
+  pub given : AsksOptions rows options
+  pub links : asked.wanted.links ≡ links_of options
+  pub undo : asked.wanted.undo ≡ is_given (codes "undo") rows
+  pub board : first_of (codes "BOARD") rows ≡ Some (string_bytes asked.board)
+  pub plan : first_of (codes "PLAN") rows ≡ Some (string_bytes asked.plan)

@@ -1,0 +1,124 @@
+//! What the program does: what its words ask for, with its files.
+ghost use Rattle.std.specs.Prelude.{map, string_bytes};
+ghost use Rattle.app_base.specs.Ending.{RunEnds};
+ghost use Rattle.app_bmclab.specs.Run.{SaysOfLine, SaysOfWords};
+
+use crate::check::{TellsCause, check_files};
+use crate::schedule_files::{ScheduleFiles, schedule_of_files};
+use crate::schedule_words::ScheduleWords;
+use crate::words::{CheckWords, FrameWords, PlayWords, Words, read};
+use app_base::{Console, TextFiles, refuse};
+use app_play::{PlayFiles, play_of_files};
+use bmc_lab::frame_of_file;
+use std::alloc::Global;
+use std::io;
+
+/// Sends the frame that the words ask for.
+fn send<F: TextFiles, W: io::Write, E: io::Write>(
+    alloc: Global,
+    files: &F,
+    words: &FrameWords,
+    console: &mut Console<W, E>,
+) -> u8
+    ensures { RunEnds W.contents E.contents
+        (SaysOfWords (F.gives files.now) (Words.Frame words.now))
+        console.old console.new result }
+{
+    let frame = &words.frame;
+    frame_of_file(
+        alloc,
+        files,
+        frame.bus,
+        words.board.as_deref(),
+        frame.bytes.as_slice(),
+        console,
+    )
+}
+
+/// Plays what the words ask for.
+fn play<F: TextFiles, W: io::Write, E: io::Write>(
+    alloc: Global,
+    files: &F,
+    words: &PlayWords,
+    console: &mut Console<W, E>,
+) -> u8
+    ensures { RunEnds W.contents E.contents
+        (SaysOfWords (F.gives files.now) (Words.Play words.now))
+        console.old console.new result }
+{
+    let named = PlayFiles {
+        board: words.board.as_str(),
+        plan: words.plan.as_str(),
+        schedule: words.schedule.as_str(),
+    };
+    play_of_files(alloc, files, words.shown, named, console)
+}
+
+/// Writes the schedule that the words ask for.
+fn write<F: TextFiles, W: io::Write, E: io::Write>(
+    alloc: Global,
+    files: &F,
+    words: &ScheduleWords,
+    console: &mut Console<W, E>,
+) -> u8
+    ensures { RunEnds W.contents E.contents
+        (SaysOfWords (F.gives files.now) (Words.Schedule words.now))
+        console.old console.new result }
+{
+    let named = ScheduleFiles {
+        board: words.board.as_str(),
+        plan: words.plan.as_str(),
+    };
+    schedule_of_files(alloc, files, words.wanted, named, console)
+}
+
+/// Checks the files that the words name.
+fn check<F: TextFiles + TellsCause, W: io::Write, E: io::Write>(
+    alloc: Global,
+    files: &F,
+    words: &CheckWords,
+    console: &mut Console<W, E>,
+) -> u8
+    ensures { RunEnds W.contents E.contents
+        (SaysOfWords (F.gives files.now) (Words.Check words.now))
+        console.old console.new result }
+{
+    check_files(alloc, files, words.files.as_slice(), console)
+}
+
+/// Does what the words ask for.
+fn carry_out<F: TextFiles + TellsCause, W: io::Write, E: io::Write>(
+    alloc: Global,
+    files: &F,
+    words: &Words,
+    console: &mut Console<W, E>,
+) -> u8
+    ensures { RunEnds W.contents E.contents (SaysOfWords (F.gives files.now) words.now)
+        console.old console.new result }
+{
+    match words {
+        Words::Frame(words) => send(alloc, files, words, console),
+        Words::Play(words) => play(alloc, files, words, console),
+        Words::Schedule(words) => write(alloc, files, words, console),
+        Words::Check(words) => check(alloc, files, words, console),
+    }
+}
+
+/// Does what the words of a command line ask for, the program's own name first among them, with these files: what `frame_of_file`,
+/// `play_of_files`, `schedule_of_files` or `check_files` does. Where they ask for nothing it reads no file, standard error gets why or the help that is asked for, and the status
+/// is 2.
+pub fn run_line<F: TextFiles + TellsCause, W: io::Write, E: io::Write>(
+    alloc: Global,
+    files: &F,
+    words: &[String],
+    console: &mut Console<W, E>,
+) -> u8
+    ensures { RunEnds W.contents E.contents
+        (SaysOfLine (F.gives files.now) (map string_bytes words.now))
+        console.old console.new result }
+{
+    match read(alloc, words) {
+        Ok(asked) => carry_out(alloc, files, &asked, console),
+        Err(refusal) => refuse(&refusal, console),
+    }
+}

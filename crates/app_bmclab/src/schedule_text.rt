@@ -1,0 +1,65 @@
+//! A schedule of a plan on a board: what is said of two texts.
+ghost use Rattle.std.specs.Prelude.{◌≡◌, [], IfOk, string_bytes};
+ghost use Rattle.app_base.specs.declared.console.Stream.TheVariants.{Output};
+ghost use Rattle.app_base.specs.Ending.{RunEnds};
+ghost use Rattle.app_play.specs.Run.{Says};
+ghost use Rattle.app_bmclab.specs.Writes.{Writes};
+
+use app_base::{Console, Ending, Report, Status, Stream};
+use app_play::{Inputs, is_memory, read_inputs, refusal_report};
+use lab_schedule::{Wanted, make_schedule};
+use std::alloc::{AllocError, Global};
+use std::io;
+use text_schedule::write_schedule;
+
+/// The schedule of the plan on the board, written.
+fn written_report(alloc: Global, wanted: Wanted, inputs: Inputs) -> Result<Report, AllocError>
+    ensures stream { IfOk result (λ report. report.stream ≡ Output) }
+    ensures written { IfOk result
+        (λ report. Writes wanted inputs (string_bytes report.text) report.status) }
+{
+    let Inputs { file, plan, .. } = inputs;
+    let events = make_schedule(alloc, file, plan, wanted)?;
+    let text = write_schedule(alloc, events.as_slice())?;
+    Ok(Report {
+        stream: Stream::Output,
+        text,
+        status: Status::Success,
+    })
+}
+
+/// The schedule of the plan on the board, or what is said of the first text that is refused.
+fn schedule_report(
+    alloc: Global,
+    wanted: Wanted,
+    board: &str,
+    plan: &str,
+) -> Result<Report, AllocError>
+    ensures { IfOk result
+        (λ report. Says (Writes wanted) board.now plan.now []
+        report.stream (string_bytes report.text) report.status) }
+{
+    // Nothing happens yet.
+    match read_inputs(alloc, board, plan, "") {
+        Ok(inputs) => written_report(alloc, wanted, inputs),
+        Err(why) if is_memory(&why) => Err(AllocError),
+        Err(why) => refusal_report(alloc, why),
+    }
+}
+
+/// Writes to standard output a schedule of a plan on the board of a board file, each given as its text. A play of the plan on that board
+/// takes each of its events. It gives the status: 0 where the schedule is written, 3 with `board` or `plan` and the fault on standard error
+/// where a text is refused, 5 with `memory` on standard error where memory was refused, and 6 where a write failed.
+pub fn schedule_run<W: io::Write, E: io::Write>(
+    alloc: Global,
+    wanted: Wanted,
+    board: &str,
+    plan: &str,
+    console: &mut Console<W, E>,
+) -> u8
+    ensures { RunEnds W.contents E.contents (Says (Writes wanted) board.now plan.now [])
+        console.old console.new result }
+{
+    let report = schedule_report(alloc, wanted, board, plan);
+    u8::from(Ending::of(&report).write(console))
+}

@@ -1,0 +1,298 @@
+//! The words of the command line.
+ghost use Rattle.std.specs.Prelude.{◌≡◌, IfOk, IfErr, map, string_bytes};
+ghost use Rattle.clap.specs.Words.{app_of, found_of, rows_of, subcommand_rows_of};
+ghost use Rattle.app_base.specs.Line.{IsCommand};
+ghost use Rattle.app_base.specs.Asked.{Refuses};
+ghost use Rattle.app_bmclab.specs.Line.{check_app, frame_app, play_app, program};
+ghost use Rattle.app_bmclab.specs.Asked.{AsksBy, AsksCheck, AsksFor, AsksFrame, AsksPlay, shown_of};
+
+use crate::schedule_words::{ScheduleWords, schedule_command, schedule_words};
+use app_base::{
+    Argument, Refusal, Status, all_named, given, has_flag, lacking, named, new_command,
+    new_program, refusal_by, refusal_of, with_command,
+};
+use app_play::Shown;
+use bmc_lab::{AskedFrame, asked_frame};
+use clap::error::ErrorKind;
+use clap::{ArgMatches, Command};
+use std::alloc::{AllocError, Global};
+use two_wire::Bus;
+
+/// What the words ask for.
+#[derive(Drop)]
+pub enum Words {
+    Frame(FrameWords),
+    Play(PlayWords),
+    Schedule(ScheduleWords),
+    Check(CheckWords),
+}
+
+/// What the words of `bmclab frame` ask for.
+#[derive(Drop)]
+pub struct FrameWords {
+    /// The word of the board file, where one is given.
+    pub board: Option<String>,
+    pub frame: AskedFrame,
+}
+
+/// What the words of `bmclab play` ask for.
+#[derive(Drop)]
+pub struct PlayWords {
+    /// How the play is shown.
+    pub shown: Shown,
+    /// The word of the board file.
+    pub board: String,
+    /// The word of the plan.
+    pub plan: String,
+    /// The word of the schedule.
+    pub schedule: String,
+}
+
+/// What the words of `bmclab check` ask for.
+#[derive(Drop)]
+pub struct CheckWords {
+    /// The words of the files, at least one.
+    pub files: Vec<String>,
+}
+
+const BUS_HELP: &str = "The bus, as in --bus smbus:
+ipmb   the frame is one of IPMB; so it is where no bus is named
+smbus  it is a packet of MCTP";
+
+const BOARD_HELP: &str =
+    "The board file, as in --board sample.toml; the sample board where none is named";
+
+const HEX_FORM: &str = "two hexadecimal digits for each byte, without spaces and without 0x";
+
+const HEX_HELP: &str =
+    "The frame, as in 2018C82C0001D3: two hexadecimal digits for each byte, without spaces and without 0x";
+
+const FRAME_ABOUT: &str = "Sends one frame to a fresh controller, and prints what it sends back";
+
+const FRAME_EXAMPLES: &str = "Examples:
+  bmclab frame 2018C82C0001D3
+  bmclab frame --bus smbus --board sample.toml 200F0931010A08C801800002BE";
+
+const FRAME_ARGUMENTS: [Argument<'static>; 3] = [
+    Argument::Option("bus", "BUS", BUS_HELP),
+    Argument::Option("board", "FILE", BOARD_HELP),
+    Argument::Needed("HEX", HEX_HELP),
+];
+
+/// `frame [--bus ipmb|smbus] [--board FILE] HEX`.
+fn frame_command<'a>(alloc: Global) -> Result<Command<'a>, AllocError>
+    ensures { IfOk result (IsCommand frame_app) }
+{
+    new_command(
+        alloc,
+        "frame",
+        FRAME_ABOUT,
+        FRAME_EXAMPLES,
+        &FRAME_ARGUMENTS,
+    )
+}
+
+const PLAY_ABOUT: &str = "Plays a plan on a board, over buses that lose, repeat and delay frames";
+
+const FRAMES_HELP: &str = "Prints each frame, too, as in frame 0 mgr ipmb 2010D02C002905A6";
+
+const PREMISES_HELP: &str =
+    "Prints the first event at which a packet joined one that had waited too long, or premises kept";
+
+const SCHEDULE_HELP: &str = "The schedule: what comes when, as examples/clean/schedule.txt";
+
+const PLAY_EXAMPLES: &str = "Examples:
+  bmclab play sample.toml examples/clean/plan.toml examples/clean/schedule.txt
+  bmclab play --frames sample.toml examples/clean/plan.toml examples/clean/schedule.txt
+  bmclab play --premises sample.toml examples/clean/plan.toml examples/clean/schedule.txt
+  bmclab play --chart sample.toml examples/clean/plan.toml examples/clean/schedule.txt";
+
+const PLAY_ARGUMENTS: [Argument<'static>; 6] = [
+    Argument::Flag("frames", FRAMES_HELP),
+    Argument::Flag("premises", PREMISES_HELP),
+    Argument::Flag("chart", "Draws the play in place of its lines"),
+    Argument::Needed("BOARD", "The board file, as sample.toml"),
+    Argument::Needed("PLAN", "The plan, as examples/clean/plan.toml"),
+    Argument::Needed("SCHEDULE", SCHEDULE_HELP),
+];
+
+/// `play [[--frames] [--premises] | --chart] BOARD PLAN SCHEDULE`.
+fn play_command<'a>(alloc: Global) -> Result<Command<'a>, AllocError>
+    ensures { IfOk result (IsCommand play_app) }
+{
+    new_command(alloc, "play", PLAY_ABOUT, PLAY_EXAMPLES, &PLAY_ARGUMENTS)
+}
+
+const CHECK_ABOUT: &str = "Tells what files hold, where a fault is, and which keys nothing reads";
+
+const CHECK_EXAMPLES: &str = "Examples:
+  bmclab check sample.toml
+  bmclab check sample.toml examples/clean/plan.toml examples/clean/schedule.txt";
+
+const FILES_HELP: &str = "The files: board files, plans, schedules and undo texts";
+
+const CHECK_ARGUMENTS: [Argument<'static>; 1] = [Argument::Several("FILE", FILES_HELP)];
+
+/// `check FILE..`.
+fn check_command<'a>(alloc: Global) -> Result<Command<'a>, AllocError>
+    ensures { IfOk result (IsCommand check_app) }
+{
+    new_command(
+        alloc,
+        "check",
+        CHECK_ABOUT,
+        CHECK_EXAMPLES,
+        &CHECK_ARGUMENTS,
+    )
+}
+
+const ABOUT: &str =
+    "Sends frames to a modelled board controller, plays plans on it and takes them back, writes schedules, and checks files";
+
+const EXAMPLES: &str = "Examples:
+  bmclab frame 2018C82C0001D3
+  bmclab play sample.toml examples/clean/plan.toml examples/clean/schedule.txt
+  bmclab schedule --undo sample.toml examples/clean/plan.toml
+  bmclab check sample.toml examples/clean/plan.toml examples/clean/schedule.txt";
+
+/// `bmclab`, and what it can do.
+fn command<'a>(alloc: Global) -> Result<Command<'a>, AllocError>
+    ensures { IfOk result (λ command. app_of command ≡ program) }
+{
+    let program = new_program(alloc, "bmclab", ABOUT, EXAMPLES)?;
+    let program = with_command(program, frame_command(alloc))?;
+    let program = with_command(program, play_command(alloc))?;
+    let program = with_command(program, schedule_command(alloc))?;
+    with_command(program, check_command(alloc))
+}
+
+/// What is wrong with the words BUS and HEX that name no frame.
+fn frame_fault(alloc: Global, bus: Option<&str>, digits: &str) -> Result<String, AllocError> {
+    match bus {
+        Some(name) if Bus::named(name).is_none() => {
+            format!(in alloc;
+                "invalid value '{name}' for '--bus <BUS>'\n  [possible values: ipmb, smbus]"
+            )
+        }
+        _ => format!(in alloc; "invalid value '{digits}' for '<HEX>': {HEX_FORM}"),
+    }
+}
+
+/// The refusal of words BUS and HEX that name no frame, or for which memory was refused.
+fn frame_refusal(alloc: Global, status: Status, bus: Option<&str>, digits: &str) -> Refusal
+    ensures { status ≡ Status.Memory → result ≡ Refusal.Memory }
+{
+    if status == Status::Memory {
+        return Refusal::Memory;
+    }
+    match frame_fault(alloc, bus, digits) {
+        Ok(fault) => {
+            let command = frame_command(alloc);
+            let kind = ErrorKind::InvalidValue;
+            refusal_by(alloc, command, "bmclab frame", kind, fault.as_str())
+        }
+        Err(_) => Refusal::Memory,
+    }
+}
+
+/// What the words behind `frame` ask for.
+fn frame_words(alloc: Global, matches: &ArgMatches) -> Result<FrameWords, Refusal>
+    ensures asked { IfOk result (AsksFrame (rows_of (found_of matches.now))) }
+    ensures refused { IfErr result (Refuses (AsksFrame (rows_of (found_of matches.now)))) }
+{
+    let Some(digits) = matches.get_str("HEX") else {
+        return Err(lacking(alloc));
+    };
+    let board = given(alloc, matches, "board")?;
+    let bus = matches.get_str("bus");
+    match asked_frame(alloc, bus, digits) {
+        Ok(frame) => Ok(FrameWords { board, frame }),
+        Err(status) => Err(frame_refusal(alloc, status, bus, digits)),
+    }
+}
+
+/// How a play is shown with these flags. A chart has no lines of frames, and none of the premise on packets.
+fn shown(frames: bool, premises: bool, chart: bool) -> Option<Shown>
+    ensures { result ≡ shown_of frames premises chart }
+{
+    match (frames, premises, chart) {
+        (frames, premises, false) => Some(Shown::Lines { frames, premises }),
+        (false, false, true) => Some(Shown::Chart),
+        _ => None,
+    }
+}
+
+/// The refusal of flags that don't go with `--chart`: `--frames`, or else `--premises`.
+fn shown_refusal(alloc: Global, frames: bool) -> Refusal {
+    let command = play_command(alloc);
+    let kind = ErrorKind::ArgumentConflict;
+    let message = if frames {
+        "the argument '--frames' cannot be used with '--chart'"
+    } else {
+        "the argument '--premises' cannot be used with '--chart'"
+    };
+    refusal_by(alloc, command, "bmclab play", kind, message)
+}
+
+/// What the words behind `play` ask for.
+fn play_words(alloc: Global, matches: &ArgMatches) -> Result<PlayWords, Refusal>
+    ensures asked { IfOk result (AsksPlay (rows_of (found_of matches.now))) }
+    ensures refused { IfErr result (Refuses (AsksPlay (rows_of (found_of matches.now)))) }
+{
+    let frames = has_flag(matches, "frames");
+    let premises = has_flag(matches, "premises");
+    let chart = has_flag(matches, "chart");
+    let Some(shown) = shown(frames, premises, chart) else {
+        return Err(shown_refusal(alloc, frames));
+    };
+    Ok(PlayWords {
+        shown,
+        board: named(alloc, matches, "BOARD")?,
+        plan: named(alloc, matches, "PLAN")?,
+        schedule: named(alloc, matches, "SCHEDULE")?,
+    })
+}
+
+/// What the words behind `check` ask for.
+fn check_words(alloc: Global, matches: &ArgMatches) -> Result<CheckWords, Refusal>
+    ensures asked { IfOk result (AsksCheck (rows_of (found_of matches.now))) }
+    ensures refused { IfErr result (Refuses (AsksCheck (rows_of (found_of matches.now)))) }
+{
+    Ok(CheckWords {
+        files: all_named(alloc, matches, "FILE")?,
+    })
+}
+
+/// What the words that were matched ask for.
+fn matched_words(alloc: Global, matches: &ArgMatches) -> Result<Words, Refusal>
+    ensures asked { IfOk result (AsksBy (subcommand_rows_of matches.now)) }
+    ensures refused { IfErr result (Refuses (AsksBy (subcommand_rows_of matches.now))) }
+{
+    if let Some(frame) = matches.subcommand_matches("frame") {
+        return Ok(Words::Frame(frame_words(alloc, frame)?));
+    }
+    if let Some(play) = matches.subcommand_matches("play") {
+        return Ok(Words::Play(play_words(alloc, play)?));
+    }
+    if let Some(schedule) = matches.subcommand_matches("schedule") {
+        return Ok(Words::Schedule(schedule_words(alloc, schedule)?));
+    }
+    let Some(check) = matches.subcommand_matches("check") else {
+        return Err(lacking(alloc));
+    };
+    Ok(Words::Check(check_words(alloc, check)?))
+}
+
+/// What the words ask for, the program's own name first among them.
+pub fn read(alloc: Global, words: &[String]) -> Result<Words, Refusal>
+    ensures asked { IfOk result (AsksFor (map string_bytes words.now)) }
+    ensures refused { IfErr result (Refuses (AsksFor (map string_bytes words.now))) }
+{
+    let Ok(command) = command(alloc) else {
+        return Err(Refusal::Memory);
+    };
+    match command.try_get_matches_from(words) {
+        Ok(matches) => matched_words(alloc, &matches),
+        Err(error) => Err(refusal_of(alloc, &error)),
+    }
+}

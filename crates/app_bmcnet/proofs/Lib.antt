@@ -1,0 +1,5 @@
+pub mod Telling
+pub mod Counting
+pub mod Readings
+pub mod Endings
+pub mod Behind

@@ -1,0 +1,12 @@
+use Rattle.app_bmcnet.proofs.pairing.paired_report.Goals as goal
+
+pub returns-clause-told : goal.returns-clause-told
+returns-clause-told g c = record {
+  run = c.in_ok-account.account.phases.run;
+  undone = c.in_ok-account.account.phases.undone;
+  changed = c.in_ok-account.account.changed;
+  manager = c.in_ok-account.ensures.phases c.args.inputs.plan c.in-Ok.ensures;
+  board = c.in_ok-account.ensures.changed;
+  said = c.in_ok-account_report.ensures.text;
+  ended = c.in_ok-account_report.ensures.status;
+}

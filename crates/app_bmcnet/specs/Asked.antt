@@ -1,0 +1,85 @@
+-- What the words of the command line ask for.
+use Rattle.std.specs.Prelude.{◌≡◌, ◌≤◌, ◌<◌, ◌^◌, ◌⊎◌, ℕ, List, Option, None, Some, option_map, codes, string_bytes}
+use Rattle.std.specs.Net.Grammar.{IsNumber}
+use Rattle.clap.specs.Words.{Row, Text, first_of}
+use Rattle.app_base.specs.Asked.{AsksOf, is_given}
+use Rattle.app_serve.specs.declared.run.ServeWords.{ServeWords}
+use Rattle.app_run.specs.declared.running.RunWords.{RunWords}
+use Rattle.app_run.specs.declared.undoing.UndoWords.{UndoWords}
+use Rattle.app_bmcnet.specs.declared.pairing.PairWords.{PairWords}
+use Rattle.app_bmcnet.specs.declared.words.Words.{Words}
+use Rattle.app_bmcnet.specs.declared.words.Words.TheVariants.{Serve, Run, Undo, Pair}
+use Rattle.app_bmcnet.specs.Line.{program}
+
+-- the word of this name is this number of so many bits, in decimal digits
+abbrev pub NamesNumber : (bits : ℕ) → List Row → (name : Text) → (number : ℕ) → Type 0
+NamesNumber bits rows name number = (word : Text) × (first_of name rows ≡ Some word) × IsNumber 10 word number × (number < 2 ^ bits)
+
+-- the word of this name is this port
+abbrev pub NamesPort : List Row → (name : Text) → (port : ℕ) → Type 0
+NamesPort rows name port = NamesNumber 16 rows name port
+
+-- the word TURNS is so many turns
+abbrev pub NamesTurns : List Row → (turns : ℕ) → Type 0
+NamesTurns rows turns = NamesNumber 32 rows (codes "TURNS") turns
+
+-- the option of this name is this number of 32 bits, in decimal digits, from the least one on; or it isn't given, and there is none
+abbrev pub NamesOption : (least : ℕ) → List Row → (name : Text) → Option ℕ → Type 0
+NamesOption least rows name None = first_of name rows ≡ None
+NamesOption least rows name (Some number) = NamesNumber 32 rows name number × (least ≤ number)
+
+-- it is this number, which is the usual one where the option isn't given
+abbrev pub NamesOr : (least usual : ℕ) → List Row → (name : Text) → (number : ℕ) → Type 0
+NamesOr least usual rows name number = NamesOption least rows name (Some number) ⊎ (NamesOption least rows name None × (number ≡ usual))
+
+-- so many milliseconds of quiet end a turn: 200, unless the option `--wait` says otherwise
+abbrev pub NamesWait : List Row → (wait : ℕ) → Type 0
+NamesWait rows wait = NamesOr 1 200 rows (codes "wait") wait
+
+-- what was matched behind `serve` asks for this
+pub record AsksServe (rows : List Row) (asked : ServeWords) : Type 0 where
+  pub board : first_of (codes "BOARD") rows ≡ Some (string_bytes asked.board)
+  pub ipmb : NamesPort rows (codes "P0") asked.ipmb_port
+  pub smbus : NamesPort rows (codes "P1") asked.smbus_port
+  pub turns : NamesTurns rows asked.turns
+  pub wait : NamesWait rows asked.wait_ms
+  pub periods : is_given (codes "periods") rows ≡ asked.periods
+  pub quiet : NamesOption 1 rows (codes "quiet") asked.quiet
+  pub forget : NamesOption 1 rows (codes "forget") asked.forget
+  pub readings : option_map string_bytes asked.readings ≡ first_of (codes "readings") rows
+
+-- what was matched behind `run` asks for this
+pub record AsksRun (rows : List Row) (asked : RunWords) : Type 0 where
+  pub plan : first_of (codes "PLAN") rows ≡ Some (string_bytes asked.plan)
+  pub ipmb : NamesPort rows (codes "P0") asked.ipmb_port
+  pub smbus : NamesPort rows (codes "P1") asked.smbus_port
+  pub turns : NamesTurns rows asked.turns
+  pub undo : first_of (codes "UNDO") rows ≡ Some (string_bytes asked.undo)
+  pub wait : NamesWait rows asked.wait_ms
+  pub again : NamesOr 0 0 rows (codes "again") asked.again
+  pub forget : NamesOption 1 rows (codes "forget") asked.forget
+
+-- what was matched behind `undo` asks for this
+pub record AsksUndo (rows : List Row) (asked : UndoWords) : Type 0 where
+  pub undo : first_of (codes "UNDO") rows ≡ Some (string_bytes asked.undo)
+  pub ipmb : NamesPort rows (codes "P0") asked.ipmb_port
+  pub smbus : NamesPort rows (codes "P1") asked.smbus_port
+  pub turns : NamesTurns rows asked.turns
+  pub wait : NamesWait rows asked.wait_ms
+
+-- what was matched behind `pair` asks for this
+pub record AsksPair (rows : List Row) (asked : PairWords) : Type 0 where
+  pub board : first_of (codes "BOARD") rows ≡ Some (string_bytes asked.board)
+  pub plan : first_of (codes "PLAN") rows ≡ Some (string_bytes asked.plan)
+  pub turns : NamesTurns rows asked.turns
+
+-- the subcommand, with what was matched behind it, asks for this
+abbrev pub AsksBy : Option (Text × List Row) → Words → Type 0
+AsksBy met (Serve asked) = (rows : List Row) × (met ≡ Some (codes "serve", rows)) × AsksServe rows asked
+AsksBy met (Run asked) = (rows : List Row) × (met ≡ Some (codes "run", rows)) × AsksRun rows asked
+AsksBy met (Undo asked) = (rows : List Row) × (met ≡ Some (codes "undo", rows)) × AsksUndo rows asked
+AsksBy met (Pair asked) = (rows : List Row) × (met ≡ Some (codes "pair", rows)) × AsksPair rows asked
+
+-- the words, the program's own name first among them, are of its command line, and ask for this
+abbrev pub AsksFor : (words : List Text) → (asked : Words) → Type 0
+AsksFor words asked = AsksOf program AsksBy words asked

@@ -1,0 +1,39 @@
+-- The program's command line, as clap has it.
+use Rattle.std.specs.Prelude.{[], ◌∷◌, ◌++◌, List, codes, fold, map}
+use Rattle.clap.specs.Words.{App, Rule, Text, new_app, with_rule, with_subcommand}
+use Rattle.app_base.specs.Line.{flag_rule, needed_rule, needing_subcommand, option_rule}
+use Rattle.app_bmcnet.specs.declared.tasks.Task.{Task}
+use Rattle.app_bmcnet.specs.declared.tasks.Task.TheVariants.{Serve, Run, Undo, Pair}
+
+-- a command of this name, with these options, and with words each of which must be there
+abbrev pub taking : (name : Text) → (options : List Rule) → (words : List Text) → App
+taking name options words = fold with_rule (new_app name) (options ++ map needed_rule words)
+
+-- the options of `serve`: `[--wait MS] [--periods] [--quiet N] [--forget N] [--readings FILE]`
+abbrev pub serve_options : List Rule
+serve_options =
+    option_rule (codes "wait") ∷ flag_rule (codes "periods") ∷ option_rule (codes "quiet") ∷ option_rule (codes "forget")
+    ∷ option_rule (codes "readings") ∷ []
+
+-- those of `run`: `[--wait MS] [--again N] [--forget N]`
+abbrev pub run_options : List Rule
+run_options = option_rule (codes "wait") ∷ option_rule (codes "again") ∷ option_rule (codes "forget") ∷ []
+
+-- that of `undo`: `[--wait MS]`
+abbrev pub undo_options : List Rule
+undo_options = option_rule (codes "wait") ∷ []
+
+-- behind their options, `serve BOARD P0 P1 TURNS`, `run PLAN P0 P1 TURNS UNDO`, `undo UNDO P0 P1 TURNS`, and `pair BOARD PLAN TURNS`
+abbrev pub app_named : Task → App
+app_named Serve = taking (codes "serve") serve_options (codes "BOARD" ∷ codes "P0" ∷ codes "P1" ∷ codes "TURNS" ∷ [])
+app_named Run = taking (codes "run") run_options (codes "PLAN" ∷ codes "P0" ∷ codes "P1" ∷ codes "TURNS" ∷ codes "UNDO" ∷ [])
+app_named Undo = taking (codes "undo") undo_options (codes "UNDO" ∷ codes "P0" ∷ codes "P1" ∷ codes "TURNS" ∷ [])
+app_named Pair = taking (codes "pair") [] (codes "BOARD" ∷ codes "PLAN" ∷ codes "TURNS" ∷ [])
+
+-- `bmcnet`, and what it does with one side
+abbrev pub serves : App
+serves = with_subcommand (with_subcommand (needing_subcommand (new_app (codes "bmcnet"))) (app_named Serve).top) (app_named Run).top
+
+-- `bmcnet`, and what it can do
+abbrev pub program : App
+program = with_subcommand (with_subcommand serves (app_named Undo).top) (app_named Pair).top

@@ -1,0 +1,74 @@
+-- What a board and a manager came to that ran side by side, and what is said of it.
+use Rattle.std.specs.Prelude.{◌≡◌, ℕ, false, List, [], ◌++◌, Option, Some, None, IfSome}
+use Rattle.text_lines.specs.Cuts.{ended}
+use Rattle.cfg_records.specs.declared.board_file.BoardFile.{BoardFile}
+use Rattle.cfg_records.specs.Boards.{pairs_of}
+use Rattle.cfg_records.specs.Records.{Pair}
+use Rattle.bmc_board.specs.State.{opened}
+use Rattle.undo_plans.specs.declared.plan.Plan.{Plan}
+use Rattle.model_undo.specs.declared.phase.Phase.{Phase}
+use Rattle.model_lab.specs.Meaning.{lab_names}
+use Rattle.model_undo.specs.declared.call.Call.TheVariants.{Start, Undo}
+use Rattle.undo_core.specs.declared.manager.Manager.{Manager}
+use Rattle.undo_core.specs.Shown.{Shows}
+use Rattle.wire_links.specs.Counted.{none_counted}
+use Rattle.bmc_ports.specs.Driving.{Links}
+use Rattle.text_lines.specs.RecordsLine.{records_line}
+use Rattle.app_base.specs.declared.status.Status.{Status}
+use Rattle.app_base.specs.declared.status.Status.TheVariants.{Success, Stopped}
+use Rattle.app_serve.specs.declared.board.Served.{Served}
+use Rattle.app_serve.specs.Served.{IsServed, Tallies, most_events}
+use Rattle.app_run.specs.Driven.{State, Goes, opened_with, fresh_links}
+use Rattle.app_run.specs.Lines.{phase_line}
+use Rattle.app_bmcnet.specs.declared.side.Driver.{Driver}
+
+-- the manager shows one of the plan, which it hasn't begun, and its links have counted nothing
+pub record IsReady (plan : Plan) (driver : Driver) : Type 0 where
+  pub shown : Shows lab_names driver.manager (opened_with plan)
+  pub ipmb : driver.ends.ipmb.counts ≡ none_counted
+  pub smbus : driver.ends.smbus.counts ≡ none_counted
+
+-- A manager ran the plan, and came to the first phase; then it was to undo, and came to the second. It made at most so many turns for each.
+pub record RunsAndUndoes (plan : Plan) (turns : ℕ) (run undone : Phase) : Type 0 where
+  pub mid : Manager
+  pub between : State
+  pub shown : Shows lab_names mid between
+  pub half : Links
+  pub runs : Goes Start turns (opened_with plan) mid run fresh_links half
+  pub last : Manager
+  pub counts : Links
+  pub undoes : Goes Undo turns between last undone half counts
+
+-- what became of the records: so many have changed in some history of the board; nothing is known where the serving came to no end
+abbrev pub IsChanged : BoardFile → Option ℕ → Type 0
+IsChanged file None = Unit {0}
+IsChanged file (Some changed) = (events : ℕ) × Tallies false None file events changed
+
+-- so many have changed of the records that a file's board began with, where it was served with one history
+abbrev pub CountsChanged : (start : List Pair) → (served : Option Served) → (changed : Option ℕ) → Type 0
+CountsChanged start served changed =
+    (file : BoardFile) → start ≡ pairs_of file → IfSome served (IsServed file (opened file) most_events) → IsChanged file changed
+
+-- the line of the records, where it is known
+abbrev pub last_line : Option ℕ → List ℕ
+last_line None = []
+last_line (Some changed) = ended (records_line changed)
+
+-- how such a run ends
+abbrev pub status_of : Option ℕ → Status
+status_of None = Stopped
+status_of (Some changed) = Success
+
+-- the lines: both phases, and the records
+abbrev pub text_of : (run undone : Phase) → Option ℕ → List ℕ
+text_of run undone changed = phase_line run ++ phase_line undone ++ last_line changed
+
+-- the text and the status tell of such a pair
+pub record TellsPair (file : BoardFile) (plan : Plan) (turns : ℕ) (text : List ℕ) (status : Status) : Type 0 where
+  pub run : Phase
+  pub undone : Phase
+  pub changed : Option ℕ
+  pub manager : RunsAndUndoes plan turns run undone
+  pub board : IsChanged file changed
+  pub said : text ≡ text_of run undone changed
+  pub ended : status ≡ status_of changed

@@ -1,0 +1,53 @@
+-- How a run of a command line ends.
+use Rattle.std.specs.Prelude.{◌≡◌, ◌⊎◌, ℕ, List, Option, string_bytes}
+use Rattle.clap.specs.Words.{Text}
+use Rattle.app_base.specs.declared.console.Console.{Console}
+use Rattle.app_base.specs.declared.console.Stream.TheVariants.{Error}
+use Rattle.app_base.specs.declared.status.Status.TheVariants.{RefusedWords}
+use Rattle.app_base.specs.Ending.{RunEnds, Saying}
+use Rattle.app_base.specs.Files.{Readings}
+use Rattle.app_serve.specs.Run.{ServeEnds}
+use Rattle.app_run.specs.Beside.{Renamings, Writings}
+use Rattle.app_run.specs.Run.{RunEndsOf}
+use Rattle.app_run.specs.Undo.{SaysOfList}
+use Rattle.app_run.specs.declared.progress.Progress.{Progress}
+use Rattle.app_run.specs.Told.{TellsFile, TellsUndoFile}
+use Rattle.app_bmcnet.specs.PairRun.{SaysOfFiles, words_of}
+use Rattle.app_bmcnet.specs.declared.words.Words.{Words}
+use Rattle.app_bmcnet.specs.declared.words.Words.TheVariants.{Serve, Run, Undo, Pair}
+use Rattle.app_bmcnet.specs.Asked.{AsksFor}
+
+-- So a run ends that does what words ask for: as `serve`, `run`, `undo` or `pair` does with the files that they name. Only `run` writes files.
+abbrev pub EndsAsAsked : {Files Stdout Stderr : Type 0} → (out : Stdout → Option (List ℕ)) → (err : Stderr → Option (List ℕ)) → Readings → Writings Files → Renamings Files → Words → (before after : Files)
+    → (old new : Console Stdout Stderr) → ℕ → Type 0
+EndsAsAsked out err gives takes renames (Serve asked) before after old new result =
+    (after ≡ before) × ServeEnds out err gives asked old new result
+EndsAsAsked out err gives takes renames (Run asked) before after old new result =
+    RunEndsOf out err gives takes renames (string_bytes asked.plan) asked before after old new result
+EndsAsAsked out err gives takes renames (Undo asked) before after old new result =
+    (after ≡ before) × RunEnds out err (SaysOfList gives (string_bytes asked.undo) asked.turns) old new result
+EndsAsAsked out err gives takes renames (Pair asked) before after old new result =
+    (after ≡ before) × RunEnds out err (SaysOfFiles gives (words_of asked) asked.turns) old new result
+
+-- so is told of how far that is: `run` and `undo` tell it alone
+abbrev pub MayTellAsAsked : {Writer : Type 0} → (out : Writer → Option (List ℕ)) → Readings → Words → (old new : Progress Writer) → Type 0
+MayTellAsAsked out gives (Run asked) old new = TellsFile out gives (string_bytes asked.plan) old new
+MayTellAsAsked out gives (Undo asked) old new = TellsUndoFile out gives (string_bytes asked.undo) old new
+MayTellAsAsked out gives asked old new = new ≡ old
+
+-- what a run says of words that ask for nothing: any text on standard error, with the status of refused words
+abbrev pub SaysNothingAsked : (words : List Text) → Saying
+SaysNothingAsked words stream text status = ((asked : Words) → AsksFor words asked → ⊥) × (stream ≡ Error) × (status ≡ RefusedWords)
+
+-- So a run of a command line's words ends: as what they ask for, or, where they ask for nothing, with the status of refused words.
+abbrev pub LineEnds : {Files Stdout Stderr : Type 0} → (out : Stdout → Option (List ℕ)) → (err : Stderr → Option (List ℕ)) → Readings → Writings Files → Renamings Files → (words : List Text) → (before after : Files)
+    → (old new : Console Stdout Stderr) → ℕ → Type 0
+LineEnds out err gives takes renames words before after old new result =
+    ((asked : Words) × AsksFor words asked × EndsAsAsked out err gives takes renames asked before after old new result)
+    ⊎ ((after ≡ before) × RunEnds out err (SaysNothingAsked words) old new result)
+
+-- So a run of a command line's words tells how far it is: as what they ask for, or, where they ask for nothing, not at all.
+abbrev pub LineTells : {Writer : Type 0} → (out : Writer → Option (List ℕ)) → Readings → (words : List Text) → (old new : Progress Writer) → Type 0
+LineTells out gives words old new =
+    ((asked : Words) × AsksFor words asked × MayTellAsAsked out gives asked old new)
+    ⊎ (new ≡ old)

@@ -1,0 +1,302 @@
+//! `bmcnet pair`: a controller and a manager in one process, over UDP.
+ghost use Rattle.std.specs.Prelude.{◌≡◌, ◌++◌, IfOk, IfErr, OnOk, string_bytes};
+ghost use Rattle.undo_plans.specs.declared.plan.Plan.{Plan as AnyPlan};
+ghost use Rattle.app_base.specs.declared.console.Stream.TheVariants.{Output};
+ghost use Rattle.app_base.specs.Ending.{RunEnds, Tells};
+ghost use Rattle.app_base.specs.Files.{FirstUnread};
+ghost use Rattle.app_bmcnet.specs.Paired.{CountsChanged, IsChanged, IsReady, RunsAndUndoes, TellsPair, last_line, status_of, text_of};
+ghost use Rattle.app_bmcnet.specs.PairRun.{AreTexts, Says, SaysOfFiles, words_of};
+
+use crate::inputs::{Inputs, is_memory, read_inputs, refusal};
+use crate::links::{Ends, controller_ends, manager_ends};
+use crate::side::{Controller, Driver, Paired, Phases, pair_over};
+use app_base::files::refuse;
+use app_base::{Console, Report, Status, Stream, TextFiles, Unread, Untold, end_run, text_of};
+use app_run::{open_manager, push_phase};
+use app_serve::{Begun, Served, begin, controller_ports, tally_of};
+use cfg_records::{BoardFile, Key, StartValue};
+use std::alloc::{AllocError, Global};
+use std::io;
+use std::net::Net;
+use std::sync::Wait;
+use std::thread::Threads;
+use text_lines::push_records;
+use undo_plans::Plan;
+
+/// What the words of `bmcnet pair` ask for.
+#[derive(Drop)]
+pub struct PairWords {
+    /// The word of the board file.
+    pub board: String,
+    /// The word of the plan.
+    pub plan: String,
+    /// How many turns each worker makes, and the manager for its plan and for its undo.
+    pub turns: u32,
+}
+
+/// The texts of the two files.
+#[derive(Drop)]
+struct Texts {
+    board: String,
+    plan: String,
+}
+
+/// What is told of a pair: the manager's phases, and how many records changed, where the serving came to an end.
+#[derive(Clone, Copy)]
+struct Account {
+    phases: Phases,
+    changed: Option<usize>,
+}
+
+/// The controller's ports, and its ends of the links.
+fn open_controller<R: Net>(rt: &R, alloc: Global) -> Result<Controller, Untold> {
+    let Ok(ends) = controller_ends(rt) else {
+        return Err(Untold::Stopped);
+    };
+    match controller_ports(alloc) {
+        Ok(ports) => Ok(Controller { ports, ends }),
+        Err(AllocError) => {
+            drop(ends);
+            Err(Untold::Memory)
+        }
+    }
+}
+
+/// A manager of the plan, and its ends of the links, which send to the controller's.
+fn open_driver<R: Net>(
+    rt: &R,
+    alloc: Global,
+    plan: Plan,
+    controller: &Ends,
+) -> Result<Driver, Untold>
+    ensures { IfOk result (IsReady plan) }
+{
+    let Ok(ends) = manager_ends(rt, controller) else {
+        drop(plan);
+        return Err(Untold::Stopped);
+    };
+    match open_manager(alloc, plan) {
+        Ok(manager) => Ok(Driver { manager, ends }),
+        Err(AllocError) => {
+            drop(ends);
+            Err(Untold::Memory)
+        }
+    }
+}
+
+/// Both sides of the links, with a controller's ports and a manager of the plan.
+fn open_sides<R: Net>(rt: &R, alloc: Global, plan: Plan) -> Result<(Controller, Driver), Untold>
+    ensures { IfOk result (λ sides. IsReady plan sides.1) }
+{
+    let controller = match open_controller(rt, alloc) {
+        Ok(controller) => controller,
+        Err(why) => {
+            drop(plan);
+            return Err(why);
+        }
+    };
+    match open_driver(rt, alloc, plan, &controller.ends) {
+        Ok(driver) => Ok((controller, driver)),
+        Err(why) => {
+            drop(controller);
+            Err(why)
+        }
+    }
+}
+
+/// How many of these records changed on a board that was served, if it was.
+fn changed_of(start: &[(Key, StartValue)], served: &Option<Served>) -> Option<usize>
+    ensures { CountsChanged start.now served.now result }
+{
+    match served {
+        Some(served) => Some(tally_of(start, served).changed),
+        None => None,
+    }
+}
+
+/// What is told of a pair whose board began with these records. Both are let go.
+fn account_of(start: Vec<(Key, StartValue)>, paired: Paired) -> Account
+    ensures phases { result.phases ≡ paired.phases }
+    ensures changed { CountsChanged start.items paired.served result.changed }
+{
+    let account = Account {
+        phases: paired.phases,
+        changed: changed_of(start.as_slice(), &paired.served),
+    };
+    drop(start);
+    drop(paired);
+    account
+}
+
+/// Serves the board beside the manager, and counts what came of it.
+fn count<R: Threads + Wait + Sync>(
+    rt: &R,
+    alloc: Global,
+    file: BoardFile,
+    sides: (Controller, Driver),
+    turns: u32,
+) -> Result<Account, Untold>
+    ensures phases { (plan : AnyPlan) → IsReady plan sides.1
+        → IfOk result (λ account.
+        RunsAndUndoes plan turns account.phases.run account.phases.undone) }
+    ensures changed { IfOk result (λ account. IsChanged file account.changed) }
+{
+    let (controller, driver) = sides;
+    let Ok(begun) = begin(alloc, file) else {
+        drop(controller);
+        drop(driver);
+        return Err(Untold::Memory);
+    };
+    let Begun { start, board } = begun;
+    match pair_over(rt, alloc, board, controller, driver, turns) {
+        Ok(paired) => Ok(account_of(start, paired)),
+        Err(why) => {
+            drop(start);
+            Err(why)
+        }
+    }
+}
+
+/// How the run of such an account ends.
+fn status(changed: Option<usize>) -> Status
+    ensures { result ≡ status_of changed }
+{
+    match changed {
+        Some(_) => Status::Success,
+        None => Status::Stopped,
+    }
+}
+
+/// Adds the line of the records, where it is known how many changed.
+fn push_changed(text: &mut String, changed: Option<usize>) -> Result<(), AllocError>
+    ensures { OnOk result (string_bytes text.new ≡ string_bytes text.old ++ last_line changed) }
+{
+    match changed {
+        Some(changed) => push_records(text, changed),
+        None => Ok(()),
+    }
+}
+
+/// The lines of the account.
+fn account_report(alloc: Global, account: Account) -> Result<Report, AllocError>
+    ensures stream { IfOk result (λ report. report.stream ≡ Output) }
+    ensures text { IfOk result (λ report. string_bytes report.text
+        ≡ text_of account.phases.run account.phases.undone account.changed) }
+    ensures status { IfOk result (λ report. report.status ≡ status_of account.changed) }
+{
+    let Account { phases, changed } = account;
+    let Phases { run, undone } = phases;
+    let mut text = String::new(alloc);
+    push_phase(&mut text, run)?;
+    push_phase(&mut text, undone)?;
+    push_changed(&mut text, changed)?;
+    Ok(Report {
+        stream: Stream::Output,
+        text,
+        status: status(changed),
+    })
+}
+
+/// What is said of a board and a plan.
+fn paired_report<R: Net + Threads + Wait + Sync>(
+    rt: &R,
+    alloc: Global,
+    inputs: Inputs,
+    turns: u32,
+) -> Result<Report, Untold>
+    ensures stream { IfOk result (λ report. report.stream ≡ Output) }
+    ensures told { IfOk result (λ report. TellsPair inputs.file inputs.plan turns
+        (string_bytes report.text) report.status) }
+{
+    let Inputs { file, plan } = inputs;
+    let sides = match open_sides(rt, alloc, plan) {
+        Ok(sides) => sides,
+        Err(why) => {
+            drop(file);
+            return Err(why);
+        }
+    };
+    let account = count(rt, alloc, file, sides, turns)?;
+    Ok(account_report(alloc, account)?)
+}
+
+/// What is said of the two texts.
+fn texts_report<R: Net + Threads + Wait + Sync>(
+    rt: &R,
+    alloc: Global,
+    board: &str,
+    plan: &str,
+    turns: u32,
+) -> Result<Report, Untold>
+    ensures { Tells (Says board.now plan.now turns) result }
+{
+    match read_inputs(alloc, board, plan) {
+        Ok(inputs) => paired_report(rt, alloc, inputs, turns),
+        Err(why) if is_memory(&why) => Err(Untold::Memory),
+        Err(why) => Ok(refusal(alloc, why)?),
+    }
+}
+
+/// Runs and undoes the plan of one text on the board of the other, and says what came of it.
+fn pair_texts<W: io::Write, E: io::Write, R: Net + Threads + Wait + Sync>(
+    rt: &R,
+    alloc: Global,
+    board: &str,
+    plan: &str,
+    turns: u32,
+    console: &mut Console<W, E>,
+) -> u8
+    ensures { RunEnds W.contents E.contents (Says board.now plan.now turns)
+        console.old console.new result }
+{
+    let report = texts_report(rt, alloc, board, plan, turns);
+    let status = end_run(&report, console);
+    drop(report);
+    status
+}
+
+/// The texts of the files, or the first that isn't read.
+fn texts_of<'a, F: TextFiles>(files: &F, words: &'a PairWords) -> Result<Texts, Unread<'a>>
+    ensures texts { IfOk result (λ texts. AreTexts (F.gives files.now) (words_of words.now)
+        (string_bytes texts.board) (string_bytes texts.plan)) }
+    ensures unread { IfErr result (λ unread. FirstUnread (F.gives files.now)
+        (words_of words.now) unread.word.now unread.why) }
+{
+    let board = text_of(files, words.board.as_str())?;
+    let plan = text_of(files, words.plan.as_str())?;
+    Ok(Texts { board, plan })
+}
+
+/// Serves the board of a file in threads, runs a plan on it over UDP beside them, undoes it, and writes to standard output in which phase the
+/// manager was after either, and whether records are changed. Where the plan neither ended nor halted, nothing is undone and the second phase
+/// is the first. It gives the status: 0, or 3 with `file`, `board` or `plan` and the fault on standard error where a file can't be read or
+/// holds no board or no plan, 4 and no line where a link or the first thread can't be had, 4 behind the phases where a worker's thread can't
+/// be had or the board isn't closed, 5 with `memory` on standard error where memory was refused, and 6 where a write failed.
+pub fn pair<F: TextFiles, W: io::Write, E: io::Write, R: Net + Threads + Wait + Sync>(
+    rt: &R,
+    alloc: Global,
+    files: &F,
+    words: &PairWords,
+    console: &mut Console<W, E>,
+) -> u8
+    ensures { RunEnds W.contents E.contents
+        (SaysOfFiles (F.gives files.now) (words_of words.now) words.now.turns)
+        console.old console.new result }
+{
+    match texts_of(files, words) {
+        Ok(Texts { board, plan }) => {
+            let status = pair_texts(
+                rt,
+                alloc,
+                board.as_str(),
+                plan.as_str(),
+                words.turns,
+                console,
+            );
+            drop(board);
+            drop(plan);
+            status
+        }
+        Err(unread) => refuse(alloc, &unread, console),
+    }
+}

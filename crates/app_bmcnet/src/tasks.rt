@@ -1,0 +1,204 @@
+//! What the program can do, and its command line.
+ghost use Rattle.std.specs.Prelude.{◌≡◌, IfOk};
+ghost use Rattle.clap.specs.Words.{app_of};
+ghost use Rattle.app_base.specs.Line.{IsCommand};
+ghost use Rattle.app_bmcnet.specs.Line.{app_named, program};
+
+use app_base::{Argument, new_command, new_program, with_command};
+use clap::Command;
+use std::alloc::{AllocError, Global};
+
+/// What `bmcnet` can do.
+#[derive(Clone, Copy)]
+pub enum Task {
+    Serve,
+    Run,
+    Undo,
+    Pair,
+}
+
+const BOARD_HELP: &str = "The board file, as sample.toml";
+
+const PLAN_HELP: &str = "The plan, as examples/clean/plan.toml";
+
+const P0_HELP: &str = "The UDP port of IPMB on 127.0.0.1, as 9620: a decimal number up to 65535";
+
+const P1_HELP: &str = "The UDP port of SMBus on 127.0.0.1, as 9621: a decimal number up to 65535";
+
+const TURNS_HELP: &str =
+    "How often to listen, each time for a datagram or 200 ms of quiet, as 1000: \
+a decimal number up to 4294967295";
+
+const WAIT_HELP: &str =
+    "How many milliseconds of quiet end a turn, as in --wait 500; 200 where none are given: \
+a decimal number from 1 to 4294967295";
+
+const SERVE_ABOUT: &str =
+    "Serves a board's two ports over UDP, and prints how many requests it carried out and which records differ";
+
+const PERIODS_HELP: &str =
+    "Goes on where the room for 4096 events is full, with a new room, as in --periods";
+
+const QUIET_HELP: &str =
+    "Ends once both ports heard nothing for so many turns in a row, as in --quiet 50: \
+a decimal number from 1 to 4294967295";
+
+const FORGET_HELP: &str =
+    "Forgets a requester once nothing came from it for so many turns of a port in a row, as in --forget 50: \
+a decimal number from 1 to 4294967295";
+
+const READINGS_HELP: &str =
+    "The file of what happens on the board meanwhile, a line each, as in --readings examples/readings.txt";
+
+const SERVE_EXAMPLES: &str = "Examples:
+  bmcnet serve sample.toml 9620 9621 1000
+  bmcnet serve --wait 500 --periods sample.toml 9620 9621 1000
+  bmcnet serve --quiet 50 sample.toml 9620 9621 100000
+  bmcnet serve --forget 50 sample.toml 9620 9621 1000
+  bmcnet serve --readings examples/readings.txt sample.toml 9620 9621 1000";
+
+const SERVE_ARGUMENTS: [Argument<'static>; 9] = [
+    Argument::Option("wait", "MS", WAIT_HELP),
+    Argument::Flag("periods", PERIODS_HELP),
+    Argument::Option("quiet", "N", QUIET_HELP),
+    Argument::Option("forget", "N", FORGET_HELP),
+    Argument::Option("readings", "FILE", READINGS_HELP),
+    Argument::Needed("BOARD", BOARD_HELP),
+    Argument::Needed("P0", P0_HELP),
+    Argument::Needed("P1", P1_HELP),
+    Argument::Needed("TURNS", TURNS_HELP),
+];
+
+/// `serve [--wait MS] [--periods] [--quiet N] [--forget N] [--readings FILE] BOARD P0 P1 TURNS`.
+fn serve_command<'a>(alloc: Global) -> Result<Command<'a>, AllocError>
+    ensures { IfOk result (IsCommand (app_named Task.Serve)) }
+{
+    new_command(
+        alloc,
+        "serve",
+        SERVE_ABOUT,
+        SERVE_EXAMPLES,
+        &SERVE_ARGUMENTS,
+    )
+}
+
+const RUN_ABOUT: &str = "Runs a plan on a controller that is served, and writes the undo text";
+
+const UNDO_FILE_HELP: &str = "The file that gets the undo text, as undo.txt";
+
+const AGAIN_HELP: &str =
+    "How often to begin anew with a request that no retry brought a reply to, as in --again 3; \
+0 where none is given: a decimal number from 0 to 4294967295";
+
+const FORGETTING_HELP: &str =
+    "How many turns to wait first, so that a server with the same --forget has forgotten an earlier run, \
+as in --forget 50: a decimal number from 1 to 4294967295";
+
+const RUN_EXAMPLES: &str = "Examples:
+  bmcnet run examples/clean/plan.toml 9620 9621 1000 undo.txt
+  bmcnet run --wait 500 --again 3 examples/clean/plan.toml 9620 9621 1000 undo.txt
+  bmcnet run --forget 50 examples/clean/plan.toml 9620 9621 1000 undo.txt";
+
+const RUN_ARGUMENTS: [Argument<'static>; 8] = [
+    Argument::Option("wait", "MS", WAIT_HELP),
+    Argument::Option("again", "N", AGAIN_HELP),
+    Argument::Option("forget", "N", FORGETTING_HELP),
+    Argument::Needed("PLAN", PLAN_HELP),
+    Argument::Needed("P0", P0_HELP),
+    Argument::Needed("P1", P1_HELP),
+    Argument::Needed("TURNS", TURNS_HELP),
+    Argument::Needed("UNDO", UNDO_FILE_HELP),
+];
+
+/// `run [--wait MS] [--again N] [--forget N] PLAN P0 P1 TURNS UNDO`.
+fn run_command<'a>(alloc: Global) -> Result<Command<'a>, AllocError>
+    ensures { IfOk result (IsCommand (app_named Task.Run)) }
+{
+    new_command(alloc, "run", RUN_ABOUT, RUN_EXAMPLES, &RUN_ARGUMENTS)
+}
+
+const UNDO_ABOUT: &str = "Takes back what a run did on a controller that is served";
+
+const UNDO_TEXT_HELP: &str = "The undo text that the run wrote, as undo.txt";
+
+const UNDO_EXAMPLES: &str = "Examples:
+  bmcnet undo undo.txt 9620 9621 1000
+  bmcnet undo --wait 500 undo.txt 9620 9621 1000";
+
+const UNDO_ARGUMENTS: [Argument<'static>; 5] = [
+    Argument::Option("wait", "MS", WAIT_HELP),
+    Argument::Needed("UNDO", UNDO_TEXT_HELP),
+    Argument::Needed("P0", P0_HELP),
+    Argument::Needed("P1", P1_HELP),
+    Argument::Needed("TURNS", TURNS_HELP),
+];
+
+/// `undo [--wait MS] UNDO P0 P1 TURNS`.
+fn undo_command<'a>(alloc: Global) -> Result<Command<'a>, AllocError>
+    ensures { IfOk result (IsCommand (app_named Task.Undo)) }
+{
+    new_command(alloc, "undo", UNDO_ABOUT, UNDO_EXAMPLES, &UNDO_ARGUMENTS)
+}
+
+const PAIR_ABOUT: &str =
+    "Serves a board, runs a plan on it and takes the plan back, in one process over UDP";
+
+const PAIR_EXAMPLES: &str = "Examples:
+  bmcnet pair sample.toml examples/reply_lost/plan.toml 20";
+
+const PAIR_ARGUMENTS: [Argument<'static>; 3] = [
+    Argument::Needed("BOARD", BOARD_HELP),
+    Argument::Needed("PLAN", PLAN_HELP),
+    Argument::Needed("TURNS", TURNS_HELP),
+];
+
+/// `pair BOARD PLAN TURNS`.
+fn pair_command<'a>(alloc: Global) -> Result<Command<'a>, AllocError>
+    ensures { IfOk result (IsCommand (app_named Task.Pair)) }
+{
+    new_command(alloc, "pair", PAIR_ABOUT, PAIR_EXAMPLES, &PAIR_ARGUMENTS)
+}
+
+impl Task {
+    /// The command that does it.
+    pub fn command<'a>(self, alloc: Global) -> Result<Command<'a>, AllocError>
+        ensures { IfOk result (IsCommand (app_named self)) }
+    {
+        match self {
+            Task::Serve => serve_command(alloc),
+            Task::Run => run_command(alloc),
+            Task::Undo => undo_command(alloc),
+            Task::Pair => pair_command(alloc),
+        }
+    }
+
+    /// What its usage calls it.
+    pub fn name(self) -> &'static str {
+        match self {
+            Task::Serve => "bmcnet serve",
+            Task::Run => "bmcnet run",
+            Task::Undo => "bmcnet undo",
+            Task::Pair => "bmcnet pair",
+        }
+    }
+}
+
+const ABOUT: &str =
+    "Serves a modelled board controller over UDP on this machine, and runs plans on one and takes them back";
+
+const EXAMPLES: &str = "Examples:
+  bmcnet serve sample.toml 9620 9621 1000
+  bmcnet run examples/clean/plan.toml 9620 9621 1000 undo.txt
+  bmcnet undo undo.txt 9620 9621 1000
+  bmcnet pair sample.toml examples/reply_lost/plan.toml 20";
+
+/// `bmcnet`, and what it can do.
+pub fn command<'a>(alloc: Global) -> Result<Command<'a>, AllocError>
+    ensures { IfOk result (λ command. app_of command ≡ program) }
+{
+    let program = new_program(alloc, "bmcnet", ABOUT, EXAMPLES)?;
+    let program = with_command(program, serve_command(alloc))?;
+    let program = with_command(program, run_command(alloc))?;
+    let program = with_command(program, undo_command(alloc))?;
+    with_command(program, pair_command(alloc))
+}

@@ -1,0 +1,237 @@
+//! The words of the command line.
+ghost use Rattle.std.specs.Prelude.{IfOk, IfErr, map, string_bytes};
+ghost use Rattle.clap.specs.Words.{found_of, rows_of, subcommand_rows_of};
+ghost use Rattle.app_base.specs.Asked.{Refuses};
+ghost use Rattle.app_bmcnet.specs.Asked.{AsksBy, AsksFor, AsksPair, AsksRun, AsksServe, AsksUndo};
+ghost use Rattle.app_bmcnet.specs.Asked.{NamesOption, NamesOr, NamesPort, NamesTurns, NamesWait};
+
+use crate::number::{number_from, number_of, port_of};
+use crate::pairing::PairWords;
+use crate::tasks::{Task, command};
+use app_base::{Refusal, given, has_flag, lacking, named, refusal_by, refusal_of};
+use app_run::{RunWords, UndoWords, WAIT_MS};
+use app_serve::ServeWords;
+use clap::ArgMatches;
+use clap::error::ErrorKind;
+use std::alloc::{AllocError, Global};
+
+/// What the words ask for.
+#[derive(Drop)]
+pub enum Words {
+    Serve(ServeWords),
+    Run(RunWords),
+    Undo(UndoWords),
+    Pair(PairWords),
+}
+
+/// The refusal of a word that isn't such a number, for the reason that the message gives.
+fn value_refusal(alloc: Global, task: Task, message: Result<String, AllocError>) -> Refusal {
+    match message {
+        Ok(message) => refusal_by(
+            alloc,
+            task.command(alloc),
+            task.name(),
+            ErrorKind::ValueValidation,
+            message.as_str(),
+        ),
+        Err(_) => Refusal::Memory,
+    }
+}
+
+/// The refusal of a word that isn't a decimal number up to this one.
+fn number_refusal(alloc: Global, task: Task, name: &str, word: &str, most: u32) -> Refusal {
+    let message = format!(in alloc;
+        "invalid value '{word}' for '<{name}>': a decimal number from 0 to {most}"
+    );
+    value_refusal(alloc, task, message)
+}
+
+/// The refusal of an option's word that isn't a decimal number of 32 bits from the least one on.
+fn option_refusal(
+    alloc: Global,
+    task: Task,
+    name: &str,
+    value: &str,
+    least: u32,
+    word: &str,
+) -> Refusal {
+    let most = u32::MAX;
+    let message = format!(in alloc;
+        "invalid value '{word}' for '--{name} <{value}>': a decimal number from {least} to {most}"
+    );
+    value_refusal(alloc, task, message)
+}
+
+/// The port that the word of this name is.
+fn port(alloc: Global, matches: &ArgMatches, task: Task, name: &str) -> Result<u16, Refusal>
+    ensures port { IfOk result (NamesPort (rows_of (found_of matches.now)) name.now) }
+    ensures refused { IfErr result (Refuses (NamesPort (rows_of (found_of matches.now)) name.now)) }
+{
+    let Some(word) = matches.get_str(name) else {
+        return Err(lacking(alloc));
+    };
+    match port_of(word) {
+        Some(port) => Ok(port),
+        None => Err(number_refusal(alloc, task, name, word, u32::from(u16::MAX))),
+    }
+}
+
+/// The turns that the word TURNS is.
+fn turns(alloc: Global, matches: &ArgMatches, task: Task) -> Result<u32, Refusal>
+    ensures turns { IfOk result (NamesTurns (rows_of (found_of matches.now))) }
+    ensures refused { IfErr result (Refuses (NamesTurns (rows_of (found_of matches.now)))) }
+{
+    let Some(word) = matches.get_str("TURNS") else {
+        return Err(lacking(alloc));
+    };
+    match number_of(word) {
+        Some(turns) => Ok(turns),
+        None => Err(number_refusal(alloc, task, "TURNS", word, u32::MAX)),
+    }
+}
+
+/// The number, from the least one on, that the option of this name is, where it is given. Its usage calls the number `value`.
+fn number_given(
+    alloc: Global,
+    matches: &ArgMatches,
+    task: Task,
+    name: &str,
+    value: &str,
+    least: u32,
+) -> Result<Option<u32>, Refusal>
+    ensures number { IfOk result (NamesOption least (rows_of (found_of matches.now)) name.now) }
+    ensures refused { IfErr result
+        (Refuses (NamesOption least (rows_of (found_of matches.now)) name.now)) }
+{
+    let Some(word) = matches.get_str(name) else {
+        return Ok(None);
+    };
+    match number_from(least, word) {
+        Some(number) => Ok(Some(number)),
+        None => Err(option_refusal(alloc, task, name, value, least, word)),
+    }
+}
+
+/// The same, or the usual number where the option isn't given.
+fn number_or(
+    alloc: Global,
+    matches: &ArgMatches,
+    task: Task,
+    name: &str,
+    value: &str,
+    least: u32,
+    usual: u32,
+) -> Result<u32, Refusal>
+    ensures number { IfOk result (NamesOr least usual (rows_of (found_of matches.now)) name.now) }
+    ensures refused { IfErr result
+        (Refuses (NamesOr least usual (rows_of (found_of matches.now)) name.now)) }
+{
+    match number_given(alloc, matches, task, name, value, least) {
+        Ok(Some(number)) => Ok(number),
+        Ok(None) => Ok(usual),
+        Err(refusal) => Err(refusal),
+    }
+}
+
+/// How many milliseconds of quiet end a turn, by the option `--wait`.
+fn wait(alloc: Global, matches: &ArgMatches, task: Task) -> Result<u32, Refusal>
+    ensures wait { IfOk result (NamesWait (rows_of (found_of matches.now))) }
+    ensures refused { IfErr result (Refuses (NamesWait (rows_of (found_of matches.now)))) }
+{
+    number_or(alloc, matches, task, "wait", "MS", 1, WAIT_MS)
+}
+
+/// What the words behind `serve` ask for.
+fn serve_words(alloc: Global, matches: &ArgMatches) -> Result<ServeWords, Refusal>
+    ensures asked { IfOk result (AsksServe (rows_of (found_of matches.now))) }
+    ensures refused { IfErr result (Refuses (AsksServe (rows_of (found_of matches.now)))) }
+{
+    Ok(ServeWords {
+        board: named(alloc, matches, "BOARD")?,
+        ipmb_port: port(alloc, matches, Task::Serve, "P0")?,
+        smbus_port: port(alloc, matches, Task::Serve, "P1")?,
+        turns: turns(alloc, matches, Task::Serve)?,
+        wait_ms: wait(alloc, matches, Task::Serve)?,
+        periods: has_flag(matches, "periods"),
+        quiet: number_given(alloc, matches, Task::Serve, "quiet", "N", 1)?,
+        forget: number_given(alloc, matches, Task::Serve, "forget", "N", 1)?,
+        readings: given(alloc, matches, "readings")?,
+    })
+}
+
+/// What the words behind `run` ask for.
+fn run_words(alloc: Global, matches: &ArgMatches) -> Result<RunWords, Refusal>
+    ensures asked { IfOk result (AsksRun (rows_of (found_of matches.now))) }
+    ensures refused { IfErr result (Refuses (AsksRun (rows_of (found_of matches.now)))) }
+{
+    Ok(RunWords {
+        plan: named(alloc, matches, "PLAN")?,
+        ipmb_port: port(alloc, matches, Task::Run, "P0")?,
+        smbus_port: port(alloc, matches, Task::Run, "P1")?,
+        turns: turns(alloc, matches, Task::Run)?,
+        undo: named(alloc, matches, "UNDO")?,
+        wait_ms: wait(alloc, matches, Task::Run)?,
+        again: number_or(alloc, matches, Task::Run, "again", "N", 0, 0)?,
+        forget: number_given(alloc, matches, Task::Run, "forget", "N", 1)?,
+    })
+}
+
+/// What the words behind `undo` ask for.
+fn undo_words(alloc: Global, matches: &ArgMatches) -> Result<UndoWords, Refusal>
+    ensures asked { IfOk result (AsksUndo (rows_of (found_of matches.now))) }
+    ensures refused { IfErr result (Refuses (AsksUndo (rows_of (found_of matches.now)))) }
+{
+    Ok(UndoWords {
+        undo: named(alloc, matches, "UNDO")?,
+        ipmb_port: port(alloc, matches, Task::Undo, "P0")?,
+        smbus_port: port(alloc, matches, Task::Undo, "P1")?,
+        turns: turns(alloc, matches, Task::Undo)?,
+        wait_ms: wait(alloc, matches, Task::Undo)?,
+    })
+}
+
+/// What the words behind `pair` ask for.
+fn pair_words(alloc: Global, matches: &ArgMatches) -> Result<PairWords, Refusal>
+    ensures asked { IfOk result (AsksPair (rows_of (found_of matches.now))) }
+    ensures refused { IfErr result (Refuses (AsksPair (rows_of (found_of matches.now)))) }
+{
+    Ok(PairWords {
+        board: named(alloc, matches, "BOARD")?,
+        plan: named(alloc, matches, "PLAN")?,
+        turns: turns(alloc, matches, Task::Pair)?,
+    })
+}
+
+/// What the words that were matched ask for.
+fn matched_words(alloc: Global, matches: &ArgMatches) -> Result<Words, Refusal>
+    ensures asked { IfOk result (AsksBy (subcommand_rows_of matches.now)) }
+    ensures refused { IfErr result (Refuses (AsksBy (subcommand_rows_of matches.now))) }
+{
+    if let Some(serve) = matches.subcommand_matches("serve") {
+        return Ok(Words::Serve(serve_words(alloc, serve)?));
+    }
+    if let Some(run) = matches.subcommand_matches("run") {
+        return Ok(Words::Run(run_words(alloc, run)?));
+    }
+    if let Some(undo) = matches.subcommand_matches("undo") {
+        return Ok(Words::Undo(undo_words(alloc, undo)?));
+    }
+    let Some(pair) = matches.subcommand_matches("pair") else {
+        return Err(lacking(alloc));
+    };
+    Ok(Words::Pair(pair_words(alloc, pair)?))
+}
+
+/// What the words ask for, the program's own name first among them.
+pub fn read(alloc: Global, words: &[String]) -> Result<Words, Refusal>
+    ensures asked { IfOk result (AsksFor (map string_bytes words.now)) }
+    ensures refused { IfErr result (Refuses (AsksFor (map string_bytes words.now))) }
+{
+    let Ok(command) = command(alloc) else {
+        return Err(Refusal::Memory);
+    };
+    match command.try_get_matches_from(words) {
+        Ok(matches) => matched_words(alloc, &matches),
+        Err(error) => Err(refusal_of(alloc, &error)),
+    }
+}

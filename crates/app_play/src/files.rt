@@ -1,0 +1,80 @@
+//! A plan run and undone by a schedule: what is said of three files.
+ghost use Rattle.std.specs.Prelude.{IfOk, IfErr, string_bytes};
+ghost use Rattle.app_base.specs.Ending.{RunEnds};
+ghost use Rattle.app_base.specs.Files.{FirstUnread};
+ghost use Rattle.app_play.specs.Files.{words_of, AreTexts, SaysOfFiles};
+ghost use Rattle.app_play.specs.Run.{tells_of};
+
+use crate::run::{Shown, show};
+use app_base::files::refuse;
+use app_base::{Console, TextFiles, Unread, text_of};
+use std::alloc::Global;
+use std::io;
+
+/// The words that name the files of a play.
+#[derive(Clone, Copy)]
+pub struct PlayFiles<'a> {
+    /// That of the board file.
+    pub board: &'a str,
+    /// That of the plan.
+    pub plan: &'a str,
+    /// That of the schedule.
+    pub schedule: &'a str,
+}
+
+/// The texts of these files.
+#[derive(Drop)]
+struct Texts {
+    board: String,
+    plan: String,
+    schedule: String,
+}
+
+/// The texts of the files, or the first that isn't read.
+fn texts_of<'a, F: TextFiles>(files: &F, words: PlayFiles<'a>) -> Result<Texts, Unread<'a>>
+    ensures texts { IfOk result (λ texts. AreTexts (F.gives files.now) (words_of words.entry)
+        (string_bytes texts.board) (string_bytes texts.plan) (string_bytes texts.schedule)) }
+    ensures unread { IfErr result (λ unread. FirstUnread (F.gives files.now)
+        (words_of words.entry) unread.word.now unread.why) }
+{
+    let board = text_of(files, words.board)?;
+    let plan = text_of(files, words.plan)?;
+    let schedule = text_of(files, words.schedule)?;
+    Ok(Texts {
+        board,
+        plan,
+        schedule,
+    })
+}
+
+/// Plays a plan on the board of a board file by a schedule, and shows what was played: what `show` does, once all three files are read,
+/// in the order of the words. Where one can't be read, standard error gets `file` and its word, and the status is 3.
+pub fn play_of_files<F: TextFiles, W: io::Write, E: io::Write>(
+    alloc: Global,
+    files: &F,
+    shown: Shown,
+    words: PlayFiles,
+    console: &mut Console<W, E>,
+) -> u8
+    ensures { RunEnds W.contents E.contents
+        (SaysOfFiles (F.gives files.now) (tells_of shown) (words_of words.entry))
+        console.old console.new result }
+{
+    match texts_of(files, words) {
+        Ok(
+            Texts {
+                board,
+                plan,
+                schedule,
+            },
+        ) => show(
+            alloc,
+            shown,
+            board.as_str(),
+            plan.as_str(),
+            schedule.as_str(),
+            console,
+        ),
+        Err(unread) => refuse(alloc, &unread, console),
+    }
+}

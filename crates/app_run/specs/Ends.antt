@@ -1,0 +1,28 @@
+-- How a run ends that says one thing, or two.
+use Rattle.std.specs.Prelude.{◌≡◌, ℕ, List, Option}
+use Rattle.std.specs.Io.KnownBytes.{Appends}
+use Rattle.model_undo.specs.declared.phase.Phase.{Phase}
+use Rattle.app_base.specs.declared.console.Console.{Console}
+use Rattle.app_base.specs.declared.console.Stream.TheVariants.{Output, Error}
+use Rattle.app_base.specs.declared.status.Status.TheVariants.{Success, RefusedFile}
+use Rattle.app_base.specs.Ending.{Saying}
+use Rattle.app_base.specs.Report.{file_line}
+use Rattle.app_run.specs.Lines.{phase_line}
+
+-- nothing is said: a run that ends so was refused memory, or couldn't write
+abbrev pub Nothing : Saying
+Nothing stream text status = ⊥
+
+-- standard output has the phase's line
+abbrev pub SaysPhase : Phase → Saying
+SaysPhase phase stream text status = (stream ≡ Output) × (text ≡ phase_line phase) × (status ≡ Success)
+
+-- standard error names the file of this word
+abbrev pub SaysFile : (word : List ℕ) → Saying
+SaysFile word stream text status = (stream ≡ Error) × (text ≡ file_line word) × (status ≡ RefusedFile)
+
+-- standard output has one text, standard error the other, and the status is 3
+pub record TellsBoth {Stdout Stderr : Type 0} (out : Stdout → Option (List ℕ)) (err : Stderr → Option (List ℕ)) (line complaint : List ℕ) (old new : Console Stdout Stderr) (result : ℕ) : Type 0 where
+  pub said : Appends (out old.out) (out new.out) line
+  pub complained : Appends (err old.err) (err new.err) complaint
+  pub status : result ≡ 3

@@ -1,0 +1,457 @@
+//! `bmcnet run`: a plan on a controller over UDP.
+ghost use Rattle.std.specs.Prelude.{◌≡◌, ◌⊎◌, ℕ, List, true, false, IfOk, IfSome, OnErr, Ok, Err, map, string_bytes};
+ghost use Rattle.plan_file.specs.Kinds.{kind_of};
+ghost use Rattle.plan_file.specs.PlanHolds.{ReadsPlan};
+ghost use Rattle.model_lab.specs.Meaning.{lab_names};
+ghost use Rattle.undo_core.specs.Shown.{Shows};
+ghost use Rattle.app_base.specs.declared.console.Stream.TheVariants.{Output, Error};
+ghost use Rattle.app_base.specs.declared.status.Status.TheVariants.{Success, RefusedFile};
+ghost use Rattle.app_base.specs.Ending.{RunEnds, Tells};
+ghost use Rattle.wire_links.specs.Counted.{none_counted};
+ghost use Rattle.app_run.specs.declared.running.Outcome.TheVariants.{Ran as HasRun};
+ghost use Rattle.app_run.specs.Driven.{is_over, opened_with};
+ghost use Rattle.app_run.specs.Ends.{Nothing, SaysFile, SaysPhase, TellsBoth};
+ghost use Rattle.app_run.specs.Outcome.{Comes, ComesBeside, KeepsBeside, RunsBeside};
+ghost use Rattle.app_run.specs.Told.{MayTellWay, TellsBeside, TellsFile, TellsPlan, TellsText};
+ghost use Rattle.app_run.specs.Run.{EndsBy, EndsUnkept, RunEndsOf, RunEndsOn, RunEndsOver, SaysFault};
+
+use crate::beside::Beside;
+use crate::driven::open_manager;
+use crate::files::{Unwritten, WritesFiles};
+use crate::lines::{phase_report, plan_refusal};
+use crate::links::{Ends, open_ends, sit_out};
+use crate::progress::{Course, Progress, kinds_of};
+use crate::trying::try_plan;
+use crate::watching::{Both, Keeper, Teller};
+use app_base::files::refuse;
+use app_base::{Console, Ending, Report, Status, TextFiles, Untold, end_run, text_of};
+use plan_file::{Kind, PlanFault, read_plan};
+use std::alloc::{AllocError, Global};
+use std::io;
+use std::net::Net;
+use undo_core::{Manager, Phase};
+use undo_plans::Plan;
+use wire_links::LinkFault;
+
+/// What the words of `bmcnet run` ask for.
+#[derive(Drop)]
+pub struct RunWords {
+    /// The word of the plan.
+    pub plan: String,
+    /// The UDP port of the controller's end of IPMB.
+    pub ipmb_port: u16,
+    /// That of its end of SMBus.
+    pub smbus_port: u16,
+    /// How many turns the manager makes.
+    pub turns: u32,
+    /// The word of the file that gets the undo text.
+    pub undo: String,
+    /// How many milliseconds of quiet end a turn.
+    pub wait_ms: u32,
+    /// How often the manager is called again that is unsettled.
+    pub again: u32,
+    /// How many turns to wait before the run begins.
+    pub forget: Option<u32>,
+}
+
+/// What came of a run.
+#[derive(Clone, Copy)]
+pub enum Outcome {
+    /// It left the manager in this phase. The list is kept where the plan ended or halted, or the file can't be written or get its name.
+    Ran(Phase, Result<(), Unwritten>),
+    /// The file beside the one of the undo text can't be made.
+    Unmade,
+}
+
+/// A manager of a plan, and the kinds of the plan's steps.
+#[derive(Drop)]
+struct Ready {
+    manager: Manager,
+    kinds: Vec<Kind>,
+}
+
+/// A manager that ran a plan, and its phase.
+#[derive(Drop)]
+struct Ran {
+    manager: Manager,
+    phase: Phase,
+}
+
+/// Lets go by the turns that the words ask for before a run. It gives whether it could.
+fn wait_first<R: Net>(rt: &R, words: &RunWords) -> bool {
+    let Some(turns) = words.forget else {
+        return true;
+    };
+    match sit_out(rt, words.wait_ms, turns) {
+        Ok(()) => true,
+        Err(LinkFault) => false,
+    }
+}
+
+/// Links to the ports that the words name, once the turns are over that the run is to wait; or nothing where one can't be had.
+fn ready_ends<R: Net>(rt: &R, words: &RunWords) -> Option<Ends>
+    ensures ipmb { IfSome result (λ ends. ends.ipmb.counts ≡ none_counted) }
+    ensures smbus { IfSome result (λ ends. ends.smbus.counts ≡ none_counted) }
+{
+    if !wait_first(rt, words) {
+        return None;
+    }
+    open_ends(rt, words.ipmb_port, words.smbus_port, words.wait_ms)
+}
+
+/// Has a manager run its plan over these links, while a keeper looks at it that has seen no list yet, and a teller, whose line is ended then.
+fn try_kept<F: WritesFiles, P: io::Write>(
+    manager: &mut Manager,
+    ends: Ends,
+    words: &RunWords,
+    watch: &mut Both<Keeper<F>, Teller<P>>,
+) -> Phase
+    requires ipmb { ends.ipmb.counts ≡ none_counted }
+    requires smbus { ends.smbus.counts ≡ none_counted }
+    requires unseen { watch.old.first.seen ≡ 0 }
+    ensures runs { RunsBeside F.takes F.renames watch.old.first.beside.now manager.old words.now
+        manager.new result watch.old.first.files.now watch.new.first.files.now }
+    ensures told { TellsBeside P.contents watch.old.second.course.kinds.now
+        watch.old.second.course.steps manager.old
+        watch.old.second.progress.now watch.new.second.progress.now }
+    ensures same_files { watch.new.first.files.ghost_name ≡ watch.old.first.files.ghost_name }
+    ensures same_line { watch.new.second.progress.ghost_name
+        ≡ watch.old.second.progress.ghost_name }
+{
+    let Ends {
+        mut ipmb,
+        mut smbus,
+    } = ends;
+    let phase = try_plan(
+        manager,
+        &mut ipmb,
+        &mut smbus,
+        words.turns,
+        words.again,
+        watch,
+    );
+    watch.second.end();
+    phase
+}
+
+/// Has a manager run its plan over these links. The file beside the one of the undo text gets the list so far, and the line of its progress is
+/// written and ended.
+fn run_on<F: WritesFiles, P: io::Write>(
+    alloc: Global,
+    files: &mut F,
+    beside: &Beside,
+    ready: Ready,
+    ends: Ends,
+    words: &RunWords,
+    progress: &mut Progress<P>,
+) -> Ran
+    requires ipmb { ends.ipmb.counts ≡ none_counted }
+    requires smbus { ends.smbus.counts ≡ none_counted }
+    ensures runs { RunsBeside F.takes F.renames beside.now ready.manager words.now
+        result.manager result.phase files.old files.new }
+    ensures told { MayTellWay P.contents ready.kinds.items ready.manager progress.old progress.new }
+{
+    let Ready { mut manager, kinds } = ready;
+    let first = Keeper {
+        alloc,
+        files,
+        beside,
+        seen: 0,
+    };
+    let course = Course {
+        steps: kinds.len(),
+        kinds: kinds.as_slice(),
+    };
+    let second = Teller {
+        alloc,
+        progress,
+        course,
+    };
+    let mut watch = Both { first, second };
+    let phase = try_kept(&mut manager, ends, words, &mut watch);
+    Ran { manager, phase }
+}
+
+/// Whether the plan ended or halted, so that there is a list to keep.
+fn is_over(phase: Phase) -> bool
+    ensures { result ≡ is_over phase }
+{
+    matches!(phase, Phase::Done | Phase::Halted(_, _))
+}
+
+/// Keeps the manager's undo text in its file, where the plan ended or halted. Else it writes nothing.
+fn keep<F: WritesFiles>(
+    alloc: Global,
+    files: &mut F,
+    beside: &Beside,
+    ran: &Ran,
+) -> Result<Result<(), Unwritten>, AllocError>
+    ensures kept { IfOk result (λ answer. KeepsBeside F.takes F.renames beside.now
+        (is_over ran.now.phase) ran.now.manager files.old answer files.new) }
+    ensures memory { OnErr result ((is_over ran.now.phase ≡ true) × (files.new ≡ files.old)) }
+{
+    if is_over(ran.phase) {
+        return beside.put_last(alloc, files, ran.manager.undo_list());
+    }
+    Ok(Ok(()))
+}
+
+/// Has a manager run its plan, once the file of the list so far is made, and keeps its list.
+fn run_made<F: WritesFiles, P: io::Write, R: Net>(
+    rt: &R,
+    alloc: Global,
+    files: &mut F,
+    beside: &Beside,
+    ready: Ready,
+    words: &RunWords,
+    progress: &mut Progress<P>,
+) -> Result<Outcome, Untold>
+    ensures comes { ComesBeside F.takes F.renames beside.now ready.manager words.now
+        result files.old files.new }
+    ensures told { MayTellWay P.contents ready.kinds.items ready.manager progress.old progress.new }
+{
+    let Some(ends) = ready_ends(rt, words) else {
+        drop(ready);
+        return Err(Untold::Stopped);
+    };
+    let ran = run_on(alloc, files, beside, ready, ends, words, progress);
+    let kept = keep(alloc, files, beside, &ran);
+    let phase = ran.phase;
+    drop(ran);
+    match kept {
+        Ok(kept) => Ok(Outcome::Ran(phase, kept)),
+        Err(_) => Err(Untold::Memory),
+    }
+}
+
+/// A manager of this plan, that is ready to begin.
+fn make_ready(alloc: Global, plan: Plan) -> Result<Ready, AllocError>
+    ensures manager { IfOk result (λ ready. Shows lab_names ready.manager (opened_with plan)) }
+    ensures kinds { IfOk result (λ ready. ready.kinds.items ≡ map kind_of plan.steps) }
+{
+    let kinds = match kinds_of(alloc, &plan.steps) {
+        Ok(kinds) => kinds,
+        Err(why) => {
+            drop(plan);
+            return Err(why);
+        }
+    };
+    match open_manager(alloc, plan) {
+        Ok(manager) => Ok(Ready { manager, kinds }),
+        Err(why) => {
+            drop(kinds);
+            Err(why)
+        }
+    }
+}
+
+/// Makes the file of the list so far, with the list of a manager that did nothing. Then the manager runs the plan, and its list is kept.
+fn carry_out<F: WritesFiles, P: io::Write, R: Net>(
+    rt: &R,
+    alloc: Global,
+    files: &mut F,
+    plan: Plan,
+    words: &RunWords,
+    progress: &mut Progress<P>,
+) -> Result<Outcome, Untold>
+    ensures comes { Comes F.takes F.renames plan words.now result files.old files.new }
+    ensures told { TellsPlan P.contents plan progress.old progress.new }
+{
+    let Ok(beside) = Beside::of(alloc, words.undo.as_str()) else {
+        return Err(Untold::Memory);
+    };
+    let Ok(ready) = make_ready(alloc, plan) else {
+        return Err(Untold::Memory);
+    };
+    match beside.put_list(alloc, files, ready.manager.undo_list()) {
+        Ok(Ok(())) => run_made(rt, alloc, files, &beside, ready, words, progress),
+        Ok(Err(Unwritten)) => {
+            drop(ready);
+            Ok(Outcome::Unmade)
+        }
+        Err(AllocError) => {
+            drop(ready);
+            Err(Untold::Memory)
+        }
+    }
+}
+
+/// Writes one report behind the other, unless the first can't be written, and gives the status of the last.
+fn tell_both<W: io::Write, E: io::Write>(
+    line: &Report,
+    complaint: &Report,
+    console: &mut Console<W, E>,
+) -> u8
+    requires line { (line.now.stream ≡ Output) × (line.now.status ≡ Success) }
+    requires complaint { (complaint.now.stream ≡ Error) × (complaint.now.status ≡ RefusedFile) }
+    ensures { RunEnds W.contents E.contents Nothing console.old console.new result
+        ⊎ TellsBoth W.contents E.contents
+        (string_bytes line.now.text) (string_bytes complaint.now.text)
+        console.old console.new result }
+{
+    match Ending::of_report(line).write(console) {
+        Status::Success => u8::from(Ending::of_report(complaint).write(console)),
+        status => u8::from(status),
+    }
+}
+
+/// Says in which phase the manager is, and that its list couldn't be written to the file of this word. Both lines are made before one is
+/// written.
+fn tell_unkept<W: io::Write, E: io::Write>(
+    alloc: Global,
+    phase: Phase,
+    word: &str,
+    console: &mut Console<W, E>,
+) -> u8
+    ensures { RunEnds W.contents E.contents Nothing console.old console.new result
+        ⊎ EndsUnkept W.contents E.contents phase word.now console.old console.new result }
+{
+    let line = phase_report(alloc, phase);
+    let complaint = Report::of_file(alloc, word);
+    match (line, complaint) {
+        (Ok(line), Ok(complaint)) => tell_both(&line, &complaint, console),
+        _ => end_run(&Err(Untold::Memory), console),
+    }
+}
+
+/// What is said of a run that left the manager in this phase.
+fn reached(alloc: Global, phase: Phase) -> Result<Report, Untold>
+    ensures { Tells (SaysPhase phase) result }
+{
+    Ok(phase_report(alloc, phase)?)
+}
+
+/// What is said of a file that can't be made, by the word that names the one beside it.
+fn unmade(alloc: Global, word: &str) -> Result<Report, Untold>
+    ensures { Tells (SaysFile word.now) result }
+{
+    Ok(Report::of_file(alloc, word)?)
+}
+
+/// Says in which phase a run left the manager, and of its list where that isn't kept, and gives the status.
+fn say_ran<W: io::Write, E: io::Write>(
+    alloc: Global,
+    word: &str,
+    phase: Phase,
+    kept: Result<(), Unwritten>,
+    console: &mut Console<W, E>,
+) -> u8
+    ensures { EndsBy W.contents E.contents word.now (Ok (HasRun phase kept))
+        console.old console.new result }
+{
+    match kept {
+        Ok(()) => end_run(&reached(alloc, phase), console),
+        Err(Unwritten) => tell_unkept(alloc, phase, word, console),
+    }
+}
+
+/// Says what came of a run, and gives the status.
+fn say<W: io::Write, E: io::Write>(
+    alloc: Global,
+    word: &str,
+    outcome: Outcome,
+    console: &mut Console<W, E>,
+) -> u8
+    ensures { EndsBy W.contents E.contents word.now (Ok outcome) console.old console.new result }
+{
+    match outcome {
+        Outcome::Ran(phase, kept) => say_ran(alloc, word, phase, kept, console),
+        Outcome::Unmade => end_run(&unmade(alloc, word), console),
+    }
+}
+
+/// Runs the plan, keeps the manager's list, and says what came of both.
+fn run_over<F: WritesFiles, W: io::Write, E: io::Write, P: io::Write, R: Net>(
+    rt: &R,
+    alloc: Global,
+    files: &mut F,
+    plan: Plan,
+    words: &RunWords,
+    progress: &mut Progress<P>,
+    console: &mut Console<W, E>,
+) -> u8
+    ensures ends { RunEndsOver W.contents E.contents F.takes F.renames plan words.now
+        files.old files.new console.old console.new result }
+    ensures told { TellsPlan P.contents plan progress.old progress.new }
+{
+    match carry_out(rt, alloc, files, plan, words, progress) {
+        Ok(outcome) => say(alloc, words.undo.as_str(), outcome, console),
+        Err(why) => end_run(&Err(why), console),
+    }
+}
+
+/// What is said of a text that is no plan.
+fn refusal(alloc: Global, why: PlanFault) -> Result<Report, Untold>
+    ensures { (text : List ℕ) → ReadsPlan text (Err why) → Tells (SaysFault text) result }
+{
+    Ok(plan_refusal(alloc, why)?)
+}
+
+/// Runs the plan of this text.
+fn run_text<F: WritesFiles, W: io::Write, E: io::Write, P: io::Write, R: Net>(
+    rt: &R,
+    alloc: Global,
+    files: &mut F,
+    text: &str,
+    words: &RunWords,
+    progress: &mut Progress<P>,
+    console: &mut Console<W, E>,
+) -> u8
+    ensures ends { RunEndsOn W.contents E.contents F.takes F.renames text.now words.now
+        files.old files.new console.old console.new result }
+    ensures told { TellsText P.contents text.now progress.old progress.new }
+{
+    match read_plan(alloc, text) {
+        Ok(plan) => run_over(rt, alloc, files, plan, words, progress, console),
+        Err(PlanFault::Memory) => end_run(&Err(Untold::Memory), console),
+        Err(why) => end_run(&refusal(alloc, why), console),
+    }
+}
+
+/// Runs the plan of the file that this word names, keeps the manager's list, and says what came of both.
+fn run_file<F: TextFiles + WritesFiles, W: io::Write, E: io::Write, P: io::Write, R: Net>(
+    rt: &R,
+    alloc: Global,
+    files: &mut F,
+    word: &str,
+    words: &RunWords,
+    progress: &mut Progress<P>,
+    console: &mut Console<W, E>,
+) -> u8
+    ensures ends { RunEndsOf W.contents E.contents (F.gives files.old) F.takes F.renames
+        word.now words.now files.old files.new console.old console.new result }
+    ensures told { TellsFile P.contents (F.gives files.old) word.now progress.old progress.new }
+{
+    match text_of(&*files, word) {
+        Ok(text) => run_text(rt, alloc, files, text.as_str(), words, progress, console),
+        Err(unread) => refuse(alloc, &unread, console),
+    }
+}
+
+/// Runs the plan of the file that the words name, on the controller at their two ports, and writes to standard output in which phase the
+/// manager is then. Before a link is had, a file beside that of the word UNDO is made, `.part`. It gets the list so far wherever that has grown,
+/// by a writing of `.next` and a renaming. Where the plan ended or halted, it gets the last list and then the name UNDO. The phase is said
+/// behind that, so that no failed output costs the list. Where the line of its progress is written, that tells of each step and is ended before
+/// the phase is said. A write of it that fails costs nothing but the rest of it.
+///
+/// It gives the status: 0, or 3 with `file` or `plan` and the fault on standard error where the plan's file can't be read or holds no plan,
+/// also 3 with `file` and the word UNDO on standard error where `.part` can't be made, and behind the phase on standard output where the undo
+/// text can't be written or get its name, 4 and no line where a link can't be had, 5 with `memory` on standard error where memory was refused,
+/// and 6 where a write to either stream failed.
+pub fn run<F: TextFiles + WritesFiles, W: io::Write, E: io::Write, P: io::Write, R: Net>(
+    rt: &R,
+    alloc: Global,
+    files: &mut F,
+    words: &RunWords,
+    progress: &mut Progress<P>,
+    console: &mut Console<W, E>,
+) -> u8
+    ensures ends { RunEndsOf W.contents E.contents (F.gives files.old) F.takes F.renames
+        (string_bytes words.now.plan) words.now files.old files.new console.old console.new result }
+    ensures told { TellsFile P.contents (F.gives files.old) (string_bytes words.now.plan)
+        progress.old progress.new }
+    ensures untold { progress.old.on ≡ false → progress.new ≡ progress.old }
+{
+    let plan = words.plan.as_str();
+    run_file(rt, alloc, files, plan, words, progress, console)
+}

@@ -1,0 +1,241 @@
+//! `bmcnet undo`: what a plan did to a controller is taken back over UDP.
+ghost use Rattle.std.specs.Prelude.{◌≡◌, [], false, IfOk, length, string_bytes};
+ghost use Rattle.undo_plans.specs.declared.undo_list.UndoList.{UndoList as AnyList};
+ghost use Rattle.model_lab.specs.Meaning.{lab_names};
+ghost use Rattle.undo_core.specs.Shown.{Shows};
+ghost use Rattle.wire_links.specs.Counted.{none_counted};
+ghost use Rattle.app_base.specs.Ending.{RunEnds, Tells};
+ghost use Rattle.app_run.specs.Driven.{Undoes, resumed_from};
+ghost use Rattle.app_run.specs.Told.{MayTellUndo, TellsOfNames, TellsUndo, TellsUndoFile, TellsUndoText};
+ghost use Rattle.app_run.specs.Undo.{Says, SaysOfList, SaysOfNames, SaysUndone};
+
+use crate::driven::{Unresumed, resume_manager};
+use crate::lines::{names_refusal, phase_report, undo_refusal};
+use crate::links::{Ends, open_ends};
+use crate::progress::{Course, Progress};
+use crate::trying::undo_watched;
+use crate::watching::Teller;
+use app_base::files::refuse;
+use app_base::{Console, Report, TextFiles, Untold, end_run, text_of};
+use std::alloc::Global;
+use std::io;
+use std::net::Net;
+use text_undo::{UndoFault, read_undo};
+use undo_core::{Manager, Phase};
+use undo_plans::UndoList;
+
+/// What the words of `bmcnet undo` ask for.
+#[derive(Drop)]
+pub struct UndoWords {
+    /// The word of the undo text.
+    pub undo: String,
+    /// The UDP port of the controller's end of IPMB.
+    pub ipmb_port: u16,
+    /// That of its end of SMBus.
+    pub smbus_port: u16,
+    /// How many turns the manager makes.
+    pub turns: u32,
+    /// How many milliseconds of quiet end a turn.
+    pub wait_ms: u32,
+}
+
+/// A manager that undid its list as far as it came, and its phase.
+#[derive(Drop)]
+struct Undone {
+    manager: Manager,
+    phase: Phase,
+}
+
+/// Has a manager undo its list over these links, while a teller looks at it, whose line is ended then.
+fn undo_seen<P: io::Write>(
+    manager: &mut Manager,
+    ends: Ends,
+    turns: u32,
+    teller: &mut Teller<P>,
+) -> Phase
+    requires ipmb { ends.ipmb.counts ≡ none_counted }
+    requires smbus { ends.smbus.counts ≡ none_counted }
+    ensures undoes { (list : AnyList) → Shows lab_names manager.old (resumed_from list)
+        → Undoes list turns manager.new result }
+    ensures told { (list : AnyList) → teller.old.course.kinds.now ≡ []
+        → teller.old.course.steps ≡ length list.requests.members
+        → Shows lab_names manager.old (resumed_from list)
+        → TellsUndo P.contents list teller.old.progress.now teller.new.progress.now }
+    ensures same_line { teller.new.progress.ghost_name ≡ teller.old.progress.ghost_name }
+{
+    let Ends {
+        mut ipmb,
+        mut smbus,
+    } = ends;
+    let phase = undo_watched(manager, &mut ipmb, &mut smbus, turns, teller);
+    teller.end();
+    phase
+}
+
+/// Has a manager undo its list over these links, while the line of its progress is written.
+fn undo_told<P: io::Write>(
+    alloc: Global,
+    manager: &mut Manager,
+    steps: usize,
+    ends: Ends,
+    turns: u32,
+    progress: &mut Progress<P>,
+) -> Phase
+    requires ipmb { ends.ipmb.counts ≡ none_counted }
+    requires smbus { ends.smbus.counts ≡ none_counted }
+    ensures undoes { (list : AnyList) → Shows lab_names manager.old (resumed_from list)
+        → Undoes list turns manager.new result }
+    ensures told { (list : AnyList) → length list.requests.members ≡ steps
+        → Shows lab_names manager.old (resumed_from list)
+        → MayTellUndo P.contents list progress.old progress.new }
+{
+    let course = Course { steps, kinds: &[] };
+    let mut teller = Teller {
+        alloc,
+        progress,
+        course,
+    };
+    undo_seen(manager, ends, turns, &mut teller)
+}
+
+/// Has a manager undo its list of so many requests over links to the ports that the words name.
+fn undo_on<P: io::Write, R: Net>(
+    rt: &R,
+    alloc: Global,
+    mut manager: Manager,
+    steps: usize,
+    words: &UndoWords,
+    progress: &mut Progress<P>,
+) -> Result<Undone, Untold>
+    ensures undoes { (list : AnyList) → Shows lab_names manager (resumed_from list)
+        → IfOk result (λ undone. Undoes list words.now.turns undone.manager undone.phase) }
+    ensures told { (list : AnyList) → length list.requests.members ≡ steps
+        → Shows lab_names manager (resumed_from list)
+        → MayTellUndo P.contents list progress.old progress.new }
+{
+    let ends = open_ends(rt, words.ipmb_port, words.smbus_port, words.wait_ms);
+    let Some(ends) = ends else {
+        return Err(Untold::Stopped);
+    };
+    let phase = undo_told(alloc, &mut manager, steps, ends, words.turns, progress);
+    Ok(Undone { manager, phase })
+}
+
+/// What is said of a manager that goes on from a list of so many requests.
+fn undone_report<P: io::Write, R: Net>(
+    rt: &R,
+    alloc: Global,
+    manager: Manager,
+    steps: usize,
+    words: &UndoWords,
+    progress: &mut Progress<P>,
+) -> Result<Report, Untold>
+    ensures says { (list : AnyList) → Shows lab_names manager (resumed_from list)
+        → Tells (SaysUndone list words.now.turns) result }
+    ensures told { (list : AnyList) → length list.requests.members ≡ steps
+        → Shows lab_names manager (resumed_from list)
+        → MayTellUndo P.contents list progress.old progress.new }
+{
+    let undone = undo_on(rt, alloc, manager, steps, words, progress)?;
+    let phase = undone.phase;
+    drop(undone);
+    Ok(phase_report(alloc, phase)?)
+}
+
+/// What is said of a list that is undone, or that has other names.
+fn list_report<P: io::Write, R: Net>(
+    rt: &R,
+    alloc: Global,
+    list: UndoList,
+    words: &UndoWords,
+    progress: &mut Progress<P>,
+) -> Result<Report, Untold>
+    ensures says { Tells (SaysOfNames list words.now.turns) result }
+    ensures told { TellsOfNames P.contents list progress.old progress.new }
+{
+    let steps = list.requests.len();
+    match resume_manager(alloc, list) {
+        Ok(manager) => undone_report(rt, alloc, manager, steps, words, progress),
+        Err(Unresumed::OtherNames) => Ok(names_refusal(alloc)?),
+        Err(Unresumed::Memory) => Err(Untold::Memory),
+    }
+}
+
+/// What is said of an undo text.
+fn text_report<P: io::Write, R: Net>(
+    rt: &R,
+    alloc: Global,
+    text: &str,
+    words: &UndoWords,
+    progress: &mut Progress<P>,
+) -> Result<Report, Untold>
+    ensures says { Tells (Says text.now words.now.turns) result }
+    ensures told { TellsUndoText P.contents text.now progress.old progress.new }
+{
+    match read_undo(alloc, text) {
+        Ok(list) => list_report(rt, alloc, list, words, progress),
+        Err(UndoFault::Memory) => Err(Untold::Memory),
+        Err(why) => Ok(undo_refusal(alloc, why)?),
+    }
+}
+
+/// Undoes the list of this text, and says what came of it.
+fn undo_text<W: io::Write, E: io::Write, P: io::Write, R: Net>(
+    rt: &R,
+    alloc: Global,
+    text: &str,
+    words: &UndoWords,
+    progress: &mut Progress<P>,
+    console: &mut Console<W, E>,
+) -> u8
+    ensures ends { RunEnds W.contents E.contents (Says text.now words.now.turns)
+        console.old console.new result }
+    ensures told { TellsUndoText P.contents text.now progress.old progress.new }
+{
+    let report = text_report(rt, alloc, text, words, progress);
+    end_run(&report, console)
+}
+
+/// Undoes the list of the file that this word names, and says what came of it.
+fn undo_file<F: TextFiles, W: io::Write, E: io::Write, P: io::Write, R: Net>(
+    rt: &R,
+    alloc: Global,
+    files: &F,
+    word: &str,
+    words: &UndoWords,
+    progress: &mut Progress<P>,
+    console: &mut Console<W, E>,
+) -> u8
+    ensures ends { RunEnds W.contents E.contents
+        (SaysOfList (F.gives files.now) word.now words.now.turns) console.old console.new result }
+    ensures told { TellsUndoFile P.contents (F.gives files.now) word.now progress.old progress.new }
+{
+    match text_of(files, word) {
+        Ok(text) => undo_text(rt, alloc, text.as_str(), words, progress, console),
+        Err(unread) => refuse(alloc, &unread, console),
+    }
+}
+
+/// Undoes the list of the file that the words name, on the controller at their two ports, and writes to standard output in which phase the
+/// manager is then. It sends a request again up to three times. Where the line of its progress is written, that tells of each step and is ended
+/// before the phase is said. It gives the status: 0, or 3 with `file` or `undo` and the fault on standard error where the file can't be read or
+/// is no undo text, or `undo OtherNames` where its list has names that aren't the lab's, 4 and no line where a link can't be had, 5 with `memory` on standard error where memory was refused, and 6 where a write
+/// of these failed.
+pub fn undo<F: TextFiles, W: io::Write, E: io::Write, P: io::Write, R: Net>(
+    rt: &R,
+    alloc: Global,
+    files: &F,
+    words: &UndoWords,
+    progress: &mut Progress<P>,
+    console: &mut Console<W, E>,
+) -> u8
+    ensures ends { RunEnds W.contents E.contents
+        (SaysOfList (F.gives files.now) (string_bytes words.now.undo) words.now.turns)
+        console.old console.new result }
+    ensures told { TellsUndoFile P.contents (F.gives files.now) (string_bytes words.now.undo)
+        progress.old progress.new }
+    ensures untold { progress.old.on ≡ false → progress.new ≡ progress.old }
+{
+    let list = words.undo.as_str();
+    undo_file(rt, alloc, files, list, words, progress, console)
+}

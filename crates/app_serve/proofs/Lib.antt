@@ -1,0 +1,5 @@
+pub mod ReadingsOnce
+pub mod ReadingsLists
+pub mod Serving
+pub mod Following
+pub mod Closing

@@ -1,0 +1,6 @@
+pub mod ReadingsLine
+pub mod ReadingsText
+pub mod ReadingsNames
+pub mod Served
+pub mod Periods
+pub mod Run

@@ -1,0 +1,89 @@
+-- What a board was served, and what is said of it.
+use Rattle.std.specs.Prelude.{◌≡◌, ◌≤◌, ℕ, Bool, true, false, List, [], ◌∷◌, ◌++◌, Option, None, Some, Vec, option_map, length, codes}
+use Rattle.std.specs.Fmt.{decimal}
+use Rattle.std.specs.List.{flat_map, sum_by}
+use Rattle.text_lines.specs.Cuts.{ended}
+use Rattle.cfg_records.specs.declared.board_file.BoardFile.{BoardFile}
+use Rattle.cfg_records.specs.Boards.{pairs_of}
+use Rattle.bmc_board.specs.State.{State, state_of, opened}
+use Rattle.bmc_history.specs.declared.event.Event.{Event}
+use Rattle.bmc_history.specs.Replay.{Replays, calls_of}
+use Rattle.bmc_ports.specs.declared.timed.Timed.{Timed}
+use Rattle.bmc_ports.specs.declared.timed.Timetable.{Timetable}
+use Rattle.bmc_ports.specs.Timing.{Gains}
+use Rattle.cfg_records.specs.Changed.{changed_in}
+use Rattle.text_lines.specs.RecordsLine.{records_line}
+use Rattle.app_serve.specs.declared.board.Served.{Served}
+use Rattle.app_serve.specs.declared.tally.Begun.{Begun}
+
+-- the most events of a history
+abbrev pub most_events : ℕ
+most_events = 4096
+
+-- a board begins as the file has it, beside its records
+pub record IsBegun (file : BoardFile) (begun : Begun) : Type 0 where
+  pub start : begun.start.items ≡ pairs_of file
+  pub setup : begun.board.setup ≡ file
+  pub opens : state_of begun.board ≡ opened file
+
+-- A board that was served has a history, with no more events than there was room for. It leads from the state that the board opened in
+-- to the board as it is.
+pub record IsServed (setup : BoardFile) (opening : State) (room : ℕ) (served : Served) : Type 0 where
+  pub few : length served.history ≤ room
+  pub replays : Replays setup opening served.history (state_of served.board)
+
+-- Histories lead, one after another, from the first state to the last, and none has more events than there is room for.
+abbrev pub Lead : BoardFile → (first : State) → List (List Event) → (last : State) → Type 0
+Lead setup first [] last = first ≡ last
+Lead setup first (history ∷ later) last =
+    (mid : State) × (length history ≤ most_events) × Replays setup first history mid × Lead setup mid later last
+
+-- there is one period, unless there may be several
+abbrev pub IsCount : (several : Bool) → ℕ → Type 0
+IsCount true count = Unit {0}
+IsCount false count = count ≡ 1
+
+-- the list that there is, of what is to happen on the board
+abbrev pub list_in : {A : Type 0} → Option (Vec Timed A) → Option (List Timed)
+list_in given = option_map (λ list. list.items) given
+
+-- all that is to happen
+abbrev pub all_of : Option (List Timed) → List Timed
+all_of None = []
+all_of (Some list) = list
+
+-- the timetable is this list, of which nothing has happened
+pub record IsAll (given : Option (List Timed)) (table : Timetable) : Type 0 where
+  pub list : table.list.now ≡ all_of given
+  pub next : table.next ≡ 0
+
+-- Where there is a list of what is to happen on the board, what the histories have of the scanner's seat is its first events, in their order.
+abbrev pub Plays : Option (List Timed) → List (List Event) → Type 0
+Plays None histories = Unit {0}
+Plays (Some list) histories = (place : ℕ) × Gains list 0 place [] (flat_map (calls_of 2) histories)
+
+-- Some histories of the file's board, one unless there may be several, play the list, where there is one. They have so many events in all, and lead
+-- to a state in which so many of the file's records have another value.
+pub record Tallies (several : Bool) (list : Option (List Timed)) (file : BoardFile) (events changed : ℕ) : Type 0 where
+  pub histories : List (List Event)
+  pub after : State
+  pub plays : Plays list histories
+  pub count : IsCount several (length histories)
+  pub lead : Lead file (opened file) histories after
+  pub counted : events ≡ sum_by length histories
+  pub differ : changed ≡ changed_in after.records (pairs_of file)
+
+-- how many events there were
+abbrev pub served_line : ℕ → List ℕ
+served_line events = codes "served " ++ decimal events
+
+-- the lines: how many events there were, and whether records are changed
+abbrev pub text_of : (events changed : ℕ) → List ℕ
+text_of events changed = flat_map ended (served_line events ∷ records_line changed ∷ [])
+
+-- the text tells of such histories
+pub record TellsServed (several : Bool) (list : Option (List Timed)) (file : BoardFile) (text : List ℕ) : Type 0 where
+  pub events : ℕ
+  pub changed : ℕ
+  pub tallies : Tallies several list file events changed
+  pub said : text ≡ text_of events changed

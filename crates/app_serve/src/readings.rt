@@ -1,0 +1,68 @@
+//! What happens on a served board by a text of readings, where there is one.
+ghost use Rattle.std.specs.Prelude.{◌≡◌, ℕ, List, Option, IfOk, IfErr, string_bytes};
+ghost use Rattle.std.specs.Option.{option_copied};
+ghost use Rattle.app_base.specs.declared.console.Stream.TheVariants.{Error};
+ghost use Rattle.app_base.specs.declared.status.Status.TheVariants.{RefusedFile};
+ghost use Rattle.app_base.specs.Ending.{Tells};
+ghost use Rattle.app_serve.specs.Run.{IsBoard, IsRefused, SaysUnserved, StandsFor, readings_line};
+ghost use Rattle.app_serve.specs.Served.{IsAll, list_in};
+
+use crate::readings_text::{ReadingsFault, read_readings};
+use app_base::{Report, Status, Stream, Untold};
+use bmc_ports::{Timed, Timetable};
+use std::alloc::{AllocError, Global};
+use std::time::{Clock, Instant};
+
+/// The list that a text of readings stands for, where there is one.
+pub(crate) fn list_of(
+    alloc: Global,
+    text: Option<&str>,
+) -> Result<Option<Vec<Timed>>, ReadingsFault>
+    ensures list { IfOk result (λ list. StandsFor (option_copied text.entry) (list_in list)) }
+    ensures refused { IfErr result (IsRefused (option_copied text.entry)) }
+{
+    let Some(text) = text else {
+        return Ok(None);
+    };
+    match read_readings(alloc, text) {
+        Ok(list) => Ok(Some(list)),
+        Err(why) => Err(why),
+    }
+}
+
+/// The timetable of a list, where there is one, which starts now.
+pub(crate) fn table_of<'a, R: Clock>(rt: &R, list: &'a Option<Vec<Timed>>) -> Timetable<'a>
+    ensures { IsAll (list_in list.now) result }
+{
+    let start = Instant::now(rt).ok();
+    match list {
+        Some(list) => Timetable::new(list.as_slice(), start),
+        None => Timetable::new(&[], start),
+    }
+}
+
+/// The line that names the first bad line of a text of readings.
+fn fault_report(alloc: Global, why: ReadingsFault) -> Result<Report, AllocError>
+    ensures stream { IfOk result (λ report. report.stream ≡ Error) }
+    ensures text { IfOk result (λ report. string_bytes report.text ≡ readings_line why) }
+    ensures status { IfOk result (λ report. report.status ≡ RefusedFile) }
+{
+    let mut text = String::new(alloc);
+    writeln!(text, "readings {why}")?;
+    Ok(Report {
+        stream: Stream::Error,
+        text,
+        status: Status::RefusedFile,
+    })
+}
+
+/// What is said of a text of readings that stands for no list.
+pub(crate) fn readings_refusal(alloc: Global, why: ReadingsFault) -> Result<Report, Untold>
+    ensures { (board : List ℕ) (given : Option (List ℕ)) → IsBoard board
+        → IsRefused given why → Tells (SaysUnserved board given) result }
+{
+    match why {
+        ReadingsFault::Memory => Err(Untold::Memory),
+        why => Ok(fault_report(alloc, why)?),
+    }
+}

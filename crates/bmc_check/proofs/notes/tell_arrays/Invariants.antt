@@ -1,7 +1,0 @@
-use Rattle.std.proofs.Common.{◌≡◌, take}
-use Rattle.toml.specs.View.{table_view}
-use Rattle.bmc_check.specs.Known.{is_told_arrays}
-use Rattle.bmc_check.proofs.notes.tell_arrays.Given as goal
-
-abbrev pub invariant-loop-group : goal.invariant-loop-group
-invariant-loop-group l = l.told ≡ is_told_arrays (take l.group-index l.arrays) (table_view l.tree)

@@ -1,5 +1,0 @@
-use Rattle.bmc_drive.proofs.Halves.{drives_on}
-use Rattle.bmc_drive.proofs.laws.drives_on.Goals as goal
-
-pub returns : goal.returns
-returns c = drives_on

@@ -1,7 +1,0 @@
-use Rattle.std.proofs.Common.{map, take, string_bytes}
-use Rattle.std.specs.List.{AllZip}
-use Rattle.bmc_host.specs.Checks.{ComesOf}
-use Rattle.bmc_host.proofs.check.check_each.Given as goal
-
-abbrev pub invariant-loop-word : goal.invariant-loop-word
-invariant-loop-word g l = AllZip (ComesOf (g.F.TextFiles.gives l.files)) (map string_bytes (take l.word-index l.words)) l.outcomes.items

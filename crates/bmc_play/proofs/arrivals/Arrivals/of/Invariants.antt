@@ -1,6 +1,0 @@
-use Rattle.std.proofs.Common.{take}
-use Rattle.bmc_play.specs.Arrivals.{Holds}
-use Rattle.bmc_play.proofs.arrivals.Arrivals.of.Given as goal
-
-abbrev pub invariant-loop-note : goal.invariant-loop-note
-invariant-loop-note l = Holds l.arrivals (take l.note-index l.notes)

@@ -1,8 +1,0 @@
-use Rattle.bmc_play.specs.declared.run.Shown.TheVariants.{Lines, Chart}
-use Rattle.bmc_play.proofs.OneAccount.{one_account}
-use Rattle.bmc_play.proofs.OneChart.{one_chart}
-use Rattle.bmc_play.proofs.laws.one_text.Goals as goal
-
-pub returns : goal.returns
-returns c (Lines frames premises) = one_account c.one_ending.ensures frames premises
-returns c Chart = one_chart c.one_ending.ensures

@@ -1,0 +1,146 @@
+//! A manager that is driven over two links.
+ghost use Rattle.std.specs.Prelude.{◌≡◌, Result, Some, OnOk, OnErr};
+ghost use Rattle.wire_links.specs.declared.link.Heard.{Heard as AnyHeard};
+ghost use Rattle.wire_links.specs.declared.link.LinkFault.{LinkFault as AnyFault};
+ghost use Rattle.wire_links.specs.Counted.{after_next, after_send};
+ghost use Rattle.undo_plans.specs.declared.names.Names.{Names};
+ghost use Rattle.model_undo.specs.declared.call.Call.TheVariants as call;
+ghost use Rattle.undo_core.specs.Shown.{Shows};
+ghost use Rattle.undo_core.specs.Course.{Calls, Comes};
+ghost use Rattle.bmc_ports.specs.Driving.{State, Answers, call_for, both, Fails, open_at, LeadsTo, Drives};
+
+use two_wire::{Bus, Frame, MOST_RETRIES};
+use undo_core::{Manager, Phase, Sent};
+use wire_links::{Heard, Link, LinkFault};
+
+/// Sends frames in their order, up to the first whose sending fails.
+fn send_frames<L: Link>(link: &mut L, frames: &[Frame]) -> Result<(), LinkFault>
+    ensures { L.counts_of link.new ≡ after_send result (L.counts_of link.old) }
+{
+    for frame in frames {
+        link.send(frame)?;
+    }
+    Ok(())
+}
+
+/// Sends a request's frames over the link of its bus, up to the first whose sending fails.
+fn send_over<A: Link, B: Link>(ipmb: &mut A, smbus: &mut B, sent: &Sent) -> Result<(), LinkFault>
+    ensures ipmb { OnOk result (A.counts_of ipmb.new ≡ A.counts_of ipmb.old) }
+    ensures smbus { OnOk result (B.counts_of smbus.new ≡ B.counts_of smbus.old) }
+    ensures fails { OnErr result (Fails (both (A.counts_of ipmb.old) (B.counts_of smbus.old))
+        (both (A.counts_of ipmb.new) (B.counts_of smbus.new))) }
+{
+    match sent.bus {
+        Bus::Ipmb => send_frames(ipmb, sent.frames.as_slice()),
+        Bus::Smbus => send_frames(smbus, sent.frames.as_slice()),
+    }
+}
+
+/// Tells the manager that no reply came. Where it awaits none, nothing changes.
+fn be_quiet(manager: &mut Manager) -> Option<Sent>
+    ensures { (names : Names) (s : State names) → Shows names manager.old s
+        → Comes names (Calls call.Quiet) s manager.new result }
+{
+    match manager.quiet() {
+        Ok(sent) => sent,
+        Err(_) => None,
+    }
+}
+
+/// Sends what a manager gave. Where a frame's sending fails, those behind it aren't sent: the manager is told at once that no reply came,
+/// and what it gives then is sent in its turn. A manager gives the frames of a request once, and at most `MOST_RETRIES` times again.
+fn send_all<A: Link, B: Link>(
+    manager: &mut Manager,
+    first: Option<Sent>,
+    ipmb: &mut A,
+    smbus: &mut B,
+)
+    ensures { (names : Names) (s : State names) → Shows names manager.old s
+        → LeadsTo names 0 s manager.new (both (A.counts_of ipmb.old) (B.counts_of smbus.old))
+        (both (A.counts_of ipmb.new) (B.counts_of smbus.new)) }
+{
+    let mut sent = first;
+    for _ in 0..=MOST_RETRIES {
+        let Some(sending) = sent else {
+            return;
+        };
+        match send_over(ipmb, smbus, &sending) {
+            Ok(()) => return,
+            Err(LinkFault) => sent = be_quiet(manager),
+        }
+    }
+}
+
+/// One call of `next` of a link, and what the manager gives for it.
+fn hear<L: Link>(manager: &mut Manager, bus: Bus, link: &mut L) -> Option<Sent>
+    ensures { (answer : Result AnyHeard AnyFault)
+        × (L.counts_of link.new ≡ after_next answer (L.counts_of link.old))
+        × ((names : Names) (s : State names) → Shows names manager.old s
+        → Comes names (call_for (Answers bus answer)) s manager.new result) }
+{
+    match link.next() {
+        Ok(Heard::Frame(frame)) => manager.on_frame(bus, frame.as_slice()),
+        Ok(Heard::Quiet) | Err(LinkFault) => be_quiet(manager),
+    }
+}
+
+/// One turn, while the manager's request is open on this bus: it hears the link of that bus, and all that the manager gives is sent.
+fn turn<A: Link, B: Link>(manager: &mut Manager, bus: Bus, ipmb: &mut A, smbus: &mut B)
+    ensures { (names : Names) (s : State names) → Shows names manager.old s
+        → open_at names s ≡ Some bus
+        → LeadsTo names 1 s manager.new (both (A.counts_of ipmb.old) (B.counts_of smbus.old))
+        (both (A.counts_of ipmb.new) (B.counts_of smbus.new)) }
+{
+    match bus {
+        Bus::Ipmb => {
+            let sent = hear(manager, Bus::Ipmb, ipmb);
+            send_all(manager, sent, ipmb, smbus);
+        }
+        Bus::Smbus => {
+            let sent = hear(manager, Bus::Smbus, smbus);
+            send_all(manager, sent, ipmb, smbus);
+        }
+    }
+}
+
+/// So many turns, or those until no request is open, and the phase then.
+fn make_turns<A: Link, B: Link>(
+    manager: &mut Manager,
+    ipmb: &mut A,
+    smbus: &mut B,
+    turns: u32,
+) -> Phase
+    ensures { (names : Names) (s : State names) → Shows names manager.old s
+        → Drives names turns s manager.new result
+        (both (A.counts_of ipmb.old) (B.counts_of smbus.old))
+        (both (A.counts_of ipmb.new) (B.counts_of smbus.new)) }
+{
+    for _ in 0..turns {
+        let Some(bus) = manager.open_bus() else {
+            return manager.phase();
+        };
+        turn(manager, bus, ipmb, smbus);
+    }
+    manager.phase()
+}
+
+/// Drives a manager over IPMB's link and SMBus's: sends what `start`, `undo` or `again` gave, and what the manager gives from then on, until
+/// no request of it is open, or both links' `next` was called as often as there are turns. It gives the phase.
+///
+/// It hears the link of the open request. Where nothing comes, and where a link fails, the manager is told that no reply came. An unsettled
+/// request is open too, and heeds nothing: then all turns are made.
+pub fn drive<A: Link, B: Link>(
+    manager: &mut Manager,
+    first: Option<Sent>,
+    ipmb: &mut A,
+    smbus: &mut B,
+    turns: u32,
+) -> Phase
+    ensures { (names : Names) (s : State names) → Shows names manager.old s
+        → Drives names turns s manager.new result
+        (both (A.counts_of ipmb.old) (B.counts_of smbus.old))
+        (both (A.counts_of ipmb.new) (B.counts_of smbus.new)) }
+{
+    send_all(manager, first, ipmb, smbus);
+    make_turns(manager, ipmb, smbus, turns)
+}

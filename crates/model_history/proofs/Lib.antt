@@ -1,4 +1,0 @@
-pub mod Lists
-pub mod Carrying
-pub mod Hearing
-pub mod Running

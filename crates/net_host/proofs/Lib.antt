@@ -1,3 +1,0 @@
-pub mod Readings
-pub mod Endings
-pub mod Behind

@@ -1,3 +1,0 @@
-pub mod Served
-pub mod Periods
-pub mod Run

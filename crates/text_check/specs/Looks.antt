@@ -1,0 +1,59 @@
+-- What a text looks like, by its first line that says something.
+use Rattle.std.specs.Prelude.{ℕ, Bool, not, ◌==◌, ◌&&◌, ◌||◌, List, Option, None, Some, nat_le, length, drop, if◌then◌else◌, codes}
+use Rattle.std.specs.List.{list_all, list_any, find, starts_with}
+use Rattle.std.specs.Str.{trim}
+use Rattle.text_schedule.specs.Text.{lines_of}
+use Rattle.text_check.specs.declared.looks.Looks.{Looks}
+use Rattle.text_check.specs.declared.looks.Looks.TheVariants.{Undo, Board, Plan, Schedule, Empty}
+
+-- the text begins with the words
+abbrev pub begins : (words text : List ℕ) → Bool
+begins words text = starts_with (λ a b. a == b) text words
+
+-- a text has no byte
+abbrev pub is_empty : List ℕ → Bool
+is_empty text = length text == 0
+
+-- a line says nothing: it is blank, or begins with '#'
+abbrev pub is_silent : List ℕ → Bool
+is_silent line = is_empty (trim line) || begins (codes "#") (trim line)
+
+-- a byte is a decimal digit
+abbrev pub is_digit : ℕ → Bool
+is_digit byte = nat_le 48 byte && nat_le byte 57
+
+-- a word is a number: decimal digits, at least one
+abbrev pub is_number : List ℕ → Bool
+is_number word = not (is_empty word) && list_all is_digit word
+
+-- a line is `undo` with a number
+abbrev pub is_undo : List ℕ → Bool
+is_undo line = begins (codes "undo ") line && is_number (drop 5 line)
+
+-- a line is one of TOML: it has a '=', or begins with '['
+abbrev pub is_toml : List ℕ → Bool
+is_toml line = list_any (λ byte. byte == 61) line || begins (codes "[") line
+
+-- a line begins as one of a board file alone does
+abbrev pub begins_board : List ℕ → Bool
+begins_board line = begins (codes "tid") (trim line) || begins (codes "[device]") (trim line)
+
+-- what lines look like, whose first that says something is this one
+abbrev pub looks_from : List (List ℕ) → Option (List ℕ) → Looks
+looks_from lines None = Empty
+looks_from lines (Some line) =
+    if is_undo (trim line) then Undo
+    else (if is_toml (trim line) then (if list_any begins_board lines then Board else Plan)
+    else Schedule)
+
+-- the first of the lines that says something
+abbrev pub first_spoken : List (List ℕ) → Option (List ℕ)
+first_spoken lines = find (λ line. not (is_silent line)) lines
+
+-- what lines look like
+abbrev pub looks_by : List (List ℕ) → Looks
+looks_by lines = looks_from lines (first_spoken lines)
+
+-- what a text looks like
+abbrev pub looks_of : List ℕ → Looks
+looks_of text = looks_by (lines_of text)

@@ -1,0 +1,78 @@
+-- What comes of looking at files.
+use Rattle.std.specs.Prelude.{◌≡◌, ℕ, Bool, true, false, List, Ok, Err, if◌then◌else◌}
+use Rattle.std.specs.List.{list_any}
+use Rattle.std.specs.Option.{option_map_or}
+use Rattle.toml.specs.Data.{Members}
+use Rattle.toml.specs.Parse.{parse_document}
+use Rattle.cfg_records.specs.declared.board_file.BoardFile.{BoardFile}
+use Rattle.undo_plans.specs.declared.plan.Plan.{Plan}
+use Rattle.undo_plans.specs.declared.undo_list.UndoList.{UndoList}
+use Rattle.text_schedule.specs.declared.event.Event.{Event}
+use Rattle.text_schedule.specs.declared.schedule.ScheduleFault.TheVariants.{Line}
+use Rattle.text_board.specs.declared.fault.FileFault.{FileFault}
+use Rattle.plan_file.specs.declared.plan_fault.PlanFault.{PlanFault}
+use Rattle.text_board.specs.Holds.{Reads}
+use Rattle.plan_file.specs.PlanHolds.{ReadsPlan}
+use Rattle.text_schedule.specs.Schedule.{IsRead}
+use Rattle.text_undo.specs.UndoText.{Stands, IsFirstBad}
+use Rattle.text_check.specs.declared.looks.Looks.{Looks}
+use Rattle.text_check.specs.declared.looks.Looks.TheVariants as looks
+use Rattle.text_check.specs.declared.outcome.Outcome.{Outcome}
+use Rattle.text_check.specs.declared.outcome.Outcome.TheVariants.{Fine, Told, Refused}
+use Rattle.text_check.specs.Looks.{looks_of}
+use Rattle.text_check.specs.Known.{is_told_board, is_told_plan}
+
+-- a text is TOML, and something is told of its tree
+abbrev pub tells : (Members → Bool) → List ℕ → Bool
+tells is_told text = option_map_or is_told (parse_document text) false
+
+-- what comes of a text: it has a fault and is refused; or it is read, and something is told of it or nothing
+abbrev pub Comes : (Faulty Read : Type 0) → (is_told : Bool) → Outcome → Type 0
+Comes Faulty Read is_told Refused = Faulty
+Comes Faulty Read is_told Told = Read × (is_told ≡ true)
+Comes Faulty Read is_told Fine = Read × (is_told ≡ false)
+
+-- what comes of a board file
+abbrev pub IsBoardOutcome : List ℕ → Outcome → Type 0
+IsBoardOutcome text = Comes ((why : FileFault) × Reads text (Err why)) ((file : BoardFile) × Reads text (Ok file)) (tells is_told_board text)
+
+-- what comes of a plan
+abbrev pub IsPlanOutcome : List ℕ → Outcome → Type 0
+IsPlanOutcome text = Comes ((why : PlanFault) × ReadsPlan text (Err why)) ((plan : Plan) × ReadsPlan text (Ok plan)) (tells is_told_plan text)
+
+-- what comes of a schedule
+abbrev pub IsScheduleOutcome : List ℕ → Outcome → Type 0
+IsScheduleOutcome text = Comes ((line : ℕ) × IsRead text (Err (Line line))) ((events : List Event) × IsRead text (Ok events)) false
+
+-- what comes of an undo text
+abbrev pub IsUndoOutcome : List ℕ → Outcome → Type 0
+IsUndoOutcome text = Comes ((line : ℕ) × IsFirstBad text line) ((list : UndoList) × Stands text list) false
+
+-- what comes of a text that looks like this; an empty one has no fault
+abbrev pub IsOutcomeBy : Looks → List ℕ → Outcome → Type 0
+IsOutcomeBy looks.Undo text = IsUndoOutcome text
+IsOutcomeBy looks.Board text = IsBoardOutcome text
+IsOutcomeBy looks.Plan text = IsPlanOutcome text
+IsOutcomeBy looks.Schedule text = IsScheduleOutcome text
+IsOutcomeBy looks.Empty text = Comes ⊥ (Unit {0}) false
+
+-- what comes of a text, by what it looks like
+abbrev pub IsOutcome : List ℕ → Outcome → Type 0
+IsOutcome text = IsOutcomeBy (looks_of text) text
+
+-- ---- several files
+
+-- the two are one
+abbrev pub same_outcome : Outcome → Outcome → Bool
+same_outcome Fine Fine = true
+same_outcome Told Told = true
+same_outcome Refused Refused = true
+same_outcome _ _ = false
+
+-- this came of one of the files
+abbrev pub is_among : Outcome → List Outcome → Bool
+is_among outcome outcomes = list_any (λ other. same_outcome other outcome) outcomes
+
+-- what came of several files: one is refused, or else something is told of one
+abbrev pub worst_of : List Outcome → Outcome
+worst_of outcomes = if is_among Refused outcomes then Refused else (if is_among Told outcomes then Told else Fine)

@@ -1,6 +1,0 @@
-use Rattle.std.proofs.Common.{sym}
-use Rattle.text_readings.proofs.Lists.{comes_behind}
-use Rattle.text_readings.proofs.text.comes_behind.Goals as goal
-
-pub returns-in-Some : goal.returns-in-Some
-returns-in-Some c = comes_behind c.args.list.now c.in-Some.last.now c.args.next.now (sym c.in-Some.ensures.value) c.requires

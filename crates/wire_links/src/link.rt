@@ -1,0 +1,74 @@
+//! What a link is.
+use two_wire::Frame;
+
+/// What `next` answers.
+#[derive(PartialEq, Eq, Drop)]
+pub enum Heard {
+    /// A frame came, which may be no frame of any bus.
+    Frame(Frame),
+    /// None came.
+    Quiet,
+}
+
+/// The link failed. What it was to send, or would have heard, is lost.
+#[derive(Clone, Copy, Debug, PartialEq, Eq)]
+pub struct LinkFault;
+
+/// What a link has counted, each from 0 on, and from the last value to 0 again.
+#[derive(Clone, Copy, Debug, PartialEq, Eq)]
+pub struct Counts {
+    /// Calls that failed.
+    pub failures: u64,
+    /// Calls of `next`.
+    pub calls: u64,
+    /// Frames that were heard.
+    pub heard: u64,
+}
+
+impl Counts {
+    ghost use Rattle.std.specs.Prelude.{◌≡◌};
+    ghost use Rattle.wire_links.specs.Counted.{after_next, after_send};
+
+    /// What `next` leaves, where it answered so.
+    pub fn count_next(&mut self, answer: &Result<Heard, LinkFault>)
+        ensures { self.new ≡ after_next answer.now self.old }
+    {
+        self.calls = self.calls.wrapping_add(1);
+        match answer {
+            Ok(Heard::Frame(_)) => self.heard = self.heard.wrapping_add(1),
+            Ok(Heard::Quiet) => {}
+            Err(_) => self.failures = self.failures.wrapping_add(1),
+        }
+    }
+
+    /// What `send` leaves, where it answered so.
+    pub fn count_send(&mut self, answer: &Result<(), LinkFault>)
+        ensures { self.new ≡ after_send answer.now self.old }
+    {
+        if answer.is_err() {
+            self.failures = self.failures.wrapping_add(1);
+        }
+    }
+}
+
+/// A link: frames come over it, and go. Neither call promises that a frame comes, or arrives.
+pub trait Link {
+    ghost use Rattle.std.specs.Prelude.{◌≡◌};
+    ghost use Rattle.wire_links.specs.declared.link.Counts.{Counts};
+    ghost use Rattle.wire_links.specs.Counted.{after_next, after_send};
+
+    /// What it has counted.
+    ghost counts_of: { Self → Counts };
+
+    /// The next frame.
+    fn next(&mut self) -> Result<Heard, LinkFault>
+        ensures { counts_of self.new ≡ after_next result (counts_of self.old) };
+
+    /// Sends a frame.
+    fn send(&mut self, frame: &Frame) -> Result<(), LinkFault>
+        ensures { counts_of self.new ≡ after_send result (counts_of self.old) };
+
+    /// What it has counted.
+    fn counts(&self) -> Counts
+        ensures { result ≡ counts_of self.now };
+}
