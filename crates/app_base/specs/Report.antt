@@ -1,12 +1,5 @@
--- What a run says of what a port did.
+-- What a run says of its files, and the status that it ends with as the process gives it.
 use Rattle.std.specs.Prelude.{ℕ, List, [], ◌∷◌, ◌++◌, codes}
-use Rattle.std.specs.List.{flat_map}
-use Rattle.hex.specs.Hex.{encode_upper}
-use Rattle.bmc_core.specs.declared.out.Out.{Out}
-use Rattle.bmc_core.specs.declared.out.Done.{Done}
-use Rattle.bmc_core.specs.declared.out.Done.TheVariants.{Ignored, Waiting, Answered, Repeated, Busy, Control}
-use Rattle.bmc_core.specs.Names.{reason_name}
-use Rattle.bmc_core.specs.Outs.{sent}
 use Rattle.text_board.specs.declared.fault.FileFault.{FileFault}
 use Rattle.text_board.specs.Names.{fault_name}
 use Rattle.app_base.specs.declared.status.Status.{Status}
@@ -22,23 +15,6 @@ byte_of Stopped = 4
 byte_of Memory = 5
 byte_of Output = 6
 
--- a frame in upper-case hexadecimal, and the line's end
-abbrev pub frame_line : List ℕ → List ℕ
-frame_line frame = encode_upper frame ++ 10 ∷ []
-
--- why nothing was sent
-abbrev pub done_line : Done → List ℕ
-done_line (Ignored reason) = codes "ignored " ++ reason_name reason ++ 10 ∷ []
-done_line Waiting = codes "waiting\n"
-done_line Answered = []
-done_line Repeated = []
-done_line Busy = []
-done_line Control = []
-
--- a line for each frame, and why nothing was sent
-abbrev pub text_of : Out → List ℕ
-text_of out = flat_map frame_line (sent out) ++ done_line out.done
-
 -- what is said of a file that can't be read, by the word that names it
 abbrev pub file_line : List ℕ → List ℕ
 file_line word = codes "file " ++ word ++ 10 ∷ []
@@ -46,8 +22,3 @@ file_line word = codes "file " ++ word ++ 10 ∷ []
 -- what is said of a board file that is refused
 abbrev pub board_line : FileFault → List ℕ
 board_line why = codes "board " ++ fault_name why ++ 10 ∷ []
-
--- whether something was sent
-abbrev pub status_of : List (List ℕ) → Status
-status_of [] = NotSent
-status_of (frame ∷ frames) = Success

@@ -1,2 +1,4 @@
 pub mod Asked
+pub mod Report
 pub mod Run
+pub mod Files

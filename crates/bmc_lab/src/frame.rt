@@ -5,6 +5,7 @@ ghost use Rattle.app_base.specs.declared.console.Stream.TheVariants.{Output};
 ghost use Rattle.app_base.specs.Ending.{RunEnds};
 ghost use Rattle.bmc_lab.specs.Run.{controller, IsBoardOf, IsFaultOf, Tells, Says};
 
+use crate::report::port_report;
 use app_base::{Console, Ending, Report};
 use bmc_core::{At, Board, Out, Port};
 use cfg_records::{BoardFile, sample_board};
@@ -56,7 +57,7 @@ fn heard_report(
     let mut port = Port::new(alloc, bus, controller_place())?;
     let mut out = Out::new();
     port.on_frame(&mut board, bytes, &mut out);
-    Report::new(alloc, &out)
+    port_report(alloc, &out)
 }
 
 /// What a fresh controller with the board does with the bytes, or why the file holds no board.

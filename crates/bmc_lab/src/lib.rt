@@ -1,8 +1,12 @@
-//! What the program `bmclab` does, over writers of any kind.
+//! What `bmclab frame` does, over files and writers of any kind.
 #![tactic(auto)]
 
 pub mod asked;
+pub mod files;
 pub mod frame;
+pub mod report;
 
 pub use asked::{AskedFrame, asked_frame};
-pub use frame::{controller_place, frame_of_file, frame_run};
+pub use files::frame_of_file;
+pub use frame::{controller_place, frame_run};
+pub use report::port_report;

@@ -3,8 +3,8 @@ use Rattle.bmc_lab.proofs.frame.heard_report.Goals as goal
 
 pub returns-clause-told : goal.returns-clause-told
 returns-clause-told c board opens =
-    told c.new-2.result board c.args.bus c.args.bytes.now c.args.file _ c.on_frame.new.out _ _
+    told c.port_report.result board c.args.bus c.args.bytes.now c.args.file _ c.on_frame.new.out _ _
     opens
     (is_fresh _ _ _ c.controller_place.ensures c.in_ok-port.ensures.bus c.in_ok-port.ensures.quiet)
     (as_opened _ _ c.args.file _ _ _ _ _ c.in_ok-board.ensures.setup c.in_ok-board.ensures.state c.on_frame.ensures.heard)
-    c.new-2.ensures.text c.new-2.ensures.status
+    c.port_report.ensures.text c.port_report.ensures.status
