@@ -13,7 +13,7 @@ use std::process::Command;
 use std::time::{Duration, Instant};
 
 /// The program, as `rt run` leaves it.
-const PROGRAM: &str = "../bench/crates/bench_two/out/bench_two";
+const PROGRAM: &str = "out/tree/crates/bench_two/out/bench_two";
 
 /// Both are run in turn so many times, each for so many rounds.
 const TURNS: usize = 20;
