@@ -12,24 +12,24 @@ use Rattle.clap.specs.declared.parser.matches.SubCommand.{SubCommand}
 use Rattle.clap.proofs.WalkLemmas.{first_value-rows}
 use Rattle.app_base.specs.declared.refusal.Refusal.{Refusal}
 use Rattle.app_base.specs.declared.refusal.Refusal.TheVariants.{Memory as Lacking, Words as Refused}
-use Rattle.app_base.specs.Asked.{Refuses}
+use Rattle.app_base.specs.Asked.{RefusesWords}
 
 -- `matches.get_str`, by the rows
 pub first_by_rows : (found : Found) (name : Text) (word : Option Text) → first_value found name ≡ word → first_of name (rows_of found) ≡ word
 first_by_rows found name word is = sym (first_value-rows found name) ∙ is
 
 -- who asks for nothing of one kind asks for nothing of another, if each of that other has one of the first
-pub refuses_more : {A B : Type 0} (P : A → Type 0) (Q : B → Type 0) (refusal : Refusal) → ((b : B) → Q b → (a : A) × P a) → Refuses P refusal → Refuses Q refusal
+pub refuses_more : {A B : Type 0} (P : A → Type 0) (Q : B → Type 0) (refusal : Refusal) → ((b : B) → Q b → (a : A) × P a) → RefusesWords P refusal → RefusesWords Q refusal
 refuses_more P Q Lacking has refused = tt
 refuses_more P Q (Refused why) has refused = λ asked asks. let one = has asked asks in refused one.0 one.1
 
 -- who asks for nothing at all is refused rightly
-pub refuses_none : {A : Type 0} (P : A → Type 0) (refusal : Refusal) → ((a : A) → P a → ⊥) → Refuses P refusal
+pub refuses_none : {A : Type 0} (P : A → Type 0) (refusal : Refusal) → ((a : A) → P a → ⊥) → RefusesWords P refusal
 refuses_none P Lacking none = tt
 refuses_none P (Refused why) none = none
 
 -- where memory is the only cause, a refusal says so
-pub refuses_unless : {A : Type 0} (P : A → Type 0) (refusal : Refusal) → ((a : A) → P a → refusal ≡ Lacking) → Refuses P refusal
+pub refuses_unless : {A : Type 0} (P : A → Type 0) (refusal : Refusal) → ((a : A) → P a → refusal ≡ Lacking) → RefusesWords P refusal
 refuses_unless P Lacking only = tt
 refuses_unless P (Refused why) only = λ asked asks.
     let bad : Refused why ≡ Lacking = only asked asks in

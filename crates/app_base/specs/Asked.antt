@@ -23,9 +23,9 @@ pub record AsksOf {W : Type 0} (program : App) (AsksBy : Option (Text × List Ro
   pub asks : AsksBy (subcommand_of program words) asked
 
 -- why words aren't read: memory was refused, or they ask for nothing
-abbrev pub Refuses : {A : Type 0} → (A → Type 0) → Refusal → Type 0
-Refuses Asked Memory = Unit {0}
-Refuses {A} Asked (Refused why) = (asked : A) → Asked asked → ⊥
+abbrev pub RefusesWords : {A : Type 0} → (A → Type 0) → Refusal → Type 0
+RefusesWords Asked Memory = Unit {0}
+RefusesWords {A} Asked (Refused why) = (asked : A) → Asked asked → ⊥
 
 -- what a run says of words that it doesn't read, unless memory was refused: standard error says why
 abbrev pub SaysWhy : Refusal → Saying

@@ -10,11 +10,11 @@ abbrev pub HasFailed : {Stdout Stderr : Type 0} → Console Stdout Stderr → Ty
 HasFailed console = IsTrue console.failed
 
 -- the stream grows by the text, and the other one stays as it was
-abbrev pub Written : Stream → List ℕ → (out_old out_new err_old err_new : Option (List ℕ)) → Type 0
-Written Output text out_old out_new err_old err_new = Appends out_old out_new text × Keeps err_old err_new
-Written Error text out_old out_new err_old err_new = Keeps out_old out_new × Appends err_old err_new text
+abbrev pub IsWrittenTo : Stream → List ℕ → (out_old out_new err_old err_new : Option (List ℕ)) → Type 0
+IsWrittenTo Output text out_old out_new err_old err_new = Appends out_old out_new text × Keeps err_old err_new
+IsWrittenTo Error text out_old out_new err_old err_new = Keeps out_old out_new × Appends err_old err_new text
 
 -- once a write gave this, the console has failed if that is a failure, and else where it had failed before
-abbrev pub Notes : {A Failure : Type 0} → (old : Bool) → Result A Failure → (new : Bool) → Type 0
-Notes old (Ok done) new = new ≡ old
-Notes old (Err why) new = IsTrue new
+abbrev pub NotesFailure : {A Failure : Type 0} → (old : Bool) → Result A Failure → (new : Bool) → Type 0
+NotesFailure old (Ok done) new = new ≡ old
+NotesFailure old (Err why) new = IsTrue new

@@ -7,9 +7,9 @@ use Rattle.app_base.specs.declared.console.Stream.TheVariants.{Error}
 use Rattle.app_base.specs.declared.report.Report.{Report}
 use Rattle.app_base.specs.declared.status.Status.{Status}
 use Rattle.app_base.specs.declared.status.Status.TheVariants.{Memory, Stopped, Output}
-use Rattle.app_base.specs.declared.ending.Untold.{Untold}
-use Rattle.app_base.specs.declared.ending.Untold.TheVariants as untold
-use Rattle.app_base.specs.Console.{HasFailed, Written}
+use Rattle.app_base.specs.declared.ending.ReportFault.{ReportFault}
+use Rattle.app_base.specs.declared.ending.ReportFault.TheVariants as untold
+use Rattle.app_base.specs.Console.{HasFailed, IsWrittenTo}
 use Rattle.app_base.specs.Report.{byte_of}
 
 -- what standard error says of a run that ends so without a report
@@ -18,9 +18,9 @@ complaint_of Memory = codes "memory\n"
 complaint_of _ = []
 
 -- a report goes to its stream and gives its status; without memory for one, standard error says so
-abbrev pub Ends : {Failure : Type 0} → Result Report Failure → Stream → List ℕ → Status → Type 0
-Ends (Ok report) stream text status = (stream ≡ report.stream) × (text ≡ string_bytes report.text) × (status ≡ report.status)
-Ends (Err failure) stream text status = (stream ≡ Error) × (text ≡ codes "memory\n") × (status ≡ Memory)
+abbrev pub ReportEnds : {Failure : Type 0} → Result Report Failure → Stream → List ℕ → Status → Type 0
+ReportEnds (Ok report) stream text status = (stream ≡ report.stream) × (text ≡ string_bytes report.text) × (status ≡ report.status)
+ReportEnds (Err failure) stream text status = (stream ≡ Error) × (text ≡ codes "memory\n") × (status ≡ Memory)
 
 -- what a run may say: where, in which text, and with which status
 abbrev pub Saying : Type 1
@@ -33,23 +33,23 @@ RunEnds out err says old new result =
     ((result ≡ byte_of Output) × HasFailed new)
     ⊎ (((result ≡ byte_of Memory) × Appends (err old.err) (err new.err) (codes "memory\n") × Keeps (out old.out) (out new.out))
     ⊎ ((stream : Stream) × (text : List ℕ) × (status : Status) × says stream text status × (result ≡ byte_of status)
-    × Written stream text (out old.out) (out new.out) (err old.err) (err new.err)))
+    × IsWrittenTo stream text (out old.out) (out new.out) (err old.err) (err new.err)))
 
 -- ---- a run that has a report, or none
 
 -- the status of a run that says nothing of what it did
-abbrev pub untold_status : Untold → Status
+abbrev pub untold_status : ReportFault → Status
 untold_status untold.Memory = Memory
 untold_status untold.Stopped = Stopped
 
 -- what a run says by its report. Where it came to no end it says nothing, and where memory was refused the report doesn't matter
-abbrev pub SaysReport : Result Report Untold → Saying
+abbrev pub SaysReport : Result Report ReportFault → Saying
 SaysReport (Ok report) stream text status = (stream ≡ report.stream) × (text ≡ string_bytes report.text) × (status ≡ report.status)
 SaysReport (Err untold.Memory) stream text status = ⊥
 SaysReport (Err untold.Stopped) stream text status = (stream ≡ Error) × (text ≡ []) × (status ≡ Stopped)
 
 -- what a run says by its report may be said so
-abbrev pub Tells : Saying → Result Report Untold → Type 0
-Tells says (Ok report) = says report.stream (string_bytes report.text) report.status
-Tells says (Err untold.Memory) = Unit {0}
-Tells says (Err untold.Stopped) = says Error [] Stopped
+abbrev pub ReportTells : Saying → Result Report ReportFault → Type 0
+ReportTells says (Ok report) = says report.stream (string_bytes report.text) report.status
+ReportTells says (Err untold.Memory) = Unit {0}
+ReportTells says (Err untold.Stopped) = says Error [] Stopped

@@ -66,7 +66,7 @@ fn several<'a>(alloc: Global, name: &'a str, help: &'a str) -> Arg<'a>
 }
 
 impl<'a> Argument<'a> {
-    /// It, as clap has it.
+    /// The argument, as clap has it.
     fn arg(self, alloc: Global) -> Arg<'a>
         ensures { IsArg (argument_rule self.entry) result }
     {

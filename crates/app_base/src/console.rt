@@ -1,6 +1,6 @@
 //! Standard output and standard error.
 ghost use Rattle.std.specs.Prelude.{◌≡◌, OnOk};
-ghost use Rattle.app_base.specs.Console.{HasFailed, Written, Notes};
+ghost use Rattle.app_base.specs.Console.{HasFailed, IsWrittenTo, NotesFailure};
 
 use std::io;
 
@@ -46,9 +46,9 @@ impl<W: io::Write, E: io::Write> Console<W, E> {
     /// Writes the text to the stream. Where that fails, the console has failed.
     pub fn write(&mut self, stream: Stream, text: &[u8]) -> io::Result<()>
         ensures written { OnOk result
-            (Written stream text.now (W.contents self.old.out) (W.contents self.new.out)
+            (IsWrittenTo stream text.now (W.contents self.old.out) (W.contents self.new.out)
             (E.contents self.old.err) (E.contents self.new.err)) }
-        ensures noted { Notes self.old.failed result self.new.failed }
+        ensures noted { NotesFailure self.old.failed result self.new.failed }
     {
         let written = match stream {
             Stream::Output => self.out.write_all(text),

@@ -1,7 +1,7 @@
 //! What a run writes, where it writes it, and how it ends.
 ghost use Rattle.std.specs.Prelude.{◌≡◌, ◌⊎◌, string_bytes};
-ghost use Rattle.app_base.specs.Console.{HasFailed, Written};
-ghost use Rattle.app_base.specs.Ending.{Ends, RunEnds, SaysReport, complaint_of};
+ghost use Rattle.app_base.specs.Console.{HasFailed, IsWrittenTo};
+ghost use Rattle.app_base.specs.Ending.{ReportEnds, RunEnds, SaysReport, complaint_of};
 
 use crate::console::{Console, Stream};
 use crate::report::Report;
@@ -30,7 +30,7 @@ fn complaint(status: Status) -> &'static [u8]
 impl<'a> Ending<'a> {
     /// The ending of a run that made this report, or was refused memory for it.
     pub fn of(report: &'a Result<Report, AllocError>) -> Ending<'a>
-        ensures { Ends report.now result.stream result.text.now result.status }
+        ensures { ReportEnds report.now result.stream result.text.now result.status }
     {
         match report {
             Ok(report) => Ending::of_report(report),
@@ -68,7 +68,7 @@ impl<'a> Ending<'a> {
     pub fn write<W: io::Write, E: io::Write>(&self, console: &mut Console<W, E>) -> Status
         ensures { ((result ≡ Status.Output) × HasFailed console.new)
             ⊎ ((result ≡ self.now.status)
-            × Written self.now.stream self.now.text.now
+            × IsWrittenTo self.now.stream self.now.text.now
             (W.contents console.old.out) (W.contents console.new.out)
             (E.contents console.old.err) (E.contents console.new.err)) }
     {
@@ -81,41 +81,41 @@ impl<'a> Ending<'a> {
 
 /// Why nothing is said of what a run did.
 #[derive(Clone, Copy, Debug, PartialEq, Eq)]
-pub enum Untold {
+pub enum ReportFault {
     /// Memory was refused.
     Memory,
-    /// It came to no end: a link or a thread couldn't be had, or a board wasn't closed.
+    /// The run came to no end: a link or a thread couldn't be had, or a board wasn't closed.
     Stopped,
 }
 
-impl From<Untold> for Status {
+impl From<ReportFault> for Status {
     ghost use Rattle.std.specs.Prelude.{◌≡◌};
     ghost use Rattle.app_base.specs.Ending.{untold_status};
 
     ghost from_gives = { λ why status. status ≡ untold_status why };
 
-    fn from(why: Untold) -> Status {
+    fn from(why: ReportFault) -> Status {
         match why {
-            Untold::Memory => Status::Memory,
-            Untold::Stopped => Status::Stopped,
+            ReportFault::Memory => Status::Memory,
+            ReportFault::Stopped => Status::Stopped,
         }
     }
 }
 
-impl From<AllocError> for Untold {
+impl From<AllocError> for ReportFault {
     ghost use Rattle.std.specs.Prelude.{◌≡◌};
-    ghost use Rattle.app_base.specs.declared.ending.Untold.TheVariants.{Memory};
+    ghost use Rattle.app_base.specs.declared.ending.ReportFault.TheVariants.{Memory};
 
     ghost from_gives = { λ refused why. why ≡ Memory };
 
-    fn from(_refused: AllocError) -> Untold {
-        Untold::Memory
+    fn from(_refused: AllocError) -> ReportFault {
+        ReportFault::Memory
     }
 }
 
 /// Writes the report of a run, and gives its status. Where there is none, nothing is said but that memory was refused.
 pub fn end_run<W: io::Write, E: io::Write>(
-    report: &Result<Report, Untold>,
+    report: &Result<Report, ReportFault>,
     console: &mut Console<W, E>,
 ) -> u8
     ensures { RunEnds W.contents E.contents (SaysReport report.now) console.old console.new result }

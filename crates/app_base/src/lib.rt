@@ -16,9 +16,9 @@ pub mod status;
 
 pub use build::{Argument, new_command, new_program, with_command};
 pub use console::{Console, Stream};
-pub use ending::{Ending, Untold, end_run};
+pub use ending::{Ending, ReportFault, end_run};
 pub use file::HostFiles;
-pub use files::{TextFiles, Unread, Unreadable, text_of};
+pub use files::{ReadFault, TextFiles, UnreadFile, text_of};
 pub use matched::{all_named, given, has_flag, lacking, named};
 pub use number::has_plus;
 pub use process::words_of_process;

@@ -1,7 +1,7 @@
 //! What was matched of a command line's words.
 ghost use Rattle.std.specs.Prelude.{◌≡◌, IfOk, IfErr, Some, map, option_map, string_bytes};
 ghost use Rattle.clap.specs.Words.{all_of, first_value, found_of, one_text, rows_of};
-ghost use Rattle.app_base.specs.Asked.{Refuses, says_yes};
+ghost use Rattle.app_base.specs.Asked.{RefusesWords, says_yes};
 
 use crate::refusal::Refusal;
 use clap::ArgMatches;
@@ -28,7 +28,7 @@ pub fn named(alloc: Global, matches: &ArgMatches, name: &str) -> Result<String, 
     ensures word { IfOk result
         (λ word. first_value (found_of matches.now) name.now ≡ Some (string_bytes word)) }
     ensures refused { IfErr result
-        (Refuses (λ word. first_value (found_of matches.now) name.now ≡ Some word)) }
+        (RefusesWords (λ word. first_value (found_of matches.now) name.now ≡ Some word)) }
 {
     match matches.get_str(name) {
         Some(word) => kept(alloc, word),
@@ -48,7 +48,7 @@ pub fn given(alloc: Global, matches: &ArgMatches, name: &str) -> Result<Option<S
     }
 }
 
-/// These words, kept.
+/// The words, each in memory of its own.
 fn all_kept(alloc: Global, words: &[&str]) -> Result<Vec<String>, Refusal>
     ensures words { IfOk result
         (λ kept. map string_bytes kept.items ≡ map (λ word. word.now) words.now) }
@@ -70,7 +70,7 @@ pub fn all_named(alloc: Global, matches: &ArgMatches, name: &str) -> Result<Vec<
         (λ words. all_of name.now (rows_of (found_of matches.now))
         ≡ Some (map string_bytes words.items)) }
     ensures refused { IfErr result
-        (Refuses (λ words. all_of name.now (rows_of (found_of matches.now)) ≡ Some words)) }
+        (RefusesWords (λ words. all_of name.now (rows_of (found_of matches.now)) ≡ Some words)) }
 {
     match matches.get_strs(name) {
         Some(words) => all_kept(alloc, words),

@@ -18,7 +18,7 @@ use std::io;
 pub enum Refusal {
     /// Memory was refused.
     Memory,
-    /// They ask for nothing; the text is for the user.
+    /// The words ask for nothing; the text is for the user.
     Words(String),
 }
 

@@ -8,13 +8,13 @@ use Rattle.clap.specs.declared.parser.matches.ArgMatches.{ArgMatches}
 use Rattle.clap.specs.declared.parser.matches.ArgMatches.TheViews.{out-ArgMatches, out-SubCommand}
 use Rattle.clap.specs.declared.parser.matches.SubCommand.{SubCommand}
 use Rattle.two_wire.specs.declared.Bus.{Bus}
-use Rattle.bmc_lab.specs.Asked.{Asks}
+use Rattle.bmc_lab.specs.Asked.{AsksForBytes}
 use Rattle.app_base.specs.declared.status.Status.{Status}
 use Rattle.app_base.specs.declared.status.Status.TheVariants.{RefusedWords, Memory}
 use Rattle.app_play.specs.declared.run.Shown.{Shown}
 use Rattle.app_base.specs.declared.refusal.Refusal.{Refusal}
 use Rattle.app_base.specs.declared.refusal.Refusal.TheVariants.{Memory as Lacking}
-use Rattle.app_base.specs.Asked.{Refuses}
+use Rattle.app_base.specs.Asked.{RefusesWords}
 use Rattle.app_base.proofs.Readings.{alike, apart, refuses_none, refuses_unless, some_same}
 use Rattle.app_bmclab.specs.declared.words.Words.{Words}
 use Rattle.app_bmclab.specs.declared.words.Words.TheVariants.{Frame, Play, Schedule, Check}
@@ -27,19 +27,19 @@ use Rattle.app_bmclab.specs.Drawn.{AsksSchedule}
 
 -- the promises of `asked_frame` and of the refusal of what it refuses, as one
 pub frame_refuses : (word : Option Text) (digits : Text) (status : Status) (refusal : Refusal) → (status ≡ RefusedWords) ⊎ (status ≡ Memory)
-    → (status ≡ RefusedWords → (bus : Bus) (bytes : List ℕ) → Asks word digits bus bytes → ⊥) → (status ≡ Memory → refusal ≡ Lacking)
-    → Refuses (λ (p : Bus × List ℕ). Asks word digits p.0 p.1) refusal
+    → (status ≡ RefusedWords → (bus : Bus) (bytes : List ℕ) → AsksForBytes word digits bus bytes → ⊥) → (status ≡ Memory → refusal ≡ Lacking)
+    → RefusesWords (λ (p : Bus × List ℕ). AsksForBytes word digits p.0 p.1) refusal
 frame_refuses word digits status refusal (inl words) refused lacks = refuses_none _ refusal (λ p asks. refused words p.0 p.1 asks)
 frame_refuses word digits status refusal (inr memory) refused lacks = refuses_unless _ refusal (λ p asks. lacks memory)
 
 -- what was matched behind `frame` asks for a frame of these words
 pub frame_asked : (rows : List Row) (bus : Option Text) (digits : Text) → first_of (codes "bus") rows ≡ bus → first_of (codes "HEX") rows ≡ Some digits
-    → (asked : FrameWords) → AsksFrame rows asked → (p : Bus × List ℕ) × Asks bus digits p.0 p.1
+    → (asked : FrameWords) → AsksFrame rows asked → (p : Bus × List ℕ) × AsksForBytes bus digits p.0 p.1
 frame_asked rows bus digits named given asked asks =
     let same : asks.digits ≡ digits = some_same (first_of (codes "HEX") rows) asks.digits digits asks.given given in (
       (asked.frame.bus, asked.frame.bytes.items),
-      subst (λ (word : Option Text). Asks word digits asked.frame.bus asked.frame.bytes.items) named
-          (subst (λ (text : Text). Asks (first_of (codes "bus") rows) text asked.frame.bus asked.frame.bytes.items) same asks.frame),
+      subst (λ (word : Option Text). AsksForBytes word digits asked.frame.bus asked.frame.bytes.items) named
+          (subst (λ (text : Text). AsksForBytes (first_of (codes "bus") rows) text asked.frame.bus asked.frame.bytes.items) same asks.frame),
     )
 
 -- the same flags ask for the same to be shown

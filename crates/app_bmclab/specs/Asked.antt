@@ -1,7 +1,7 @@
 -- What the words of the command line ask for.
 use Rattle.std.specs.Prelude.{◌≡◌, Bool, true, false, List, Option, None, Some, codes, map, option_map, string_bytes}
 use Rattle.clap.specs.Words.{Row, Text, all_of, first_of}
-use Rattle.bmc_lab.specs.Asked.{Asks}
+use Rattle.bmc_lab.specs.Asked.{AsksForBytes}
 use Rattle.app_play.specs.declared.run.Shown.{Shown}
 use Rattle.app_play.specs.declared.run.Shown.TheVariants.{Lines, Chart}
 use Rattle.app_base.specs.Asked.{AsksOf, is_given}
@@ -26,7 +26,7 @@ pub record AsksFrame (rows : List Row) (asked : FrameWords) : Type 0 where
   pub board : option_map string_bytes asked.board ≡ first_of (codes "board") rows
   pub digits : Text
   pub given : first_of (codes "HEX") rows ≡ Some digits
-  pub frame : Asks (first_of (codes "bus") rows) digits asked.frame.bus asked.frame.bytes.items
+  pub frame : AsksForBytes (first_of (codes "bus") rows) digits asked.frame.bus asked.frame.bytes.items
 
 -- what was matched behind `play` asks for this
 pub record AsksPlay (rows : List Row) (asked : PlayWords) : Type 0 where

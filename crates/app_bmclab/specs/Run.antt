@@ -6,9 +6,9 @@ use Rattle.app_base.specs.declared.status.Status.TheVariants.{RefusedWords}
 use Rattle.app_base.specs.Ending.{Saying}
 use Rattle.app_base.specs.Files.{Readings}
 use Rattle.bmc_lab.specs.Files.{SaysOfFile}
-use Rattle.app_play.specs.Files.{SaysOfFiles}
+use Rattle.app_play.specs.Files.{PrintsPlayOfFiles}
 use Rattle.app_play.specs.Run.{tells_of}
-use Rattle.app_bmclab.specs.ScheduledFiles.{SaysOfFiles as SaysOfScheduled}
+use Rattle.app_bmclab.specs.ScheduledFiles.{PrintsScheduleOfFiles as SaysOfScheduled}
 use Rattle.app_bmclab.specs.declared.words.Words.{Words}
 use Rattle.app_bmclab.specs.declared.words.Words.TheVariants.{Frame, Play, Schedule, Check}
 use Rattle.app_bmclab.specs.Asked.{AsksFor}
@@ -18,7 +18,7 @@ use Rattle.app_bmclab.specs.Checks.{SaysOfChecks}
 -- the two of the schedule that is made, or of the files that it checks
 abbrev pub SaysOfWords : Readings → Words → Saying
 SaysOfWords gives (Frame asked) = SaysOfFile gives (option_map string_bytes asked.board) asked.frame.bus asked.frame.bytes.items
-SaysOfWords gives (Play asked) = SaysOfFiles gives (tells_of asked.shown) (string_bytes asked.board ∷ string_bytes asked.plan ∷ string_bytes asked.schedule ∷ [])
+SaysOfWords gives (Play asked) = PrintsPlayOfFiles gives (tells_of asked.shown) (string_bytes asked.board ∷ string_bytes asked.plan ∷ string_bytes asked.schedule ∷ [])
 SaysOfWords gives (Schedule asked) = SaysOfScheduled gives asked.wanted (string_bytes asked.board ∷ string_bytes asked.plan ∷ [])
 SaysOfWords gives (Check asked) = SaysOfChecks gives (map string_bytes asked.files.items)
 

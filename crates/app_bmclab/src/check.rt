@@ -2,9 +2,9 @@
 ghost use Rattle.std.specs.Prelude.{◌≡◌, IfOk, map, string_bytes};
 ghost use Rattle.std.specs.List.{AllZip};
 ghost use Rattle.app_base.specs.Ending.{RunEnds};
-ghost use Rattle.app_bmclab.specs.Checks.{ComesOf, SaysOfChecks, status_of};
+ghost use Rattle.app_bmclab.specs.Checks.{FileOutcome, SaysOfChecks, status_of};
 
-use app_base::{Console, Ending, Report, Status, Stream, TextFiles, Unreadable};
+use app_base::{Console, Ending, Report, Status, Stream, TextFiles, UnreadFile};
 use std::alloc::{AllocError, Global};
 use std::io;
 use text_check::{Outcome, checked, worst};
@@ -12,15 +12,15 @@ use text_check::{Outcome, checked, worst};
 /// Why a file gives no text.
 #[derive(Clone, Copy)]
 pub enum Cause {
-    /// It isn't there.
+    /// The file isn't there.
     Missing,
-    /// It is a folder.
+    /// The word names a folder.
     Folder,
-    /// It may not be read.
+    /// The file may not be read.
     Forbidden,
-    /// It isn't UTF-8.
+    /// The file isn't UTF-8.
     NotUtf8,
-    /// It can't be opened or read, or could be read now.
+    /// The file can't be opened or read, or could be read now.
     Other,
 }
 
@@ -48,12 +48,12 @@ fn check_file<F: TextFiles + TellsCause>(
     word: &str,
     text: &mut String,
 ) -> Result<Outcome, AllocError>
-    ensures { IfOk result (ComesOf (F.gives files.now) word.now) }
+    ensures { IfOk result (FileOutcome (F.gives files.now) word.now) }
 {
     match files.text(word) {
         Ok(file) => checked(alloc, text, word, file.as_str()),
-        Err(Unreadable::Memory) => Err(AllocError),
-        Err(Unreadable::NoText) => {
+        Err(UnreadFile::Memory) => Err(AllocError),
+        Err(UnreadFile::NoText) => {
             writeln!(text, "{word}: not read, {}", words_of(files.cause(word)))?;
             Ok(Outcome::Refused)
         }
@@ -68,7 +68,7 @@ fn check_each<F: TextFiles + TellsCause>(
     text: &mut String,
 ) -> Result<Vec<Outcome>, AllocError>
     ensures { IfOk result
-        (λ outcomes. AllZip (ComesOf (F.gives files.now))
+        (λ outcomes. AllZip (FileOutcome (F.gives files.now))
         (map string_bytes words.now) outcomes.items) }
 {
     let mut outcomes = Vec::new(alloc);

@@ -12,7 +12,7 @@ pub mod schedule_words;
 pub mod words;
 
 pub use check::{Cause, TellsCause, check_files};
-pub use lab_schedule::{Chances, Links, Percent, Wanted};
+pub use lab_schedule::{Chances, Links, Percent, ScheduleOptions};
 pub use run::run_line;
 pub use schedule_files::{ScheduleFiles, schedule_of_files};
 pub use schedule_text::schedule_run;

@@ -2,21 +2,21 @@
 ghost use Rattle.std.specs.Prelude.{IfOk, IfErr, string_bytes};
 ghost use Rattle.app_base.specs.Ending.{RunEnds};
 ghost use Rattle.app_base.specs.Files.{FirstUnread};
-ghost use Rattle.app_bmclab.specs.ScheduledFiles.{words_of, AreTexts, SaysOfFiles};
+ghost use Rattle.app_bmclab.specs.ScheduledFiles.{words_of, ArePlanTexts, PrintsScheduleOfFiles};
 
 use crate::schedule_text::schedule_run;
 use app_base::files::refuse;
-use app_base::{Console, TextFiles, Unread, text_of};
-use lab_schedule::Wanted;
+use app_base::{Console, ReadFault, TextFiles, text_of};
+use lab_schedule::ScheduleOptions;
 use std::alloc::Global;
 use std::io;
 
 /// The words that name the files of a schedule to be made.
 #[derive(Clone, Copy)]
 pub struct ScheduleFiles<'a> {
-    /// That of the board file.
+    /// The board file's word.
     pub board: &'a str,
-    /// That of the plan.
+    /// The plan's word.
     pub plan: &'a str,
 }
 
@@ -28,9 +28,9 @@ struct Texts {
 }
 
 /// The texts of the files, or the first that isn't read.
-fn texts_of<'a, F: TextFiles>(files: &F, words: ScheduleFiles<'a>) -> Result<Texts, Unread<'a>>
+fn texts_of<'a, F: TextFiles>(files: &F, words: ScheduleFiles<'a>) -> Result<Texts, ReadFault<'a>>
     ensures texts { IfOk result
-        (λ texts. AreTexts (F.gives files.now) (words_of words.entry)
+        (λ texts. ArePlanTexts (F.gives files.now) (words_of words.entry)
         (string_bytes texts.board) (string_bytes texts.plan)) }
     ensures unread { IfErr result
         (λ unread. FirstUnread (F.gives files.now) (words_of words.entry)
@@ -46,12 +46,12 @@ fn texts_of<'a, F: TextFiles>(files: &F, words: ScheduleFiles<'a>) -> Result<Tex
 pub fn schedule_of_files<F: TextFiles, W: io::Write, E: io::Write>(
     alloc: Global,
     files: &F,
-    wanted: Wanted,
+    wanted: ScheduleOptions,
     words: ScheduleFiles,
     console: &mut Console<W, E>,
 ) -> u8
     ensures { RunEnds W.contents E.contents
-        (SaysOfFiles (F.gives files.now) wanted (words_of words.entry))
+        (PrintsScheduleOfFiles (F.gives files.now) wanted (words_of words.entry))
         console.old console.new result }
 {
     match texts_of(files, words) {

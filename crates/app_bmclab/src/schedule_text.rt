@@ -2,21 +2,25 @@
 ghost use Rattle.std.specs.Prelude.{◌≡◌, [], IfOk, string_bytes};
 ghost use Rattle.app_base.specs.declared.console.Stream.TheVariants.{Output};
 ghost use Rattle.app_base.specs.Ending.{RunEnds};
-ghost use Rattle.app_play.specs.Run.{Says};
-ghost use Rattle.app_bmclab.specs.Writes.{Writes};
+ghost use Rattle.app_play.specs.Run.{PrintsPlay};
+ghost use Rattle.app_bmclab.specs.Writes.{WritesSchedule};
 
 use app_base::{Console, Ending, Report, Status, Stream};
 use app_play::{Inputs, is_memory, read_inputs, refusal_report};
-use lab_schedule::{Wanted, make_schedule};
+use lab_schedule::{ScheduleOptions, make_schedule};
 use std::alloc::{AllocError, Global};
 use std::io;
 use text_schedule::write_schedule;
 
 /// The schedule of the plan on the board, written.
-fn written_report(alloc: Global, wanted: Wanted, inputs: Inputs) -> Result<Report, AllocError>
+fn written_report(
+    alloc: Global,
+    wanted: ScheduleOptions,
+    inputs: Inputs,
+) -> Result<Report, AllocError>
     ensures stream { IfOk result (λ report. report.stream ≡ Output) }
     ensures written { IfOk result
-        (λ report. Writes wanted inputs (string_bytes report.text) report.status) }
+        (λ report. WritesSchedule wanted inputs (string_bytes report.text) report.status) }
 {
     let Inputs { file, plan, .. } = inputs;
     let events = make_schedule(alloc, file, plan, wanted)?;
@@ -31,12 +35,12 @@ fn written_report(alloc: Global, wanted: Wanted, inputs: Inputs) -> Result<Repor
 /// The schedule of the plan on the board, or what is said of the first text that is refused.
 fn schedule_report(
     alloc: Global,
-    wanted: Wanted,
+    wanted: ScheduleOptions,
     board: &str,
     plan: &str,
 ) -> Result<Report, AllocError>
     ensures { IfOk result
-        (λ report. Says (Writes wanted) board.now plan.now []
+        (λ report. PrintsPlay (WritesSchedule wanted) board.now plan.now []
         report.stream (string_bytes report.text) report.status) }
 {
     // Nothing happens yet.
@@ -52,12 +56,12 @@ fn schedule_report(
 /// where a text is refused, 5 with `memory` on standard error where memory was refused, and 6 where a write failed.
 pub fn schedule_run<W: io::Write, E: io::Write>(
     alloc: Global,
-    wanted: Wanted,
+    wanted: ScheduleOptions,
     board: &str,
     plan: &str,
     console: &mut Console<W, E>,
 ) -> u8
-    ensures { RunEnds W.contents E.contents (Says (Writes wanted) board.now plan.now [])
+    ensures { RunEnds W.contents E.contents (PrintsPlay (WritesSchedule wanted) board.now plan.now [])
         console.old console.new result }
 {
     let report = schedule_report(alloc, wanted, board, plan);

@@ -2,7 +2,7 @@
 ghost use Rattle.std.specs.Prelude.{◌≡◌, IfOk, IfErr};
 ghost use Rattle.clap.specs.Words.{found_of, rows_of};
 ghost use Rattle.app_base.specs.Line.{IsCommand};
-ghost use Rattle.app_base.specs.Asked.{Refuses};
+ghost use Rattle.app_base.specs.Asked.{RefusesWords};
 ghost use Rattle.app_bmclab.specs.Line.{schedule_app};
 ghost use Rattle.app_bmclab.specs.Drawn.{AsksOptions, AsksSchedule, NamesPercent, NamesSeed, is_empty, links_of};
 
@@ -10,13 +10,13 @@ use crate::number::{MOST_PERCENT, number_of, percent_of};
 use app_base::{Argument, Refusal, has_flag, named, new_command, refusal_by};
 use clap::error::ErrorKind;
 use clap::{ArgMatches, Command};
-use lab_schedule::{Chances, Links, Percent, Wanted};
+use lab_schedule::{Chances, Links, Percent, ScheduleOptions};
 use std::alloc::{AllocError, Global};
 
 /// What the words of `bmclab schedule` ask for.
 #[derive(Drop)]
 pub struct ScheduleWords {
-    pub wanted: Wanted,
+    pub wanted: ScheduleOptions,
     /// The word of the board file.
     pub board: String,
     /// The word of the plan.
@@ -99,7 +99,7 @@ fn number_refusal(alloc: Global, name: &str, value: &str, word: &str, most: u64)
 fn percent(alloc: Global, matches: &ArgMatches, name: &str) -> Result<Option<Percent>, Refusal>
     ensures percent { IfOk result (NamesPercent (rows_of (found_of matches.now)) name.now) }
     ensures refused { IfErr result
-        (Refuses (NamesPercent (rows_of (found_of matches.now)) name.now)) }
+        (RefusesWords (NamesPercent (rows_of (found_of matches.now)) name.now)) }
 {
     let Some(word) = matches.get_str(name) else {
         return Ok(None);
@@ -113,7 +113,7 @@ fn percent(alloc: Global, matches: &ArgMatches, name: &str) -> Result<Option<Per
 /// The seed that is given, where one is.
 fn seed(alloc: Global, matches: &ArgMatches) -> Result<Option<u64>, Refusal>
     ensures seed { IfOk result (NamesSeed (rows_of (found_of matches.now))) }
-    ensures refused { IfErr result (Refuses (NamesSeed (rows_of (found_of matches.now)))) }
+    ensures refused { IfErr result (RefusesWords (NamesSeed (rows_of (found_of matches.now)))) }
 {
     let Some(word) = matches.get_str("seed") else {
         return Ok(None);
@@ -127,7 +127,7 @@ fn seed(alloc: Global, matches: &ArgMatches) -> Result<Option<u64>, Refusal>
 /// The options that are given.
 fn given_options(alloc: Global, matches: &ArgMatches) -> Result<Options, Refusal>
     ensures options { IfOk result (AsksOptions (rows_of (found_of matches.now))) }
-    ensures refused { IfErr result (Refuses (AsksOptions (rows_of (found_of matches.now)))) }
+    ensures refused { IfErr result (RefusesWords (AsksOptions (rows_of (found_of matches.now)))) }
 {
     Ok(Options {
         lose: percent(alloc, matches, "lose")?,
@@ -180,10 +180,10 @@ impl Options {
 /// What the words behind `schedule` ask for.
 pub fn schedule_words(alloc: Global, matches: &ArgMatches) -> Result<ScheduleWords, Refusal>
     ensures asked { IfOk result (AsksSchedule (rows_of (found_of matches.now))) }
-    ensures refused { IfErr result (Refuses (AsksSchedule (rows_of (found_of matches.now)))) }
+    ensures refused { IfErr result (RefusesWords (AsksSchedule (rows_of (found_of matches.now)))) }
 {
     let options = given_options(alloc, matches)?;
-    let wanted = Wanted {
+    let wanted = ScheduleOptions {
         links: options.links(),
         undo: has_flag(matches, "undo"),
     };

@@ -2,7 +2,7 @@
 ghost use Rattle.std.specs.Prelude.{◌≡◌, IfOk, IfErr, map, string_bytes};
 ghost use Rattle.clap.specs.Words.{app_of, found_of, rows_of, subcommand_rows_of};
 ghost use Rattle.app_base.specs.Line.{IsCommand};
-ghost use Rattle.app_base.specs.Asked.{Refuses};
+ghost use Rattle.app_base.specs.Asked.{RefusesWords};
 ghost use Rattle.app_bmclab.specs.Line.{check_app, frame_app, play_app, program};
 ghost use Rattle.app_bmclab.specs.Asked.{AsksBy, AsksCheck, AsksFor, AsksFrame, AsksPlay, shown_of};
 
@@ -198,7 +198,7 @@ fn frame_refusal(alloc: Global, status: Status, bus: Option<&str>, digits: &str)
 /// What the words behind `frame` ask for.
 fn frame_words(alloc: Global, matches: &ArgMatches) -> Result<FrameWords, Refusal>
     ensures asked { IfOk result (AsksFrame (rows_of (found_of matches.now))) }
-    ensures refused { IfErr result (Refuses (AsksFrame (rows_of (found_of matches.now)))) }
+    ensures refused { IfErr result (RefusesWords (AsksFrame (rows_of (found_of matches.now)))) }
 {
     let Some(digits) = matches.get_str("HEX") else {
         return Err(lacking(alloc));
@@ -237,7 +237,7 @@ fn shown_refusal(alloc: Global, frames: bool) -> Refusal {
 /// What the words behind `play` ask for.
 fn play_words(alloc: Global, matches: &ArgMatches) -> Result<PlayWords, Refusal>
     ensures asked { IfOk result (AsksPlay (rows_of (found_of matches.now))) }
-    ensures refused { IfErr result (Refuses (AsksPlay (rows_of (found_of matches.now)))) }
+    ensures refused { IfErr result (RefusesWords (AsksPlay (rows_of (found_of matches.now)))) }
 {
     let frames = has_flag(matches, "frames");
     let premises = has_flag(matches, "premises");
@@ -256,7 +256,7 @@ fn play_words(alloc: Global, matches: &ArgMatches) -> Result<PlayWords, Refusal>
 /// What the words behind `check` ask for.
 fn check_words(alloc: Global, matches: &ArgMatches) -> Result<CheckWords, Refusal>
     ensures asked { IfOk result (AsksCheck (rows_of (found_of matches.now))) }
-    ensures refused { IfErr result (Refuses (AsksCheck (rows_of (found_of matches.now)))) }
+    ensures refused { IfErr result (RefusesWords (AsksCheck (rows_of (found_of matches.now)))) }
 {
     Ok(CheckWords {
         files: all_named(alloc, matches, "FILE")?,
@@ -266,7 +266,7 @@ fn check_words(alloc: Global, matches: &ArgMatches) -> Result<CheckWords, Refusa
 /// What the words that were matched ask for.
 fn matched_words(alloc: Global, matches: &ArgMatches) -> Result<Words, Refusal>
     ensures asked { IfOk result (AsksBy (subcommand_rows_of matches.now)) }
-    ensures refused { IfErr result (Refuses (AsksBy (subcommand_rows_of matches.now))) }
+    ensures refused { IfErr result (RefusesWords (AsksBy (subcommand_rows_of matches.now))) }
 {
     if let Some(frame) = matches.subcommand_matches("frame") {
         return Ok(Words::Frame(frame_words(alloc, frame)?));
@@ -286,7 +286,7 @@ fn matched_words(alloc: Global, matches: &ArgMatches) -> Result<Words, Refusal>
 /// What the words ask for, the program's own name first among them.
 pub fn read(alloc: Global, words: &[String]) -> Result<Words, Refusal>
     ensures asked { IfOk result (AsksFor (map string_bytes words.now)) }
-    ensures refused { IfErr result (Refuses (AsksFor (map string_bytes words.now))) }
+    ensures refused { IfErr result (RefusesWords (AsksFor (map string_bytes words.now))) }
 {
     let Ok(command) = command(alloc) else {
         return Err(Refusal::Memory);

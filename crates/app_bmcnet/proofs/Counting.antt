@@ -6,13 +6,13 @@ use Rattle.cfg_records.specs.Records.{Pair}
 use Rattle.cfg_records.specs.Boards.{pairs_of}
 use Rattle.bmc_board.specs.State.{State, state_of, opened}
 use Rattle.cfg_records.specs.Changed.{changed_in}
-use Rattle.app_serve.specs.declared.board.Served.{Served}
-use Rattle.app_serve.specs.Served.{IsServed, Tallies, most_events}
+use Rattle.app_serve.specs.declared.board.ClosedBoard.{ClosedBoard}
+use Rattle.app_serve.specs.Served.{IsServedBoard, TalliesOf, most_events}
 
 -- a board of the file that was served has one history, and these changes
-pub one_history : (file : BoardFile) (served : Served) (start : List Pair) (events changed : ℕ) → start ≡ pairs_of file
-    → IsServed file (opened file) most_events served → events ≡ length served.history
-    → changed ≡ changed_in (state_of served.board).records start → Tallies false None file events changed
+pub one_history : (file : BoardFile) (served : ClosedBoard) (start : List Pair) (events changed : ℕ) → start ≡ pairs_of file
+    → IsServedBoard file (opened file) most_events served → events ≡ length served.history
+    → changed ≡ changed_in (state_of served.board).records start → TalliesOf false None file events changed
 one_history file served start events changed is_start is counted differ =
     let after : State = state_of served.board in
     let one : length served.history ≡ sum_by length (served.history ∷ []) = omega arith in record {

@@ -4,23 +4,23 @@ use Rattle.std.proofs.Common.{◌≡◌, ◌⊎◌, refl, inl, inr, sym, subst, 
 use Rattle.undo_plans.specs.declared.plan.Plan.{Plan}
 use Rattle.model_undo.specs.declared.phase.Phase.{Phase}
 use Rattle.model_lab.specs.Meaning.{lab_names}
-use Rattle.model_lab.specs.ManagerSteps.{ManagerDeed, board_plans, called}
+use Rattle.model_lab.specs.ManagerSteps.{ManagerStepResult, board_plans, called}
 use Rattle.model_undo.specs.declared.call.Call.TheVariants.{Start, Undo}
 use Rattle.undo_core.specs.declared.manager.Manager.{Manager}
-use Rattle.undo_core.specs.Shown.{Shows}
+use Rattle.undo_core.specs.Shown.{Represents}
 use Rattle.bmc_ports.specs.Driving.{Links}
 use Rattle.app_base.specs.declared.report.Report.{Report}
 use Rattle.app_base.specs.declared.console.Stream.{Stream}
 use Rattle.app_base.specs.declared.console.Stream.TheVariants.{Output}
 use Rattle.app_base.specs.declared.status.Status.TheVariants.{Stopped}
-use Rattle.app_base.specs.declared.ending.Untold.{Untold}
-use Rattle.app_base.specs.declared.ending.Untold.TheVariants as untold
-use Rattle.app_base.specs.Ending.{Tells}
-use Rattle.app_run.specs.Driven.{State, DrivesAgain, From, Goes, opened_with, fresh_links}
+use Rattle.app_base.specs.declared.ending.ReportFault.{ReportFault}
+use Rattle.app_base.specs.declared.ending.ReportFault.TheVariants as untold
+use Rattle.app_base.specs.Ending.{ReportTells}
+use Rattle.app_run.specs.Driven.{DrivenState, DrivesAgain, RunFrom, CallRun, opened_with, fresh_links}
 use Rattle.app_bmcnet.specs.declared.inputs.Inputs.{Inputs}
-use Rattle.app_bmcnet.specs.Inputs.{AreRead}
+use Rattle.app_bmcnet.specs.Inputs.{InputsAreRead}
 use Rattle.app_bmcnet.specs.Paired.{RunsAndUndoes, TellsPair}
-use Rattle.app_bmcnet.specs.PairRun.{SaysPair, Says}
+use Rattle.app_bmcnet.specs.PairRun.{SaysPair, PrintsPair}
 
 -- a reader's fault is that it was refused memory, or it isn't
 pub is_fault : (A : Type 0) {E R : Type 0} (why memory : E) → (◌≡◌ {A = Result A E} (Err why) (Err memory)) ⊎ R → (why ≡ memory) ⊎ R
@@ -30,15 +30,15 @@ is_fault A why memory (inr r) = inr r
 -- ---- the manager
 
 -- whatever comes of a call, the manager shows some machine then
-pub shown_then : (called : Option (ManagerDeed (board_plans lab_names))) (turns : ℕ) (before : State) (m : Manager) (phase : Phase) (counted counts : Links)
-    → From (DrivesAgain 0 turns) called before m phase counted counts → (s : State) × Shows lab_names m s
+pub shown_then : (called : Option (ManagerStepResult (board_plans lab_names))) (turns : ℕ) (before : DrivenState) (m : Manager) (phase : Phase) (counted counts : Links)
+    → RunFrom (DrivesAgain 0 turns) called before m phase counted counts → (s : DrivenState) × Represents lab_names m s
 shown_then (Some deed) turns before m phase counted counts drives = (drives.after, drives.shown)
 shown_then None turns before m phase counted counts rests = (before, rests.shown)
 
 -- a manager that was driven for its plan, and then for its undo
 pub ran_and_undid : (plan : Plan) (turns : ℕ) (mid last : Manager) (run undid : Phase) (begun half counts : Links)
-    → begun ≡ fresh_links → Goes Start turns (opened_with plan) mid run begun half
-    → ((s : State) → Shows lab_names mid s → Goes Undo turns s last undid half counts) → RunsAndUndoes plan turns run undid
+    → begun ≡ fresh_links → CallRun Start turns (opened_with plan) mid run begun half
+    → ((s : DrivenState) → Represents lab_names mid s → CallRun Undo turns s last undid half counts) → RunsAndUndoes plan turns run undid
 ran_and_undid plan turns mid last run undid begun half counts is_fresh runs undoes =
     let then = shown_then (called (board_plans lab_names) Start (opened_with plan)) turns (opened_with plan) mid run begun half runs in
     record {
@@ -46,7 +46,7 @@ ran_and_undid plan turns mid last run undid begun half counts is_fresh runs undo
       between = then.0;
       shown = then.1;
       half = half;
-      runs = subst (λ (links : Links). Goes Start turns (opened_with plan) mid run links half) is_fresh runs;
+      runs = subst (λ (links : Links). CallRun Start turns (opened_with plan) mid run links half) is_fresh runs;
       last = last;
       counts = counts;
       undoes = undoes then.0 then.1;
@@ -55,9 +55,9 @@ ran_and_undid plan turns mid last run undid begun half counts is_fresh runs undo
 -- ---- what is said
 
 -- what a report of inputs tells is said of their texts
-pub pair_told : (board plan : List ℕ) (turns : ℕ) (inputs : Inputs) (report : Result Report Untold) → AreRead board plan (Ok inputs)
+pub pair_told : (board plan : List ℕ) (turns : ℕ) (inputs : Inputs) (report : Result Report ReportFault) → InputsAreRead board plan (Ok inputs)
     → IfOk report (λ r. r.stream ≡ Output) → IfOk report (λ r. TellsPair inputs.file inputs.plan turns (string_bytes r.text) r.status)
-    → Tells (Says board plan turns) report
+    → ReportTells (PrintsPair board plan turns) report
 pair_told board plan turns inputs (Ok report) reads to told =
     inl (inputs, reads, subst (λ (s : Stream). SaysPair inputs turns s (string_bytes report.text) report.status) (sym to) told)
 pair_told board plan turns inputs (Err untold.Memory) reads to told = tt

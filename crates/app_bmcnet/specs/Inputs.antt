@@ -1,7 +1,7 @@
 -- What two texts tell: a board, and a plan; or which of them is refused, and why.
 use Rattle.std.specs.Prelude.{◌≡◌, ◌⊎◌, ℕ, List, Bool, true, false, Result, Ok, Err}
 use Rattle.text_board.specs.declared.fault.FileFault.TheVariants as of_file
-use Rattle.text_board.specs.Holds.{Reads}
+use Rattle.text_board.specs.Holds.{ReadsText}
 use Rattle.plan_file.specs.declared.plan_fault.PlanFault.TheVariants as of_plan
 use Rattle.plan_file.specs.PlanHolds.{ReadsPlan}
 use Rattle.app_base.specs.Report.{board_line}
@@ -12,10 +12,10 @@ use Rattle.app_bmcnet.specs.declared.inputs.InputFault.{InputFault}
 use Rattle.app_bmcnet.specs.declared.inputs.InputFault.TheVariants as fault
 
 -- what the texts tell: both, or why the first that is refused is; a reader may be refused memory
-abbrev pub AreRead : (board plan : List ℕ) → Result Inputs InputFault → Type 0
-AreRead board plan (Ok inputs) = Reads board (Ok inputs.file) × ReadsPlan plan (Ok inputs.plan)
-AreRead board plan (Err (fault.Board why)) = (why ≡ of_file.Memory) ⊎ Reads board (Err why)
-AreRead board plan (Err (fault.Plan why)) = IsBoard board × ((why ≡ of_plan.Memory) ⊎ ReadsPlan plan (Err why))
+abbrev pub InputsAreRead : (board plan : List ℕ) → Result Inputs InputFault → Type 0
+InputsAreRead board plan (Ok inputs) = ReadsText board (Ok inputs.file) × ReadsPlan plan (Ok inputs.plan)
+InputsAreRead board plan (Err (fault.Board why)) = (why ≡ of_file.Memory) ⊎ ReadsText board (Err why)
+InputsAreRead board plan (Err (fault.Plan why)) = IsBoard board × ((why ≡ of_plan.Memory) ⊎ ReadsPlan plan (Err why))
 
 -- a text wasn't read for want of memory
 abbrev pub is_memory : InputFault → Bool

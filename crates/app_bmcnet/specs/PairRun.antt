@@ -2,13 +2,13 @@
 use Rattle.std.specs.Prelude.{◌≡◌, ◌⊎◌, ℕ, List, [], ◌∷◌, false, Ok, Err, string_bytes}
 use Rattle.app_base.specs.declared.console.Stream.TheVariants.{Output, Error}
 use Rattle.app_base.specs.declared.status.Status.TheVariants.{RefusedFile, Stopped}
-use Rattle.app_base.specs.declared.files.Unreadable.{Unreadable}
+use Rattle.app_base.specs.declared.files.UnreadFile.{UnreadFile}
 use Rattle.app_base.specs.Ending.{Saying}
-use Rattle.app_base.specs.Files.{Readings, Give, FirstUnread, Refuses}
+use Rattle.app_base.specs.Files.{Readings, FilesGive, FirstUnread, PrintsRefusal}
 use Rattle.app_bmcnet.specs.declared.inputs.Inputs.{Inputs}
 use Rattle.app_bmcnet.specs.declared.pairing.PairWords.{PairWords}
 use Rattle.app_bmcnet.specs.declared.inputs.InputFault.{InputFault}
-use Rattle.app_bmcnet.specs.Inputs.{AreRead, is_memory, refusal_line}
+use Rattle.app_bmcnet.specs.Inputs.{InputsAreRead, is_memory, refusal_line}
 use Rattle.app_bmcnet.specs.Paired.{TellsPair}
 
 -- what is said of a board and a plan: on standard output what became of both; or nothing, where a link or a thread can't be had
@@ -17,21 +17,21 @@ SaysPair inputs turns Output text status = TellsPair inputs.file inputs.plan tur
 SaysPair inputs turns Error text status = (text ≡ []) × (status ≡ Stopped)
 
 -- what is said of the two texts: what is said of what they tell, or on standard error which is the first that is refused, and why
-abbrev pub Says : (board plan : List ℕ) → (turns : ℕ) → Saying
-Says board plan turns stream text status =
-    ((inputs : Inputs) × AreRead board plan (Ok inputs) × SaysPair inputs turns stream text status)
-    ⊎ ((why : InputFault) × (is_memory why ≡ false) × AreRead board plan (Err why) × (stream ≡ Error) × (text ≡ refusal_line why) × (status ≡ RefusedFile))
+abbrev pub PrintsPair : (board plan : List ℕ) → (turns : ℕ) → Saying
+PrintsPair board plan turns stream text status =
+    ((inputs : Inputs) × InputsAreRead board plan (Ok inputs) × SaysPair inputs turns stream text status)
+    ⊎ ((why : InputFault) × (is_memory why ≡ false) × InputsAreRead board plan (Err why) × (stream ≡ Error) × (text ≡ refusal_line why) × (status ≡ RefusedFile))
 
 -- the words, in their order
 abbrev pub words_of : PairWords → List (List ℕ)
 words_of words = string_bytes words.board ∷ string_bytes words.plan ∷ []
 
 -- the two files that the words name are read, and have these texts
-abbrev pub AreTexts : Readings → (words : List (List ℕ)) → (board plan : List ℕ) → Type 0
-AreTexts gives words board plan = Give gives words (board ∷ plan ∷ [])
+abbrev pub ArePairTexts : Readings → (words : List (List ℕ)) → (board plan : List ℕ) → Type 0
+ArePairTexts gives words board plan = FilesGive gives words (board ∷ plan ∷ [])
 
 -- what is said of the files that the words name: what is said of their texts, or that one isn't read, the first of them
-abbrev pub SaysOfFiles : Readings → (words : List (List ℕ)) → (turns : ℕ) → Saying
-SaysOfFiles gives words turns stream text status =
-    ((board : List ℕ) × (plan : List ℕ) × AreTexts gives words board plan × Says board plan turns stream text status)
-    ⊎ ((word : List ℕ) × (why : Unreadable) × FirstUnread gives words word why × Refuses why word stream text status)
+abbrev pub PrintsPairOfFiles : Readings → (words : List (List ℕ)) → (turns : ℕ) → Saying
+PrintsPairOfFiles gives words turns stream text status =
+    ((board : List ℕ) × (plan : List ℕ) × ArePairTexts gives words board plan × PrintsPair board plan turns stream text status)
+    ⊎ ((word : List ℕ) × (why : UnreadFile) × FirstUnread gives words word why × PrintsRefusal why word stream text status)

@@ -10,44 +10,44 @@ use Rattle.model_undo.specs.declared.phase.Phase.{Phase}
 use Rattle.model_lab.specs.Meaning.{lab_names}
 use Rattle.model_undo.specs.declared.call.Call.TheVariants.{Start, Undo}
 use Rattle.undo_core.specs.declared.manager.Manager.{Manager}
-use Rattle.undo_core.specs.Shown.{Shows}
+use Rattle.undo_core.specs.Shown.{Represents}
 use Rattle.wire_links.specs.Counted.{none_counted}
 use Rattle.bmc_ports.specs.Driving.{Links}
 use Rattle.text_lines.specs.RecordsLine.{records_line}
 use Rattle.app_base.specs.declared.status.Status.{Status}
 use Rattle.app_base.specs.declared.status.Status.TheVariants.{Success, Stopped}
-use Rattle.app_serve.specs.declared.board.Served.{Served}
-use Rattle.app_serve.specs.Served.{IsServed, Tallies, most_events}
-use Rattle.app_run.specs.Driven.{State, Goes, opened_with, fresh_links}
+use Rattle.app_serve.specs.declared.board.ClosedBoard.{ClosedBoard}
+use Rattle.app_serve.specs.Served.{IsServedBoard, TalliesOf, most_events}
+use Rattle.app_run.specs.Driven.{DrivenState, CallRun, opened_with, fresh_links}
 use Rattle.app_run.specs.Lines.{phase_line}
 use Rattle.app_bmcnet.specs.declared.side.Driver.{Driver}
 
 -- the manager shows one of the plan, which it hasn't begun, and its links have counted nothing
 pub record IsReady (plan : Plan) (driver : Driver) : Type 0 where
-  pub shown : Shows lab_names driver.manager (opened_with plan)
+  pub shown : Represents lab_names driver.manager (opened_with plan)
   pub ipmb : driver.ends.ipmb.counts ≡ none_counted
   pub smbus : driver.ends.smbus.counts ≡ none_counted
 
 -- A manager ran the plan, and came to the first phase; then it was to undo, and came to the second. It made at most so many turns for each.
 pub record RunsAndUndoes (plan : Plan) (turns : ℕ) (run undone : Phase) : Type 0 where
   pub mid : Manager
-  pub between : State
-  pub shown : Shows lab_names mid between
+  pub between : DrivenState
+  pub shown : Represents lab_names mid between
   pub half : Links
-  pub runs : Goes Start turns (opened_with plan) mid run fresh_links half
+  pub runs : CallRun Start turns (opened_with plan) mid run fresh_links half
   pub last : Manager
   pub counts : Links
-  pub undoes : Goes Undo turns between last undone half counts
+  pub undoes : CallRun Undo turns between last undone half counts
 
 -- what became of the records: so many have changed in some history of the board; nothing is known where the serving came to no end
 abbrev pub IsChanged : BoardFile → Option ℕ → Type 0
 IsChanged file None = Unit {0}
-IsChanged file (Some changed) = (events : ℕ) × Tallies false None file events changed
+IsChanged file (Some changed) = (events : ℕ) × TalliesOf false None file events changed
 
 -- so many have changed of the records that a file's board began with, where it was served with one history
-abbrev pub CountsChanged : (start : List Pair) → (served : Option Served) → (changed : Option ℕ) → Type 0
+abbrev pub CountsChanged : (start : List Pair) → (served : Option ClosedBoard) → (changed : Option ℕ) → Type 0
 CountsChanged start served changed =
-    (file : BoardFile) → start ≡ pairs_of file → IfSome served (IsServed file (opened file) most_events) → IsChanged file changed
+    (file : BoardFile) → start ≡ pairs_of file → IfSome served (IsServedBoard file (opened file) most_events) → IsChanged file changed
 
 -- the line of the records, where it is known
 abbrev pub last_line : Option ℕ → List ℕ

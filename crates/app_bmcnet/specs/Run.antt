@@ -12,7 +12,7 @@ use Rattle.app_run.specs.Run.{RunEndsOf}
 use Rattle.app_run.specs.Undo.{SaysOfList}
 use Rattle.app_run.specs.declared.progress.Progress.{Progress}
 use Rattle.app_run.specs.Told.{TellsFile, TellsUndoFile}
-use Rattle.app_bmcnet.specs.PairRun.{SaysOfFiles, words_of}
+use Rattle.app_bmcnet.specs.PairRun.{PrintsPairOfFiles, words_of}
 use Rattle.app_bmcnet.specs.declared.words.Words.{Words}
 use Rattle.app_bmcnet.specs.declared.words.Words.TheVariants.{Serve, Run, Undo, Pair}
 use Rattle.app_bmcnet.specs.Asked.{AsksFor}
@@ -27,7 +27,7 @@ EndsAsAsked out err gives takes renames (Run asked) before after old new result 
 EndsAsAsked out err gives takes renames (Undo asked) before after old new result =
     (after ≡ before) × RunEnds out err (SaysOfList gives (string_bytes asked.undo) asked.turns) old new result
 EndsAsAsked out err gives takes renames (Pair asked) before after old new result =
-    (after ≡ before) × RunEnds out err (SaysOfFiles gives (words_of asked) asked.turns) old new result
+    (after ≡ before) × RunEnds out err (PrintsPairOfFiles gives (words_of asked) asked.turns) old new result
 
 -- so is told of how far that is: `run` and `undo` tell it alone
 abbrev pub MayTellAsAsked : {Writer : Type 0} → (out : Writer → Option (List ℕ)) → Readings → Words → (old new : Progress Writer) → Type 0

@@ -1,6 +1,6 @@
 //! The files of the host that are written, too.
-use app_base::{HostFiles, TextFiles, Unreadable};
-use app_run::{Unwritten, WritesFiles};
+use app_base::{HostFiles, TextFiles, UnreadFile};
+use app_run::{WriteFault, WritesFiles};
 use std::fs::OpenFile;
 use std::io::Write;
 use std::rt::Files;
@@ -17,7 +17,7 @@ impl<R: Files + AllocGlobal> TextFiles for NetFiles<'_, R> {
     // Nothing is promised of what the host's files hold.
     ghost gives = { λ files word given. Unit {0} };
 
-    fn text(&self, word: &str) -> Result<String, Unreadable> {
+    fn text(&self, word: &str) -> Result<String, UnreadFile> {
         self.read.text(word)
     }
 }
@@ -36,17 +36,17 @@ impl<R: Files + AllocGlobal> WritesFiles for NetFiles<'_, R> {
     // Nor of where a renaming leaves it.
     ghost renames = { λ old from to answer new. Unit {0} };
 
-    fn write(&mut self, word: &str, text: &str) -> Result<(), Unwritten> {
+    fn write(&mut self, word: &str, text: &str) -> Result<(), WriteFault> {
         match write_through(self.read.rt, word, text) {
             Ok(()) => Ok(()),
-            Err(_) => Err(Unwritten),
+            Err(_) => Err(WriteFault),
         }
     }
 
-    fn rename(&mut self, from: &str, to: &str) -> Result<(), Unwritten> {
+    fn rename(&mut self, from: &str, to: &str) -> Result<(), WriteFault> {
         match fs::rename(self.read.rt, from, to) {
             Ok(()) => Ok(()),
-            Err(_) => Err(Unwritten),
+            Err(_) => Err(WriteFault),
         }
     }
 }

@@ -2,7 +2,7 @@
 ghost use Rattle.std.specs.Prelude.{◌≡◌, IfOk, string_bytes};
 ghost use Rattle.app_base.specs.declared.console.Stream.TheVariants.{Error};
 ghost use Rattle.app_base.specs.declared.status.Status.TheVariants.{RefusedFile};
-ghost use Rattle.app_bmcnet.specs.Inputs.{AreRead, is_memory, refusal_line};
+ghost use Rattle.app_bmcnet.specs.Inputs.{InputsAreRead, is_memory, refusal_line};
 
 use app_base::{Report, Status, Stream};
 use cfg_records::BoardFile;
@@ -29,7 +29,7 @@ pub enum InputFault {
 
 /// The board and the plan of these texts, or the fault of the first text that has one.
 pub fn read_inputs(alloc: Global, board: &str, plan: &str) -> Result<Inputs, InputFault>
-    ensures { AreRead board.now plan.now result }
+    ensures { InputsAreRead board.now plan.now result }
 {
     let file = match read_board(alloc, board) {
         Ok(file) => file,

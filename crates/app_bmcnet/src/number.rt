@@ -27,7 +27,7 @@ pub fn number_of(word: &str) -> Option<u32>
     word.parse().ok()
 }
 
-/// The same, from the least one on.
+/// The number that a word is, from the least one on.
 pub fn number_from(least: u32, word: &str) -> Option<u32>
     ensures { SomeIff result
         (IsNumeral 10 word.now × (digits_value 10 word.now < 2 ^ 32)

@@ -2,18 +2,20 @@
 ghost use Rattle.std.specs.Prelude.{◌≡◌, ◌++◌, IfOk, IfErr, OnOk, string_bytes};
 ghost use Rattle.undo_plans.specs.declared.plan.Plan.{Plan as AnyPlan};
 ghost use Rattle.app_base.specs.declared.console.Stream.TheVariants.{Output};
-ghost use Rattle.app_base.specs.Ending.{RunEnds, Tells};
+ghost use Rattle.app_base.specs.Ending.{RunEnds, ReportTells};
 ghost use Rattle.app_base.specs.Files.{FirstUnread};
 ghost use Rattle.app_bmcnet.specs.Paired.{CountsChanged, IsChanged, IsReady, RunsAndUndoes, TellsPair, last_line, status_of, text_of};
-ghost use Rattle.app_bmcnet.specs.PairRun.{AreTexts, Says, SaysOfFiles, words_of};
+ghost use Rattle.app_bmcnet.specs.PairRun.{ArePairTexts, PrintsPair, PrintsPairOfFiles, words_of};
 
 use crate::inputs::{Inputs, is_memory, read_inputs, refusal};
-use crate::links::{Ends, controller_ends, manager_ends};
+use crate::links::{BusLinks, controller_ends, manager_ends};
 use crate::side::{Controller, Driver, Paired, Phases, pair_over};
 use app_base::files::refuse;
-use app_base::{Console, Report, Status, Stream, TextFiles, Unread, Untold, end_run, text_of};
+use app_base::{
+    Console, ReadFault, Report, ReportFault, Status, Stream, TextFiles, end_run, text_of,
+};
 use app_run::{open_manager, push_phase};
-use app_serve::{Begun, Served, begin, controller_ports, tally_of};
+use app_serve::{Begun, ClosedBoard, begin, controller_ports, tally_of};
 use cfg_records::{BoardFile, Key, StartValue};
 use std::alloc::{AllocError, Global};
 use std::io;
@@ -49,15 +51,15 @@ struct Account {
 }
 
 /// The controller's ports, and its ends of the links.
-fn open_controller<R: Net>(rt: &R, alloc: Global) -> Result<Controller, Untold> {
+fn open_controller<R: Net>(rt: &R, alloc: Global) -> Result<Controller, ReportFault> {
     let Ok(ends) = controller_ends(rt) else {
-        return Err(Untold::Stopped);
+        return Err(ReportFault::Stopped);
     };
     match controller_ports(alloc) {
         Ok(ports) => Ok(Controller { ports, ends }),
         Err(AllocError) => {
             drop(ends);
-            Err(Untold::Memory)
+            Err(ReportFault::Memory)
         }
     }
 }
@@ -67,25 +69,29 @@ fn open_driver<R: Net>(
     rt: &R,
     alloc: Global,
     plan: Plan,
-    controller: &Ends,
-) -> Result<Driver, Untold>
+    controller: &BusLinks,
+) -> Result<Driver, ReportFault>
     ensures { IfOk result (IsReady plan) }
 {
     let Ok(ends) = manager_ends(rt, controller) else {
         drop(plan);
-        return Err(Untold::Stopped);
+        return Err(ReportFault::Stopped);
     };
     match open_manager(alloc, plan) {
         Ok(manager) => Ok(Driver { manager, ends }),
         Err(AllocError) => {
             drop(ends);
-            Err(Untold::Memory)
+            Err(ReportFault::Memory)
         }
     }
 }
 
 /// Both sides of the links, with a controller's ports and a manager of the plan.
-fn open_sides<R: Net>(rt: &R, alloc: Global, plan: Plan) -> Result<(Controller, Driver), Untold>
+fn open_sides<R: Net>(
+    rt: &R,
+    alloc: Global,
+    plan: Plan,
+) -> Result<(Controller, Driver), ReportFault>
     ensures { IfOk result (λ sides. IsReady plan sides.1) }
 {
     let controller = match open_controller(rt, alloc) {
@@ -105,7 +111,7 @@ fn open_sides<R: Net>(rt: &R, alloc: Global, plan: Plan) -> Result<(Controller, 
 }
 
 /// How many of these records changed on a board that was served, if it was.
-fn changed_of(start: &[(Key, StartValue)], served: &Option<Served>) -> Option<usize>
+fn changed_of(start: &[(Key, StartValue)], served: &Option<ClosedBoard>) -> Option<usize>
     ensures { CountsChanged start.now served.now result }
 {
     match served {
@@ -135,7 +141,7 @@ fn count<R: Threads + Wait + Sync>(
     file: BoardFile,
     sides: (Controller, Driver),
     turns: u32,
-) -> Result<Account, Untold>
+) -> Result<Account, ReportFault>
     ensures phases { (plan : AnyPlan) → IsReady plan sides.1
         → IfOk result (λ account.
         RunsAndUndoes plan turns account.phases.run account.phases.undone) }
@@ -145,7 +151,7 @@ fn count<R: Threads + Wait + Sync>(
     let Ok(begun) = begin(alloc, file) else {
         drop(controller);
         drop(driver);
-        return Err(Untold::Memory);
+        return Err(ReportFault::Memory);
     };
     let Begun { start, board } = begun;
     match pair_over(rt, alloc, board, controller, driver, turns) {
@@ -203,7 +209,7 @@ fn paired_report<R: Net + Threads + Wait + Sync>(
     alloc: Global,
     inputs: Inputs,
     turns: u32,
-) -> Result<Report, Untold>
+) -> Result<Report, ReportFault>
     ensures stream { IfOk result (λ report. report.stream ≡ Output) }
     ensures told { IfOk result (λ report. TellsPair inputs.file inputs.plan turns
         (string_bytes report.text) report.status) }
@@ -227,12 +233,12 @@ fn texts_report<R: Net + Threads + Wait + Sync>(
     board: &str,
     plan: &str,
     turns: u32,
-) -> Result<Report, Untold>
-    ensures { Tells (Says board.now plan.now turns) result }
+) -> Result<Report, ReportFault>
+    ensures { ReportTells (PrintsPair board.now plan.now turns) result }
 {
     match read_inputs(alloc, board, plan) {
         Ok(inputs) => paired_report(rt, alloc, inputs, turns),
-        Err(why) if is_memory(&why) => Err(Untold::Memory),
+        Err(why) if is_memory(&why) => Err(ReportFault::Memory),
         Err(why) => Ok(refusal(alloc, why)?),
     }
 }
@@ -246,7 +252,7 @@ fn pair_texts<W: io::Write, E: io::Write, R: Net + Threads + Wait + Sync>(
     turns: u32,
     console: &mut Console<W, E>,
 ) -> u8
-    ensures { RunEnds W.contents E.contents (Says board.now plan.now turns)
+    ensures { RunEnds W.contents E.contents (PrintsPair board.now plan.now turns)
         console.old console.new result }
 {
     let report = texts_report(rt, alloc, board, plan, turns);
@@ -256,8 +262,8 @@ fn pair_texts<W: io::Write, E: io::Write, R: Net + Threads + Wait + Sync>(
 }
 
 /// The texts of the files, or the first that isn't read.
-fn texts_of<'a, F: TextFiles>(files: &F, words: &'a PairWords) -> Result<Texts, Unread<'a>>
-    ensures texts { IfOk result (λ texts. AreTexts (F.gives files.now) (words_of words.now)
+fn texts_of<'a, F: TextFiles>(files: &F, words: &'a PairWords) -> Result<Texts, ReadFault<'a>>
+    ensures texts { IfOk result (λ texts. ArePairTexts (F.gives files.now) (words_of words.now)
         (string_bytes texts.board) (string_bytes texts.plan)) }
     ensures unread { IfErr result (λ unread. FirstUnread (F.gives files.now)
         (words_of words.now) unread.word.now unread.why) }
@@ -280,7 +286,7 @@ pub fn pair<F: TextFiles, W: io::Write, E: io::Write, R: Net + Threads + Wait + 
     console: &mut Console<W, E>,
 ) -> u8
     ensures { RunEnds W.contents E.contents
-        (SaysOfFiles (F.gives files.now) (words_of words.now) words.now.turns)
+        (PrintsPairOfFiles (F.gives files.now) (words_of words.now) words.now.turns)
         console.old console.new result }
 {
     match texts_of(files, words) {

@@ -2,13 +2,13 @@
 ghost use Rattle.std.specs.Prelude.{◌≡◌, IfOk, IfSome};
 ghost use Rattle.bmc_board.specs.State.{state_of};
 ghost use Rattle.undo_plans.specs.declared.plan.Plan.{Plan};
-ghost use Rattle.app_serve.specs.Served.{IsServed, most_events};
+ghost use Rattle.app_serve.specs.Served.{IsServedBoard, most_events};
 ghost use Rattle.app_bmcnet.specs.Paired.{IsReady, RunsAndUndoes};
 
-use crate::links::Ends;
-use app_base::Untold;
+use crate::links::BusLinks;
+use app_base::ReportFault;
 use app_run::{run_plan, undo_plan};
-use app_serve::{MOST_EVENTS, Served, close_board, open_board, work};
+use app_serve::{ClosedBoard, MOST_EVENTS, close_board, open_board, work};
 use bmc_board::{Board, Records};
 use bmc_core::Port;
 use bmc_ports::{NoThread, Opening, Seats, Shared};
@@ -31,21 +31,21 @@ pub(crate) struct Phases {
 #[derive(Drop)]
 pub(crate) struct Controller {
     pub ports: [Port; 2],
-    pub ends: Ends,
+    pub ends: BusLinks,
 }
 
 /// A manager, and its ends of the links.
 #[derive(Drop)]
 pub(crate) struct Driver {
     pub manager: Manager,
-    pub ends: Ends,
+    pub ends: BusLinks,
 }
 
 /// What came of both: the manager's phases, and the board with its history, where the serving came to an end.
 #[derive(Drop)]
 pub(crate) struct Paired {
     pub phases: Phases,
-    pub served: Option<Served>,
+    pub served: Option<ClosedBoard>,
 }
 
 /// Runs the manager's plan, and undoes it, with so many turns for each.
@@ -54,7 +54,7 @@ fn run_and_undo(driver: Driver, turns: u32) -> Phases
         → RunsAndUndoes plan turns result.run result.undone }
 {
     let Driver { mut manager, ends } = driver;
-    let Ends {
+    let BusLinks {
         mut ipmb,
         mut smbus,
     } = ends;
@@ -79,7 +79,7 @@ where
     R: Threads + Wait + Sync,
 {
     let Controller { ports, ends } = controller;
-    let Ends {
+    let BusLinks {
         mut ipmb,
         mut smbus,
     } = ends;
@@ -131,7 +131,7 @@ fn pair_shared<J, R>(
     controller: Controller,
     driver: Driver,
     turns: u32,
-) -> Result<Paired, Untold>
+) -> Result<Paired, ReportFault>
 where
     J: Opening + Send + Sync,
     R: Threads + Wait + Sync,
@@ -139,11 +139,11 @@ where
     ensures phases { (plan : Plan) → IsReady plan driver
         → IfOk result (λ paired. RunsAndUndoes plan turns paired.phases.run paired.phases.undone) }
     ensures served { IfOk result (λ paired. IfSome paired.served
-        (IsServed J.setup J.opening J.room)) }
+        (IsServedBoard J.setup J.opening J.room)) }
 {
     let Some((phases, seats)) = side_by_side(rt, &shared, seats, controller, driver, turns) else {
         drop(shared);
-        return Err(Untold::Stopped);
+        return Err(ReportFault::Stopped);
     };
     let served = match seats {
         Ok(seats) => close_board(shared, seats),
@@ -165,7 +165,7 @@ fn pair_opened<J, R>(
     controller: Controller,
     driver: Driver,
     turns: u32,
-) -> Result<Paired, Untold>
+) -> Result<Paired, ReportFault>
 where
     J: Opening + Send + Sync,
     R: Threads + Wait + Sync,
@@ -178,7 +178,7 @@ where
     ensures phases { (plan : Plan) → IsReady plan driver
         → IfOk result (λ paired. RunsAndUndoes plan turns paired.phases.run paired.phases.undone) }
     ensures served { IfOk result (λ paired. IfSome paired.served
-        (IsServed J.setup J.opening J.room)) }
+        (IsServedBoard J.setup J.opening J.room)) }
 {
     match open_board::<J>(alloc, blank, board, room) {
         Ok((shared, seats)) => pair_shared(rt, shared, seats, controller, driver, turns),
@@ -198,11 +198,11 @@ pub(crate) fn pair_over<R: Threads + Wait + Sync>(
     controller: Controller,
     driver: Driver,
     turns: u32,
-) -> Result<Paired, Untold>
+) -> Result<Paired, ReportFault>
     ensures phases { (plan : Plan) → IsReady plan driver
         → IfOk result (λ paired. RunsAndUndoes plan turns paired.phases.run paired.phases.undone) }
     ensures served { IfOk result (λ paired. IfSome paired.served
-        (IsServed board.setup (state_of board) most_events)) }
+        (IsServedBoard board.setup (state_of board) most_events)) }
 {
     pair_opened::<Brand, R>(
         rt,

@@ -1,7 +1,7 @@
 //! The words of the command line.
 ghost use Rattle.std.specs.Prelude.{IfOk, IfErr, map, string_bytes};
 ghost use Rattle.clap.specs.Words.{found_of, rows_of, subcommand_rows_of};
-ghost use Rattle.app_base.specs.Asked.{Refuses};
+ghost use Rattle.app_base.specs.Asked.{RefusesWords};
 ghost use Rattle.app_bmcnet.specs.Asked.{AsksBy, AsksFor, AsksPair, AsksRun, AsksServe, AsksUndo};
 ghost use Rattle.app_bmcnet.specs.Asked.{NamesOption, NamesOr, NamesPort, NamesTurns, NamesWait};
 
@@ -65,7 +65,7 @@ fn option_refusal(
 /// The port that the word of this name is.
 fn port(alloc: Global, matches: &ArgMatches, task: Task, name: &str) -> Result<u16, Refusal>
     ensures port { IfOk result (NamesPort (rows_of (found_of matches.now)) name.now) }
-    ensures refused { IfErr result (Refuses (NamesPort (rows_of (found_of matches.now)) name.now)) }
+    ensures refused { IfErr result (RefusesWords (NamesPort (rows_of (found_of matches.now)) name.now)) }
 {
     let Some(word) = matches.get_str(name) else {
         return Err(lacking(alloc));
@@ -79,7 +79,7 @@ fn port(alloc: Global, matches: &ArgMatches, task: Task, name: &str) -> Result<u
 /// The turns that the word TURNS is.
 fn turns(alloc: Global, matches: &ArgMatches, task: Task) -> Result<u32, Refusal>
     ensures turns { IfOk result (NamesTurns (rows_of (found_of matches.now))) }
-    ensures refused { IfErr result (Refuses (NamesTurns (rows_of (found_of matches.now)))) }
+    ensures refused { IfErr result (RefusesWords (NamesTurns (rows_of (found_of matches.now)))) }
 {
     let Some(word) = matches.get_str("TURNS") else {
         return Err(lacking(alloc));
@@ -101,7 +101,7 @@ fn number_given(
 ) -> Result<Option<u32>, Refusal>
     ensures number { IfOk result (NamesOption least (rows_of (found_of matches.now)) name.now) }
     ensures refused { IfErr result
-        (Refuses (NamesOption least (rows_of (found_of matches.now)) name.now)) }
+        (RefusesWords (NamesOption least (rows_of (found_of matches.now)) name.now)) }
 {
     let Some(word) = matches.get_str(name) else {
         return Ok(None);
@@ -112,7 +112,7 @@ fn number_given(
     }
 }
 
-/// The same, or the usual number where the option isn't given.
+/// The option's number, or the usual one where the option isn't given.
 fn number_or(
     alloc: Global,
     matches: &ArgMatches,
@@ -124,7 +124,7 @@ fn number_or(
 ) -> Result<u32, Refusal>
     ensures number { IfOk result (NamesOr least usual (rows_of (found_of matches.now)) name.now) }
     ensures refused { IfErr result
-        (Refuses (NamesOr least usual (rows_of (found_of matches.now)) name.now)) }
+        (RefusesWords (NamesOr least usual (rows_of (found_of matches.now)) name.now)) }
 {
     match number_given(alloc, matches, task, name, value, least) {
         Ok(Some(number)) => Ok(number),
@@ -136,7 +136,7 @@ fn number_or(
 /// How many milliseconds of quiet end a turn, by the option `--wait`.
 fn wait(alloc: Global, matches: &ArgMatches, task: Task) -> Result<u32, Refusal>
     ensures wait { IfOk result (NamesWait (rows_of (found_of matches.now))) }
-    ensures refused { IfErr result (Refuses (NamesWait (rows_of (found_of matches.now)))) }
+    ensures refused { IfErr result (RefusesWords (NamesWait (rows_of (found_of matches.now)))) }
 {
     number_or(alloc, matches, task, "wait", "MS", 1, WAIT_MS)
 }
@@ -144,7 +144,7 @@ fn wait(alloc: Global, matches: &ArgMatches, task: Task) -> Result<u32, Refusal>
 /// What the words behind `serve` ask for.
 fn serve_words(alloc: Global, matches: &ArgMatches) -> Result<ServeWords, Refusal>
     ensures asked { IfOk result (AsksServe (rows_of (found_of matches.now))) }
-    ensures refused { IfErr result (Refuses (AsksServe (rows_of (found_of matches.now)))) }
+    ensures refused { IfErr result (RefusesWords (AsksServe (rows_of (found_of matches.now)))) }
 {
     Ok(ServeWords {
         board: named(alloc, matches, "BOARD")?,
@@ -162,7 +162,7 @@ fn serve_words(alloc: Global, matches: &ArgMatches) -> Result<ServeWords, Refusa
 /// What the words behind `run` ask for.
 fn run_words(alloc: Global, matches: &ArgMatches) -> Result<RunWords, Refusal>
     ensures asked { IfOk result (AsksRun (rows_of (found_of matches.now))) }
-    ensures refused { IfErr result (Refuses (AsksRun (rows_of (found_of matches.now)))) }
+    ensures refused { IfErr result (RefusesWords (AsksRun (rows_of (found_of matches.now)))) }
 {
     Ok(RunWords {
         plan: named(alloc, matches, "PLAN")?,
@@ -179,7 +179,7 @@ fn run_words(alloc: Global, matches: &ArgMatches) -> Result<RunWords, Refusal>
 /// What the words behind `undo` ask for.
 fn undo_words(alloc: Global, matches: &ArgMatches) -> Result<UndoWords, Refusal>
     ensures asked { IfOk result (AsksUndo (rows_of (found_of matches.now))) }
-    ensures refused { IfErr result (Refuses (AsksUndo (rows_of (found_of matches.now)))) }
+    ensures refused { IfErr result (RefusesWords (AsksUndo (rows_of (found_of matches.now)))) }
 {
     Ok(UndoWords {
         undo: named(alloc, matches, "UNDO")?,
@@ -193,7 +193,7 @@ fn undo_words(alloc: Global, matches: &ArgMatches) -> Result<UndoWords, Refusal>
 /// What the words behind `pair` ask for.
 fn pair_words(alloc: Global, matches: &ArgMatches) -> Result<PairWords, Refusal>
     ensures asked { IfOk result (AsksPair (rows_of (found_of matches.now))) }
-    ensures refused { IfErr result (Refuses (AsksPair (rows_of (found_of matches.now)))) }
+    ensures refused { IfErr result (RefusesWords (AsksPair (rows_of (found_of matches.now)))) }
 {
     Ok(PairWords {
         board: named(alloc, matches, "BOARD")?,
@@ -205,7 +205,7 @@ fn pair_words(alloc: Global, matches: &ArgMatches) -> Result<PairWords, Refusal>
 /// What the words that were matched ask for.
 fn matched_words(alloc: Global, matches: &ArgMatches) -> Result<Words, Refusal>
     ensures asked { IfOk result (AsksBy (subcommand_rows_of matches.now)) }
-    ensures refused { IfErr result (Refuses (AsksBy (subcommand_rows_of matches.now))) }
+    ensures refused { IfErr result (RefusesWords (AsksBy (subcommand_rows_of matches.now))) }
 {
     if let Some(serve) = matches.subcommand_matches("serve") {
         return Ok(Words::Serve(serve_words(alloc, serve)?));
@@ -225,7 +225,7 @@ fn matched_words(alloc: Global, matches: &ArgMatches) -> Result<Words, Refusal>
 /// What the words ask for, the program's own name first among them.
 pub fn read(alloc: Global, words: &[String]) -> Result<Words, Refusal>
     ensures asked { IfOk result (AsksFor (map string_bytes words.now)) }
-    ensures refused { IfErr result (Refuses (AsksFor (map string_bytes words.now))) }
+    ensures refused { IfErr result (RefusesWords (AsksFor (map string_bytes words.now))) }
 {
     let Ok(command) = command(alloc) else {
         return Err(Refusal::Memory);

@@ -4,7 +4,7 @@ use Rattle.std.proofs.lemmas.List.{take_more}
 use Rattle.std.proofs.lemmas.List.Folds.{list_any-append}
 use Rattle.lab_run.specs.declared.note.Note.{Note}
 use Rattle.app_play.specs.declared.arrivals.Arrivals.{Arrivals}
-use Rattle.app_play.specs.Arrivals.{delivers, came_at, Holds}
+use Rattle.app_play.specs.Arrivals.{delivers, came_at, HoldsNotes}
 
 last_first : (a b : Bool) → (a || (b || false)) ≡ (b || a)
 last_first true true = refl
@@ -22,6 +22,6 @@ one_more_came notes i note number within is =
 
 -- and what is held of it
 pub holds_more : (notes : List Note) (i : ℕ) (note : Note) (old new : Arrivals) → i < length notes → note ≡ get_or notes i note
-    → Holds old (take i notes) → ((n : ℕ) → get_or new.came.items n false ≡ (delivers n note.event.now || get_or old.came.items n false)) → Holds new (take (i + 1) notes)
+    → HoldsNotes old (take i notes) → ((n : ℕ) → get_or new.came.items n false ≡ (delivers n note.event.now || get_or old.came.items n false)) → HoldsNotes new (take (i + 1) notes)
 holds_more notes i note old new within is held added number =
     added number ∙ ap (λ (b : Bool). delivers number note.event.now || b) (held number) ∙ sym (one_more_came notes i note number within is)

@@ -6,7 +6,7 @@ use Rattle.text_schedule.specs.declared.event.Event.{Event}
 use Rattle.model_lab.specs.declared.fault.Fault.{Fault}
 use Rattle.model_lab.specs.Played.{Ending, Whole, Stops}
 use Rattle.lab_run.specs.declared.note.Note.{Note}
-use Rattle.lab_play.specs.Ends.{IsEnding, Plays}
+use Rattle.lab_play.specs.Ends.{IsEnding, PlayResult}
 use Rattle.lab_play.specs.Noted.{NotesPlay}
 use Rattle.lab_play.specs.declared.played.Played.{Played}
 use Rattle.lab_play.specs.declared.played.LabFault.{LabFault}
@@ -15,7 +15,7 @@ use Rattle.lab_play.specs.declared.run.Stopped.{Stopped}
 use Rattle.app_play.specs.declared.inputs.Inputs.{Inputs}
 use Rattle.app_base.specs.declared.report.Report.{Report}
 use Rattle.app_play.specs.Account.{status_of}
-use Rattle.app_play.specs.Drawn.{EndsAt, NotesPlayOf, Draws, drawing}
+use Rattle.app_play.specs.Drawn.{EndsAt, NotesPlayOf, DrawsChart, drawing}
 use Rattle.app_play.specs.Ended.{given_of}
 
 -- the notes of a play of all events are as many as these
@@ -31,7 +31,7 @@ ends_stopped events notes why place played (Stops cause at told) is behind = (sy
 
 -- what was noted of a play of all events
 notes_whole : (file : BoardFile) (steps : List Op) (retries : ℕ) (events : List Event) (notes : List Note) (played : Played)
-    → Plays file steps retries events (Ok played) → NotesPlay file steps retries events (Ok played) notes → NotesPlayOf file steps retries events None notes
+    → PlayResult file steps retries events (Ok played) → NotesPlay file steps retries events (Ok played) notes → NotesPlayOf file steps retries events None notes
 notes_whole file steps retries events notes played plays noted = record {
   ending = plays.ending;
   played = plays.played;
@@ -42,7 +42,7 @@ notes_whole file steps retries events notes played plays noted = record {
 
 -- and of one that an event's fault ended
 notes_stopped : (file : BoardFile) (steps : List Op) (retries : ℕ) (events : List Event) (notes : List Note) (why : Fault) (place : ℕ) (played : Played)
-    → Plays file steps retries events (Err (fault.Event why place played)) → NotesPlay file steps retries events (Err (fault.Event why place played)) notes
+    → PlayResult file steps retries events (Err (fault.Event why place played)) → NotesPlay file steps retries events (Err (fault.Event why place played)) notes
     → NotesPlayOf file steps retries events (Some (record { place = place; fault = why })) notes
 notes_stopped file steps retries events notes why place played plays noted = record {
   ending = plays.ending;
@@ -54,18 +54,18 @@ notes_stopped file steps retries events notes why place played plays noted = rec
 
 -- what was noted of a play with these parts
 pub notes_of : (file : BoardFile) (steps : List Op) (retries : ℕ) (events : List Event) (notes : List Note) (given : Result Played LabFault) (played : Played) (stopped : Option Stopped)
-    → given ≡ given_of played stopped → Plays file steps retries events given → NotesPlay file steps retries events given notes → NotesPlayOf file steps retries events stopped notes
+    → given ≡ given_of played stopped → PlayResult file steps retries events given → NotesPlay file steps retries events given notes → NotesPlayOf file steps retries events stopped notes
 notes_of file steps retries events notes given played None same plays noted =
-    notes_whole file steps retries events notes played (subst (λ (g : Result Played LabFault). Plays file steps retries events g) same plays)
+    notes_whole file steps retries events notes played (subst (λ (g : Result Played LabFault). PlayResult file steps retries events g) same plays)
     (subst (λ (g : Result Played LabFault). NotesPlay file steps retries events g notes) same noted)
 notes_of file steps retries events notes given played (Some stopped) same plays noted =
-    notes_stopped file steps retries events notes stopped.fault stopped.place played (subst (λ (g : Result Played LabFault). Plays file steps retries events g) same plays)
+    notes_stopped file steps retries events notes stopped.fault stopped.place played (subst (λ (g : Result Played LabFault). PlayResult file steps retries events g) same plays)
     (subst (λ (g : Result Played LabFault). NotesPlay file steps retries events g notes) same noted)
 
 -- a report of the drawing draws the play
 pub draws : {E : Type 0} (inputs : Inputs) (r : Result Report E) (notes : List Note) (stopped : Option Stopped)
     → NotesPlayOf inputs.file inputs.plan.steps inputs.plan.retries inputs.events stopped notes
     → IfOk r (λ report. string_bytes report.text ≡ drawing notes stopped) → IfOk r (λ report. report.status ≡ status_of stopped)
-    → IfOk r (λ report. Draws inputs (string_bytes report.text) report.status)
+    → IfOk r (λ report. DrawsChart inputs (string_bytes report.text) report.status)
 draws inputs (Ok report) notes stopped play said ended = record { notes = notes; stopped = stopped; play = play; said = said; ended = ended }
 draws inputs (Err e) notes stopped play said ended = tt

@@ -11,7 +11,7 @@ use Rattle.record_kinds.specs.Series.{Series, Reads, Sends}
 use Rattle.model_undo.specs.PhaseNames.{phase_name}
 use Rattle.undo_core.specs.Shown.{backs}
 use Rattle.text_undo.specs.UndoText.{line_of}
-use Rattle.lab_run.specs.declared.marks.Mark.{Mark}
+use Rattle.lab_run.specs.declared.ages.FrameAge.{FrameAge}
 use Rattle.model_lab.specs.Lab.{LabFrame}
 use Rattle.lab_run.specs.declared.frames.SentFrame.{SentFrame}
 use Rattle.model_lab.specs.Played.{Told, Ending, Whole, Stops}
@@ -21,9 +21,9 @@ use Rattle.cfg_records.specs.Changed.{is_value}
 use Rattle.text_lines.specs.RecordsLine.{records_line}
 use Rattle.app_play.specs.declared.account.Account.{Account}
 use Rattle.app_play.specs.Lines.{said, undo_lines, shown, premised, ending, text_of}
-use Rattle.app_play.specs.Account.{AreChanged, Accounts, IsAccountOf, status_of}
+use Rattle.app_play.specs.Account.{AreChanged, AccountOf, IsAccountOf, status_of}
 use Rattle.app_play.specs.Determined.{OneText}
-use Rattle.app_play.specs.Run.{begun_with, Recounts}
+use Rattle.app_play.specs.Run.{begun_with, RecountsPlay}
 use Rattle.app_play.proofs.OnePremise.{one_premise}
 use Rattle.app_play.proofs.AlikeEnds.{OneEnding, same_stopped}
 use Rattle.app_play.proofs.Counted.{same_count}
@@ -43,7 +43,7 @@ same_made make R one (x ∷ xs) (y ∷ ys) (b ∷ bs) all also =
     let rest : map make xs ≡ map make ys = same_made make R one xs ys bs all.1 also.1 in
     λ i. first i ∷ rest i
 
-same_mark : (mark other : Mark) → mark.on ≡ other.on → mark.request ≡ other.request → mark.idles ≡ other.idles → mark ≡ other
+same_mark : (mark other : FrameAge) → mark.on ≡ other.on → mark.request ≡ other.request → mark.idles ≡ other.idles → mark ≡ other
 same_mark mark other on request idles = λ i. record { on = on i; request = request i; idles = idles i }
 
 -- a frame of the lab's model was sent in one way
@@ -87,7 +87,7 @@ same_changed number other told is also =
 -- ---- the text
 
 -- accounts of what is told of one lab have one text, where they stop alike
-same_lines : (frames premises : Bool) (account other : Account) (told : Told) → Accounts account told → Accounts other told → account.broken ≡ other.broken → account.stopped ≡ other.stopped
+same_lines : (frames premises : Bool) (account other : Account) (told : Told) → AccountOf account told → AccountOf other told → account.broken ≡ other.broken → account.stopped ≡ other.stopped
     → text_of frames premises account ≡ text_of frames premises other
 same_lines frames premises account other told is also broken stopped =
     let now : account.phase ≡ other.phase = is.phase ∙ sym also.phase in
@@ -102,11 +102,11 @@ same_lines frames premises account other told is also broken stopped =
     )
 
 -- what accounts of an ending say of what is told
-told_in : (account other : Account) (ending : Ending) → IsAccountOf account ending → IsAccountOf other ending → (told : Told) × Accounts account told × Accounts other told
+told_in : (account other : Account) (ending : Ending) → IsAccountOf account ending → IsAccountOf other ending → (told : Told) × AccountOf account told × AccountOf other told
 told_in account other (Whole told) is also = (told, is.0, also.0)
 told_in account other (Stops cause at told) is also = (told, is.0, also.0)
 
-pub one_account : OneEnding → (frames premises : Bool) → OneText (Recounts frames premises)
+pub one_account : OneEnding → (frames premises : Bool) → OneText (RecountsPlay frames premises)
 one_account one frames premises inputs text other_text status other_status told more =
     let same : more.ending ≡ told.ending =
     one inputs.file inputs.plan.steps inputs.plan.retries inputs.events more.ending told.ending more.played told.played in

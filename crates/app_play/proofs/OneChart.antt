@@ -12,17 +12,17 @@ use Rattle.text_schedule.specs.declared.event.Event.TheVariants as event
 use Rattle.model_lab.specs.Lab.{opening}
 use Rattle.model_lab.specs.Meaning.{lab_names}
 use Rattle.model_lab.specs.Played.{plans, Ending, Whole, Stops}
-use Rattle.lab_run.specs.declared.note.Came.{Came}
+use Rattle.lab_run.specs.declared.note.Delivery.{Delivery}
 use Rattle.lab_run.specs.declared.note.Note.{Note}
 use Rattle.app_play.specs.Columns.{at_most, in_column}
 use Rattle.app_play.specs.Arrivals.{delivers, came_at, lost_from}
 use Rattle.app_play.specs.Chart.{call_cell, comes_cell, count_of, sends_cell, done_cell, head_line, event_line, chart_of}
-use Rattle.lab_play.specs.Noted.{Noted, IsNote, noted_from, AreNotes}
+use Rattle.lab_play.specs.Noted.{NotedRun, IsNote, noted_from, AreNotes}
 use Rattle.lab_play.specs.declared.run.Stopped.{Stopped}
 use Rattle.app_play.specs.Lines.{ending}
 use Rattle.app_play.specs.Account.{status_of}
 use Rattle.app_play.specs.Determined.{OneText}
-use Rattle.app_play.specs.Drawn.{EndsAt, Draws, drawing}
+use Rattle.app_play.specs.Drawn.{EndsAt, DrawsChart, drawing}
 use Rattle.app_play.proofs.AlikeEnds.{OneEnding, same_stop}
 use Rattle.app_play.proofs.OneAccount.{same_made}
 
@@ -36,7 +36,7 @@ came_bare : (notes : List Note) (number : ℕ) → came_at (map bare notes) numb
 came_bare [] number = refl
 came_bare (note ∷ notes) number = ap (λ (came : Bool). delivers number note.event.now || came) (came_bare notes number)
 
-comes_bare : (notes : List Note) (came : Option Came) (e : Event) → comes_cell (map bare notes) came e ≡ comes_cell notes came e
+comes_bare : (notes : List Note) (came : Option Delivery) (e : Event) → comes_cell (map bare notes) came e ≡ comes_cell notes came e
 comes_bare notes came (event.ToBmc number) = rw (came_bare notes number) refl
 comes_bare notes came (event.ToMgr number) = rw (came_bare notes number) refl
 comes_bare notes came _ = refl
@@ -80,7 +80,7 @@ chart_bare notes = ap (λ (rows : List (List ℕ)). flat_map ended (head_line �
 -- ---- notes of one play
 
 -- what there is to note of an event is in its note
-same_note : (note other : Note) (n : Noted) → IsNote note n → IsNote other n → bare note ≡ bare other
+same_note : (note other : Note) (n : NotedRun) → IsNote note n → IsNote other n → bare note ≡ bare other
 same_note note other n is also =
     let happened : note.event.now ≡ other.event.now = is.event ∙ sym also.event in
     let came : note.came ≡ other.came = is.came ∙ sym also.came in
@@ -103,7 +103,7 @@ same_note note other n is also =
 same_chart : (file : BoardFile) (steps : List Op) (retries : ℕ) (events : List Event) (notes others : List Note)
     → length others ≡ length notes → AreNotes file steps retries events notes → AreNotes file steps retries events others → chart_of notes ≡ chart_of others
 same_chart file steps retries events notes others long are also =
-    let noted : ℕ → List Noted = λ n. noted_from file (take n events) (opening plans file lab_names steps retries) in
+    let noted : ℕ → List NotedRun = λ n. noted_from file (take n events) (opening plans file lab_names steps retries) in
     let each : AllZip IsNote others (noted (length notes)) = subst (λ (n : ℕ). AllZip IsNote others (noted n)) long also.each in
     sym (chart_bare notes) ∙ ap chart_of (same_made bare IsNote same_note notes others (noted (length notes)) are.each each) ∙ chart_bare others
 
@@ -119,7 +119,7 @@ same_place events notes others (Some stopped) other (Whole told) ends also = abs
 same_place events notes others None (Some event) (Whole told) ends also = absurd also
 same_place events notes others (Some stopped) None (Stops cause at told) ends also = absurd also
 
-pub one_chart : OneEnding → OneText Draws
+pub one_chart : OneEnding → OneText DrawsChart
 one_chart one inputs text other_text status other_status drawn more =
     let same : more.play.ending ≡ drawn.play.ending =
     one inputs.file inputs.plan.steps inputs.plan.retries inputs.events more.play.ending drawn.play.ending more.play.played drawn.play.played in

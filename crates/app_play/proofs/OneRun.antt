@@ -4,7 +4,7 @@ use Rattle.cfg_records.specs.declared.board_file.BoardFile.{BoardFile}
 use Rattle.undo_plans.specs.declared.plan.Plan.{Plan}
 use Rattle.text_board.specs.declared.fault.FileFault.{FileFault}
 use Rattle.text_board.specs.declared.fault.FileFault.TheVariants as file
-use Rattle.text_board.specs.Holds.{Reads}
+use Rattle.text_board.specs.Holds.{ReadsText}
 use Rattle.plan_file.specs.declared.plan_fault.PlanFault.{PlanFault}
 use Rattle.plan_file.specs.declared.plan_fault.PlanFault.TheVariants as plan
 use Rattle.plan_file.specs.PlanHolds.{ReadsPlan}
@@ -12,26 +12,26 @@ use Rattle.text_schedule.specs.declared.event.Event.{Event}
 use Rattle.text_schedule.specs.declared.schedule.ScheduleFault.{ScheduleFault}
 use Rattle.text_schedule.specs.declared.schedule.ScheduleFault.TheVariants as line
 use Rattle.text_schedule.specs.Text.{lines_of}
-use Rattle.text_schedule.specs.Schedule.{Say, IsFirstBad, IsRead}
+use Rattle.text_schedule.specs.Schedule.{AreLinesOf, IsFirstBad, TextIsRead}
 use Rattle.app_play.specs.declared.inputs.Inputs.{Inputs}
 use Rattle.app_play.specs.declared.inputs.InputFault.{InputFault}
 use Rattle.app_play.specs.declared.inputs.InputFault.TheVariants as fault
-use Rattle.app_play.specs.Inputs.{IsBoard, IsPlan, AreRead}
+use Rattle.app_play.specs.Inputs.{IsBoard, IsPlan, InputsAreRead}
 use Rattle.app_base.specs.declared.console.Stream.TheVariants.{Output, Error}
 use Rattle.app_play.specs.Determined.{OneText, SaysOne}
-use Rattle.app_play.specs.Run.{is_memory, refusal_line, Telling, Says}
+use Rattle.app_play.specs.Run.{is_memory, refusal_line, Telling, PrintsPlay}
 
 -- a text is read as one board, one plan and one list of events, or has one fault
 pub record ReadOnce : Type 0 where
-  pub board : (text : List ℕ) (a b : Result BoardFile FileFault) → Reads text a → Reads text b → a ≡ b
+  pub board : (text : List ℕ) (a b : Result BoardFile FileFault) → ReadsText text a → ReadsText text b → a ≡ b
   pub plan : (text : List ℕ) (a b : Result Plan PlanFault) → ReadsPlan text a → ReadsPlan text b → a ≡ b
-  pub events : (text : List ℕ) (events others : List Event) → Say (lines_of text) events → Say (lines_of text) others → events ≡ others
-  pub refused : (text : List ℕ) (events : List Event) (number : ℕ) → Say (lines_of text) events → ¬ IsFirstBad (lines_of text) number
+  pub events : (text : List ℕ) (events others : List Event) → AreLinesOf (lines_of text) events → AreLinesOf (lines_of text) others → events ≡ others
+  pub refused : (text : List ℕ) (events : List Event) (number : ℕ) → AreLinesOf (lines_of text) events → ¬ IsFirstBad (lines_of text) number
   pub line : (text : List ℕ) (number other : ℕ) → IsFirstBad (lines_of text) number → IsFirstBad (lines_of text) other → number ≡ other
 
 -- the texts are refused so, and memory sufficed
 abbrev AreRefused : (board plan schedule : List ℕ) → InputFault → Type 0
-AreRefused board plan schedule why = (is_memory why ≡ false) × AreRead board plan schedule (Err why)
+AreRefused board plan schedule why = (is_memory why ≡ false) × InputsAreRead board plan schedule (Err why)
 
 same_Ok : {A E : Type 0} (x y : A) → (let a : Result A E = Ok x in a) ≡ Ok y → x ≡ y
 same_Ok x y same = cc same
@@ -44,7 +44,7 @@ apart x e same = cc same
 
 -- ---- a fault for which memory sufficed
 
-board_fault : (text : List ℕ) (why : FileFault) → is_memory (fault.Board why) ≡ false → (why ≡ file.Memory) ⊎ Reads text (Err why) → Reads text (Err why)
+board_fault : (text : List ℕ) (why : FileFault) → is_memory (fault.Board why) ≡ false → (why ≡ file.Memory) ⊎ ReadsText text (Err why) → ReadsText text (Err why)
 board_fault text why enough (inl memory) = absurd (true≢false (sym (ap (λ (w : FileFault). is_memory (fault.Board w)) memory) ∙ enough))
 board_fault text why enough (inr read) = read
 
@@ -52,7 +52,7 @@ plan_fault : (text : List ℕ) (why : PlanFault) → is_memory (fault.Plan why) 
 plan_fault text why enough (inl memory) = absurd (true≢false (sym (ap (λ (w : PlanFault). is_memory (fault.Plan w)) memory) ∙ enough))
 plan_fault text why enough (inr read) = read
 
-line_fault : (text : List ℕ) (why : ScheduleFault) → is_memory (fault.Schedule why) ≡ false → IsRead text (Err why)
+line_fault : (text : List ℕ) (why : ScheduleFault) → is_memory (fault.Schedule why) ≡ false → TextIsRead text (Err why)
     → (number : ℕ) × (why ≡ line.Line number) × IsFirstBad (lines_of text) number
 line_fault text line.Memory enough read = absurd (true≢false enough)
 line_fault text (line.Line number) enough read = (number, refl, read)
@@ -60,13 +60,13 @@ line_fault text (line.Line number) enough read = (number, refl, read)
 module _ (once : ReadOnce) where
   -- ---- what is read has no fault
 
-  board_clash : (text : List ℕ) (why : FileFault) → IsBoard text → is_memory (fault.Board why) ≡ false → (why ≡ file.Memory) ⊎ Reads text (Err why) → ⊥
+  board_clash : (text : List ℕ) (why : FileFault) → IsBoard text → is_memory (fault.Board why) ≡ false → (why ≡ file.Memory) ⊎ ReadsText text (Err why) → ⊥
   board_clash text why board enough read = apart board.0 why (once.board text (Ok board.0) (Err why) board.1 (board_fault text why enough read))
 
   plan_clash : (text : List ℕ) (why : PlanFault) → IsPlan text → is_memory (fault.Plan why) ≡ false → (why ≡ plan.Memory) ⊎ ReadsPlan text (Err why) → ⊥
   plan_clash text why plan enough read = apart plan.0 why (once.plan text (Ok plan.0) (Err why) plan.1 (plan_fault text why enough read))
 
-  line_clash : (text : List ℕ) (events : List Event) (why : ScheduleFault) → Say (lines_of text) events → is_memory (fault.Schedule why) ≡ false → IsRead text (Err why) → ⊥
+  line_clash : (text : List ℕ) (events : List Event) (why : ScheduleFault) → AreLinesOf (lines_of text) events → is_memory (fault.Schedule why) ≡ false → TextIsRead text (Err why) → ⊥
   line_clash text events why say enough read = (let bad = line_fault text why enough read in once.refused text events bad.0 say bad.2)
 
   -- ---- one reading
@@ -74,7 +74,7 @@ module _ (once : ReadOnce) where
   same_inputs : (inputs others : Inputs) → inputs.file ≡ others.file → inputs.plan ≡ others.plan → inputs.events ≡ others.events → inputs ≡ others
   same_inputs inputs others file plan events = λ i. record { file = file i; plan = plan i; events = events i }
 
-  both_read : (board plan schedule : List ℕ) (inputs others : Inputs) → AreRead board plan schedule (Ok inputs) → AreRead board plan schedule (Ok others) → inputs ≡ others
+  both_read : (board plan schedule : List ℕ) (inputs others : Inputs) → InputsAreRead board plan schedule (Ok inputs) → InputsAreRead board plan schedule (Ok others) → inputs ≡ others
   both_read board plan schedule inputs others is also =
       same_inputs inputs others
       (same_Ok inputs.file others.file (once.board board (Ok inputs.file) (Ok others.file) is.0 also.0))
@@ -82,7 +82,7 @@ module _ (once : ReadOnce) where
       (once.events schedule inputs.events others.events is.2 also.2)
 
   -- texts that tell inputs aren't refused
-  not_refused : (board plan schedule : List ℕ) (inputs : Inputs) (why : InputFault) → AreRead board plan schedule (Ok inputs) → AreRefused board plan schedule why → ⊥
+  not_refused : (board plan schedule : List ℕ) (inputs : Inputs) (why : InputFault) → InputsAreRead board plan schedule (Ok inputs) → AreRefused board plan schedule why → ⊥
   not_refused board plan schedule inputs (fault.Board why) is also = board_clash board why (inputs.file, is.0) also.0 also.1
   not_refused board plan schedule inputs (fault.Plan why) is also = plan_clash plan why (inputs.plan, is.1) also.0 also.1.1
   not_refused board plan schedule inputs (fault.Schedule why) is also = line_clash schedule inputs.events why is.2 also.0 also.1.2
@@ -120,7 +120,7 @@ module _ (once : ReadOnce) where
 
   -- ---- one saying
 
-  pub one_saying : (tells : Telling) (board plan schedule : List ℕ) → OneText tells → SaysOne (Says tells board plan schedule)
+  pub one_saying : (tells : Telling) (board plan schedule : List ℕ) → OneText tells → SaysOne (PrintsPlay tells board plan schedule)
   one_saying tells board plan schedule one Output Output text other_text status other_status (inputs, read, told) (others, again, more) =
       let same : inputs ≡ others = both_read board plan schedule inputs others read again in
       let texts = one others text other_text status other_status (subst (λ (given : Inputs). tells given text status) same told) more in

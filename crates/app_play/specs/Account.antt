@@ -20,7 +20,7 @@ pub record AreChanged (number : ℕ) (told : Told) : Type 0 where
 
 -- The account says what is told of a lab: the manager's phase, the frames, each as its bytes, with its way and its bus, the requests
 -- that undo what was done, and how many records changed.
-pub record Accounts (account : Account) (told : Told) : Type 0 where
+pub record AccountOf (account : Account) (told : Told) : Type 0 where
   pub phase : account.phase ≡ told.phase
   pub frames : AllZip IsSentFrame account.frames.now told.frames
   pub undo : backs account.undo.now.members ≡ told.undo
@@ -28,9 +28,9 @@ pub record Accounts (account : Account) (told : Told) : Type 0 where
 
 -- it is the account of a play that ended so: of all events, or of those before the one that has the fault, which it names by its place
 abbrev pub IsAccountOf : Account → Ending → Type 0
-IsAccountOf account (Whole told) = Accounts account told × (account.stopped ≡ None)
+IsAccountOf account (Whole told) = AccountOf account told × (account.stopped ≡ None)
 IsAccountOf account (Stops cause at told) =
-    Accounts account told × ((stopped : Stopped) × (account.stopped ≡ Some stopped) × (stopped.fault ≡ cause) × (stopped.place ≡ at))
+    AccountOf account told × ((stopped : Stopped) × (account.stopped ≡ Some stopped) × (stopped.fault ≡ cause) × (stopped.place ≡ at))
 
 -- how a run ends: well, or by the event that wasn't taken
 abbrev pub status_of : Option Stopped → Status

@@ -17,8 +17,8 @@ abbrev pub came_at : List Note → ℕ → Bool
 came_at notes number = list_any (λ note. delivers number note.event.now) notes
 
 -- for each number it's held whether the frame came at one of these events
-abbrev pub Holds : Arrivals → List Note → Type 0
-Holds arrivals notes = (number : ℕ) → get_or arrivals.came.items number false ≡ came_at notes number
+abbrev pub HoldsNotes : Arrivals → List Note → Type 0
+HoldsNotes arrivals notes = (number : ℕ) → get_or arrivals.came.items number false ≡ came_at notes number
 
 -- how many of so many frames, from this number on, came at none of them
 abbrev pub lost_from : List Note → (number count : ℕ) → ℕ

@@ -8,12 +8,12 @@ use Rattle.two_wire.specs.declared.Bus.TheVariants.{Ipmb, Smbus}
 use Rattle.text_schedule.specs.declared.event.Event.{Event}
 use Rattle.text_schedule.specs.declared.event.Event.TheVariants as event
 use Rattle.text_schedule.specs.Line.{call_name, event_name}
-use Rattle.bmc_core.specs.declared.out.Done.{Done}
-use Rattle.bmc_core.specs.declared.out.Done.TheVariants as done
+use Rattle.bmc_core.specs.declared.out.Disposition.{Disposition}
+use Rattle.bmc_core.specs.declared.out.Disposition.TheVariants as done
 use Rattle.model_undo.specs.PhaseNames.{phase_name}
 use Rattle.app_play.specs.declared.cells.Side.{Side}
 use Rattle.app_play.specs.declared.cells.Side.TheVariants.{Manager, Controller}
-use Rattle.lab_run.specs.declared.note.Came.{Came}
+use Rattle.lab_run.specs.declared.note.Delivery.{Delivery}
 use Rattle.lab_run.specs.declared.note.Note.{Note}
 use Rattle.app_play.specs.Columns.{at_most, in_column}
 use Rattle.app_play.specs.Arrivals.{came_at, lost_from}
@@ -40,13 +40,13 @@ word_if true word = word
 word_if false word = []
 
 -- a frame that came to an end: its way, its number, and whether it is late and had come before
-abbrev pub came_cell : (to : Side) → ℕ → Option Came → (copy : Bool) → List ℕ
+abbrev pub came_cell : (to : Side) → ℕ → Option Delivery → (copy : Bool) → List ℕ
 came_cell to number None copy = []
 came_cell to number (Some came) copy =
     arrow to came.on ++ (decimal number ++ (word_if came.late (codes " late") ++ word_if copy (codes " copy")))
 
 -- what comes, after what came at these events: a frame, and else the event's first word in a schedule
-abbrev pub comes_cell : List Note → Option Came → Event → List ℕ
+abbrev pub comes_cell : List Note → Option Delivery → Event → List ℕ
 comes_cell earlier came (event.Calls call) = []
 comes_cell earlier came (event.ToBmc number) = came_cell Controller number came (came_at earlier number)
 comes_cell earlier came (event.ToMgr number) = came_cell Manager number came (came_at earlier number)
@@ -89,7 +89,7 @@ sends_cell notes note _ = sent_cell Manager note.sends note.before (count_of not
 
 -- what the controller did: it put the request to the board and answered, answered from what was kept, was busy, waits for more packets,
 -- answered a control message, or ignored what came
-abbrev pub done_word : Done → List ℕ
+abbrev pub done_word : Disposition → List ℕ
 done_word done.Answered = codes "answers"
 done_word done.Repeated = codes "kept"
 done_word done.Busy = codes "busy"
@@ -97,7 +97,7 @@ done_word done.Waiting = codes "waits"
 done_word done.Control = codes "control"
 done_word (done.Ignored why) = codes "ignored"
 
-abbrev pub done_cell : Option Done → List ℕ
+abbrev pub done_cell : Option Disposition → List ℕ
 done_cell None = []
 done_cell (Some what) = done_word what
 

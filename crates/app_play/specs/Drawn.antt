@@ -36,7 +36,7 @@ abbrev pub drawing : List Note → Option Stopped → List ℕ
 drawing notes stopped = chart_of notes ++ flat_map ended (ending stopped)
 
 -- the text is the chart of a play of these inputs: of the lab's run of the schedule, up to the first event that has a fault
-pub record Draws (inputs : Inputs) (text : List ℕ) (status : Status) : Type 0 where
+pub record DrawsChart (inputs : Inputs) (text : List ℕ) (status : Status) : Type 0 where
   pub notes : List Note
   pub stopped : Option Stopped
   pub play : NotesPlayOf inputs.file inputs.plan.steps inputs.plan.retries inputs.events stopped notes

@@ -4,11 +4,11 @@ use Rattle.cfg_records.specs.declared.board_file.BoardFile.{BoardFile}
 use Rattle.undo_plans.specs.declared.plan.Plan.{Plan}
 use Rattle.text_board.specs.declared.fault.FileFault.TheVariants as of_file
 use Rattle.plan_file.specs.declared.plan_fault.PlanFault.TheVariants as of_plan
-use Rattle.text_board.specs.Holds.{Reads}
+use Rattle.text_board.specs.Holds.{ReadsText}
 use Rattle.plan_file.specs.PlanHolds.{ReadsPlan}
 use Rattle.text_board.specs.Names.{fault_name}
 use Rattle.plan_file.specs.PlanNames.{plan_fault_name}
-use Rattle.text_schedule.specs.Schedule.{IsRead}
+use Rattle.text_schedule.specs.Schedule.{TextIsRead}
 use Rattle.text_schedule.specs.Names.{schedule_fault_name}
 use Rattle.app_play.specs.declared.inputs.Inputs.{Inputs}
 use Rattle.app_play.specs.declared.inputs.InputFault.{InputFault}
@@ -16,18 +16,18 @@ use Rattle.app_play.specs.declared.inputs.InputFault.TheVariants as fault
 
 -- the text is a board file
 abbrev pub IsBoard : List ℕ → Type 0
-IsBoard text = (file : BoardFile) × Reads text (Ok file)
+IsBoard text = (file : BoardFile) × ReadsText text (Ok file)
 
 -- the text is a plan
 abbrev pub IsPlan : List ℕ → Type 0
 IsPlan text = (plan : Plan) × ReadsPlan text (Ok plan)
 
 -- what the texts tell: all three, or why the first that is refused is; a reader may be refused memory
-abbrev pub AreRead : (board plan schedule : List ℕ) → Result Inputs InputFault → Type 0
-AreRead board plan schedule (Ok inputs) = Reads board (Ok inputs.file) × ReadsPlan plan (Ok inputs.plan) × IsRead schedule (Ok inputs.events)
-AreRead board plan schedule (Err (fault.Board why)) = (why ≡ of_file.Memory) ⊎ Reads board (Err why)
-AreRead board plan schedule (Err (fault.Plan why)) = IsBoard board × ((why ≡ of_plan.Memory) ⊎ ReadsPlan plan (Err why))
-AreRead board plan schedule (Err (fault.Schedule why)) = IsBoard board × IsPlan plan × IsRead schedule (Err why)
+abbrev pub InputsAreRead : (board plan schedule : List ℕ) → Result Inputs InputFault → Type 0
+InputsAreRead board plan schedule (Ok inputs) = ReadsText board (Ok inputs.file) × ReadsPlan plan (Ok inputs.plan) × TextIsRead schedule (Ok inputs.events)
+InputsAreRead board plan schedule (Err (fault.Board why)) = (why ≡ of_file.Memory) ⊎ ReadsText board (Err why)
+InputsAreRead board plan schedule (Err (fault.Plan why)) = IsBoard board × ((why ≡ of_plan.Memory) ⊎ ReadsPlan plan (Err why))
+InputsAreRead board plan schedule (Err (fault.Schedule why)) = IsBoard board × IsPlan plan × TextIsRead schedule (Err why)
 
 -- which text is refused, and why
 abbrev pub input_fault_name : InputFault → List ℕ

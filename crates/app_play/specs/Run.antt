@@ -7,7 +7,7 @@ use Rattle.app_play.specs.declared.inputs.Inputs.{Inputs}
 use Rattle.app_play.specs.declared.inputs.InputFault.{InputFault}
 use Rattle.app_play.specs.declared.inputs.InputFault.TheVariants as fault
 use Rattle.app_play.specs.declared.account.Account.{Account}
-use Rattle.app_play.specs.Inputs.{AreRead, input_fault_name}
+use Rattle.app_play.specs.Inputs.{InputsAreRead, input_fault_name}
 use Rattle.app_play.specs.Lines.{text_of}
 use Rattle.model_lab.specs.Lab.{Lab, opening}
 use Rattle.model_lab.specs.Meaning.{lab_names}
@@ -20,7 +20,7 @@ use Rattle.app_base.specs.Ending.{Saying}
 use Rattle.app_play.specs.declared.run.Shown.{Shown}
 use Rattle.app_play.specs.declared.run.Shown.TheVariants as shown
 use Rattle.app_play.specs.Account.{IsAccountOf, status_of}
-use Rattle.app_play.specs.Drawn.{Draws}
+use Rattle.app_play.specs.Drawn.{DrawsChart}
 
 -- a text wasn't read for want of memory
 abbrev pub is_memory : InputFault → Bool
@@ -39,7 +39,7 @@ begun_with inputs = opening plans inputs.file lab_names inputs.plan.steps inputs
 
 -- The text is the account of a play of these inputs: of the lab's run of the schedule, up to the first event that has a fault. The
 -- account tells which event broke the premise on packets first; where none did, what is told stands.
-pub record Recounts (frames premises : Bool) (inputs : Inputs) (text : List ℕ) (status : Status) : Type 0 where
+pub record RecountsPlay (frames premises : Bool) (inputs : Inputs) (text : List ℕ) (status : Status) : Type 0 where
   pub ending : Ending
   pub played : IsPlayed inputs.file inputs.plan.steps inputs.plan.retries inputs.events ending
   pub account : Account
@@ -55,12 +55,12 @@ Telling = Inputs → List ℕ → Status → Type 0
 
 -- the play of these inputs, as it is shown
 abbrev pub tells_of : Shown → Telling
-tells_of (shown.Lines frames premises) = Recounts frames premises
-tells_of shown.Chart = Draws
+tells_of (shown.Lines frames premises) = RecountsPlay frames premises
+tells_of shown.Chart = DrawsChart
 
 -- what a run says, and where: on standard output the play that the texts tell, or on standard error which text is the first that is
 -- refused, and why
-abbrev pub Says : Telling → (board plan schedule : List ℕ) → Saying
-Says tells board plan schedule Output text status = (inputs : Inputs) × AreRead board plan schedule (Ok inputs) × tells inputs text status
-Says tells board plan schedule Error text status =
-    (why : InputFault) × (is_memory why ≡ false) × AreRead board plan schedule (Err why) × (text ≡ refusal_line why) × (status ≡ RefusedFile)
+abbrev pub PrintsPlay : Telling → (board plan schedule : List ℕ) → Saying
+PrintsPlay tells board plan schedule Output text status = (inputs : Inputs) × InputsAreRead board plan schedule (Ok inputs) × tells inputs text status
+PrintsPlay tells board plan schedule Error text status =
+    (why : InputFault) × (is_memory why ≡ false) × InputsAreRead board plan schedule (Err why) × (text ≡ refusal_line why) × (status ≡ RefusedFile)

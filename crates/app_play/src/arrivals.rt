@@ -1,7 +1,7 @@
 //! Which frames came to an end.
 ghost use Rattle.std.specs.Prelude.{◌≡◌, ◌-◌, ◌==◌, ◌||◌, [], ℕ, List, false, get_or, OnOk, IfOk, IfSome, IfNone};
 ghost use Rattle.lab_run.specs.declared.note.Note.{Note as AnyNote};
-ghost use Rattle.app_play.specs.Arrivals.{delivers, lost_from, Holds};
+ghost use Rattle.app_play.specs.Arrivals.{delivers, lost_from, HoldsNotes};
 
 use lab_run::Note;
 use std::alloc::{AllocError, Global};
@@ -27,7 +27,7 @@ fn delivered(event: &Event) -> Option<u32>
 impl Arrivals {
     /// None came.
     pub(crate) fn new(alloc: Global) -> Arrivals
-        ensures { Holds result [] }
+        ensures { HoldsNotes result [] }
     {
         Arrivals {
             came: Vec::new(alloc),
@@ -36,7 +36,7 @@ impl Arrivals {
 
     /// All that came at these events.
     pub(crate) fn of(alloc: Global, notes: &[Note]) -> Result<Arrivals, AllocError>
-        ensures { IfOk result (λ arrivals. Holds arrivals notes.now) }
+        ensures { IfOk result (λ arrivals. HoldsNotes arrivals notes.now) }
     {
         let mut arrivals = Arrivals::new(alloc);
         for note in notes {
@@ -83,7 +83,7 @@ impl Arrivals {
 
     /// How many frames, from this number on up to before that one, didn't come.
     pub(crate) fn lost(&self, from: usize, to: usize) -> usize
-        ensures { (notes : List AnyNote) → Holds self.now notes
+        ensures { (notes : List AnyNote) → HoldsNotes self.now notes
             → result ≡ lost_from notes from (to - from) }
     {
         (from..to).filter(|number| !self.has(*number)).count()

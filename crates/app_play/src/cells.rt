@@ -2,11 +2,11 @@
 ghost use Rattle.std.specs.Prelude.{◌≡◌, ◌++◌, ◌-◌, List, OnOk, IfOk, string_bytes};
 ghost use Rattle.app_play.specs.Chart.{call_cell, arrow, word_if, came_cell, comes_cell, more_text, lost_text, sent_cell, sends_cell, done_word, done_cell};
 ghost use Rattle.lab_run.specs.declared.note.Note.{Note as AnyNote};
-ghost use Rattle.app_play.specs.Arrivals.{Holds};
+ghost use Rattle.app_play.specs.Arrivals.{HoldsNotes};
 
 use crate::arrivals::Arrivals;
-use bmc_core::Done;
-use lab_run::{Came, Note};
+use bmc_core::Disposition;
+use lab_run::{Delivery, Note};
 use std::alloc::{AllocError, Global};
 use text_schedule::{Event, call_name};
 use two_wire::Bus;
@@ -52,7 +52,7 @@ fn came_cell(
     alloc: Global,
     to: Side,
     number: u32,
-    came: Option<Came>,
+    came: Option<Delivery>,
     copy: bool,
 ) -> Result<String, AllocError>
     ensures { IfOk result (λ cell. string_bytes cell ≡ came_cell to number came copy) }
@@ -74,7 +74,7 @@ pub(crate) fn comes_cell(
     earlier: &Arrivals,
     note: &Note,
 ) -> Result<String, AllocError>
-    ensures { (notes : List AnyNote) → Holds earlier.now notes
+    ensures { (notes : List AnyNote) → HoldsNotes earlier.now notes
         → IfOk result
         (λ cell. string_bytes cell ≡ comes_cell notes note.now.came note.now.event.now) }
 {
@@ -141,7 +141,7 @@ fn sent_cell(alloc: Global, to: Side, note: &Note, lost: usize) -> Result<String
 
 /// What is sent, where these frames came at all events.
 pub(crate) fn sends_cell(alloc: Global, all: &Arrivals, note: &Note) -> Result<String, AllocError>
-    ensures { (notes : List AnyNote) → Holds all.now notes
+    ensures { (notes : List AnyNote) → HoldsNotes all.now notes
         → IfOk result (λ cell. string_bytes cell ≡ sends_cell notes note.now note.now.event.now) }
 {
     let lost = all.lost(note.before, note.after);
@@ -153,21 +153,21 @@ pub(crate) fn sends_cell(alloc: Global, all: &Arrivals, note: &Note) -> Result<S
 }
 
 /// What the controller did.
-fn done_word(done: Done) -> &'static str
+fn done_word(done: Disposition) -> &'static str
     ensures { result.now ≡ done_word done }
 {
     match done {
-        Done::Answered => "answers",
-        Done::Repeated => "kept",
-        Done::Busy => "busy",
-        Done::Waiting => "waits",
-        Done::Control => "control",
-        Done::Ignored(_) => "ignored",
+        Disposition::Answered => "answers",
+        Disposition::Repeated => "kept",
+        Disposition::Busy => "busy",
+        Disposition::Waiting => "waits",
+        Disposition::Control => "control",
+        Disposition::Ignored(_) => "ignored",
     }
 }
 
 /// What the controller did with what came to it, if something did.
-pub(crate) fn done_cell(done: Option<Done>) -> &'static str
+pub(crate) fn done_cell(done: Option<Disposition>) -> &'static str
     ensures { result.now ≡ done_cell done }
 {
     match done {

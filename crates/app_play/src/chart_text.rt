@@ -2,7 +2,7 @@
 ghost use Rattle.std.specs.Prelude.{◌≡◌, ◌++◌, ◌+◌, ℕ, List, take, OnOk, IfOk, string_bytes};
 ghost use Rattle.text_lines.specs.Cuts.{ended};
 ghost use Rattle.lab_run.specs.declared.note.Note.{Note as AnyNote};
-ghost use Rattle.app_play.specs.Arrivals.{Holds};
+ghost use Rattle.app_play.specs.Arrivals.{HoldsNotes};
 ghost use Rattle.app_play.specs.Chart.{event_line, chart_of};
 
 use crate::arrivals::Arrivals;
@@ -21,7 +21,7 @@ fn push_event(
     all: &Arrivals,
 ) -> Result<(), AllocError>
     ensures { (notes : List AnyNote) (n : ℕ) → place ≡ n + 1
-        → Holds earlier.now (take n notes) → Holds all.now notes
+        → HoldsNotes earlier.now (take n notes) → HoldsNotes all.now notes
         → OnOk result (string_bytes text.new
         ≡ string_bytes text.old ++ ended (event_line notes n note.now)) }
 {

@@ -2,7 +2,7 @@
 ghost use Rattle.std.specs.Prelude.{◌≡◌, [], IfOk, string_bytes};
 ghost use Rattle.app_base.specs.declared.console.Stream.TheVariants.{Output};
 ghost use Rattle.app_play.specs.Account.{status_of};
-ghost use Rattle.app_play.specs.Drawn.{NotesPlayOf, Draws, drawing};
+ghost use Rattle.app_play.specs.Drawn.{NotesPlayOf, DrawsChart, drawing};
 
 use crate::chart_text::chart;
 use crate::ended::{Ended, parts_of};
@@ -59,7 +59,7 @@ fn drawing(alloc: Global, notes: &[Note], stopped: Option<Stopped>) -> Result<Re
 /// What is drawn of the play that these inputs tell.
 pub(crate) fn drawn_report(alloc: Global, inputs: Inputs) -> Result<Report, AllocError>
     ensures stream { IfOk result (λ report. report.stream ≡ Output) }
-    ensures drawn { IfOk result (λ report. Draws inputs (string_bytes report.text) report.status) }
+    ensures drawn { IfOk result (λ report. DrawsChart inputs (string_bytes report.text) report.status) }
 {
     let Inputs { file, plan, events } = inputs;
     let mut notes = Vec::new(alloc);

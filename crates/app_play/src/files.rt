@@ -2,23 +2,23 @@
 ghost use Rattle.std.specs.Prelude.{IfOk, IfErr, string_bytes};
 ghost use Rattle.app_base.specs.Ending.{RunEnds};
 ghost use Rattle.app_base.specs.Files.{FirstUnread};
-ghost use Rattle.app_play.specs.Files.{words_of, AreTexts, SaysOfFiles};
+ghost use Rattle.app_play.specs.Files.{words_of, ArePlayTexts, PrintsPlayOfFiles};
 ghost use Rattle.app_play.specs.Run.{tells_of};
 
 use crate::run::{Shown, show};
 use app_base::files::refuse;
-use app_base::{Console, TextFiles, Unread, text_of};
+use app_base::{Console, ReadFault, TextFiles, text_of};
 use std::alloc::Global;
 use std::io;
 
 /// The words that name the files of a play.
 #[derive(Clone, Copy)]
 pub struct PlayFiles<'a> {
-    /// That of the board file.
+    /// The board file's word.
     pub board: &'a str,
-    /// That of the plan.
+    /// The plan's word.
     pub plan: &'a str,
-    /// That of the schedule.
+    /// The schedule's word.
     pub schedule: &'a str,
 }
 
@@ -31,8 +31,8 @@ struct Texts {
 }
 
 /// The texts of the files, or the first that isn't read.
-fn texts_of<'a, F: TextFiles>(files: &F, words: PlayFiles<'a>) -> Result<Texts, Unread<'a>>
-    ensures texts { IfOk result (λ texts. AreTexts (F.gives files.now) (words_of words.entry)
+fn texts_of<'a, F: TextFiles>(files: &F, words: PlayFiles<'a>) -> Result<Texts, ReadFault<'a>>
+    ensures texts { IfOk result (λ texts. ArePlayTexts (F.gives files.now) (words_of words.entry)
         (string_bytes texts.board) (string_bytes texts.plan) (string_bytes texts.schedule)) }
     ensures unread { IfErr result (λ unread. FirstUnread (F.gives files.now)
         (words_of words.entry) unread.word.now unread.why) }
@@ -57,7 +57,7 @@ pub fn play_of_files<F: TextFiles, W: io::Write, E: io::Write>(
     console: &mut Console<W, E>,
 ) -> u8
     ensures { RunEnds W.contents E.contents
-        (SaysOfFiles (F.gives files.now) (tells_of shown) (words_of words.entry))
+        (PrintsPlayOfFiles (F.gives files.now) (tells_of shown) (words_of words.entry))
         console.old console.new result }
 {
     match texts_of(files, words) {

@@ -1,5 +1,5 @@
 //! The texts that a play is told in: a board file, a plan and a schedule.
-ghost use Rattle.app_play.specs.Inputs.{AreRead};
+ghost use Rattle.app_play.specs.Inputs.{InputsAreRead};
 
 use cfg_records::BoardFile;
 use plan_file::{PlanFault, read_plan};
@@ -35,7 +35,7 @@ pub fn read_inputs(
     plan: &str,
     schedule: &str,
 ) -> Result<Inputs, InputFault>
-    ensures { AreRead board.now plan.now schedule.now result }
+    ensures { InputsAreRead board.now plan.now schedule.now result }
 {
     let file = match read_board(alloc, board) {
         Ok(file) => file,

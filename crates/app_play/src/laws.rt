@@ -7,7 +7,7 @@ ghost use Rattle.app_play.specs.declared.run.Shown.{Shown};
 ghost use Rattle.app_play.specs.Alike.{EndAlike};
 ghost use Rattle.app_play.specs.Chart.{chart_lines};
 ghost use Rattle.app_play.specs.Determined.{OneText, SaysOne};
-ghost use Rattle.app_play.specs.Run.{tells_of, Says};
+ghost use Rattle.app_play.specs.Run.{tells_of, PrintsPlay};
 
 /// No line of a chart is longer than eighty columns.
 pub fn lines_have_eighty_columns()
@@ -32,7 +32,7 @@ pub fn one_text()
 /// first that is refused.
 pub fn one_run()
     ensures { (shown : Shown) (board plan schedule : List ℕ)
-        → SaysOne (Says (tells_of shown) board plan schedule) }
+        → SaysOne (PrintsPlay (tells_of shown) board plan schedule) }
 {
     one_text();
     text_board::one_board();

@@ -1,10 +1,10 @@
 //! What is said of a lab that was played.
 ghost use Rattle.std.specs.Prelude.{◌≡◌, IfOk, Option, None, Some, string_bytes};
 ghost use Rattle.model_lab.specs.Played.{Told};
-ghost use Rattle.lab_play.specs.Ends.{Tells};
+ghost use Rattle.lab_play.specs.Ends.{TellsPlay};
 ghost use Rattle.app_base.specs.declared.console.Stream.TheVariants.{Output};
 ghost use Rattle.app_play.specs.Lines.{text_of};
-ghost use Rattle.app_play.specs.Account.{Accounts, status_of};
+ghost use Rattle.app_play.specs.Account.{AccountOf, status_of};
 
 use crate::account::Account;
 use app_base::{Report, Status, Stream};
@@ -13,7 +13,7 @@ use std::alloc::{AllocError, Global};
 
 /// The account of what was played, and of the event that the lab didn't take.
 pub(crate) fn account_of(played: &Played, stopped: Option<Stopped>) -> Account<'_>
-    ensures told { (told : Told) → Tells played.now told → Accounts result told }
+    ensures told { (told : Told) → TellsPlay played.now told → AccountOf result told }
     ensures broken { result.broken ≡ played.now.watch.broken }
     ensures stopped { result.stopped ≡ stopped }
 {

@@ -3,8 +3,8 @@ ghost use Rattle.std.specs.Prelude.{◌≡◌, IfOk, string_bytes};
 ghost use Rattle.app_base.specs.declared.console.Stream.TheVariants.{Output, Error};
 ghost use Rattle.app_base.specs.declared.status.Status.TheVariants.{RefusedFile};
 ghost use Rattle.app_base.specs.Ending.{RunEnds};
-ghost use Rattle.app_play.specs.Drawn.{Draws};
-ghost use Rattle.app_play.specs.Run.{is_memory, refusal_line, tells_of, Recounts, Says};
+ghost use Rattle.app_play.specs.Drawn.{DrawsChart};
+ghost use Rattle.app_play.specs.Run.{is_memory, refusal_line, tells_of, RecountsPlay, PrintsPlay};
 
 use crate::drawn::drawn_report;
 use crate::ended::{Ended, parts_of};
@@ -61,7 +61,7 @@ fn played_report(
     inputs: Inputs,
 ) -> Result<Report, AllocError>
     ensures stream { IfOk result (λ report. report.stream ≡ Output) }
-    ensures told { IfOk result (λ report. Recounts frames premises inputs
+    ensures told { IfOk result (λ report. RecountsPlay frames premises inputs
         (string_bytes report.text) report.status) }
 {
     let Inputs { file, plan, events } = inputs;
@@ -97,7 +97,7 @@ fn play_report(
     plan: &str,
     schedule: &str,
 ) -> Result<Report, AllocError>
-    ensures { IfOk result (λ report. Says (tells_of shown) board.now plan.now schedule.now
+    ensures { IfOk result (λ report. PrintsPlay (tells_of shown) board.now plan.now schedule.now
         report.stream (string_bytes report.text) report.status) }
 {
     match read_inputs(alloc, board, plan, schedule) {
@@ -117,7 +117,7 @@ pub fn show<W: io::Write, E: io::Write>(
     schedule: &str,
     console: &mut Console<W, E>,
 ) -> u8
-    ensures { RunEnds W.contents E.contents (Says (tells_of shown) board.now plan.now schedule.now)
+    ensures { RunEnds W.contents E.contents (PrintsPlay (tells_of shown) board.now plan.now schedule.now)
         console.old console.new result }
 {
     let report = play_report(alloc, shown, board, plan, schedule);
@@ -139,7 +139,7 @@ pub fn play_run<W: io::Write, E: io::Write>(
     console: &mut Console<W, E>,
 ) -> u8
     ensures { RunEnds W.contents E.contents
-        (Says (Recounts frames premises) board.now plan.now schedule.now)
+        (PrintsPlay (RecountsPlay frames premises) board.now plan.now schedule.now)
         console.old console.new result }
 {
     show(
@@ -161,7 +161,7 @@ pub fn chart_run<W: io::Write, E: io::Write>(
     schedule: &str,
     console: &mut Console<W, E>,
 ) -> u8
-    ensures { RunEnds W.contents E.contents (Says Draws board.now plan.now schedule.now)
+    ensures { RunEnds W.contents E.contents (PrintsPlay DrawsChart board.now plan.now schedule.now)
         console.old console.new result }
 {
     show(alloc, Shown::Chart, board, plan, schedule, console)

@@ -4,7 +4,7 @@ use Rattle.std.proofs.Common.{◌≡◌, ◌⊎◌, inl, inr, ℕ, List, Ok, Err
 use Rattle.app_base.specs.declared.console.Console.{Console}
 use Rattle.app_base.specs.declared.console.Stream.{Stream}
 use Rattle.app_base.specs.declared.status.Status.{Status}
-use Rattle.app_base.specs.declared.ending.Untold.TheVariants.{Memory}
+use Rattle.app_base.specs.declared.ending.ReportFault.TheVariants.{Memory}
 use Rattle.app_base.specs.Ending.{RunEnds, SaysReport}
 use Rattle.app_base.specs.EndingLaws.{run_reports}
 

@@ -4,28 +4,28 @@ use Rattle.std.proofs.Common.{◌≡◌, ◌≤◌, ◌<◌, ◌+◌, ◌⊎◌,
 use Rattle.model_undo.specs.declared.phase.Phase.{Phase}
 use Rattle.model_undo.specs.Machine.{phase_of}
 use Rattle.model_lab.specs.Meaning.{lab_names}
-use Rattle.model_lab.specs.ManagerSteps.{ManagerDeed, board_plans, called}
+use Rattle.model_lab.specs.ManagerSteps.{ManagerStepResult, board_plans, called}
 use Rattle.model_undo.specs.declared.call.Call.TheVariants.{Again}
 use Rattle.undo_core.specs.declared.manager.Manager.{Manager}
 use Rattle.undo_core.specs.declared.phase.WrongPhase.{WrongPhase}
 use Rattle.undo_core.specs.declared.sending.Sent.{Sent}
-use Rattle.undo_core.specs.Shown.{words_of, Shows, IsCalled}
-use Rattle.bmc_ports.specs.Driving.{Links, Drives, open_at}
+use Rattle.undo_core.specs.Shown.{words_of, Represents, IsCalled}
+use Rattle.bmc_ports.specs.Driving.{Links, DriveResult, open_at}
 use Rattle.bmc_ports.proofs.Turns.{drives_both}
-use Rattle.app_run.specs.Driven.{State, From, DrivesAgain, Retakes, Stays, UpToLast, is_unsettled}
+use Rattle.app_run.specs.Driven.{DrivenState, RunFrom, DrivesAgain, RetriesFrom, StaysUndriven, UpToLast, is_unsettled}
 use Rattle.app_run.proofs.Driving.{rests}
 
 -- ---- a turn at a time
 
 -- so many turns were made, and none of them left the manager unsettled
-pub record Going (made : ℕ) (s : State) (m : Manager) (had met : Links) : Type 0 where
+pub record Going (made : ℕ) (s : DrivenState) (m : Manager) (had met : Links) : Type 0 where
   pub phase : Phase
-  pub drives : Drives lab_names made s m phase had met
+  pub drives : DriveResult lab_names made s m phase had met
   pub is_heeded : (made ≡ 0) ⊎ (is_unsettled phase ≡ false)
 
 -- turns, and then others
-pub join : (turns more : ℕ) (s : State) (mid last : Manager) (p q : Phase) (had met has : Links) (first : Drives lab_names turns s mid p had met)
-    → Drives lab_names more first.after last q met has → Drives lab_names (turns + more) s last q had has
+pub join : (turns more : ℕ) (s : DrivenState) (mid last : Manager) (p q : Phase) (had met has : Links) (first : DriveResult lab_names turns s mid p had met)
+    → DriveResult lab_names more first.after last q met has → DriveResult lab_names (turns + more) s last q had has
 join turns more s mid last p q had met has first then = record {
   after = then.after;
   shown = then.shown;
@@ -34,8 +34,8 @@ join turns more s mid last p q had met has first then = record {
 }
 
 -- one turn more, which may have left it unsettled
-pub one_more : (fewer turns : ℕ) (s : State) (mid last : Manager) (phase : Phase) (had met has : Links) → suc fewer ≡ turns → (going : Going fewer s mid had met)
-    → Drives lab_names 1 going.drives.after last phase met has → UpToLast turns s last phase had has
+pub one_more : (fewer turns : ℕ) (s : DrivenState) (mid last : Manager) (phase : Phase) (had met has : Links) → suc fewer ≡ turns → (going : Going fewer s mid had met)
+    → DriveResult lab_names 1 going.drives.after last phase met has → UpToLast turns s last phase had has
 one_more fewer turns s mid last phase had met has more going then = record {
   fewer = fewer;
   one_more = more;
@@ -48,17 +48,17 @@ one_more fewer turns s mid last phase had met has more going then = record {
 }
 
 -- one turn more, which didn't
-pub goes_one_more : (fewer turns : ℕ) (s : State) (mid last : Manager) (phase : Phase) (had met has : Links) → fewer + 1 ≡ turns → (going : Going fewer s mid had met)
-    → Drives lab_names 1 going.drives.after last phase met has → is_unsettled phase ≡ false → Going turns s last had has
+pub goes_one_more : (fewer turns : ℕ) (s : DrivenState) (mid last : Manager) (phase : Phase) (had met has : Links) → fewer + 1 ≡ turns → (going : Going fewer s mid had met)
+    → DriveResult lab_names 1 going.drives.after last phase met has → is_unsettled phase ≡ false → Going turns s last had has
 goes_one_more fewer turns s mid last phase had met has more going then heeded = record {
   phase = phase;
-  drives = subst (λ (n : ℕ). Drives lab_names n s last phase had has) more (join fewer 1 s mid last going.phase phase had met has going.drives then);
+  drives = subst (λ (n : ℕ). DriveResult lab_names n s last phase had has) more (join fewer 1 s mid last going.phase phase had met has going.drives then);
   is_heeded = inr heeded;
 }
 
 -- where no request is open, all turns might as well be made
-pub closed : (made turns : ℕ) (s : State) (m : Manager) (phase : Phase) (had has : Links) → made ≤ turns → (drives : Drives lab_names made s m phase had has)
-    → open_at lab_names drives.after ≡ None → Drives lab_names turns s m phase had has
+pub closed : (made turns : ℕ) (s : DrivenState) (m : Manager) (phase : Phase) (had has : Links) → made ≤ turns → (drives : DriveResult lab_names made s m phase had has)
+    → open_at lab_names drives.after ≡ None → DriveResult lab_names turns s m phase had has
 closed made turns s m phase had has few drives none = record {
   after = drives.after;
   shown = drives.shown;
@@ -67,22 +67,22 @@ closed made turns s m phase had has few drives none = record {
 }
 
 -- one turn more, after which no request is open
-pub closed_after : (fewer made turns : ℕ) (s : State) (mid last : Manager) (phase : Phase) (had met has : Links) → fewer + 1 ≡ made → made ≤ turns → (going : Going fewer s mid had met)
-    → Drives lab_names 1 going.drives.after last phase met has → is_unsettled phase ≡ false → ((t : State) → Shows lab_names last t → open_at lab_names t ≡ None) → Stays turns s last phase had has
+pub closed_after : (fewer made turns : ℕ) (s : DrivenState) (mid last : Manager) (phase : Phase) (had met has : Links) → fewer + 1 ≡ made → made ≤ turns → (going : Going fewer s mid had met)
+    → DriveResult lab_names 1 going.drives.after last phase met has → is_unsettled phase ≡ false → ((t : DrivenState) → Represents lab_names last t → open_at lab_names t ≡ None) → StaysUndriven turns s last phase had has
 closed_after fewer made turns s mid last phase had met has more few going then heeded none =
-    let drives = subst (λ (n : ℕ). Drives lab_names n s last phase had has) more (join fewer 1 s mid last going.phase phase had met has going.drives then) in
+    let drives = subst (λ (n : ℕ). DriveResult lab_names n s last phase had has) more (join fewer 1 s mid last going.phase phase had met has going.drives then) in
     inl (closed made turns s last phase had has few drives (none drives.after drives.shown), inl heeded)
 
 -- ---- one drive after another
 
 -- Some turns and calls to try again are over. Whatever becomes of the manager in those that are left became of the first one in all of them.
-pub record Continues (agains turns : ℕ) (s : State) (had : Links) (more left : ℕ) (m : Manager) (met : Links) : Type 0 where
-  pub state : State
-  pub shown : Shows lab_names m state
+pub record Continues (agains turns : ℕ) (s : DrivenState) (had : Links) (more left : ℕ) (m : Manager) (met : Links) : Type 0 where
+  pub state : DrivenState
+  pub shown : Represents lab_names m state
   pub rest : (last : Manager) (phase : Phase) (has : Links) → DrivesAgain more left state last phase met has → DrivesAgain agains turns s last phase had has
 
 -- nothing is over
-pub begins : (agains more turns : ℕ) (s : State) (m : Manager) (had : Links) → more ≡ agains → Shows lab_names m s → Continues agains turns s had more turns m had
+pub begins : (agains more turns : ℕ) (s : DrivenState) (m : Manager) (had : Links) → more ≡ agains → Represents lab_names m s → Continues agains turns s had more turns m had
 begins agains more turns s m had same shown = record {
   state = s;
   shown = shown;
@@ -90,9 +90,9 @@ begins agains more turns s m had same shown = record {
 }
 
 -- a call to try again, and what became of it
-pub retakes : (Becomes : (left : ℕ) → State → Manager → Phase → Links → Links → Type 0) (turns left made : ℕ) (s : State) (mid last : Manager) (stopped phase : Phase) (had met has : Links)
+pub retakes : (Becomes : (left : ℕ) → DrivenState → Manager → Phase → Links → Links → Type 0) (turns left made : ℕ) (s : DrivenState) (mid last : Manager) (stopped phase : Phase) (had met has : Links)
     → made + left ≡ turns → 0 < left → (drives : UpToLast made s mid stopped had met) → is_unsettled stopped ≡ true
-    → From (Becomes left) (called (board_plans lab_names) Again drives.last.after) drives.last.after last phase met has → Retakes Becomes turns s last phase had has
+    → RunFrom (Becomes left) (called (board_plans lab_names) Again drives.last.after) drives.last.after last phase met has → RetriesFrom Becomes turns s last phase had has
 retakes Becomes turns left made s mid last stopped phase had met has all some drives unsettled again = record {
   made = made;
   left = left;
@@ -107,25 +107,25 @@ retakes Becomes turns left made s mid last stopped phase had met has all some dr
 }
 
 -- a manager has one phase
-one_phase : (turns : ℕ) (s : State) (m : Manager) (named phase : Phase) (had has : Links) → ((t : State) → Shows lab_names m t → named ≡ phase_of (words_of lab_names) t.machine)
-    → Drives lab_names turns s m phase had has → named ≡ phase
+one_phase : (turns : ℕ) (s : DrivenState) (m : Manager) (named phase : Phase) (had has : Links) → ((t : DrivenState) → Represents lab_names m t → named ≡ phase_of (words_of lab_names) t.machine)
+    → DriveResult lab_names turns s m phase had has → named ≡ phase
 one_phase turns s m named phase had has is drives = is drives.after drives.shown ∙ sym drives.is_phase
 
-stays_in : (turns : ℕ) (s : State) (m : Manager) (named phase : Phase) (had has : Links) → ((t : State) → Shows lab_names m t → named ≡ phase_of (words_of lab_names) t.machine)
-    → Stays turns s m phase had has → named ≡ phase
+stays_in : (turns : ℕ) (s : DrivenState) (m : Manager) (named phase : Phase) (had has : Links) → ((t : DrivenState) → Represents lab_names m t → named ≡ phase_of (words_of lab_names) t.machine)
+    → StaysUndriven turns s m phase had has → named ≡ phase
 stays_in turns s m named phase had has is (inl (drives, heeded)) = one_phase turns s m named phase had has is drives
 stays_in turns s m named phase had has is (inr up) = one_phase 1 up.first.after m named phase up.met has is up.last
 
 -- a drive that need not be followed by another
-pub ends_over : (agains turns : ℕ) (s : State) (had : Links) (more less left : ℕ) (m last : Manager) (named : Phase) (met has : Links) → more ≡ suc less
-    → (on : Continues agains turns s had more left m met) → ((phase : Phase) × Stays left on.state last phase met has)
-    → ((t : State) → Shows lab_names last t → named ≡ phase_of (words_of lab_names) t.machine) → DrivesAgain agains turns s last named had has
+pub ends_over : (agains turns : ℕ) (s : DrivenState) (had : Links) (more less left : ℕ) (m last : Manager) (named : Phase) (met has : Links) → more ≡ suc less
+    → (on : Continues agains turns s had more left m met) → ((phase : Phase) × StaysUndriven left on.state last phase met has)
+    → ((t : DrivenState) → Represents lab_names last t → named ≡ phase_of (words_of lab_names) t.machine) → DrivesAgain agains turns s last named had has
 ends_over agains turns s had more less left m last named met has some on (phase, stays) is =
     let same : phase ≡ named = sym (stays_in left on.state last named phase met has is stays) in
-    on.rest last named has (subst (λ (n : ℕ). DrivesAgain n left on.state last named met has) (sym some) (inl (subst (λ (p : Phase). Stays left on.state last p met has) same stays)))
+    on.rest last named has (subst (λ (n : ℕ). DrivesAgain n left on.state last named met has) (sym some) (inl (subst (λ (p : Phase). StaysUndriven left on.state last p met has) same stays)))
 
 -- a turn left the manager unsettled, and this became of the call to try again
-pub record Stopped (left rest : ℕ) (s : State) (m : Manager) (met has : Links) : Type 0 where
+pub record Stopped (left rest : ℕ) (s : DrivenState) (m : Manager) (met has : Links) : Type 0 where
   pub made : ℕ
   pub phase : Phase
   pub all : made + rest ≡ left
@@ -133,42 +133,42 @@ pub record Stopped (left rest : ℕ) (s : State) (m : Manager) (met has : Links)
   pub drives : UpToLast made s m phase met has
   pub unsettled : is_unsettled phase ≡ true
 
-pub stopped : (left rest : ℕ) (s : State) (m : Manager) (met has : Links)
+pub stopped : (left rest : ℕ) (s : DrivenState) (m : Manager) (met has : Links)
     → ((made : ℕ) × (phase : Phase) × (made + rest ≡ left) × (0 < rest) × UpToLast made s m phase met has × (is_unsettled phase ≡ true)) → Stopped left rest s m met has
 stopped left rest s m met has (made, phase, all, some, drives, unsettled) =
     record { made = made; phase = phase; all = all; some = some; drives = drives; unsettled = unsettled }
 
 -- what becomes of it from there on
-pub taken_up : (agains turns : ℕ) (s : State) (had : Links) (more less left rest : ℕ) (m mid last : Manager) (phase : Phase) (met then has : Links) → more ≡ suc less
+pub taken_up : (agains turns : ℕ) (s : DrivenState) (had : Links) (more less left rest : ℕ) (m mid last : Manager) (phase : Phase) (met then has : Links) → more ≡ suc less
     → (on : Continues agains turns s had more left m met) (at : Stopped left rest on.state mid met then)
-    → From (DrivesAgain less rest) (called (board_plans lab_names) Again at.drives.last.after) at.drives.last.after last phase then has → DrivesAgain agains turns s last phase had has
+    → RunFrom (DrivesAgain less rest) (called (board_plans lab_names) Again at.drives.last.after) at.drives.last.after last phase then has → DrivesAgain agains turns s last phase had has
 taken_up agains turns s had more less left rest m mid last phase met then has some on at becomes =
     on.rest last phase has (subst (λ (n : ℕ). DrivesAgain n left on.state last phase met has) (sym some)
     (inr (retakes (DrivesAgain less) left rest at.made on.state mid last at.phase phase met then has at.all at.some at.drives at.unsettled becomes)))
 
 -- the call was taken
-pub called_again : (agains turns : ℕ) (s : State) (had : Links) (more less left rest : ℕ) (m mid next : Manager) (sent : Option Sent) (met then : Links) → more ≡ suc less
+pub called_again : (agains turns : ℕ) (s : DrivenState) (had : Links) (more less left rest : ℕ) (m mid next : Manager) (sent : Option Sent) (met then : Links) → more ≡ suc less
     → (on : Continues agains turns s had more left m met) (at : Stopped left rest on.state mid met then)
     → IsCalled lab_names at.drives.last.after next (Ok sent) (called (board_plans lab_names) Again at.drives.last.after) → Continues agains turns s had less rest next then
 called_again agains turns s had more less left rest m mid next sent met then some on at is =
     go (called (board_plans lab_names) Again at.drives.last.after) refl is
   where
-    go : (deed : Option (ManagerDeed (board_plans lab_names))) → deed ≡ called (board_plans lab_names) Again at.drives.last.after
+    go : (deed : Option (ManagerStepResult (board_plans lab_names))) → deed ≡ called (board_plans lab_names) Again at.drives.last.after
         → IsCalled lab_names at.drives.last.after next (Ok sent) deed → Continues agains turns s had less rest next then
     go (Some deed) same does = record {
       state = deed.manager;
       shown = does.0;
       rest = λ last phase has becomes.
           taken_up agains turns s had more less left rest m mid last phase met then has some on at
-          (subst (λ (d : Option (ManagerDeed (board_plans lab_names))). From (DrivesAgain less rest) d at.drives.last.after last phase then has) same becomes);
+          (subst (λ (d : Option (ManagerStepResult (board_plans lab_names))). RunFrom (DrivesAgain less rest) d at.drives.last.after last phase then has) same becomes);
     }
     go None same does = absurd does
 
 -- the call was refused
-pub not_again : (agains turns : ℕ) (s : State) (had : Links) (more less left rest : ℕ) (m mid next : Manager) (wrong : WrongPhase) (phase : Phase) (met then : Links) → more ≡ suc less
+pub not_again : (agains turns : ℕ) (s : DrivenState) (had : Links) (more less left rest : ℕ) (m mid next : Manager) (wrong : WrongPhase) (phase : Phase) (met then : Links) → more ≡ suc less
     → (on : Continues agains turns s had more left m met) (at : Stopped left rest on.state mid met then)
     → IsCalled lab_names at.drives.last.after next (Err wrong) (called (board_plans lab_names) Again at.drives.last.after)
-    → ((t : State) → Shows lab_names next t → phase ≡ phase_of (words_of lab_names) t.machine) → DrivesAgain agains turns s next phase had then
+    → ((t : DrivenState) → Represents lab_names next t → phase ≡ phase_of (words_of lab_names) t.machine) → DrivesAgain agains turns s next phase had then
 not_again agains turns s had more less left rest m mid next wrong phase met then some on at is named =
     taken_up agains turns s had more less left rest m mid next phase met then then some on at
     (rests (DrivesAgain less rest) at.drives.last.after next wrong phase then (called (board_plans lab_names) Again at.drives.last.after) is named)

@@ -6,24 +6,24 @@ use Rattle.model_undo.specs.declared.phase.Phase.{Phase}
 use Rattle.model_undo.specs.declared.phase.Phase.TheVariants.{Done, Halted, Unsettled}
 use Rattle.model_undo.specs.Machine.{phase_of}
 use Rattle.model_lab.specs.Meaning.{lab_names}
-use Rattle.model_lab.specs.ManagerSteps.{ManagerState, ManagerDeed, board_plans, called}
+use Rattle.model_lab.specs.ManagerSteps.{ManagerState, ManagerStepResult, board_plans, called}
 use Rattle.model_undo.specs.declared.call.Call.{Call}
 use Rattle.model_undo.specs.declared.call.Call.TheVariants.{Undo, Again}
 use Rattle.undo_core.specs.declared.manager.Manager.{Manager}
-use Rattle.undo_core.specs.Shown.{words_of, Shows, opened_with as opened_of, resumed_from as resumed_of, IsListOf as IsOwnList}
+use Rattle.undo_core.specs.Shown.{words_of, Represents, opened_with as opened_of, resumed_from as resumed_of, IsListOf as IsOwnList}
 use Rattle.wire_links.specs.Counted.{none_counted}
-use Rattle.bmc_ports.specs.Driving.{Links, both, Drives}
+use Rattle.bmc_ports.specs.Driving.{Links, both, DriveResult}
 
 -- a manager of the lab's names
-abbrev pub State : Type 0
-State = ManagerState (board_plans lab_names)
+abbrev pub DrivenState : Type 0
+DrivenState = ManagerState (board_plans lab_names)
 
 -- links that have counted nothing
 abbrev pub fresh_links : Links
 fresh_links = both none_counted none_counted
 
 -- the manager of a plan that it hasn't begun
-abbrev pub opened_with : Plan → State
+abbrev pub opened_with : Plan → DrivenState
 opened_with plan = opened_of lab_names plan.steps plan.retries
 
 -- how often a manager sends a request again that goes on from a list
@@ -31,19 +31,19 @@ abbrev pub undo_retries : ℕ
 undo_retries = 3
 
 -- the manager that goes on from a list of requests that undo
-abbrev pub resumed_from : UndoList → State
+abbrev pub resumed_from : UndoList → DrivenState
 resumed_from list = resumed_of lab_names list undo_retries
 
 -- nothing became of the manager and of its links
-pub record Rests (before : State) (manager : Manager) (phase : Phase) (counted counts : Links) : Type 0 where
-  pub shown : Shows lab_names manager before
+pub record RestsAt (before : DrivenState) (manager : Manager) (phase : Phase) (counted counts : Links) : Type 0 where
+  pub shown : Represents lab_names manager before
   pub phase_is : phase ≡ phase_of (words_of lab_names) before.machine
   pub same : counts ≡ counted
 
 -- what comes of a call: what then becomes of the manager, or nothing, where the phase isn't one for the call
-abbrev pub From : (State → Manager → Phase → Links → Links → Type 0) → Option (ManagerDeed (board_plans lab_names)) → State → Manager → Phase → (counted counts : Links) → Type 0
-From Becomes (Some deed) before = Becomes deed.manager
-From Becomes None before = Rests before
+abbrev pub RunFrom : (DrivenState → Manager → Phase → Links → Links → Type 0) → Option (ManagerStepResult (board_plans lab_names)) → DrivenState → Manager → Phase → (counted counts : Links) → Type 0
+RunFrom Becomes (Some deed) before = Becomes deed.manager
+RunFrom Becomes None before = RestsAt before
 
 -- ---- a manager that is called again where it is unsettled
 
@@ -53,24 +53,24 @@ is_unsettled (Unsettled step) = true
 is_unsettled _ = false
 
 -- The manager was driven for so many turns, and not before the last of them was it unsettled by one.
-pub record UpToLast (turns : ℕ) (before : State) (manager : Manager) (phase : Phase) (counted counts : Links) : Type 0 where
+pub record UpToLast (turns : ℕ) (before : DrivenState) (manager : Manager) (phase : Phase) (counted counts : Links) : Type 0 where
   pub fewer : ℕ
   pub one_more : suc fewer ≡ turns
   pub mid : Manager
   pub heeded : Phase
   pub met : Links
-  pub first : Drives lab_names fewer before mid heeded counted met
+  pub first : DriveResult lab_names fewer before mid heeded counted met
   pub is_heeded : (fewer ≡ 0) ⊎ (is_unsettled heeded ≡ false)
-  pub last : Drives lab_names 1 first.after manager phase met counts
+  pub last : DriveResult lab_names 1 first.after manager phase met counts
 
 -- The manager was driven for at most so many turns, and wasn't unsettled while some of them were left: it need not be called again.
-abbrev pub Stays : (turns : ℕ) → State → Manager → Phase → (counted counts : Links) → Type 0
-Stays turns before manager phase counted counts =
-    (Drives lab_names turns before manager phase counted counts × ((is_unsettled phase ≡ false) ⊎ (turns ≡ 0)))
+abbrev pub StaysUndriven : (turns : ℕ) → DrivenState → Manager → Phase → (counted counts : Links) → Type 0
+StaysUndriven turns before manager phase counted counts =
+    (DriveResult lab_names turns before manager phase counted counts × ((is_unsettled phase ≡ false) ⊎ (turns ≡ 0)))
     ⊎ UpToLast turns before manager phase counted counts
 
 -- A turn left the manager unsettled while others were left. It was called again, and that became of it in the turns that were left.
-pub record Retakes (Becomes : (left : ℕ) → State → Manager → Phase → Links → Links → Type 0) (turns : ℕ) (before : State) (manager : Manager) (phase : Phase) (counted counts : Links) : Type 0 where
+pub record RetriesFrom (Becomes : (left : ℕ) → DrivenState → Manager → Phase → Links → Links → Type 0) (turns : ℕ) (before : DrivenState) (manager : Manager) (phase : Phase) (counted counts : Links) : Type 0 where
   pub made : ℕ
   pub left : ℕ
   pub all : made + left ≡ turns
@@ -80,31 +80,31 @@ pub record Retakes (Becomes : (left : ℕ) → State → Manager → Phase → L
   pub met : Links
   pub drives : UpToLast made before mid stopped counted met
   pub unsettled : is_unsettled stopped ≡ true
-  pub again : From (Becomes left) (called (board_plans lab_names) Again drives.last.after) drives.last.after manager phase met counts
+  pub again : RunFrom (Becomes left) (called (board_plans lab_names) Again drives.last.after) drives.last.after manager phase met counts
 
 -- the manager was driven for at most so many turns, and called again, where a turn left it unsettled, up to so many times
-abbrev pub DrivesAgain : (agains turns : ℕ) → State → Manager → Phase → (counted counts : Links) → Type 0
-DrivesAgain zero turns before manager phase counted counts = Drives lab_names turns before manager phase counted counts
+abbrev pub DrivesAgain : (agains turns : ℕ) → DrivenState → Manager → Phase → (counted counts : Links) → Type 0
+DrivesAgain zero turns before manager phase counted counts = DriveResult lab_names turns before manager phase counted counts
 DrivesAgain (suc more) turns before manager phase counted counts =
-    Stays turns before manager phase counted counts ⊎ Retakes (DrivesAgain more) turns before manager phase counted counts
+    StaysUndriven turns before manager phase counted counts ⊎ RetriesFrom (DrivesAgain more) turns before manager phase counted counts
 
 -- ---- a manager that is called, and driven from then on
 
 -- the manager, in this phase, after at most so many turns and as many calls to try again
-abbrev pub GoesAgain : (agains : ℕ) → Call → (turns : ℕ) → State → Manager → Phase → (counted counts : Links) → Type 0
-GoesAgain agains call turns before = From (DrivesAgain agains turns) (called (board_plans lab_names) call before) before
+abbrev pub GoesAgain : (agains : ℕ) → Call → (turns : ℕ) → DrivenState → Manager → Phase → (counted counts : Links) → Type 0
+GoesAgain agains call turns before = RunFrom (DrivesAgain agains turns) (called (board_plans lab_names) call before) before
 
 -- likewise, and it was never called again
-abbrev pub Goes : Call → (turns : ℕ) → State → Manager → Phase → (counted counts : Links) → Type 0
-Goes = GoesAgain 0
+abbrev pub CallRun : Call → (turns : ℕ) → DrivenState → Manager → Phase → (counted counts : Links) → Type 0
+CallRun = GoesAgain 0
 
 -- a manager went on from the list over links of its own, for at most so many turns, and undid it as far as it came
-pub record Undoes (list : UndoList) (turns : ℕ) (manager : Manager) (phase : Phase) : Type 0 where
+pub record UndoRun (list : UndoList) (turns : ℕ) (manager : Manager) (phase : Phase) : Type 0 where
   pub counts : Links
-  pub goes : Goes Undo turns (resumed_from list) manager phase fresh_links counts
+  pub goes : CallRun Undo turns (resumed_from list) manager phase fresh_links counts
 
 -- the list is the manager's: what undoes the steps that were done, the numbers of its next requests, and its names
-abbrev pub IsListOf : UndoList → State → Type 0
+abbrev pub IsListOf : UndoList → DrivenState → Type 0
 IsListOf list state = IsOwnList lab_names list state
 
 -- the plan ended or halted, so its list undoes what was done

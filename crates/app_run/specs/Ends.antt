@@ -10,8 +10,8 @@ use Rattle.app_base.specs.Report.{file_line}
 use Rattle.app_run.specs.Lines.{phase_line}
 
 -- nothing is said: a run that ends so was refused memory, or couldn't write
-abbrev pub Nothing : Saying
-Nothing stream text status = ⊥
+abbrev pub PrintsNothing : Saying
+PrintsNothing stream text status = ⊥
 
 -- standard output has the phase's line
 abbrev pub SaysPhase : Phase → Saying

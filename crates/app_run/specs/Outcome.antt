@@ -7,23 +7,23 @@ use Rattle.model_undo.specs.declared.call.Call.TheVariants.{Start}
 use Rattle.model_undo.specs.declared.phase.Phase.{Phase}
 use Rattle.model_lab.specs.Meaning.{lab_names}
 use Rattle.undo_core.specs.declared.manager.Manager.{Manager}
-use Rattle.undo_core.specs.Shown.{Shows}
+use Rattle.undo_core.specs.Shown.{Represents}
 use Rattle.bmc_ports.specs.Driving.{Links}
-use Rattle.app_base.specs.declared.ending.Untold.{Untold}
-use Rattle.app_base.specs.declared.ending.Untold.TheVariants.{Memory, Stopped}
-use Rattle.app_run.specs.declared.files.Unwritten.{Unwritten}
+use Rattle.app_base.specs.declared.ending.ReportFault.{ReportFault}
+use Rattle.app_base.specs.declared.ending.ReportFault.TheVariants.{Memory, Stopped}
+use Rattle.app_run.specs.declared.files.WriteFault.{WriteFault}
 use Rattle.app_run.specs.declared.running.RunWords.{RunWords}
 use Rattle.app_run.specs.declared.running.Outcome.{Outcome}
 use Rattle.app_run.specs.declared.running.Outcome.TheVariants.{Ran, Unmade}
-use Rattle.app_run.specs.declared.beside.Beside.{Beside}
-use Rattle.app_run.specs.Beside.{Writings, Renamings, Change, IsBeside, Puts, Replaces}
-use Rattle.app_run.specs.Driven.{State, GoesAgain, IsListOf, fresh_links, is_over, opened_with}
+use Rattle.app_run.specs.declared.undo_files.UndoFiles.{UndoFiles}
+use Rattle.app_run.specs.Beside.{Writings, Renamings, Change, IsBeside, PutsText, ReplacesText}
+use Rattle.app_run.specs.Driven.{DrivenState, GoesAgain, IsListOf, fresh_links, is_over, opened_with}
 use Rattle.app_run.specs.Moments.{HasList, KeepsSoFar, PassesTo}
 
 module _ {Files : Type 0} (takes : Writings Files) (renames : Renamings Files) where
   -- A manager was told to start and ran its plan over links of its own, for at most so many turns, and was called again up to so many times.
   -- At each moment of its way the file `.part` got the list so far, where that had grown.
-  pub record RunsFrom (word : List ℕ) (before : State) (words : RunWords) (manager : Manager) (phase : Phase) (old new : Files) : Type 0 where
+  pub record RunsFrom (word : List ℕ) (before : DrivenState) (words : RunWords) (manager : Manager) (phase : Phase) (old new : Files) : Type 0 where
     pub counts : Links
     pub goes : GoesAgain words.again Start words.turns before manager phase fresh_links counts
     pub moments : List Manager
@@ -32,40 +32,40 @@ module _ {Files : Type 0} (takes : Writings Files) (renames : Renamings Files) w
 
   -- The text of the manager's list is put into `.part`, and then that is renamed to the file of this word, where the plan ended or halted, and
   -- these answer so. Else nothing is written.
-  abbrev pub Keeps : (over : Bool) → (word : List ℕ) → Manager → Change Files
-  Keeps true word manager old answer new = (list : UndoList) × HasList manager list × Replaces takes renames word (text_of list) old answer new
-  Keeps false word manager old answer new = (answer ≡ Ok tt) × (new ≡ old)
+  abbrev pub KeepsList : (over : Bool) → (word : List ℕ) → Manager → Change Files
+  KeepsList true word manager old answer new = (list : UndoList) × HasList manager list × ReplacesText takes renames word (text_of list) old answer new
+  KeepsList false word manager old answer new = (answer ≡ Ok tt) × (new ≡ old)
 
   -- so comes to an end what was begun with `.part` made: the manager ran, and its list is kept or not; or no link could be had; or memory for
   -- the text of its last list was refused
-  abbrev pub ComesFrom : (word : List ℕ) → State → RunWords → Result Outcome Untold → (old new : Files) → Type 0
+  abbrev pub ComesFrom : (word : List ℕ) → DrivenState → RunWords → Result Outcome ReportFault → (old new : Files) → Type 0
   ComesFrom word before words (Ok (Ran phase answer)) old new =
-      (manager : Manager) × (mid : Files) × RunsFrom word before words manager phase old mid × Keeps (is_over phase) word manager mid answer new
+      (manager : Manager) × (mid : Files) × RunsFrom word before words manager phase old mid × KeepsList (is_over phase) word manager mid answer new
   ComesFrom word before words (Ok Unmade) old new = ⊥
   ComesFrom word before words (Err Stopped) old new = new ≡ old
   ComesFrom word before words (Err Memory) old new =
       (manager : Manager) × (phase : Phase) × (is_over phase ≡ true) × RunsFrom word before words manager phase old new
 
   -- the same, whatever the word that the words are beside, and whatever machine the manager showed before
-  abbrev pub RunsBeside : Beside → (manager : Manager) → RunWords → (reached : Manager) → Phase → (old new : Files) → Type 0
+  abbrev pub RunsBeside : UndoFiles → (manager : Manager) → RunWords → (reached : Manager) → Phase → (old new : Files) → Type 0
   RunsBeside beside manager words reached phase old new =
-      (word : List ℕ) (before : State) → IsBeside word beside → Shows lab_names manager before → RunsFrom word before words reached phase old new
+      (word : List ℕ) (before : DrivenState) → IsBeside word beside → Represents lab_names manager before → RunsFrom word before words reached phase old new
 
-  abbrev pub KeepsBeside : Beside → (over : Bool) → Manager → Change Files
-  KeepsBeside beside over manager old answer new = (word : List ℕ) → IsBeside word beside → Keeps over word manager old answer new
+  abbrev pub KeepsBeside : UndoFiles → (over : Bool) → Manager → Change Files
+  KeepsBeside beside over manager old answer new = (word : List ℕ) → IsBeside word beside → KeepsList over word manager old answer new
 
-  abbrev pub ComesBeside : Beside → (manager : Manager) → RunWords → Result Outcome Untold → (old new : Files) → Type 0
+  abbrev pub ComesBeside : UndoFiles → (manager : Manager) → RunWords → Result Outcome ReportFault → (old new : Files) → Type 0
   ComesBeside beside manager words outcome old new =
-      (word : List ℕ) (before : State) → IsBeside word beside → Shows lab_names manager before → ComesFrom word before words outcome old new
+      (word : List ℕ) (before : DrivenState) → IsBeside word beside → Represents lab_names manager before → ComesFrom word before words outcome old new
 
   -- `.part` is made, with the list of a manager that did nothing, and this is answered
-  abbrev pub Makes : Plan → (word : List ℕ) → Change Files
-  Makes plan word old answer new = (list : UndoList) × IsListOf list (opened_with plan) × Puts takes renames word (text_of list) old answer new
+  abbrev pub MakesPart : Plan → (word : List ℕ) → Change Files
+  MakesPart plan word old answer new = (list : UndoList) × IsListOf list (opened_with plan) × PutsText takes renames word (text_of list) old answer new
 
   -- so a run of a plan comes to an end: `.part` is made first, and then it goes on; or that isn't made, and nothing else is done; or memory
   -- was refused before, and nothing is done
-  abbrev pub Comes : Plan → RunWords → Result Outcome Untold → (old new : Files) → Type 0
-  Comes plan words outcome old new =
-      ((made : Files) × Makes plan (string_bytes words.undo) old (Ok tt) made × ComesFrom (string_bytes words.undo) (opened_with plan) words outcome made new)
-      ⊎ (((why : Unwritten) × (outcome ≡ Ok Unmade) × Makes plan (string_bytes words.undo) old (Err why) new)
+  abbrev pub RunEnd : Plan → RunWords → Result Outcome ReportFault → (old new : Files) → Type 0
+  RunEnd plan words outcome old new =
+      ((made : Files) × MakesPart plan (string_bytes words.undo) old (Ok tt) made × ComesFrom (string_bytes words.undo) (opened_with plan) words outcome made new)
+      ⊎ (((why : WriteFault) × (outcome ≡ Ok Unmade) × MakesPart plan (string_bytes words.undo) old (Err why) new)
       ⊎ ((outcome ≡ Err Memory) × (new ≡ old)))

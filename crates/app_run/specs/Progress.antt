@@ -6,7 +6,7 @@ use Rattle.plan_file.specs.declared.kind.Kind.{Kind}
 use Rattle.plan_file.specs.Kinds.{of_kind}
 use Rattle.model_undo.specs.declared.phase.Phase.{Phase}
 use Rattle.model_undo.specs.declared.phase.Phase.TheVariants.{Getting, Setting, Undoing, Unsettled}
-use Rattle.app_run.specs.declared.progress.Moment.{Moment}
+use Rattle.app_run.specs.declared.progress.Snapshot.{Snapshot}
 use Rattle.app_run.specs.declared.progress.Progress.{Progress}
 
 -- ---- the line
@@ -46,25 +46,25 @@ retry_of zero = []
 retry_of (suc n) = codes ", retry " ++ decimal (suc n)
 
 -- the line of a moment: behind a carriage return, and what was behind it there is erased
-abbrev pub line_of : List Kind → (steps : ℕ) → Moment → List ℕ
+abbrev pub line_of : List Kind → (steps : ℕ) → Snapshot → List ℕ
 line_of kinds steps now = codes "\r" ++ (what_of kinds steps now.phase ++ (retry_of now.resent ++ (27 ∷ codes "[K")))
 
 -- ---- what is written
 
 module _ {Writer : Type 0} (out : Writer → Option (List ℕ)) where
   -- the text is written, and the line says this; or a write failed, and nothing is written any more
-  abbrev pub Writes : (text : List ℕ) → Option Moment → (old new : Progress Writer) → Type 0
-  Writes text said old new =
+  abbrev pub WritesProgress : (text : List ℕ) → Option Snapshot → (old new : Progress Writer) → Type 0
+  WritesProgress text said old new =
       (new.said ≡ said) × ((new.on ≡ false) ⊎ ((new.on ≡ old.on) × Appends (out old.writer) (out new.writer) text))
 
   -- nothing is written; or the line of this moment is, where lines are written and the line says something else
-  abbrev pub MayTell : List Kind → (steps : ℕ) → Moment → (old new : Progress Writer) → Type 0
+  abbrev pub MayTell : List Kind → (steps : ℕ) → Snapshot → (old new : Progress Writer) → Type 0
   MayTell kinds steps now old new =
       (new ≡ old)
-      ⊎ ((old.on ≡ true) × (has_line now.phase ≡ true) × (old.said ≢ Some now) × Writes (line_of kinds steps now) (Some now) old new)
+      ⊎ ((old.on ≡ true) × (has_line now.phase ≡ true) × (old.said ≢ Some now) × WritesProgress (line_of kinds steps now) (Some now) old new)
 
   -- a line that was written is ended by a line feed; where none was, nothing is written
   abbrev pub EndsLine : (old new : Progress Writer) → Type 0
   EndsLine old new =
       ((new ≡ old) × ((old.on ≡ false) ⊎ (old.said ≡ None)))
-      ⊎ ((old.on ≡ true) × IsSome old.said × Writes (codes "\n") None old new)
+      ⊎ ((old.on ≡ true) × IsSome old.said × WritesProgress (codes "\n") None old new)

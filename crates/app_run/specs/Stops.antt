@@ -3,10 +3,10 @@ use Rattle.std.specs.Prelude.{◌≡◌, ◌+◌, ◌<◌, ℕ, true, Option, So
 use Rattle.model_undo.specs.declared.phase.Phase.{Phase}
 use Rattle.undo_core.specs.declared.manager.Manager.{Manager}
 use Rattle.bmc_ports.specs.Driving.{Links}
-use Rattle.app_run.specs.Driven.{State, Stays, UpToLast, is_unsettled}
+use Rattle.app_run.specs.Driven.{DrivenState, StaysUndriven, UpToLast, is_unsettled}
 
 -- a turn left the manager unsettled, and so many are left; or, after at most so many turns, it need not be called again
-abbrev pub Stops : (turns : ℕ) → State → Manager → (left : Option ℕ) → (counted counts : Links) → Type 0
-Stops turns before manager None counted counts = (phase : Phase) × Stays turns before manager phase counted counts
-Stops turns before manager (Some left) counted counts =
+abbrev pub StopsAfter : (turns : ℕ) → DrivenState → Manager → (left : Option ℕ) → (counted counts : Links) → Type 0
+StopsAfter turns before manager None counted counts = (phase : Phase) × StaysUndriven turns before manager phase counted counts
+StopsAfter turns before manager (Some left) counted counts =
     (made : ℕ) × (stopped : Phase) × (made + left ≡ turns) × (0 < left) × UpToLast made before manager stopped counted counts × (is_unsettled stopped ≡ true)

@@ -5,50 +5,50 @@ use Rattle.undo_plans.specs.declared.undo_list.UndoList.{UndoList}
 use Rattle.plan_file.specs.declared.kind.Kind.{Kind}
 use Rattle.plan_file.specs.Kinds.{kind_of}
 use Rattle.plan_file.specs.PlanHolds.{ReadsPlan}
-use Rattle.text_undo.specs.UndoText.{Stands}
+use Rattle.text_undo.specs.UndoText.{IsTextOf}
 use Rattle.model_undo.specs.declared.call.Call.TheVariants.{Undo}
 use Rattle.model_undo.specs.Machine.{phase_of}
 use Rattle.model_lab.specs.Meaning.{lab_names}
 use Rattle.undo_core.specs.declared.manager.Manager.{Manager}
-use Rattle.undo_core.specs.Shown.{words_of, AreOthers, Shows}
+use Rattle.undo_core.specs.Shown.{words_of, AreOthers, Represents}
 use Rattle.bmc_ports.specs.Driving.{Links}
 use Rattle.app_base.specs.Files.{Readings}
-use Rattle.app_run.specs.declared.progress.Moment.{Moment}
+use Rattle.app_run.specs.declared.progress.Snapshot.{Snapshot}
 use Rattle.app_run.specs.declared.progress.Progress.{Progress}
-use Rattle.app_run.specs.Driven.{State, fresh_links, opened_with, resumed_from}
-use Rattle.app_run.specs.Moments.{PassesTo, Sees, Takes}
+use Rattle.app_run.specs.Driven.{DrivenState, fresh_links, opened_with, resumed_from}
+use Rattle.app_run.specs.Moments.{PassesTo, SeesMoments, CallTaken}
 use Rattle.app_run.specs.Progress.{EndsLine, MayTell}
 
 -- the manager is there
-pub record IsAt (manager : Manager) (now : Moment) : Type 0 where
-  pub phase : (state : State) → Shows lab_names manager state → now.phase ≡ phase_of (words_of lab_names) state.machine
-  pub resent : (state : State) → Shows lab_names manager state → now.resent ≡ state.machine.resent
+pub record IsAt (manager : Manager) (now : Snapshot) : Type 0 where
+  pub phase : (state : DrivenState) → Represents lab_names manager state → now.phase ≡ phase_of (words_of lab_names) state.machine
+  pub resent : (state : DrivenState) → Represents lab_names manager state → now.resent ≡ state.machine.resent
 
 module _ {Writer : Type 0} (out : Writer → Option (List ℕ)) where
   -- a look at a manager, whose moment may be told
   abbrev pub LooksOn : List Kind → (steps : ℕ) → (old : Progress Writer) → Manager → (new : Progress Writer) → Type 0
-  LooksOn kinds steps old manager new = (now : Moment) × IsAt manager now × MayTell out kinds steps now old new
+  LooksOn kinds steps old manager new = (now : Snapshot) × IsAt manager now × MayTell out kinds steps now old new
 
   -- ---- a run
 
   -- a manager went its way over links of its own, and each moment of that may be told
-  pub record LooksOnWay (kinds : List Kind) (steps : ℕ) (before : State) (manager : Manager) (old new : Progress Writer) : Type 0 where
+  pub record LooksOnWay (kinds : List Kind) (steps : ℕ) (before : DrivenState) (manager : Manager) (old new : Progress Writer) : Type 0 where
     pub counts : Links
     pub moments : List Manager
     pub way : PassesTo moments before manager fresh_links counts
-    pub looks : Sees (LooksOn kinds steps) moments old new
+    pub looks : SeesMoments (LooksOn kinds steps) moments old new
 
   -- and then the line is ended
-  abbrev pub TellsWay : List Kind → (steps : ℕ) → (before : State) → (old new : Progress Writer) → Type 0
+  abbrev pub TellsWay : List Kind → (steps : ℕ) → (before : DrivenState) → (old new : Progress Writer) → Type 0
   TellsWay kinds steps before old new = (manager : Manager) × (mid : Progress Writer) × LooksOnWay kinds steps before manager old mid × EndsLine out mid new
 
   -- the same, whatever machine the manager showed before
   abbrev pub TellsBeside : List Kind → (steps : ℕ) → (manager : Manager) → (old new : Progress Writer) → Type 0
-  TellsBeside kinds steps manager old new = (before : State) → Shows lab_names manager before → TellsWay kinds steps before old new
+  TellsBeside kinds steps manager old new = (before : DrivenState) → Represents lab_names manager before → TellsWay kinds steps before old new
 
   -- the same, whatever machine the manager showed before; or nothing is told
   abbrev pub MayTellWay : List Kind → (manager : Manager) → (old new : Progress Writer) → Type 0
-  MayTellWay kinds manager old new = (before : State) → Shows lab_names manager before → (new ≡ old) ⊎ TellsWay kinds (length kinds) before old new
+  MayTellWay kinds manager old new = (before : DrivenState) → Represents lab_names manager before → (new ≡ old) ⊎ TellsWay kinds (length kinds) before old new
 
   -- the way of a manager that runs this plan is told, or nothing is
   abbrev pub TellsPlan : Plan → (old new : Progress Writer) → Type 0
@@ -66,14 +66,14 @@ module _ {Writer : Type 0} (out : Writer → Option (List ℕ)) where
   -- a manager went on from the list, and each moment of its way from the call on may be told
   pub record LooksOnUndo (list : UndoList) (old new : Progress Writer) : Type 0 where
     pub first : Manager
-    pub start : State
-    pub called : Takes Undo (resumed_from list) start
-    pub shown : Shows lab_names first start
+    pub start : DrivenState
+    pub called : CallTaken Undo (resumed_from list) start
+    pub shown : Represents lab_names first start
     pub last : Manager
     pub counts : Links
     pub moments : List Manager
     pub way : PassesTo moments start last fresh_links counts
-    pub looks : Sees (LooksOn [] (length list.requests.members)) (first ∷ moments) old new
+    pub looks : SeesMoments (LooksOn [] (length list.requests.members)) (first ∷ moments) old new
 
   -- and then the line is ended
   abbrev pub TellsUndo : UndoList → (old new : Progress Writer) → Type 0
@@ -89,7 +89,7 @@ module _ {Writer : Type 0} (out : Writer → Option (List ℕ)) where
 
   -- so an undo of an undo text tells, and of the file of one
   abbrev pub TellsUndoText : (text : List ℕ) → (old new : Progress Writer) → Type 0
-  TellsUndoText text old new = (new ≡ old) ⊎ ((list : UndoList) × Stands text list × TellsOfNames list old new)
+  TellsUndoText text old new = (new ≡ old) ⊎ ((list : UndoList) × IsTextOf text list × TellsOfNames list old new)
 
   abbrev pub TellsUndoFile : Readings → (named : List ℕ) → (old new : Progress Writer) → Type 0
   TellsUndoFile gives named old new = (new ≡ old) ⊎ ((text : List ℕ) × gives named (Ok text) × TellsUndoText text old new)

@@ -2,9 +2,9 @@
 ghost use Rattle.std.specs.Prelude.{◌≡◌, ◌↔◌, IfOk, Err};
 ghost use Rattle.model_undo.specs.declared.call.Call.TheVariants.{Start, Undo};
 ghost use Rattle.model_lab.specs.Meaning.{lab_names as the_names};
-ghost use Rattle.undo_core.specs.Shown.{AreOthers, Shows};
+ghost use Rattle.undo_core.specs.Shown.{AreOthers, Represents};
 ghost use Rattle.bmc_ports.specs.Driving.{both};
-ghost use Rattle.app_run.specs.Driven.{State, Goes, opened_with, resumed_from};
+ghost use Rattle.app_run.specs.Driven.{DrivenState, CallRun, opened_with, resumed_from};
 
 use bmc_ports::drive;
 use model_lab::lab_names;
@@ -18,7 +18,7 @@ const UNDO_RETRIES: u8 = 3;
 
 /// Why no manager with the lab's names goes on from a list.
 #[derive(Clone, Copy, Debug)]
-pub enum Unresumed {
+pub enum RemakeFault {
     /// Memory was refused.
     Memory,
     /// The list has other names.
@@ -27,7 +27,7 @@ pub enum Unresumed {
 
 /// A manager of a plan, with the plan's retries and the lab's names.
 pub fn open_manager(alloc: Global, plan: Plan) -> Result<Manager, AllocError>
-    ensures { IfOk result (λ m. Shows the_names m (opened_with plan)) }
+    ensures { IfOk result (λ m. Represents the_names m (opened_with plan)) }
 {
     let Plan { steps, retries } = plan;
     match Manager::open(
@@ -43,14 +43,14 @@ pub fn open_manager(alloc: Global, plan: Plan) -> Result<Manager, AllocError>
 }
 
 /// A manager that goes on from a list, with the lab's names.
-pub fn resume_manager(alloc: Global, list: UndoList) -> Result<Manager, Unresumed>
-    ensures resumed { IfOk result (λ m. Shows the_names m (resumed_from list)) }
-    ensures others { (result ≡ Err Unresumed.OtherNames) ↔ AreOthers the_names list.names }
+pub fn resume_manager(alloc: Global, list: UndoList) -> Result<Manager, RemakeFault>
+    ensures resumed { IfOk result (λ m. Represents the_names m (resumed_from list)) }
+    ensures others { (result ≡ Err RemakeFault.OtherNames) ↔ AreOthers the_names list.names }
 {
     match Manager::resume(alloc, list, lab_names(), UNDO_RETRIES) {
         Ok(manager) => Ok(manager),
-        Err(ResumeFault::Memory) => Err(Unresumed::Memory),
-        Err(ResumeFault::OtherNames) => Err(Unresumed::OtherNames),
+        Err(ResumeFault::Memory) => Err(RemakeFault::Memory),
+        Err(ResumeFault::OtherNames) => Err(RemakeFault::OtherNames),
         Err(ResumeFault::Retries) => unreachable!(),
     }
 }
@@ -62,8 +62,8 @@ pub fn run_plan<A: Link, B: Link>(
     smbus: &mut B,
     turns: u32,
 ) -> Phase
-    ensures { (before : State) → Shows the_names manager.old before
-        → Goes Start turns before manager.new result
+    ensures { (before : DrivenState) → Represents the_names manager.old before
+        → CallRun Start turns before manager.new result
         (both (A.counts_of ipmb.old) (B.counts_of smbus.old))
         (both (A.counts_of ipmb.new) (B.counts_of smbus.new)) }
 {
@@ -80,8 +80,8 @@ pub fn undo_plan<A: Link, B: Link>(
     smbus: &mut B,
     turns: u32,
 ) -> Phase
-    ensures { (before : State) → Shows the_names manager.old before
-        → Goes Undo turns before manager.new result
+    ensures { (before : DrivenState) → Represents the_names manager.old before
+        → CallRun Undo turns before manager.new result
         (both (A.counts_of ipmb.old) (B.counts_of smbus.old))
         (both (A.counts_of ipmb.new) (B.counts_of smbus.new)) }
 {

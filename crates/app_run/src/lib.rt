@@ -2,23 +2,23 @@
 //! it back.
 #![tactic(auto)]
 
-mod beside;
 pub mod driven;
 pub mod files;
 mod lines;
 mod links;
+pub mod observer;
 pub mod progress;
 pub mod running;
 mod trying;
+mod undo_files;
 pub mod undoing;
-pub mod watching;
 
-pub use driven::{Unresumed, open_manager, resume_manager, run_plan, undo_plan};
-pub use files::{Unwritten, WritesFiles};
+pub use driven::{RemakeFault, open_manager, resume_manager, run_plan, undo_plan};
+pub use files::{WriteFault, WritesFiles};
 pub use lines::push_phase;
 pub use links::WAIT_MS;
+pub use observer::Observer;
 pub use progress::Progress;
 pub use running::{RunWords, run};
 pub use trying::try_plan;
 pub use undoing::{UndoWords, undo};
-pub use watching::Watches;

@@ -10,7 +10,7 @@ pub const WAIT_MS: u32 = 200;
 
 /// The manager's ends of both buses.
 #[derive(Drop)]
-pub(crate) struct Ends {
+pub(crate) struct BusLinks {
     pub ipmb: UdpLink,
     pub smbus: UdpLink,
 }
@@ -21,13 +21,13 @@ pub(crate) fn open_ends<R: Net>(
     ipmb_port: u16,
     smbus_port: u16,
     wait_ms: u32,
-) -> Option<Ends>
+) -> Option<BusLinks>
     ensures ipmb { IfSome result (λ ends. ends.ipmb.counts ≡ none_counted) }
     ensures smbus { IfSome result (λ ends. ends.smbus.counts ≡ none_counted) }
 {
     let ipmb = UdpLink::to(rt, ipmb_port, wait_ms).ok()?;
     let smbus = UdpLink::to(rt, smbus_port, wait_ms).ok()?;
-    Some(Ends { ipmb, smbus })
+    Some(BusLinks { ipmb, smbus })
 }
 
 /// Hears nothing for so many turns and one more, by a link of its own, to which nobody is to speak: a controller whose turns last as long, and

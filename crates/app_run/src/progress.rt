@@ -1,7 +1,7 @@
 //! The line on a terminal that tells how far a manager is.
 ghost use Rattle.std.specs.Prelude.{◌≡◌, ◌≢◌, ◌++◌, true, IfOk, OnOk, None, Some, map, string_bytes};
 ghost use Rattle.plan_file.specs.Kinds.{kind_of};
-ghost use Rattle.app_run.specs.Progress.{EndsLine, MayTell, Writes, has_line, line_of};
+ghost use Rattle.app_run.specs.Progress.{EndsLine, MayTell, WritesProgress, has_line, line_of};
 ghost use Rattle.app_run.specs.Progress.{retry_of, step_of, what_of, word_at};
 
 use plan_file::Kind;
@@ -12,7 +12,7 @@ use undo_plans::Steps;
 
 /// Where a manager is, as a line tells it.
 #[derive(Clone, Copy)]
-pub struct Moment {
+pub struct Snapshot {
     pub phase: Phase,
     /// How often the open request was sent again.
     pub resent: u8,
@@ -20,7 +20,7 @@ pub struct Moment {
 
 /// What lies before a manager.
 #[derive(Clone, Copy)]
-pub(crate) struct Course<'a> {
+pub(crate) struct PlanOutline<'a> {
     /// How many steps it does, or undoes.
     pub steps: usize,
     /// The kinds of a plan's steps. Of a list that undoes one none is known.
@@ -34,7 +34,7 @@ pub struct Progress<P> {
     /// Whether it is written: the writer is a terminal, and no write to it failed.
     pub(crate) on: bool,
     /// What the line says, where it was written and isn't ended.
-    pub(crate) said: Option<Moment>,
+    pub(crate) said: Option<Snapshot>,
 }
 
 /// The kinds of a plan's steps, in their order.
@@ -60,10 +60,10 @@ fn has_line(phase: Phase) -> bool
 }
 
 /// Whether a moment has a line, and another one than that which says this.
-fn is_news(said: Option<Moment>, now: &Moment) -> bool
+fn is_news(said: Option<Snapshot>, now: &Snapshot) -> bool
     ensures { result ≡ true → (has_line now.now.phase ≡ true) × (said ≢ Some now.now) }
 {
-    let Moment { phase, resent } = *now;
+    let Snapshot { phase, resent } = *now;
     if !has_line(phase) {
         return false;
     }
@@ -92,7 +92,7 @@ fn push_step(text: &mut String, step: usize, steps: usize) -> Result<(), AllocEr
 }
 
 /// Adds what is asked in this phase.
-fn push_what(text: &mut String, course: Course, phase: Phase) -> Result<(), AllocError>
+fn push_what(text: &mut String, course: PlanOutline, phase: Phase) -> Result<(), AllocError>
     ensures { OnOk result (string_bytes text.new
         ≡ string_bytes text.old ++ what_of course.entry.kinds.now course.entry.steps phase) }
 {
@@ -128,7 +128,7 @@ fn push_retry(text: &mut String, resent: u8) -> Result<(), AllocError>
 }
 
 /// The line of a moment, from the terminal's left edge on. What the terminal had behind it there is erased.
-fn line(alloc: Global, course: Course, now: &Moment) -> Result<String, AllocError>
+fn line(alloc: Global, course: PlanOutline, now: &Snapshot) -> Result<String, AllocError>
     ensures { IfOk result (λ text. string_bytes text
         ≡ line_of course.entry.kinds.now course.entry.steps now.now) }
 {
@@ -155,8 +155,8 @@ impl<P: io::Write> Progress<P> {
     }
 
     /// Writes this, after which the line says so. Where that fails, nothing is written from then on.
-    fn put(&mut self, text: &[u8], said: Option<Moment>)
-        ensures { Writes P.contents text.now said self.old self.new }
+    fn put(&mut self, text: &[u8], said: Option<Snapshot>)
+        ensures { WritesProgress P.contents text.now said self.old self.new }
     {
         self.said = said;
         match self.writer.write_all(text) {
@@ -166,7 +166,7 @@ impl<P: io::Write> Progress<P> {
     }
 
     /// Writes the line of this moment over the one that is there, where the two differ.
-    pub(crate) fn show(&mut self, alloc: Global, course: Course, now: Moment)
+    pub(crate) fn show(&mut self, alloc: Global, course: PlanOutline, now: Snapshot)
         ensures { MayTell P.contents course.entry.kinds.now course.entry.steps
             now self.old self.new }
     {

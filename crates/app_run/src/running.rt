@@ -3,28 +3,28 @@ ghost use Rattle.std.specs.Prelude.{◌≡◌, ◌⊎◌, ℕ, List, true, false
 ghost use Rattle.plan_file.specs.Kinds.{kind_of};
 ghost use Rattle.plan_file.specs.PlanHolds.{ReadsPlan};
 ghost use Rattle.model_lab.specs.Meaning.{lab_names};
-ghost use Rattle.undo_core.specs.Shown.{Shows};
+ghost use Rattle.undo_core.specs.Shown.{Represents};
 ghost use Rattle.app_base.specs.declared.console.Stream.TheVariants.{Output, Error};
 ghost use Rattle.app_base.specs.declared.status.Status.TheVariants.{Success, RefusedFile};
-ghost use Rattle.app_base.specs.Ending.{RunEnds, Tells};
+ghost use Rattle.app_base.specs.Ending.{RunEnds, ReportTells};
 ghost use Rattle.wire_links.specs.Counted.{none_counted};
 ghost use Rattle.app_run.specs.declared.running.Outcome.TheVariants.{Ran as HasRun};
 ghost use Rattle.app_run.specs.Driven.{is_over, opened_with};
-ghost use Rattle.app_run.specs.Ends.{Nothing, SaysFile, SaysPhase, TellsBoth};
-ghost use Rattle.app_run.specs.Outcome.{Comes, ComesBeside, KeepsBeside, RunsBeside};
+ghost use Rattle.app_run.specs.Ends.{PrintsNothing, SaysFile, SaysPhase, TellsBoth};
+ghost use Rattle.app_run.specs.Outcome.{RunEnd, ComesBeside, KeepsBeside, RunsBeside};
 ghost use Rattle.app_run.specs.Told.{MayTellWay, TellsBeside, TellsFile, TellsPlan, TellsText};
 ghost use Rattle.app_run.specs.Run.{EndsBy, EndsUnkept, RunEndsOf, RunEndsOn, RunEndsOver, SaysFault};
 
-use crate::beside::Beside;
 use crate::driven::open_manager;
-use crate::files::{Unwritten, WritesFiles};
+use crate::files::{WriteFault, WritesFiles};
 use crate::lines::{phase_report, plan_refusal};
-use crate::links::{Ends, open_ends, sit_out};
-use crate::progress::{Course, Progress, kinds_of};
+use crate::links::{BusLinks, open_ends, sit_out};
+use crate::observer::{Chained, ListWriter, ProgressWriter};
+use crate::progress::{PlanOutline, Progress, kinds_of};
 use crate::trying::try_plan;
-use crate::watching::{Both, Keeper, Teller};
+use crate::undo_files::UndoFiles;
 use app_base::files::refuse;
-use app_base::{Console, Ending, Report, Status, TextFiles, Untold, end_run, text_of};
+use app_base::{Console, Ending, Report, ReportFault, Status, TextFiles, end_run, text_of};
 use plan_file::{Kind, PlanFault, read_plan};
 use std::alloc::{AllocError, Global};
 use std::io;
@@ -40,7 +40,7 @@ pub struct RunWords {
     pub plan: String,
     /// The UDP port of the controller's end of IPMB.
     pub ipmb_port: u16,
-    /// That of its end of SMBus.
+    /// The UDP port of the end of SMBus.
     pub smbus_port: u16,
     /// How many turns the manager makes.
     pub turns: u32,
@@ -57,8 +57,8 @@ pub struct RunWords {
 /// What came of a run.
 #[derive(Clone, Copy)]
 pub enum Outcome {
-    /// It left the manager in this phase. The list is kept where the plan ended or halted, or the file can't be written or get its name.
-    Ran(Phase, Result<(), Unwritten>),
+    /// The run left the manager in this phase. The list is kept where the plan ended or halted, or the file can't be written or get its name.
+    Ran(Phase, Result<(), WriteFault>),
     /// The file beside the one of the undo text can't be made.
     Unmade,
 }
@@ -89,7 +89,7 @@ fn wait_first<R: Net>(rt: &R, words: &RunWords) -> bool {
 }
 
 /// Links to the ports that the words name, once the turns are over that the run is to wait; or nothing where one can't be had.
-fn ready_ends<R: Net>(rt: &R, words: &RunWords) -> Option<Ends>
+fn ready_ends<R: Net>(rt: &R, words: &RunWords) -> Option<BusLinks>
     ensures ipmb { IfSome result (λ ends. ends.ipmb.counts ≡ none_counted) }
     ensures smbus { IfSome result (λ ends. ends.smbus.counts ≡ none_counted) }
 {
@@ -102,9 +102,9 @@ fn ready_ends<R: Net>(rt: &R, words: &RunWords) -> Option<Ends>
 /// Has a manager run its plan over these links, while a keeper looks at it that has seen no list yet, and a teller, whose line is ended then.
 fn try_kept<F: WritesFiles, P: io::Write>(
     manager: &mut Manager,
-    ends: Ends,
+    ends: BusLinks,
     words: &RunWords,
-    watch: &mut Both<Keeper<F>, Teller<P>>,
+    watch: &mut Chained<ListWriter<F>, ProgressWriter<P>>,
 ) -> Phase
     requires ipmb { ends.ipmb.counts ≡ none_counted }
     requires smbus { ends.smbus.counts ≡ none_counted }
@@ -118,7 +118,7 @@ fn try_kept<F: WritesFiles, P: io::Write>(
     ensures same_line { watch.new.second.progress.ghost_name
         ≡ watch.old.second.progress.ghost_name }
 {
-    let Ends {
+    let BusLinks {
         mut ipmb,
         mut smbus,
     } = ends;
@@ -139,9 +139,9 @@ fn try_kept<F: WritesFiles, P: io::Write>(
 fn run_on<F: WritesFiles, P: io::Write>(
     alloc: Global,
     files: &mut F,
-    beside: &Beside,
+    beside: &UndoFiles,
     ready: Ready,
-    ends: Ends,
+    ends: BusLinks,
     words: &RunWords,
     progress: &mut Progress<P>,
 ) -> Ran
@@ -152,22 +152,22 @@ fn run_on<F: WritesFiles, P: io::Write>(
     ensures told { MayTellWay P.contents ready.kinds.items ready.manager progress.old progress.new }
 {
     let Ready { mut manager, kinds } = ready;
-    let first = Keeper {
+    let first = ListWriter {
         alloc,
         files,
         beside,
         seen: 0,
     };
-    let course = Course {
+    let course = PlanOutline {
         steps: kinds.len(),
         kinds: kinds.as_slice(),
     };
-    let second = Teller {
+    let second = ProgressWriter {
         alloc,
         progress,
         course,
     };
-    let mut watch = Both { first, second };
+    let mut watch = Chained { first, second };
     let phase = try_kept(&mut manager, ends, words, &mut watch);
     Ran { manager, phase }
 }
@@ -183,9 +183,9 @@ fn is_over(phase: Phase) -> bool
 fn keep<F: WritesFiles>(
     alloc: Global,
     files: &mut F,
-    beside: &Beside,
+    beside: &UndoFiles,
     ran: &Ran,
-) -> Result<Result<(), Unwritten>, AllocError>
+) -> Result<Result<(), WriteFault>, AllocError>
     ensures kept { IfOk result (λ answer. KeepsBeside F.takes F.renames beside.now
         (is_over ran.now.phase) ran.now.manager files.old answer files.new) }
     ensures memory { OnErr result ((is_over ran.now.phase ≡ true) × (files.new ≡ files.old)) }
@@ -201,18 +201,18 @@ fn run_made<F: WritesFiles, P: io::Write, R: Net>(
     rt: &R,
     alloc: Global,
     files: &mut F,
-    beside: &Beside,
+    beside: &UndoFiles,
     ready: Ready,
     words: &RunWords,
     progress: &mut Progress<P>,
-) -> Result<Outcome, Untold>
+) -> Result<Outcome, ReportFault>
     ensures comes { ComesBeside F.takes F.renames beside.now ready.manager words.now
         result files.old files.new }
     ensures told { MayTellWay P.contents ready.kinds.items ready.manager progress.old progress.new }
 {
     let Some(ends) = ready_ends(rt, words) else {
         drop(ready);
-        return Err(Untold::Stopped);
+        return Err(ReportFault::Stopped);
     };
     let ran = run_on(alloc, files, beside, ready, ends, words, progress);
     let kept = keep(alloc, files, beside, &ran);
@@ -220,13 +220,13 @@ fn run_made<F: WritesFiles, P: io::Write, R: Net>(
     drop(ran);
     match kept {
         Ok(kept) => Ok(Outcome::Ran(phase, kept)),
-        Err(_) => Err(Untold::Memory),
+        Err(_) => Err(ReportFault::Memory),
     }
 }
 
 /// A manager of this plan, that is ready to begin.
 fn make_ready(alloc: Global, plan: Plan) -> Result<Ready, AllocError>
-    ensures manager { IfOk result (λ ready. Shows lab_names ready.manager (opened_with plan)) }
+    ensures manager { IfOk result (λ ready. Represents lab_names ready.manager (opened_with plan)) }
     ensures kinds { IfOk result (λ ready. ready.kinds.items ≡ map kind_of plan.steps) }
 {
     let kinds = match kinds_of(alloc, &plan.steps) {
@@ -253,25 +253,25 @@ fn carry_out<F: WritesFiles, P: io::Write, R: Net>(
     plan: Plan,
     words: &RunWords,
     progress: &mut Progress<P>,
-) -> Result<Outcome, Untold>
-    ensures comes { Comes F.takes F.renames plan words.now result files.old files.new }
+) -> Result<Outcome, ReportFault>
+    ensures comes { RunEnd F.takes F.renames plan words.now result files.old files.new }
     ensures told { TellsPlan P.contents plan progress.old progress.new }
 {
-    let Ok(beside) = Beside::of(alloc, words.undo.as_str()) else {
-        return Err(Untold::Memory);
+    let Ok(beside) = UndoFiles::of(alloc, words.undo.as_str()) else {
+        return Err(ReportFault::Memory);
     };
     let Ok(ready) = make_ready(alloc, plan) else {
-        return Err(Untold::Memory);
+        return Err(ReportFault::Memory);
     };
     match beside.put_list(alloc, files, ready.manager.undo_list()) {
         Ok(Ok(())) => run_made(rt, alloc, files, &beside, ready, words, progress),
-        Ok(Err(Unwritten)) => {
+        Ok(Err(WriteFault)) => {
             drop(ready);
             Ok(Outcome::Unmade)
         }
         Err(AllocError) => {
             drop(ready);
-            Err(Untold::Memory)
+            Err(ReportFault::Memory)
         }
     }
 }
@@ -284,7 +284,7 @@ fn tell_both<W: io::Write, E: io::Write>(
 ) -> u8
     requires line { (line.now.stream ≡ Output) × (line.now.status ≡ Success) }
     requires complaint { (complaint.now.stream ≡ Error) × (complaint.now.status ≡ RefusedFile) }
-    ensures { RunEnds W.contents E.contents Nothing console.old console.new result
+    ensures { RunEnds W.contents E.contents PrintsNothing console.old console.new result
         ⊎ TellsBoth W.contents E.contents
         (string_bytes line.now.text) (string_bytes complaint.now.text)
         console.old console.new result }
@@ -303,27 +303,27 @@ fn tell_unkept<W: io::Write, E: io::Write>(
     word: &str,
     console: &mut Console<W, E>,
 ) -> u8
-    ensures { RunEnds W.contents E.contents Nothing console.old console.new result
+    ensures { RunEnds W.contents E.contents PrintsNothing console.old console.new result
         ⊎ EndsUnkept W.contents E.contents phase word.now console.old console.new result }
 {
     let line = phase_report(alloc, phase);
     let complaint = Report::of_file(alloc, word);
     match (line, complaint) {
         (Ok(line), Ok(complaint)) => tell_both(&line, &complaint, console),
-        _ => end_run(&Err(Untold::Memory), console),
+        _ => end_run(&Err(ReportFault::Memory), console),
     }
 }
 
 /// What is said of a run that left the manager in this phase.
-fn reached(alloc: Global, phase: Phase) -> Result<Report, Untold>
-    ensures { Tells (SaysPhase phase) result }
+fn reached(alloc: Global, phase: Phase) -> Result<Report, ReportFault>
+    ensures { ReportTells (SaysPhase phase) result }
 {
     Ok(phase_report(alloc, phase)?)
 }
 
 /// What is said of a file that can't be made, by the word that names the one beside it.
-fn unmade(alloc: Global, word: &str) -> Result<Report, Untold>
-    ensures { Tells (SaysFile word.now) result }
+fn unmade(alloc: Global, word: &str) -> Result<Report, ReportFault>
+    ensures { ReportTells (SaysFile word.now) result }
 {
     Ok(Report::of_file(alloc, word)?)
 }
@@ -333,7 +333,7 @@ fn say_ran<W: io::Write, E: io::Write>(
     alloc: Global,
     word: &str,
     phase: Phase,
-    kept: Result<(), Unwritten>,
+    kept: Result<(), WriteFault>,
     console: &mut Console<W, E>,
 ) -> u8
     ensures { EndsBy W.contents E.contents word.now (Ok (HasRun phase kept))
@@ -341,7 +341,7 @@ fn say_ran<W: io::Write, E: io::Write>(
 {
     match kept {
         Ok(()) => end_run(&reached(alloc, phase), console),
-        Err(Unwritten) => tell_unkept(alloc, phase, word, console),
+        Err(WriteFault) => tell_unkept(alloc, phase, word, console),
     }
 }
 
@@ -381,8 +381,8 @@ fn run_over<F: WritesFiles, W: io::Write, E: io::Write, P: io::Write, R: Net>(
 }
 
 /// What is said of a text that is no plan.
-fn refusal(alloc: Global, why: PlanFault) -> Result<Report, Untold>
-    ensures { (text : List ℕ) → ReadsPlan text (Err why) → Tells (SaysFault text) result }
+fn refusal(alloc: Global, why: PlanFault) -> Result<Report, ReportFault>
+    ensures { (text : List ℕ) → ReadsPlan text (Err why) → ReportTells (SaysFault text) result }
 {
     Ok(plan_refusal(alloc, why)?)
 }
@@ -403,7 +403,7 @@ fn run_text<F: WritesFiles, W: io::Write, E: io::Write, P: io::Write, R: Net>(
 {
     match read_plan(alloc, text) {
         Ok(plan) => run_over(rt, alloc, files, plan, words, progress, console),
-        Err(PlanFault::Memory) => end_run(&Err(Untold::Memory), console),
+        Err(PlanFault::Memory) => end_run(&Err(ReportFault::Memory), console),
         Err(why) => end_run(&refusal(alloc, why), console),
     }
 }

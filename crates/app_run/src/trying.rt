@@ -3,13 +3,13 @@ ghost use Rattle.std.specs.Prelude.{◌≡◌, ◌≤◌, List};
 ghost use Rattle.model_undo.specs.declared.call.Call.TheVariants.{Start, Undo};
 ghost use Rattle.model_lab.specs.Meaning.{lab_names as the_names};
 ghost use Rattle.undo_core.specs.declared.manager.Manager.{Manager as AnyManager};
-ghost use Rattle.undo_core.specs.Shown.{Shows};
-ghost use Rattle.bmc_ports.specs.Driving.{both, Drives};
-ghost use Rattle.app_run.specs.Driven.{State, DrivesAgain, Goes, GoesAgain, is_unsettled};
-ghost use Rattle.app_run.specs.Moments.{Sees, Watched, WatchedFrom};
-ghost use Rattle.app_run.specs.Stops.{Stops};
+ghost use Rattle.undo_core.specs.Shown.{Represents};
+ghost use Rattle.bmc_ports.specs.Driving.{both, DriveResult};
+ghost use Rattle.app_run.specs.Driven.{DrivenState, DrivesAgain, CallRun, GoesAgain, is_unsettled};
+ghost use Rattle.app_run.specs.Moments.{SeesMoments, WatchedStep, WatchedFrom};
+ghost use Rattle.app_run.specs.Stops.{StopsAfter};
 
-use crate::watching::Watches;
+use crate::observer::Observer;
 use bmc_ports::drive;
 use undo_core::{Manager, Phase, Sent, WrongPhase};
 use wire_links::Link;
@@ -22,7 +22,7 @@ fn is_unsettled(phase: Phase) -> bool
 }
 
 /// Drives a manager for at most one turn, and has it looked at.
-fn drive_on<A: Link, B: Link, T: Watches>(
+fn drive_on<A: Link, B: Link, T: Observer>(
     manager: &mut Manager,
     first: Option<Sent>,
     ipmb: &mut A,
@@ -31,8 +31,8 @@ fn drive_on<A: Link, B: Link, T: Watches>(
     watch: &mut T,
 ) -> Phase
     requires { turns ≤ 1 }
-    ensures drives { (s : State) → Shows the_names manager.old s
-        → Drives the_names turns s manager.new result
+    ensures drives { (s : DrivenState) → Represents the_names manager.old s
+        → DriveResult the_names turns s manager.new result
         (both (A.counts_of ipmb.old) (B.counts_of smbus.old))
         (both (A.counts_of ipmb.new) (B.counts_of smbus.new)) }
     ensures seen { T.sees watch.old manager.new watch.new }
@@ -43,7 +43,7 @@ fn drive_on<A: Link, B: Link, T: Watches>(
 }
 
 /// Drives a manager as `drive` does, and has it looked at once what it gave is sent, and after each turn.
-fn drive_watched<A: Link, B: Link, T: Watches>(
+fn drive_watched<A: Link, B: Link, T: Observer>(
     manager: &mut Manager,
     first: Option<Sent>,
     ipmb: &mut A,
@@ -51,11 +51,11 @@ fn drive_watched<A: Link, B: Link, T: Watches>(
     turns: u32,
     watch: &mut T,
 ) -> Phase
-    ensures drives { (s : State) → Shows the_names manager.old s
-        → Drives the_names turns s manager.new result
+    ensures drives { (s : DrivenState) → Represents the_names manager.old s
+        → DriveResult the_names turns s manager.new result
         (both (A.counts_of ipmb.old) (B.counts_of smbus.old))
         (both (A.counts_of ipmb.new) (B.counts_of smbus.new)) }
-    ensures watched { Watched T.sees manager.old manager.new
+    ensures watched { WatchedStep T.sees manager.old manager.new
         (both (A.counts_of ipmb.old) (B.counts_of smbus.old))
         (both (A.counts_of ipmb.new) (B.counts_of smbus.new)) watch.old watch.new }
 {
@@ -71,7 +71,7 @@ fn drive_watched<A: Link, B: Link, T: Watches>(
 
 /// Drives a manager likewise, but no further than to a turn that leaves it unsettled while others are left. It gives how many, if that
 /// came.
-fn drive_heeded<A: Link, B: Link, T: Watches>(
+fn drive_heeded<A: Link, B: Link, T: Observer>(
     manager: &mut Manager,
     first: Option<Sent>,
     ipmb: &mut A,
@@ -79,10 +79,10 @@ fn drive_heeded<A: Link, B: Link, T: Watches>(
     turns: u32,
     watch: &mut T,
 ) -> Option<u32>
-    ensures stops { (s : State) → Shows the_names manager.old s
-        → Stops turns s manager.new result (both (A.counts_of ipmb.old) (B.counts_of smbus.old))
+    ensures stops { (s : DrivenState) → Represents the_names manager.old s
+        → StopsAfter turns s manager.new result (both (A.counts_of ipmb.old) (B.counts_of smbus.old))
         (both (A.counts_of ipmb.new) (B.counts_of smbus.new)) }
-    ensures watched { Watched T.sees manager.old manager.new
+    ensures watched { WatchedStep T.sees manager.old manager.new
         (both (A.counts_of ipmb.old) (B.counts_of smbus.old))
         (both (A.counts_of ipmb.new) (B.counts_of smbus.new)) watch.old watch.new }
 {
@@ -104,7 +104,7 @@ fn drive_heeded<A: Link, B: Link, T: Watches>(
 }
 
 /// Drives a manager likewise, and calls it again wherever that leaves it unsettled, up to so many times. Then it is driven as `drive` does.
-fn drive_again<A: Link, B: Link, T: Watches>(
+fn drive_again<A: Link, B: Link, T: Observer>(
     manager: &mut Manager,
     first: Option<Sent>,
     ipmb: &mut A,
@@ -113,11 +113,11 @@ fn drive_again<A: Link, B: Link, T: Watches>(
     agains: u32,
     watch: &mut T,
 ) -> Phase
-    ensures drives { (s : State) → Shows the_names manager.old s
+    ensures drives { (s : DrivenState) → Represents the_names manager.old s
         → DrivesAgain agains turns s manager.new result
         (both (A.counts_of ipmb.old) (B.counts_of smbus.old))
         (both (A.counts_of ipmb.new) (B.counts_of smbus.new)) }
-    ensures watched { Watched T.sees manager.old manager.new
+    ensures watched { WatchedStep T.sees manager.old manager.new
         (both (A.counts_of ipmb.old) (B.counts_of smbus.old))
         (both (A.counts_of ipmb.new) (B.counts_of smbus.new)) watch.old watch.new }
 {
@@ -139,7 +139,7 @@ fn drive_again<A: Link, B: Link, T: Watches>(
 
 /// Begins a manager's plan, and drives it as `run_plan` does. Where a turn leaves it unsettled and others are left, it is called again, up to so
 /// many times. The watch looks at it after each call, once what that gave is sent, and after each turn.
-pub fn try_plan<A: Link, B: Link, T: Watches>(
+pub fn try_plan<A: Link, B: Link, T: Observer>(
     manager: &mut Manager,
     ipmb: &mut A,
     smbus: &mut B,
@@ -147,11 +147,11 @@ pub fn try_plan<A: Link, B: Link, T: Watches>(
     agains: u32,
     watch: &mut T,
 ) -> Phase
-    ensures goes { (before : State) → Shows the_names manager.old before
+    ensures goes { (before : DrivenState) → Represents the_names manager.old before
         → GoesAgain agains Start turns before manager.new result
         (both (A.counts_of ipmb.old) (B.counts_of smbus.old))
         (both (A.counts_of ipmb.new) (B.counts_of smbus.new)) }
-    ensures watched { Watched T.sees manager.old manager.new
+    ensures watched { WatchedStep T.sees manager.old manager.new
         (both (A.counts_of ipmb.old) (B.counts_of smbus.old))
         (both (A.counts_of ipmb.new) (B.counts_of smbus.new)) watch.old watch.new }
 {
@@ -166,22 +166,22 @@ pub fn try_plan<A: Link, B: Link, T: Watches>(
 
 /// Begins a manager's undo, and drives it as `undo_plan` does. The watch looks at it after the call, once what that gave is sent, and after each
 /// turn.
-pub(crate) fn undo_watched<A: Link, B: Link, T: Watches>(
+pub(crate) fn undo_watched<A: Link, B: Link, T: Observer>(
     manager: &mut Manager,
     ipmb: &mut A,
     smbus: &mut B,
     turns: u32,
     watch: &mut T,
 ) -> Phase
-    ensures goes { (before : State) → Shows the_names manager.old before
-        → Goes Undo turns before manager.new result
+    ensures goes { (before : DrivenState) → Represents the_names manager.old before
+        → CallRun Undo turns before manager.new result
         (both (A.counts_of ipmb.old) (B.counts_of smbus.old))
         (both (A.counts_of ipmb.new) (B.counts_of smbus.new)) }
-    ensures watched { (before : State) → Shows the_names manager.old before
+    ensures watched { (before : DrivenState) → Represents the_names manager.old before
         → WatchedFrom T.sees Undo before manager.new
         (both (A.counts_of ipmb.old) (B.counts_of smbus.old))
         (both (A.counts_of ipmb.new) (B.counts_of smbus.new)) watch.old watch.new }
-    ensures seen { (moments : List AnyManager) × Sees T.sees moments watch.old watch.new }
+    ensures seen { (moments : List AnyManager) × SeesMoments T.sees moments watch.old watch.new }
 {
     match manager.undo() {
         Ok(first) => {

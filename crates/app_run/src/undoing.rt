@@ -2,21 +2,21 @@
 ghost use Rattle.std.specs.Prelude.{◌≡◌, [], false, IfOk, length, string_bytes};
 ghost use Rattle.undo_plans.specs.declared.undo_list.UndoList.{UndoList as AnyList};
 ghost use Rattle.model_lab.specs.Meaning.{lab_names};
-ghost use Rattle.undo_core.specs.Shown.{Shows};
+ghost use Rattle.undo_core.specs.Shown.{Represents};
 ghost use Rattle.wire_links.specs.Counted.{none_counted};
-ghost use Rattle.app_base.specs.Ending.{RunEnds, Tells};
-ghost use Rattle.app_run.specs.Driven.{Undoes, resumed_from};
+ghost use Rattle.app_base.specs.Ending.{RunEnds, ReportTells};
+ghost use Rattle.app_run.specs.Driven.{UndoRun, resumed_from};
 ghost use Rattle.app_run.specs.Told.{MayTellUndo, TellsOfNames, TellsUndo, TellsUndoFile, TellsUndoText};
-ghost use Rattle.app_run.specs.Undo.{Says, SaysOfList, SaysOfNames, SaysUndone};
+ghost use Rattle.app_run.specs.Undo.{PrintsUndo, SaysOfList, SaysOfNames, SaysUndone};
 
-use crate::driven::{Unresumed, resume_manager};
+use crate::driven::{RemakeFault, resume_manager};
 use crate::lines::{names_refusal, phase_report, undo_refusal};
-use crate::links::{Ends, open_ends};
-use crate::progress::{Course, Progress};
+use crate::links::{BusLinks, open_ends};
+use crate::observer::ProgressWriter;
+use crate::progress::{PlanOutline, Progress};
 use crate::trying::undo_watched;
-use crate::watching::Teller;
 use app_base::files::refuse;
-use app_base::{Console, Report, TextFiles, Untold, end_run, text_of};
+use app_base::{Console, Report, ReportFault, TextFiles, end_run, text_of};
 use std::alloc::Global;
 use std::io;
 use std::net::Net;
@@ -31,7 +31,7 @@ pub struct UndoWords {
     pub undo: String,
     /// The UDP port of the controller's end of IPMB.
     pub ipmb_port: u16,
-    /// That of its end of SMBus.
+    /// The UDP port of the end of SMBus.
     pub smbus_port: u16,
     /// How many turns the manager makes.
     pub turns: u32,
@@ -49,21 +49,21 @@ struct Undone {
 /// Has a manager undo its list over these links, while a teller looks at it, whose line is ended then.
 fn undo_seen<P: io::Write>(
     manager: &mut Manager,
-    ends: Ends,
+    ends: BusLinks,
     turns: u32,
-    teller: &mut Teller<P>,
+    teller: &mut ProgressWriter<P>,
 ) -> Phase
     requires ipmb { ends.ipmb.counts ≡ none_counted }
     requires smbus { ends.smbus.counts ≡ none_counted }
-    ensures undoes { (list : AnyList) → Shows lab_names manager.old (resumed_from list)
-        → Undoes list turns manager.new result }
+    ensures undoes { (list : AnyList) → Represents lab_names manager.old (resumed_from list)
+        → UndoRun list turns manager.new result }
     ensures told { (list : AnyList) → teller.old.course.kinds.now ≡ []
         → teller.old.course.steps ≡ length list.requests.members
-        → Shows lab_names manager.old (resumed_from list)
+        → Represents lab_names manager.old (resumed_from list)
         → TellsUndo P.contents list teller.old.progress.now teller.new.progress.now }
     ensures same_line { teller.new.progress.ghost_name ≡ teller.old.progress.ghost_name }
 {
-    let Ends {
+    let BusLinks {
         mut ipmb,
         mut smbus,
     } = ends;
@@ -77,20 +77,20 @@ fn undo_told<P: io::Write>(
     alloc: Global,
     manager: &mut Manager,
     steps: usize,
-    ends: Ends,
+    ends: BusLinks,
     turns: u32,
     progress: &mut Progress<P>,
 ) -> Phase
     requires ipmb { ends.ipmb.counts ≡ none_counted }
     requires smbus { ends.smbus.counts ≡ none_counted }
-    ensures undoes { (list : AnyList) → Shows lab_names manager.old (resumed_from list)
-        → Undoes list turns manager.new result }
+    ensures undoes { (list : AnyList) → Represents lab_names manager.old (resumed_from list)
+        → UndoRun list turns manager.new result }
     ensures told { (list : AnyList) → length list.requests.members ≡ steps
-        → Shows lab_names manager.old (resumed_from list)
+        → Represents lab_names manager.old (resumed_from list)
         → MayTellUndo P.contents list progress.old progress.new }
 {
-    let course = Course { steps, kinds: &[] };
-    let mut teller = Teller {
+    let course = PlanOutline { steps, kinds: &[] };
+    let mut teller = ProgressWriter {
         alloc,
         progress,
         course,
@@ -106,16 +106,16 @@ fn undo_on<P: io::Write, R: Net>(
     steps: usize,
     words: &UndoWords,
     progress: &mut Progress<P>,
-) -> Result<Undone, Untold>
-    ensures undoes { (list : AnyList) → Shows lab_names manager (resumed_from list)
-        → IfOk result (λ undone. Undoes list words.now.turns undone.manager undone.phase) }
+) -> Result<Undone, ReportFault>
+    ensures undoes { (list : AnyList) → Represents lab_names manager (resumed_from list)
+        → IfOk result (λ undone. UndoRun list words.now.turns undone.manager undone.phase) }
     ensures told { (list : AnyList) → length list.requests.members ≡ steps
-        → Shows lab_names manager (resumed_from list)
+        → Represents lab_names manager (resumed_from list)
         → MayTellUndo P.contents list progress.old progress.new }
 {
     let ends = open_ends(rt, words.ipmb_port, words.smbus_port, words.wait_ms);
     let Some(ends) = ends else {
-        return Err(Untold::Stopped);
+        return Err(ReportFault::Stopped);
     };
     let phase = undo_told(alloc, &mut manager, steps, ends, words.turns, progress);
     Ok(Undone { manager, phase })
@@ -129,11 +129,11 @@ fn undone_report<P: io::Write, R: Net>(
     steps: usize,
     words: &UndoWords,
     progress: &mut Progress<P>,
-) -> Result<Report, Untold>
-    ensures says { (list : AnyList) → Shows lab_names manager (resumed_from list)
-        → Tells (SaysUndone list words.now.turns) result }
+) -> Result<Report, ReportFault>
+    ensures says { (list : AnyList) → Represents lab_names manager (resumed_from list)
+        → ReportTells (SaysUndone list words.now.turns) result }
     ensures told { (list : AnyList) → length list.requests.members ≡ steps
-        → Shows lab_names manager (resumed_from list)
+        → Represents lab_names manager (resumed_from list)
         → MayTellUndo P.contents list progress.old progress.new }
 {
     let undone = undo_on(rt, alloc, manager, steps, words, progress)?;
@@ -149,15 +149,15 @@ fn list_report<P: io::Write, R: Net>(
     list: UndoList,
     words: &UndoWords,
     progress: &mut Progress<P>,
-) -> Result<Report, Untold>
-    ensures says { Tells (SaysOfNames list words.now.turns) result }
+) -> Result<Report, ReportFault>
+    ensures says { ReportTells (SaysOfNames list words.now.turns) result }
     ensures told { TellsOfNames P.contents list progress.old progress.new }
 {
     let steps = list.requests.len();
     match resume_manager(alloc, list) {
         Ok(manager) => undone_report(rt, alloc, manager, steps, words, progress),
-        Err(Unresumed::OtherNames) => Ok(names_refusal(alloc)?),
-        Err(Unresumed::Memory) => Err(Untold::Memory),
+        Err(RemakeFault::OtherNames) => Ok(names_refusal(alloc)?),
+        Err(RemakeFault::Memory) => Err(ReportFault::Memory),
     }
 }
 
@@ -168,13 +168,13 @@ fn text_report<P: io::Write, R: Net>(
     text: &str,
     words: &UndoWords,
     progress: &mut Progress<P>,
-) -> Result<Report, Untold>
-    ensures says { Tells (Says text.now words.now.turns) result }
+) -> Result<Report, ReportFault>
+    ensures says { ReportTells (PrintsUndo text.now words.now.turns) result }
     ensures told { TellsUndoText P.contents text.now progress.old progress.new }
 {
     match read_undo(alloc, text) {
         Ok(list) => list_report(rt, alloc, list, words, progress),
-        Err(UndoFault::Memory) => Err(Untold::Memory),
+        Err(UndoFault::Memory) => Err(ReportFault::Memory),
         Err(why) => Ok(undo_refusal(alloc, why)?),
     }
 }
@@ -188,7 +188,7 @@ fn undo_text<W: io::Write, E: io::Write, P: io::Write, R: Net>(
     progress: &mut Progress<P>,
     console: &mut Console<W, E>,
 ) -> u8
-    ensures ends { RunEnds W.contents E.contents (Says text.now words.now.turns)
+    ensures ends { RunEnds W.contents E.contents (PrintsUndo text.now words.now.turns)
         console.old console.new result }
     ensures told { TellsUndoText P.contents text.now progress.old progress.new }
 {

@@ -3,36 +3,36 @@ use Rattle.std.specs.Prelude.{IfOk, Result, Ok, Err}
 use Rattle.std.proofs.Common.{◌≡◌, ◌≤◌, ◌∙◌, inl, inr, sym, subst, ℕ, List, [], length}
 use Rattle.cfg_records.specs.declared.board_file.BoardFile.{BoardFile}
 use Rattle.bmc_board.specs.State.{State, state_of}
-use Rattle.app_base.specs.declared.ending.Untold.{Untold}
+use Rattle.app_base.specs.declared.ending.ReportFault.{ReportFault}
 use Rattle.app_serve.specs.declared.periods.Period.{Period}
 use Rattle.wire_links.specs.declared.link.Counts.{Counts}
 use Rattle.bmc_history.specs.declared.event.Call.{Call}
 use Rattle.bmc_history.specs.declared.event.Event.{Event}
 use Rattle.bmc_history.specs.Replay.{calls_of}
 use Rattle.bmc_shared.specs.declared.seat.Seats.{Seats}
-use Rattle.bmc_shared.specs.Seated.{IsFresh}
+use Rattle.bmc_shared.specs.Seated.{IsFreshSeat}
 use Rattle.bmc_shared.specs.declared.worker.End.{End}
 use Rattle.bmc_shared.specs.declared.worker.End.TheVariants.{Full}
 use Rattle.bmc_ports.specs.declared.lane.Lane.{Lane}
 use Rattle.bmc_ports.specs.declared.lane.Lanes.{Lanes}
-use Rattle.bmc_ports.specs.declared.timed.Timed.{Timed}
-use Rattle.bmc_ports.specs.declared.timed.TimedEnd.{TimedEnd}
-use Rattle.bmc_ports.specs.declared.timed.TimedEnd.TheVariants as timed
-use Rattle.bmc_ports.specs.Slices.{GoesOn, IsBack, NoRoom}
-use Rattle.bmc_ports.specs.Timing.{Gains, IsPlayed}
+use Rattle.bmc_ports.specs.declared.timetable.Timed.{Timed}
+use Rattle.bmc_ports.specs.declared.timetable.TimedEnd.{TimedEnd}
+use Rattle.bmc_ports.specs.declared.timetable.TimedEnd.TheVariants as timed
+use Rattle.bmc_ports.specs.Slices.{WorkerEnd, IsBack, NoRoom}
+use Rattle.bmc_ports.specs.Timing.{GainsCalls, IsPlayed}
 use Rattle.app_serve.specs.Served.{most_events}
 use Rattle.app_serve.specs.Periods.{IsClosed, IsPeriod}
 
 -- a worker whose seat was fresh has called what the history has of it
 called : {L : Type 0} (counts_of : L → Counts) (end : End) (held kept calls : List Call) (before after : Lane L) → held ≡ [] → kept ≡ calls
-    → GoesOn counts_of end held kept before after → GoesOn counts_of end [] calls before after
+    → WorkerEnd counts_of end held kept before after → WorkerEnd counts_of end [] calls before after
 called counts_of end held kept calls before after none are goes =
-    subst (λ (xs : List Call). GoesOn counts_of end xs calls before after) none (subst (λ (xs : List Call). GoesOn counts_of end held xs before after) are goes)
+    subst (λ (xs : List Call). WorkerEnd counts_of end xs calls before after) none (subst (λ (xs : List Call). WorkerEnd counts_of end held xs before after) are goes)
 
 -- and so has a scanner
-happened : (list : List Timed) (from to : ℕ) (held kept calls : List Call) → held ≡ [] → kept ≡ calls → Gains list from to held kept → Gains list from to [] calls
+happened : (list : List Timed) (from to : ℕ) (held kept calls : List Call) → held ≡ [] → kept ≡ calls → GainsCalls list from to held kept → GainsCalls list from to [] calls
 happened list from to held kept calls none are gains =
-    subst (λ (xs : List Call). Gains list from to xs calls) none (subst (λ (xs : List Call). Gains list from to held xs) are gains)
+    subst (λ (xs : List Call). GainsCalls list from to xs calls) none (subst (λ (xs : List Call). GainsCalls list from to held xs) are gains)
 
 -- where one of two workers or the scanner found no room, the history is full
 is_full : (one two : End) (scanner : TimedEnd) (count room : ℕ) → (one ≡ Full → count ≡ room) → (two ≡ Full → count ≡ room) → (scanner ≡ timed.Full → count ≡ room)
@@ -44,7 +44,7 @@ is_full one two scanner count room first second third most (inr full) = third fu
 -- a history that is closed once its workers and its scanner are back is a period
 is_period : {J : Type 0} {g h : _} {A B : Type 0} (first_counts : A → Counts) (second_counts : B → Counts) (setup : BoardFile) (opening ending : State) (room : ℕ)
     (fresh : Seats J g) (before : Lanes A B) (list : List Timed) (from to : ℕ) (seats : Seats J h) (after : Lanes A B) (first_end second_end : End) (scanner_end : TimedEnd) (history : List Event)
-    → room ≡ most_events → IsFresh fresh.first → IsFresh fresh.second → IsFresh fresh.scanner
+    → room ≡ most_events → IsFreshSeat fresh.first → IsFreshSeat fresh.second → IsFreshSeat fresh.scanner
     → IsBack first_counts fresh.first before.first seats.first after.first first_end
     → IsBack second_counts fresh.second before.second seats.second after.second second_end
     → IsPlayed list from to fresh.scanner seats.scanner scanner_end
@@ -71,8 +71,8 @@ is_period first_counts second_counts setup opening ending room fresh before list
 -- the same of what closing came to
 pub closes_period : {J : Type 0} {g h : _} {A B : Type 0} (first_counts : A → Counts) (second_counts : B → Counts) (setup : BoardFile) (opening : State) (room : ℕ)
     (fresh : Seats J g) (before : Lanes A B) (list : List Timed) (from to : ℕ) (seats : Seats J h) (after : Lanes A B) (first_end second_end : End) (scanner_end : TimedEnd)
-    (result : Result (Period A B) Untold)
-    → room ≡ most_events → IsFresh fresh.first → IsFresh fresh.second → IsFresh fresh.scanner
+    (result : Result (Period A B) ReportFault)
+    → room ≡ most_events → IsFreshSeat fresh.first → IsFreshSeat fresh.second → IsFreshSeat fresh.scanner
     → IsBack first_counts fresh.first before.first seats.first after.first first_end
     → IsBack second_counts fresh.second before.second seats.second after.second second_end
     → IsPlayed list from to fresh.scanner seats.scanner scanner_end

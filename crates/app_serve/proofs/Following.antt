@@ -10,12 +10,12 @@ use Rattle.bmc_history.specs.declared.event.Event.{Event}
 use Rattle.bmc_history.specs.declared.event.Call.{Call}
 use Rattle.bmc_history.specs.Replay.{calls_of}
 use Rattle.bmc_ports.specs.declared.lane.Lanes.{Lanes}
-use Rattle.bmc_ports.specs.declared.timed.Timed.{Timed}
-use Rattle.bmc_ports.specs.Timing.{Gains}
+use Rattle.bmc_ports.specs.declared.timetable.Timed.{Timed}
+use Rattle.bmc_ports.specs.Timing.{GainsCalls}
 use Rattle.bmc_ports.proofs.Timing.{gains_both, gains_none}
-use Rattle.app_serve.specs.declared.periods.Course.{Course}
-use Rattle.app_serve.specs.Served.{Lead, most_events}
-use Rattle.app_serve.specs.Periods.{IsPeriod, Follow, RunsTo, GoesToNext}
+use Rattle.app_serve.specs.declared.periods.PeriodState.{PeriodState}
+use Rattle.app_serve.specs.Served.{HistoriesLead, most_events}
+use Rattle.app_serve.specs.Periods.{IsPeriod, PeriodsFollow, RunsTo, GoesToNext}
 
 -- a history's events beside those of so many others
 pub more_events : (before more periods after : ℕ) → after ≡ before + more → more ≤ most_events → before ≤ most_events * periods → after ≤ most_events * (periods + 1)
@@ -29,7 +29,7 @@ calls_more seat (first ∷ later) history =
     ∙ sym (append_assoc (calls_of seat first) (flat_map (calls_of seat) later) (calls_of seat history))
 
 -- what happened stands behind what happened before
-gains_behind : (list : List Timed) (from to : ℕ) (held calls : List Call) → Gains list from to [] calls → Gains list from to held (held ++ calls)
+gains_behind : (list : List Timed) (from to : ℕ) (held calls : List Call) → GainsCalls list from to [] calls → GainsCalls list from to held (held ++ calls)
 gains_behind list from to held calls gains = record {
   gained = gains.gained;
   calls = ap (λ (later : List Call). held ++ later) gains.calls;
@@ -38,20 +38,20 @@ gains_behind list from to held calls gains = record {
 }
 
 -- the events of a history more
-plays_more : (list : List Timed) (from mid to : ℕ) (histories : List (List Event)) (history : List Event) → Gains list from mid [] (flat_map (calls_of 2) histories)
-    → Gains list mid to [] (calls_of 2 history) → Gains list from to [] (flat_map (calls_of 2) (histories ++ history ∷ []))
+plays_more : (list : List Timed) (from mid to : ℕ) (histories : List (List Event)) (history : List Event) → GainsCalls list from mid [] (flat_map (calls_of 2) histories)
+    → GainsCalls list mid to [] (calls_of 2 history) → GainsCalls list from to [] (flat_map (calls_of 2) (histories ++ history ∷ []))
 plays_more list from mid to histories history begins then =
     let held : List Call = flat_map (calls_of 2) histories in
     let calls : List Call = calls_of 2 history in
-    subst (λ (all : List Call). Gains list from to [] all) (sym (calls_more 2 histories history))
+    subst (λ (all : List Call). GainsCalls list from to [] all) (sym (calls_more 2 histories history))
     (gains_both list from mid to [] held (held ++ calls) begins (gains_behind list mid to held calls then))
 
 module _ {A B : Type 0} (first_counts : A → Counts) (second_counts : B → Counts) where
   -- a period more
   pub follow_more : (setup : BoardFile) (list : List Timed) (opening mid ending : State) (before lanes after : Lanes A B) (from place to : ℕ) (histories : List (List Event)) (history : List Event)
-      → Follow first_counts second_counts setup list opening before from histories mid lanes place
+      → PeriodsFollow first_counts second_counts setup list opening before from histories mid lanes place
       → IsPeriod first_counts second_counts setup mid ending lanes after list place to history
-      → Follow first_counts second_counts setup list opening before from (histories ++ history ∷ []) ending after to
+      → PeriodsFollow first_counts second_counts setup list opening before from (histories ++ history ∷ []) ending after to
   follow_more setup list opening mid ending before lanes after from place to [] history (same, lent, at) period = (
     ending,
     after,
@@ -65,7 +65,7 @@ module _ {A B : Type 0} (first_counts : A → Counts) (second_counts : B → Cou
       (state, next, met, is, follow_more setup list state mid ending next lanes after met place to later history follow period)
 
   -- no period yet
-  pub runs_none : (course : Course A B) → course.events ≡ 0
+  pub runs_none : (course : PeriodState A B) → course.events ≡ 0
       → RunsTo first_counts second_counts course.board.setup (state_of course.board) course.lanes course.table.list.now course.table.next course
   runs_none course none = record {
     histories = [];
@@ -77,7 +77,7 @@ module _ {A B : Type 0} (first_counts : A → Counts) (second_counts : B → Cou
   }
 
   -- the same, where what it begins with is the same
-  pub runs_from : (setup other : BoardFile) (opening first : State) (before lanes : Lanes A B) (list these : List Timed) (from place : ℕ) (course : Course A B)
+  pub runs_from : (setup other : BoardFile) (opening first : State) (before lanes : Lanes A B) (list these : List Timed) (from place : ℕ) (course : PeriodState A B)
       → setup ≡ other → opening ≡ first → before ≡ lanes → list ≡ these → from ≡ place
       → RunsTo first_counts second_counts setup opening before list from course → RunsTo first_counts second_counts other first lanes these place course
   runs_from setup other opening first before lanes list these from place course is begins lent same at runs =
@@ -88,7 +88,7 @@ module _ {A B : Type 0} (first_counts : A → Counts) (second_counts : B → Cou
       (subst (λ (n : ℕ). RunsTo first_counts second_counts setup opening before list n course) at runs))))
 
   -- the periods so far, and one more
-  pub runs_more : (setup : BoardFile) (opening : State) (before : Lanes A B) (list : List Timed) (from : ℕ) (course next : Course A B)
+  pub runs_more : (setup : BoardFile) (opening : State) (before : Lanes A B) (list : List Timed) (from : ℕ) (course next : PeriodState A B)
       → RunsTo first_counts second_counts setup opening before list from course → GoesToNext first_counts second_counts course next
       → RunsTo first_counts second_counts setup opening before list from next
   runs_more setup opening before list from course next runs goes =
@@ -109,7 +109,7 @@ module _ {A B : Type 0} (first_counts : A → Counts) (second_counts : B → Cou
 
   -- periods lead from state to state
   pub follow_leads : (setup : BoardFile) (list : List Timed) (opening ending : State) (before after : Lanes A B) (from to : ℕ) (histories : List (List Event))
-      → Follow first_counts second_counts setup list opening before from histories ending after to → Lead setup opening histories ending
+      → PeriodsFollow first_counts second_counts setup list opening before from histories ending after to → HistoriesLead setup opening histories ending
   follow_leads setup list opening ending before after from to [] (same, lent, at) = same
   follow_leads setup list opening ending before after from to (history ∷ later) (mid, lanes, place, period, follow) =
       (mid, period.few, period.replays, follow_leads setup list mid ending lanes after place to later follow)

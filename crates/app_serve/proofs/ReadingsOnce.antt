@@ -7,8 +7,8 @@ use Rattle.hex.specs.Hex.{decode_of}
 use Rattle.hex.specs.declared.error.FromHexError.{FromHexError}
 use Rattle.bmc_board.specs.declared.bench.Bench.{Bench}
 use Rattle.bmc_board.specs.declared.bench.Bench.TheVariants.{Reading, Tick, Chassis}
-use Rattle.bmc_ports.specs.declared.timed.Timed.{Timed}
-use Rattle.app_serve.specs.ReadingsLine.{Say, SayTimed}
+use Rattle.bmc_ports.specs.declared.timetable.Timed.{Timed}
+use Rattle.app_serve.specs.ReadingsLine.{AreWordsOf, SayTimed}
 
 -- ---- what words are read as
 
@@ -33,7 +33,7 @@ timed_said (time ∷ what) = record { at_ms = digits_value 10 time; event = said
 byte_is : (digits : List ℕ) (byte : ℕ) → decode_of digits ≡ Ok (byte ∷ []) → byte_said digits ≡ byte
 byte_is digits byte is = ap (λ r. slice_index (bytes_in r) 0) is
 
-said_is : (words : List (List ℕ)) (event : Bench) → Say words event → said words ≡ event
+said_is : (words : List (List ℕ)) (event : Bench) → AreWordsOf words event → said words ≡ event
 said_is words (Reading sensor raw) (first, second, are, one, two) = ap said are ∙ rw (byte_is first sensor one, byte_is second raw two) refl
 said_is words Tick is = ap said is
 said_is words (Chassis state) (digits, are, is, few) = ap said are ∙ ap Chassis (byte_is digits state is)
@@ -53,7 +53,7 @@ cut [] d some = absurd (omega (arith, some))
 cut (word ∷ words) d some = ap (λ (l : List (Bor (List ℕ))). word.now ∷ map (λ x. x.now) l) (sym (take_all (length (word ∷ words) - 1) words (omega arith)))
 
 -- words of which those behind the first say nothing say no event
-pub nothing : (words : List (List ℕ)) (first : List ℕ) (rest : List (List ℕ)) → words ≡ first ∷ rest → ((event : Bench) → ¬ Say rest event) → (timed : Timed) → ¬ SayTimed words timed
+pub nothing : (words : List (List ℕ)) (first : List ℕ) (rest : List (List ℕ)) → words ≡ first ∷ rest → ((event : Bench) → ¬ AreWordsOf rest event) → (timed : Timed) → ¬ SayTimed words timed
 nothing words first rest are none timed (time, what, also, at, is) =
     let same : what ≡ rest = cc (are, also) in
-    none timed.event (subst (λ w. Say w timed.event) same is)
+    none timed.event (subst (λ w. AreWordsOf w timed.event) same is)

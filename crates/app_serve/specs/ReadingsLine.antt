@@ -3,7 +3,7 @@ use Rattle.std.specs.Prelude.{◌≡◌, ◌<◌, ◌^◌, ℕ, List, [], ◌∷
 use Rattle.std.specs.Str.Parse.{IsNumeral, digits_value}
 use Rattle.bmc_board.specs.declared.bench.Bench.{Bench}
 use Rattle.bmc_board.specs.declared.bench.Bench.TheVariants.{Reading, Tick, Chassis}
-use Rattle.bmc_ports.specs.declared.timed.Timed.{Timed}
+use Rattle.bmc_ports.specs.declared.timetable.Timed.{Timed}
 use Rattle.text_schedule.specs.Text.{words_of, IsByte}
 
 -- so many milliseconds, below 2^64, in one decimal digit or more, of which the first may be 0
@@ -14,16 +14,16 @@ pub record IsTime (digits : List ℕ) (milliseconds : ℕ) : Type 0 where
 
 -- The words say what happens: a sensor gives a reading, a tenth of a second passes, or bits 4:0 of the chassis status become these.
 -- Its other bits aren't set.
-abbrev pub Say : List (List ℕ) → Bench → Type 0
-Say words (Reading sensor raw) = (first second : List ℕ) × (words ≡ codes "scan" ∷ first ∷ second ∷ []) × IsByte first sensor × IsByte second raw
-Say words Tick = words ≡ codes "tick" ∷ []
-Say words (Chassis state) = (digits : List ℕ) × (words ≡ codes "chassis" ∷ digits ∷ []) × IsByte digits state × (state < 32)
+abbrev pub AreWordsOf : List (List ℕ) → Bench → Type 0
+AreWordsOf words (Reading sensor raw) = (first second : List ℕ) × (words ≡ codes "scan" ∷ first ∷ second ∷ []) × IsByte first sensor × IsByte second raw
+AreWordsOf words Tick = words ≡ codes "tick" ∷ []
+AreWordsOf words (Chassis state) = (digits : List ℕ) × (words ≡ codes "chassis" ∷ digits ∷ []) × IsByte digits state × (state < 32)
 
 -- the words say what happens, and the first of them when
 abbrev pub SayTimed : List (List ℕ) → Timed → Type 0
 SayTimed words timed =
-    (time : List ℕ) × (what : List (List ℕ)) × (words ≡ time ∷ what) × IsTime time timed.at_ms × Say what timed.event
+    (time : List ℕ) × (what : List (List ℕ)) × (words ≡ time ∷ what) × IsTime time timed.at_ms × AreWordsOf what timed.event
 
 -- the line says it: its words, with a space between two of them, do
-abbrev pub Says : List ℕ → Timed → Type 0
-Says line timed = SayTimed (words_of line) timed
+abbrev pub IsLineOf : List ℕ → Timed → Type 0
+IsLineOf line timed = SayTimed (words_of line) timed

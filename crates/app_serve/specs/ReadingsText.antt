@@ -3,10 +3,10 @@
 use Rattle.std.specs.Prelude.{◌≡◌, ◌+◌, ◌<◌, ℕ, List, Vec, Result, Ok, Err, length, take}
 use Rattle.std.specs.List.{AllZip}
 use Rattle.std.specs.List.Sorted.{IsNonDecreasingBy}
-use Rattle.bmc_ports.specs.declared.timed.Timed.{Timed}
+use Rattle.bmc_ports.specs.declared.timetable.Timed.{Timed}
 use Rattle.text_schedule.specs.Text.{lines_of}
 use Rattle.text_schedule.specs.Schedule.{spoken}
-use Rattle.app_serve.specs.ReadingsLine.{Says}
+use Rattle.app_serve.specs.ReadingsLine.{IsLineOf}
 use Rattle.app_serve.specs.declared.readings_text.ReadingsFault.{ReadingsFault}
 use Rattle.app_serve.specs.declared.readings_text.ReadingsFault.TheVariants.{Memory, Line}
 
@@ -15,13 +15,13 @@ abbrev pub NeverFalls : List Timed → Type 0
 NeverFalls list = IsNonDecreasingBy (λ timed. timed.at_ms) list
 
 -- The lines say the list, one line each and in their order, but for those that are skipped. Its times don't fall.
-pub record Tell (lines : List (List ℕ)) (list : List Timed) : Type 0 where
-  pub each : AllZip Says (spoken lines) list
+pub record AreLinesOf (lines : List (List ℕ)) (list : List Timed) : Type 0 where
+  pub each : AllZip IsLineOf (spoken lines) list
   pub order : NeverFalls list
 
 -- the text stands for the list: its lines tell it
-abbrev pub Stands : List ℕ → List Timed → Type 0
-Stands text list = Tell (lines_of text) list
+abbrev pub IsTextOf : List ℕ → List Timed → Type 0
+IsTextOf text list = AreLinesOf (lines_of text) list
 
 -- The line of this number, counted from 1, is the first bad one: those before it tell a list, and with it they tell none.
 pub record IsFirstBadOf (lines : List (List ℕ)) (number : ℕ) : Type 0 where
@@ -29,19 +29,19 @@ pub record IsFirstBadOf (lines : List (List ℕ)) (number : ℕ) : Type 0 where
   pub counted : number ≡ place + 1
   pub there : place < length lines
   pub before : List Timed
-  pub good : Tell (take place lines) before
-  pub bad : (list : List Timed) → ¬ Tell (take (place + 1) lines) list
+  pub good : AreLinesOf (take place lines) before
+  pub bad : (list : List Timed) → ¬ AreLinesOf (take (place + 1) lines) list
 
 -- the same of the lines of a text
 abbrev pub IsFirstBad : List ℕ → ℕ → Type 0
 IsFirstBad text number = IsFirstBadOf (lines_of text) number
 
 -- the list is what the lines tell; else the first bad line is named, unless memory was refused
-abbrev pub AreRead : {A : Type 0} → List (List ℕ) → Result (Vec Timed A) ReadingsFault → Type 0
-AreRead lines (Ok list) = Tell lines list.items
-AreRead lines (Err Memory) = Unit {0}
-AreRead lines (Err (Line number)) = IsFirstBadOf lines number
+abbrev pub LinesAreRead : {A : Type 0} → List (List ℕ) → Result (Vec Timed A) ReadingsFault → Type 0
+LinesAreRead lines (Ok list) = AreLinesOf lines list.items
+LinesAreRead lines (Err Memory) = Unit {0}
+LinesAreRead lines (Err (Line number)) = IsFirstBadOf lines number
 
 -- the same of the lines of a text
-abbrev pub IsRead : {A : Type 0} → List ℕ → Result (Vec Timed A) ReadingsFault → Type 0
-IsRead text result = AreRead (lines_of text) result
+abbrev pub TextIsRead : {A : Type 0} → List ℕ → Result (Vec Timed A) ReadingsFault → Type 0
+TextIsRead text result = LinesAreRead (lines_of text) result

@@ -3,34 +3,34 @@ use Rattle.std.specs.Prelude.{◌≡◌, ◌⊎◌, ◌++◌, ◌∷◌, ℕ, Li
 use Rattle.std.specs.Fmt.{decimal}
 use Rattle.cfg_records.specs.declared.board_file.BoardFile.{BoardFile}
 use Rattle.text_board.specs.declared.fault.FileFault.{FileFault}
-use Rattle.text_board.specs.Holds.{Reads}
+use Rattle.text_board.specs.Holds.{ReadsText}
 use Rattle.text_lines.specs.Cuts.{ended}
 use Rattle.app_serve.specs.declared.readings_text.ReadingsFault.{ReadingsFault}
 use Rattle.app_serve.specs.declared.readings_text.ReadingsFault.TheVariants.{Memory, Line}
 use Rattle.app_serve.specs.ReadingsNames.{readings_fault_name}
-use Rattle.app_serve.specs.ReadingsText.{IsFirstBad, Stands}
-use Rattle.bmc_ports.specs.declared.timed.Timed.{Timed}
+use Rattle.app_serve.specs.ReadingsText.{IsFirstBad, IsTextOf}
+use Rattle.bmc_ports.specs.declared.timetable.Timed.{Timed}
 use Rattle.app_base.specs.declared.console.Console.{Console}
 use Rattle.app_base.specs.declared.console.Stream.TheVariants.{Output, Error}
 use Rattle.app_base.specs.declared.status.Status.TheVariants.{Success, RefusedFile, Stopped}
-use Rattle.app_base.specs.declared.files.Unreadable.{Unreadable}
-use Rattle.app_base.specs.Console.{Written}
+use Rattle.app_base.specs.declared.files.UnreadFile.{UnreadFile}
+use Rattle.app_base.specs.Console.{IsWrittenTo}
 use Rattle.app_base.specs.Ending.{RunEnds, Saying}
-use Rattle.app_base.specs.Files.{Readings, Refuses}
+use Rattle.app_base.specs.Files.{Readings, PrintsRefusal}
 use Rattle.app_base.specs.Report.{board_line}
 use Rattle.app_serve.specs.declared.run.ServeWords.{ServeWords}
 use Rattle.app_serve.specs.Served.{TellsServed}
 
 -- the text is a board file
 abbrev pub IsBoard : List ℕ → Type 0
-IsBoard text = (file : BoardFile) × Reads text (Ok file)
+IsBoard text = (file : BoardFile) × ReadsText text (Ok file)
 
 -- ---- the readings
 
 -- a text of readings, where there is one, stands for this list
 abbrev pub StandsFor : Option (List ℕ) → Option (List Timed) → Type 0
 StandsFor None None = Unit {0}
-StandsFor (Some text) (Some list) = Stands text list
+StandsFor (Some text) (Some list) = IsTextOf text list
 StandsFor given list = ⊥
 
 -- it stands for a list, or there is none
@@ -54,8 +54,8 @@ readings_line why = ended (codes "readings " ++ readings_fault_name why)
 -- ---- the ports
 
 -- the port that is taken is the one that was asked for, or any for 0
-abbrev pub IsTaken : (asked taken : ℕ) → Type 0
-IsTaken asked taken = (asked ≡ 0) ⊎ (taken ≡ asked)
+abbrev pub IsTakenPort : (asked taken : ℕ) → Type 0
+IsTakenPort asked taken = (asked ≡ 0) ⊎ (taken ≡ asked)
 
 -- a run has nothing to say
 abbrev pub SaysNothing : Saying
@@ -67,12 +67,12 @@ ports_line ipmb smbus = codes "bmcnet: ipmb on 127.0.0.1:" ++ decimal ipmb ++ co
 
 -- standard error grows by the line of these ports
 abbrev pub SaysPorts : {Stdout Stderr : Type 0} → (out : Stdout → Option (List ℕ)) → (err : Stderr → Option (List ℕ)) → (ipmb smbus : ℕ) → (old new : Console Stdout Stderr) → Type 0
-SaysPorts out err ipmb smbus old new = Written Error (ports_line ipmb smbus) (out old.out) (out new.out) (err old.err) (err new.err)
+SaysPorts out err ipmb smbus old new = IsWrittenTo Error (ports_line ipmb smbus) (out old.out) (out new.out) (err old.err) (err new.err)
 
 -- it grows by that of the ports that were taken for those of the words
 abbrev pub TellsPorts : {Stdout Stderr : Type 0} → (out : Stdout → Option (List ℕ)) → (err : Stderr → Option (List ℕ)) → ServeWords → (old new : Console Stdout Stderr) → Type 0
 TellsPorts out err words old new =
-    (ipmb : ℕ) × (smbus : ℕ) × IsTaken words.ipmb_port ipmb × IsTaken words.smbus_port smbus
+    (ipmb : ℕ) × (smbus : ℕ) × IsTakenPort words.ipmb_port ipmb × IsTakenPort words.smbus_port smbus
     × SaysPorts out err ipmb smbus old new
 
 -- ---- the board
@@ -82,14 +82,14 @@ TellsPorts out err words old new =
 abbrev pub SaysUnserved : (board : List ℕ) → (given : Option (List ℕ)) → Saying
 SaysUnserved board given Output text status = ⊥
 SaysUnserved board given Error text status =
-    ((why : FileFault) × Reads board (Err why) × (text ≡ board_line why) × (status ≡ RefusedFile))
+    ((why : FileFault) × ReadsText board (Err why) × (text ≡ board_line why) × (status ≡ RefusedFile))
     ⊎ ((IsBoard board × (line : ℕ) × IsBadAt given line × (text ≡ readings_line (Line line)) × (status ≡ RefusedFile))
     ⊎ (IsBoard board × AreReadings given × (text ≡ []) × (status ≡ Stopped)))
 
 -- what is said of a board that is served: on standard output how it was served, or nothing, where the serving came to no end
 abbrev pub SaysServed : ServeWords → (board : List ℕ) → (given : Option (List ℕ)) → Saying
 SaysServed words board given Output text status =
-    (file : BoardFile) × Reads board (Ok file) × (list : Option (List Timed)) × StandsFor given list
+    (file : BoardFile) × ReadsText board (Ok file) × (list : Option (List Timed)) × StandsFor given list
     × TellsServed words.periods list file text × (status ≡ Success)
 SaysServed words board given Error text status = IsBoard board × AreReadings given × (text ≡ []) × (status ≡ Stopped)
 
@@ -106,10 +106,10 @@ abbrev pub BesideEnds : {Stdout Stderr : Type 0} → (out : Stdout → Option (L
 BesideEnds out err gives words None board old new result = TextEnds out err words board None old new result
 BesideEnds out err gives words (Some word) board old new result =
     ((text : List ℕ) × gives word (Ok text) × TextEnds out err words board (Some text) old new result)
-    ⊎ ((why : Unreadable) × gives word (Err why) × RunEnds out err (Refuses why word) old new result)
+    ⊎ ((why : UnreadFile) × gives word (Err why) × RunEnds out err (PrintsRefusal why word) old new result)
 
 -- So a run of `serve` ends: as it does with the text of the board file, or that file isn't read.
 abbrev pub ServeEnds : {Stdout Stderr : Type 0} → (out : Stdout → Option (List ℕ)) → (err : Stderr → Option (List ℕ)) → Readings → ServeWords → (old new : Console Stdout Stderr) → ℕ → Type 0
 ServeEnds out err gives words old new result =
     ((board : List ℕ) × gives (string_bytes words.board) (Ok board) × BesideEnds out err gives words (option_map string_bytes words.readings) board old new result)
-    ⊎ ((why : Unreadable) × gives (string_bytes words.board) (Err why) × RunEnds out err (Refuses why (string_bytes words.board)) old new result)
+    ⊎ ((why : UnreadFile) × gives (string_bytes words.board) (Err why) × RunEnds out err (PrintsRefusal why (string_bytes words.board)) old new result)

@@ -7,13 +7,13 @@ use Rattle.cfg_records.specs.declared.board_file.BoardFile.{BoardFile}
 use Rattle.cfg_records.specs.Boards.{pairs_of}
 use Rattle.bmc_board.specs.State.{State, state_of, opened}
 use Rattle.bmc_history.specs.declared.event.Event.{Event}
-use Rattle.bmc_history.specs.Replay.{Replays, calls_of}
-use Rattle.bmc_ports.specs.declared.timed.Timed.{Timed}
-use Rattle.bmc_ports.specs.declared.timed.Timetable.{Timetable}
-use Rattle.bmc_ports.specs.Timing.{Gains}
+use Rattle.bmc_history.specs.Replay.{IsReplay, calls_of}
+use Rattle.bmc_ports.specs.declared.timetable.Timed.{Timed}
+use Rattle.bmc_ports.specs.declared.timetable.Timetable.{Timetable}
+use Rattle.bmc_ports.specs.Timing.{GainsCalls}
 use Rattle.cfg_records.specs.Changed.{changed_in}
 use Rattle.text_lines.specs.RecordsLine.{records_line}
-use Rattle.app_serve.specs.declared.board.Served.{Served}
+use Rattle.app_serve.specs.declared.board.ClosedBoard.{ClosedBoard}
 use Rattle.app_serve.specs.declared.tally.Begun.{Begun}
 
 -- the most events of a history
@@ -21,22 +21,22 @@ abbrev pub most_events : ℕ
 most_events = 4096
 
 -- a board begins as the file has it, beside its records
-pub record IsBegun (file : BoardFile) (begun : Begun) : Type 0 where
+pub record IsBegunBoard (file : BoardFile) (begun : Begun) : Type 0 where
   pub start : begun.start.items ≡ pairs_of file
   pub setup : begun.board.setup ≡ file
   pub opens : state_of begun.board ≡ opened file
 
 -- A board that was served has a history, with no more events than there was room for. It leads from the state that the board opened in
 -- to the board as it is.
-pub record IsServed (setup : BoardFile) (opening : State) (room : ℕ) (served : Served) : Type 0 where
+pub record IsServedBoard (setup : BoardFile) (opening : State) (room : ℕ) (served : ClosedBoard) : Type 0 where
   pub few : length served.history ≤ room
-  pub replays : Replays setup opening served.history (state_of served.board)
+  pub replays : IsReplay setup opening served.history (state_of served.board)
 
 -- Histories lead, one after another, from the first state to the last, and none has more events than there is room for.
-abbrev pub Lead : BoardFile → (first : State) → List (List Event) → (last : State) → Type 0
-Lead setup first [] last = first ≡ last
-Lead setup first (history ∷ later) last =
-    (mid : State) × (length history ≤ most_events) × Replays setup first history mid × Lead setup mid later last
+abbrev pub HistoriesLead : BoardFile → (first : State) → List (List Event) → (last : State) → Type 0
+HistoriesLead setup first [] last = first ≡ last
+HistoriesLead setup first (history ∷ later) last =
+    (mid : State) × (length history ≤ most_events) × IsReplay setup first history mid × HistoriesLead setup mid later last
 
 -- there is one period, unless there may be several
 abbrev pub IsCount : (several : Bool) → ℕ → Type 0
@@ -58,18 +58,18 @@ pub record IsAll (given : Option (List Timed)) (table : Timetable) : Type 0 wher
   pub next : table.next ≡ 0
 
 -- Where there is a list of what is to happen on the board, what the histories have of the scanner's seat is its first events, in their order.
-abbrev pub Plays : Option (List Timed) → List (List Event) → Type 0
-Plays None histories = Unit {0}
-Plays (Some list) histories = (place : ℕ) × Gains list 0 place [] (flat_map (calls_of 2) histories)
+abbrev pub PlaysTimetable : Option (List Timed) → List (List Event) → Type 0
+PlaysTimetable None histories = Unit {0}
+PlaysTimetable (Some list) histories = (place : ℕ) × GainsCalls list 0 place [] (flat_map (calls_of 2) histories)
 
 -- Some histories of the file's board, one unless there may be several, play the list, where there is one. They have so many events in all, and lead
 -- to a state in which so many of the file's records have another value.
-pub record Tallies (several : Bool) (list : Option (List Timed)) (file : BoardFile) (events changed : ℕ) : Type 0 where
+pub record TalliesOf (several : Bool) (list : Option (List Timed)) (file : BoardFile) (events changed : ℕ) : Type 0 where
   pub histories : List (List Event)
   pub after : State
-  pub plays : Plays list histories
+  pub plays : PlaysTimetable list histories
   pub count : IsCount several (length histories)
-  pub lead : Lead file (opened file) histories after
+  pub lead : HistoriesLead file (opened file) histories after
   pub counted : events ≡ sum_by length histories
   pub differ : changed ≡ changed_in after.records (pairs_of file)
 
@@ -85,5 +85,5 @@ text_of events changed = flat_map ended (served_line events ∷ records_line cha
 pub record TellsServed (several : Bool) (list : Option (List Timed)) (file : BoardFile) (text : List ℕ) : Type 0 where
   pub events : ℕ
   pub changed : ℕ
-  pub tallies : Tallies several list file events changed
+  pub tallies : TalliesOf several list file events changed
   pub said : text ≡ text_of events changed

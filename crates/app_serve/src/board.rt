@@ -3,11 +3,11 @@ ghost use Rattle.std.specs.Prelude.{◌≡◌, [], ◌∷◌, IfOk, IfSome};
 ghost use Rattle.std.specs.List.{AllZip};
 ghost use Rattle.two_wire.specs.declared.Bus.TheVariants as bus;
 ghost use Rattle.bmc_board.specs.State.{state_of};
-ghost use Rattle.bmc_lab.specs.Run.{IsFresh};
-ghost use Rattle.bmc_shared.specs.Seated.{IsFresh as HasNoCall};
-ghost use Rattle.app_serve.specs.Served.{IsServed, most_events};
+ghost use Rattle.bmc_lab.specs.Run.{IsFreshPort};
+ghost use Rattle.bmc_shared.specs.Seated.{IsFreshSeat as HasNoCall};
+ghost use Rattle.app_serve.specs.Served.{IsServedBoard, most_events};
 
-use app_base::Untold;
+use app_base::ReportFault;
 use bmc_board::{Board, Records};
 use bmc_core::Port;
 use bmc_lab::controller_place;
@@ -29,14 +29,14 @@ impl Gate for OpenGate {
 
 /// A board that was served, with the history that led to it.
 #[derive(Drop)]
-pub struct Served {
+pub struct ClosedBoard {
     pub board: Board<Records>,
     pub history: History,
 }
 
 /// The controller's ports on both buses, which have heard nothing yet.
 pub fn controller_ports(alloc: Global) -> Result<[Port; 2], AllocError>
-    ensures { IfOk result (λ ports. AllZip IsFresh (bus.Ipmb ∷ bus.Smbus ∷ []) ports) }
+    ensures { IfOk result (λ ports. AllZip IsFreshPort (bus.Ipmb ∷ bus.Smbus ∷ []) ports) }
 {
     let at = controller_place();
     Ok([
@@ -51,7 +51,7 @@ pub fn open_board<J: Opening>(
     blank: Blank,
     board: Board<Records>,
     room: usize,
-) -> Result<(Shared<J, Records>, Seats<J>), Untold>
+) -> Result<(Shared<J, Records>, Seats<J>), ReportFault>
     requires name { blank.name ≡ J.name }
     requires parts { blank.parts ≡ J.parts }
     requires three { blank.parts ≡ 3 }
@@ -67,7 +67,7 @@ pub fn open_board<J: Opening>(
         Err((_, blank, board)) => {
             drop(blank);
             drop(board);
-            Err(Untold::Memory)
+            Err(ReportFault::Memory)
         }
     }
 }
@@ -95,12 +95,12 @@ where
 }
 
 /// The board and its history, where the seats' lists are the history's.
-pub fn close_board<J: Opening>(shared: Shared<J, Records>, seats: Seats<J>) -> Option<Served>
+pub fn close_board<J: Opening>(shared: Shared<J, Records>, seats: Seats<J>) -> Option<ClosedBoard>
     requires three { J.parts ≡ 3 }
-    ensures { IfSome result (IsServed J.setup J.opening J.room) }
+    ensures { IfSome result (IsServedBoard J.setup J.opening J.room) }
 {
     match shared.close(seats) {
-        Ok((board, history)) => Some(Served { board, history }),
+        Ok((board, history)) => Some(ClosedBoard { board, history }),
         Err(_) => None,
     }
 }
@@ -114,20 +114,20 @@ fn serve_shared<J, A, B, R>(
     ipmb: &mut A,
     smbus: &mut B,
     turns: u32,
-) -> Result<Served, Untold>
+) -> Result<ClosedBoard, ReportFault>
 where
     J: Opening + Send + Sync,
     A: Link + Send,
     B: Link + Send,
     R: Threads + Wait + Sync,
     requires three { J.parts ≡ 3 }
-    ensures { IfOk result (IsServed J.setup J.opening J.room) }
+    ensures { IfOk result (IsServedBoard J.setup J.opening J.room) }
 {
     match work(rt, &shared, seats, ports, ipmb, smbus, turns) {
-        Ok(seats) => close_board(shared, seats).ok_or(Untold::Stopped),
+        Ok(seats) => close_board(shared, seats).ok_or(ReportFault::Stopped),
         Err(NoThread) => {
             drop(shared);
-            Err(Untold::Stopped)
+            Err(ReportFault::Stopped)
         }
     }
 }
@@ -143,7 +143,7 @@ fn serve_opened<J, A, B, R>(
     ipmb: &mut A,
     smbus: &mut B,
     turns: u32,
-) -> Result<Served, Untold>
+) -> Result<ClosedBoard, ReportFault>
 where
     J: Opening + Send + Sync,
     A: Link + Send,
@@ -155,7 +155,7 @@ where
     requires setup { board.setup ≡ J.setup }
     requires opening { state_of board ≡ J.opening }
     requires room { room ≡ J.room }
-    ensures { IfOk result (IsServed J.setup J.opening J.room) }
+    ensures { IfOk result (IsServedBoard J.setup J.opening J.room) }
 {
     match open_board::<J>(alloc, blank, board, room) {
         Ok((shared, seats)) => serve_shared(rt, shared, seats, ports, ipmb, smbus, turns),
@@ -176,12 +176,12 @@ pub fn serve_over<A, B, R>(
     ipmb: &mut A,
     smbus: &mut B,
     turns: u32,
-) -> Result<Served, Untold>
+) -> Result<ClosedBoard, ReportFault>
 where
     A: Link + Send,
     B: Link + Send,
     R: Threads + Wait + Sync,
-    ensures { IfOk result (IsServed board.setup (state_of board) most_events) }
+    ensures { IfOk result (IsServedBoard board.setup (state_of board) most_events) }
 {
     serve_opened::<Brand, A, B, R>(
         rt,

@@ -1,17 +1,17 @@
 //! The board of a file, served over two links, and what is counted of it.
 ghost use Rattle.std.specs.Prelude.{◌≡◌, false, true, List, Option, None, IfOk};
 ghost use Rattle.cfg_records.specs.declared.board_file.BoardFile.{BoardFile as AnyFile};
-ghost use Rattle.bmc_ports.specs.declared.timed.Timed.{Timed as AnyTimed};
+ghost use Rattle.bmc_ports.specs.declared.timetable.Timed.{Timed as AnyTimed};
 ghost use Rattle.bmc_board.specs.State.{state_of};
 ghost use Rattle.cfg_records.specs.Changed.{changed_in};
-ghost use Rattle.app_serve.specs.Served.{IsAll, IsBegun, Tallies, list_in};
+ghost use Rattle.app_serve.specs.Served.{IsAll, IsBegunBoard, TalliesOf, list_in};
 
 use crate::board::{controller_ports, serve_over};
-use crate::periods::{Course, serve_periods};
+use crate::periods::{PeriodState, serve_periods};
 use crate::readings::table_of;
 use crate::run::ServeWords;
 use crate::tally::{Begun, Tally, begin, count, tally_of};
-use app_base::Untold;
+use app_base::ReportFault;
 use bmc_core::Port;
 use bmc_ports::{Lane, Lanes, Link, Timed, Timetable};
 use cfg_records::{BoardFile, Key, StartValue};
@@ -40,7 +40,7 @@ fn lanes_of<A: Drop, B: Drop>(
 }
 
 /// What is counted of a board that was served for a period or more, by the records that it began with. Both are let go.
-fn counted<A: Drop, B: Drop>(start: Vec<(Key, StartValue)>, course: Course<'_, A, B>) -> Tally
+fn counted<A: Drop, B: Drop>(start: Vec<(Key, StartValue)>, course: PeriodState<'_, A, B>) -> Tally
     ensures events { result.events ≡ course.entry.events }
     ensures changed { result.changed
         ≡ changed_in (state_of course.entry.board).records start.items }
@@ -60,13 +60,13 @@ fn served_once<A, B, R>(
     mut ipmb: A,
     mut smbus: B,
     turns: u32,
-) -> Result<Tally, Untold>
+) -> Result<Tally, ReportFault>
 where
     A: Link + Send + Drop,
     B: Link + Send + Drop,
     R: Threads + Wait + Sync,
-    ensures { (file : AnyFile) → IsBegun file begun
-        → IfOk result (λ tally. Tallies false None file tally.events tally.changed) }
+    ensures { (file : AnyFile) → IsBegunBoard file begun
+        → IfOk result (λ tally. TalliesOf false None file tally.events tally.changed) }
 {
     let Begun { start, board } = begun;
     let served = serve_over(rt, alloc, board, ports, &mut ipmb, &mut smbus, turns);
@@ -94,17 +94,17 @@ fn served_in_one<A, B, R>(
     lanes: Lanes<A, B>,
     table: Timetable<'_>,
     quiet: Option<u32>,
-) -> Result<Tally, Untold>
+) -> Result<Tally, ReportFault>
 where
     A: Link + Send + Drop,
     B: Link + Send + Drop,
     R: Threads + Wait + Clock + Sync,
-    ensures { (file : AnyFile) (given : Option (List AnyTimed)) → IsBegun file begun
+    ensures { (file : AnyFile) (given : Option (List AnyTimed)) → IsBegunBoard file begun
         → IsAll given table.entry
-        → IfOk result (λ tally. Tallies false given file tally.events tally.changed) }
+        → IfOk result (λ tally. TalliesOf false given file tally.events tally.changed) }
 {
     let Begun { start, board } = begun;
-    let course = Course::new(board, lanes, table);
+    let course = PeriodState::new(board, lanes, table);
     match course.go_on(rt, alloc, quiet) {
         Ok(next) => Ok(counted(start, next)),
         Err(why) => {
@@ -122,14 +122,14 @@ fn served_in_periods<A, B, R>(
     lanes: Lanes<A, B>,
     table: Timetable<'_>,
     quiet: Option<u32>,
-) -> Result<Tally, Untold>
+) -> Result<Tally, ReportFault>
 where
     A: Link + Send + Drop,
     B: Link + Send + Drop,
     R: Threads + Wait + Clock + Sync,
-    ensures { (file : AnyFile) (given : Option (List AnyTimed)) → IsBegun file begun
+    ensures { (file : AnyFile) (given : Option (List AnyTimed)) → IsBegunBoard file begun
         → IsAll given table.entry
-        → IfOk result (λ tally. Tallies true given file tally.events tally.changed) }
+        → IfOk result (λ tally. TalliesOf true given file tally.events tally.changed) }
 {
     let Begun { start, board } = begun;
     match serve_periods(rt, alloc, board, lanes, table, quiet) {
@@ -152,13 +152,13 @@ fn serve_begun<A, B, R>(
     ipmb: A,
     smbus: B,
     words: &ServeWords,
-) -> Result<Tally, Untold>
+) -> Result<Tally, ReportFault>
 where
     A: Link + Send + Drop,
     B: Link + Send + Drop,
     R: Threads + Wait + Clock + Sync,
-    ensures { (file : AnyFile) → IsBegun file begun
-        → IfOk result (λ tally. Tallies words.now.periods (list_in readings.now) file
+    ensures { (file : AnyFile) → IsBegunBoard file begun
+        → IfOk result (λ tally. TalliesOf words.now.periods (list_in readings.now) file
         tally.events tally.changed) }
 {
     if words.periods {
@@ -182,18 +182,18 @@ pub(crate) fn served<A, B, R>(
     ipmb: A,
     smbus: B,
     words: &ServeWords,
-) -> Result<Tally, Untold>
+) -> Result<Tally, ReportFault>
 where
     A: Link + Send + Drop,
     B: Link + Send + Drop,
     R: Threads + Wait + Clock + Sync,
-    ensures { IfOk result (λ tally. Tallies words.now.periods (list_in readings.now) file
+    ensures { IfOk result (λ tally. TalliesOf words.now.periods (list_in readings.now) file
         tally.events tally.changed) }
 {
     let Ok(begun) = begin(alloc, file) else {
         drop(ipmb);
         drop(smbus);
-        return Err(Untold::Memory);
+        return Err(ReportFault::Memory);
     };
     match controller_ports(alloc) {
         Ok(ports) => serve_begun(rt, alloc, begun, ports, readings, ipmb, smbus, words),
@@ -201,7 +201,7 @@ where
             drop(begun);
             drop(ipmb);
             drop(smbus);
-            Err(Untold::Memory)
+            Err(ReportFault::Memory)
         }
     }
 }

@@ -1,6 +1,6 @@
 //! The controller's ends of both buses, and the line that tells of their ports.
 ghost use Rattle.std.specs.Prelude.{◌≡◌, IfOk, IfSome, string_bytes};
-ghost use Rattle.app_serve.specs.Run.{IsTaken, ports_line};
+ghost use Rattle.app_serve.specs.Run.{IsTakenPort, ports_line};
 
 use crate::run::ServeWords;
 use std::alloc::{AllocError, Global};
@@ -16,14 +16,14 @@ pub(crate) struct End {
 
 /// The controller's ends of both buses.
 #[derive(Drop)]
-pub(crate) struct Ends {
+pub(crate) struct BusLinks {
     pub ipmb: End,
     pub smbus: End,
 }
 
 /// A link at this port, or at a free one for port 0, which waits so many milliseconds; or nothing where it can't be had.
 fn open_end<R: Net>(rt: &R, asked: u16, wait_ms: u32) -> Option<End>
-    ensures { IfSome result (λ end. IsTaken asked end.port) }
+    ensures { IfSome result (λ end. IsTakenPort asked end.port) }
 {
     let link = UdpLink::bind(rt, asked, wait_ms).ok()?;
     if asked != 0 {
@@ -39,13 +39,13 @@ fn open_end<R: Net>(rt: &R, asked: u16, wait_ms: u32) -> Option<End>
 }
 
 /// The links at the ports that the words name, or nothing where one can't be had.
-pub(crate) fn open_ends<R: Net>(rt: &R, words: &ServeWords) -> Option<Ends>
-    ensures ipmb { IfSome result (λ ends. IsTaken words.now.ipmb_port ends.ipmb.port) }
-    ensures smbus { IfSome result (λ ends. IsTaken words.now.smbus_port ends.smbus.port) }
+pub(crate) fn open_ends<R: Net>(rt: &R, words: &ServeWords) -> Option<BusLinks>
+    ensures ipmb { IfSome result (λ ends. IsTakenPort words.now.ipmb_port ends.ipmb.port) }
+    ensures smbus { IfSome result (λ ends. IsTakenPort words.now.smbus_port ends.smbus.port) }
 {
     let ipmb = open_end(rt, words.ipmb_port, words.wait_ms)?;
     match open_end(rt, words.smbus_port, words.wait_ms) {
-        Some(smbus) => Some(Ends { ipmb, smbus }),
+        Some(smbus) => Some(BusLinks { ipmb, smbus }),
         None => {
             drop(ipmb);
             None

@@ -1,14 +1,14 @@
 //! Laws of texts of readings.
 ghost use Rattle.std.specs.Prelude.{◌≡◌, ℕ, List};
-ghost use Rattle.bmc_ports.specs.declared.timed.Timed.{Timed as AnyTimed};
-ghost use Rattle.app_serve.specs.ReadingsText.{Stands, IsFirstBad};
+ghost use Rattle.bmc_ports.specs.declared.timetable.Timed.{Timed as AnyTimed};
+ghost use Rattle.app_serve.specs.ReadingsText.{IsTextOf, IsFirstBad};
 
 /// A text stands for one list at most, has one first bad line at most, and never both.
 pub fn one_readings_list()
     ensures same { (text : List ℕ) (a b : List AnyTimed)
-        → Stands text a → Stands text b → a ≡ b }
+        → IsTextOf text a → IsTextOf text b → a ≡ b }
     ensures apart { (text : List ℕ) (list : List AnyTimed) (n : ℕ)
-        → Stands text list → ¬ IsFirstBad text n }
+        → IsTextOf text list → ¬ IsFirstBad text n }
     ensures first { (text : List ℕ) (m n : ℕ)
         → IsFirstBad text m → IsFirstBad text n → m ≡ n }
 {}

@@ -2,15 +2,15 @@
 ghost use Rattle.std.specs.Prelude.{◌≡◌, ◌<◌, ◌+◌, ◌^◌, ◌↔◌, IfOk, IsTrue};
 ghost use Rattle.bmc_ports.specs.Slices.{EndsAt};
 ghost use Rattle.bmc_board.specs.State.{state_of};
-ghost use Rattle.bmc_shared.specs.Seated.{IsFresh};
+ghost use Rattle.bmc_shared.specs.Seated.{IsFreshSeat};
 ghost use Rattle.app_serve.specs.Served.{most_events};
 ghost use Rattle.app_serve.specs.Periods.{IsPeriod, IsClosed, GoesToNext, RunsTo};
 
 use crate::board::{OpenGate, open_board};
-use app_base::Untold;
+use app_base::ReportFault;
 use bmc_board::{Board, Records};
 use bmc_ports::{
-    History, Lanes, Link, MOST_EVENTS, NoThread, Opening, Seats, Shared, Sliced, Timetable,
+    History, Lanes, Link, MOST_EVENTS, NoThread, Opening, RunResult, Seats, Shared, Timetable,
     run_slices,
 };
 use std::alloc::Global;
@@ -23,7 +23,7 @@ use std::time::Clock;
 /// A board that was served so far: with which ports, links and turns it's served on, what is to happen on it, and how many events its
 /// histories have in all.
 #[derive(Drop)]
-pub struct Course<'a, A, B> {
+pub struct PeriodState<'a, A, B> {
     pub board: Board<Records>,
     pub lanes: Lanes<A, B>,
     pub table: Timetable<'a>,
@@ -43,8 +43,8 @@ struct Period<A, B> {
 /// The board and the history of a period that is over, where the seats' lists are the history's.
 fn close_period<J: Opening, A: Drop, B: Drop>(
     shared: Shared<J, Records>,
-    sliced: Sliced<J, A, B>,
-) -> Result<Period<A, B>, Untold>
+    sliced: RunResult<J, A, B>,
+) -> Result<Period<A, B>, ReportFault>
     requires three { J.parts ≡ 3 }
     ensures closed { IfOk result (λ period. IsClosed J.setup J.opening
         (state_of period.board) J.room sliced.seats period.history) }
@@ -52,7 +52,7 @@ fn close_period<J: Opening, A: Drop, B: Drop>(
     ensures lanes { IfOk result (λ period. period.lanes ≡ sliced.lanes) }
     ensures next { IfOk result (λ period. period.next ≡ sliced.next) }
 {
-    let Sliced {
+    let RunResult {
         seats,
         lanes,
         next,
@@ -69,7 +69,7 @@ fn close_period<J: Opening, A: Drop, B: Drop>(
         }),
         Err(_) => {
             drop(lanes);
-            Err(Untold::Stopped)
+            Err(ReportFault::Stopped)
         }
     }
 }
@@ -82,16 +82,16 @@ fn serve_shared<J, A, B, R>(
     lanes: Lanes<A, B>,
     table: Timetable<'_>,
     quiet: Option<u32>,
-) -> Result<Period<A, B>, Untold>
+) -> Result<Period<A, B>, ReportFault>
 where
     J: Opening + Send + Sync,
     A: Link + Send + Drop,
     B: Link + Send + Drop,
     R: Threads + Wait + Clock + Sync,
     requires three { J.parts ≡ 3 }
-    requires first { IsFresh seats.first }
-    requires second { IsFresh seats.second }
-    requires scanner { IsFresh seats.scanner }
+    requires first { IsFreshSeat seats.first }
+    requires second { IsFreshSeat seats.second }
+    requires scanner { IsFreshSeat seats.scanner }
     requires most { J.room ≡ most_events }
     ensures period { IfOk result (λ period. IsPeriod A.counts_of B.counts_of J.setup J.opening
         (state_of period.board) lanes period.lanes
@@ -102,7 +102,7 @@ where
         Ok(sliced) => close_period(shared, sliced),
         Err(NoThread) => {
             drop(shared);
-            Err(Untold::Stopped)
+            Err(ReportFault::Stopped)
         }
     }
 }
@@ -117,7 +117,7 @@ fn serve_opened<J, A, B, R>(
     lanes: Lanes<A, B>,
     table: Timetable<'_>,
     quiet: Option<u32>,
-) -> Result<Period<A, B>, Untold>
+) -> Result<Period<A, B>, ReportFault>
 where
     J: Opening + Send + Sync,
     A: Link + Send + Drop,
@@ -153,7 +153,7 @@ fn serve_period<A, B, R>(
     lanes: Lanes<A, B>,
     table: Timetable<'_>,
     quiet: Option<u32>,
-) -> Result<Period<A, B>, Untold>
+) -> Result<Period<A, B>, ReportFault>
 where
     A: Link + Send + Drop,
     B: Link + Send + Drop,
@@ -175,7 +175,7 @@ where
     )
 }
 
-impl<'a, A: Link + Send + Drop, B: Link + Send + Drop> Course<'a, A, B> {
+impl<'a, A: Link + Send + Drop, B: Link + Send + Drop> PeriodState<'a, A, B> {
     /// A board that is to be served.
     pub fn new(board: Board<Records>, lanes: Lanes<A, B>, table: Timetable<'a>) -> Self
         ensures setup { result.board.setup ≡ board.setup }
@@ -185,7 +185,7 @@ impl<'a, A: Link + Send + Drop, B: Link + Send + Drop> Course<'a, A, B> {
         ensures next { result.table.next ≡ table.entry.next }
         ensures events { result.events ≡ 0 }
     {
-        Course {
+        PeriodState {
             board,
             lanes,
             table,
@@ -206,11 +206,11 @@ impl<'a, A: Link + Send + Drop, B: Link + Send + Drop> Course<'a, A, B> {
         rt: &R,
         alloc: Global,
         quiet: Option<u32>,
-    ) -> Result<Self, Untold>
+    ) -> Result<Self, ReportFault>
         requires { self.events + most_events < 2 ^ 64 }
         ensures { IfOk result (λ next. GoesToNext A.counts_of B.counts_of self.entry next) }
     {
-        let Course {
+        let PeriodState {
             board,
             lanes,
             table,
@@ -227,7 +227,7 @@ impl<'a, A: Link + Send + Drop, B: Link + Send + Drop> Course<'a, A, B> {
             ) => {
                 let events = events + history.len();
                 drop(history);
-                Ok(Course {
+                Ok(PeriodState {
                     board,
                     lanes,
                     table: table.from(next),
@@ -250,7 +250,7 @@ pub fn serve_periods<'a, A, B, R>(
     lanes: Lanes<A, B>,
     table: Timetable<'a>,
     quiet: Option<u32>,
-) -> Result<Course<'a, A, B>, Untold>
+) -> Result<PeriodState<'a, A, B>, ReportFault>
 where
     A: Link + Send + Drop,
     B: Link + Send + Drop,
@@ -260,7 +260,7 @@ where
     ensures over { IfOk result (λ course. EndsAt quiet course.lanes) }
 {
     let most = u64::from(lanes.first.turns) + u64::from(lanes.second.turns);
-    let mut course = Course::new(board, lanes, table);
+    let mut course = PeriodState::new(board, lanes, table);
     for _ in 0..most {
         if course.is_over(quiet) {
             return Ok(course);

@@ -3,12 +3,12 @@ ghost use Rattle.std.specs.Prelude.{◌≡◌, ℕ, List, Option, IfOk, IfErr, s
 ghost use Rattle.std.specs.Option.{option_copied};
 ghost use Rattle.app_base.specs.declared.console.Stream.TheVariants.{Error};
 ghost use Rattle.app_base.specs.declared.status.Status.TheVariants.{RefusedFile};
-ghost use Rattle.app_base.specs.Ending.{Tells};
+ghost use Rattle.app_base.specs.Ending.{ReportTells};
 ghost use Rattle.app_serve.specs.Run.{IsBoard, IsRefused, SaysUnserved, StandsFor, readings_line};
 ghost use Rattle.app_serve.specs.Served.{IsAll, list_in};
 
 use crate::readings_text::{ReadingsFault, read_readings};
-use app_base::{Report, Status, Stream, Untold};
+use app_base::{Report, ReportFault, Status, Stream};
 use bmc_ports::{Timed, Timetable};
 use std::alloc::{AllocError, Global};
 use std::time::{Clock, Instant};
@@ -57,12 +57,12 @@ fn fault_report(alloc: Global, why: ReadingsFault) -> Result<Report, AllocError>
 }
 
 /// What is said of a text of readings that stands for no list.
-pub(crate) fn readings_refusal(alloc: Global, why: ReadingsFault) -> Result<Report, Untold>
+pub(crate) fn readings_refusal(alloc: Global, why: ReadingsFault) -> Result<Report, ReportFault>
     ensures { (board : List ℕ) (given : Option (List ℕ)) → IsBoard board
-        → IsRefused given why → Tells (SaysUnserved board given) result }
+        → IsRefused given why → ReportTells (SaysUnserved board given) result }
 {
     match why {
-        ReadingsFault::Memory => Err(Untold::Memory),
+        ReadingsFault::Memory => Err(ReportFault::Memory),
         why => Ok(fault_report(alloc, why)?),
     }
 }

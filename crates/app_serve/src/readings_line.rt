@@ -1,8 +1,8 @@
 //! The lines of a text of readings.
 ghost use Rattle.std.specs.Prelude.{◌≡◌, ◌∷◌, [], map, IfOk};
 ghost use Rattle.text_schedule.specs.Text.{words_of};
-ghost use Rattle.text_schedule.specs.Reads.{Finds};
-ghost use Rattle.app_serve.specs.ReadingsLine.{IsTime, Say, SayTimed, Says};
+ghost use Rattle.text_schedule.specs.Reads.{FindsOne};
+ghost use Rattle.app_serve.specs.ReadingsLine.{IsTime, AreWordsOf, SayTimed, IsLineOf};
 
 use bmc_board::Bench;
 use bmc_ports::Timed;
@@ -15,7 +15,7 @@ const END_OF_STATES: u8 = 32;
 
 /// The milliseconds that the word is in decimal digits.
 fn milliseconds(word: &str) -> Option<u64>
-    ensures { Finds (IsTime word.now) result }
+    ensures { FindsOne (IsTime word.now) result }
 {
     if word.starts_with('+') {
         return None;
@@ -25,7 +25,7 @@ fn milliseconds(word: &str) -> Option<u64>
 
 /// What one word says.
 fn tick(word: &str) -> Option<Bench>
-    ensures { Finds (Say (word.now ∷ [])) result }
+    ensures { FindsOne (AreWordsOf (word.now ∷ [])) result }
 {
     match word {
         "tick" => Some(Bench::Tick),
@@ -35,7 +35,7 @@ fn tick(word: &str) -> Option<Bench>
 
 /// What the word `chassis` and a state say.
 fn chassis(word: &str, state: &str) -> Option<Bench>
-    ensures { Finds (Say (word.now ∷ state.now ∷ [])) result }
+    ensures { FindsOne (AreWordsOf (word.now ∷ state.now ∷ [])) result }
 {
     if word != "chassis" {
         return None;
@@ -49,7 +49,7 @@ fn chassis(word: &str, state: &str) -> Option<Bench>
 
 /// What the word `scan`, a sensor and a reading say.
 fn scan(word: &str, sensor: &str, raw: &str) -> Option<Bench>
-    ensures { Finds (Say (word.now ∷ sensor.now ∷ raw.now ∷ [])) result }
+    ensures { FindsOne (AreWordsOf (word.now ∷ sensor.now ∷ raw.now ∷ [])) result }
 {
     if word != "scan" {
         return None;
@@ -61,7 +61,7 @@ fn scan(word: &str, sensor: &str, raw: &str) -> Option<Bench>
 
 /// What the words say.
 fn bench(words: &[&str]) -> Option<Bench>
-    ensures { Finds (Say (map (λ x. x.now) words.now)) result }
+    ensures { FindsOne (AreWordsOf (map (λ x. x.now) words.now)) result }
 {
     match *words {
         [word] => tick(word),
@@ -73,7 +73,7 @@ fn bench(words: &[&str]) -> Option<Bench>
 
 /// What the words say, the first of which is its time.
 fn timed(words: &[&str]) -> Option<Timed>
-    ensures { Finds (SayTimed (map (λ x. x.now) words.now)) result }
+    ensures { FindsOne (SayTimed (map (λ x. x.now) words.now)) result }
 {
     let [time, what @ ..] = words else {
         return None;
@@ -94,7 +94,7 @@ fn words(alloc: Global, line: &str) -> Result<Vec<&str>, AllocError>
 
 /// What the line says.
 pub fn read_line(alloc: Global, line: &str) -> Result<Option<Timed>, AllocError>
-    ensures { IfOk result (λ found. Finds (Says line.now) found) }
+    ensures { IfOk result (λ found. FindsOne (IsLineOf line.now) found) }
 {
     let words = words(alloc, line)?;
     Ok(timed(words.as_slice()))

@@ -2,7 +2,7 @@
 ghost use Rattle.std.specs.Prelude.{◌≡◌, ◌++◌, ◌∷◌, [], ◌↔◌, IfOk, IsTrue, map};
 ghost use Rattle.text_schedule.specs.Text.{lines_of};
 ghost use Rattle.text_schedule.specs.Schedule.{is_skipped};
-ghost use Rattle.app_serve.specs.ReadingsText.{AreRead, IsRead, NeverFalls};
+ghost use Rattle.app_serve.specs.ReadingsText.{LinesAreRead, TextIsRead, NeverFalls};
 
 use crate::readings_line::read_line;
 use bmc_ports::Timed;
@@ -38,7 +38,7 @@ fn comes_behind(list: &[Timed], next: &Timed) -> bool
 
 /// The list that the lines say.
 fn read_lines(alloc: Global, lines: &[&str]) -> Result<Vec<Timed>, ReadingsFault>
-    ensures { AreRead (map (λ x. x.now) lines.now) result }
+    ensures { LinesAreRead (map (λ x. x.now) lines.now) result }
 {
     let mut list = Vec::new(alloc);
     for (place, line) in lines.iter().enumerate() {
@@ -71,7 +71,7 @@ fn lines(alloc: Global, text: &str) -> Result<Vec<&str>, AllocError>
 /// The list that the text stands for, of what happens on a board and when, or its first bad line. A line whose time is before that of a
 /// line above it is bad.
 pub fn read_readings(alloc: Global, text: &str) -> Result<Vec<Timed>, ReadingsFault>
-    ensures { IsRead text.now result }
+    ensures { TextIsRead text.now result }
 {
     match lines(alloc, text) {
         Ok(lines) => read_lines(alloc, lines.as_slice()),

@@ -3,18 +3,18 @@ ghost use Rattle.std.specs.Prelude.{◌≡◌, ◌⊎◌, ℕ, List, Option, opt
 ghost use Rattle.std.specs.Option.{option_copied};
 ghost use Rattle.app_base.specs.declared.console.Stream.TheVariants.{Output};
 ghost use Rattle.app_base.specs.declared.status.Status.TheVariants.{Success};
-ghost use Rattle.app_base.specs.Ending.{RunEnds, SaysReport, Tells};
+ghost use Rattle.app_base.specs.Ending.{RunEnds, SaysReport, ReportTells};
 ghost use Rattle.text_board.specs.declared.fault.FileFault.TheVariants.{Memory};
-ghost use Rattle.text_board.specs.Holds.{Reads};
-ghost use Rattle.app_serve.specs.Run.{BesideEnds, IsTaken, SaysNothing, SaysPorts, SaysUnserved, ServeEnds, StandsFor, TextEnds};
+ghost use Rattle.text_board.specs.Holds.{ReadsText};
+ghost use Rattle.app_serve.specs.Run.{BesideEnds, IsTakenPort, SaysNothing, SaysPorts, SaysUnserved, ServeEnds, StandsFor, TextEnds};
 ghost use Rattle.app_serve.specs.Served.{TellsServed, list_in};
 
 use crate::counting::served;
-use crate::ends::{Ends, open_ends, ports_text};
+use crate::ends::{BusLinks, open_ends, ports_text};
 use crate::readings::{list_of, readings_refusal};
 use crate::tally::report;
 use app_base::files::refuse;
-use app_base::{Console, Report, Status, Stream, TextFiles, Untold, end_run, text_of};
+use app_base::{Console, Report, ReportFault, Status, Stream, TextFiles, end_run, text_of};
 use bmc_ports::Timed;
 use cfg_records::BoardFile;
 use std::alloc::Global;
@@ -35,7 +35,7 @@ pub struct ServeWords {
     pub board: String,
     /// The UDP port of the controller's end of IPMB.
     pub ipmb_port: u16,
-    /// That of its end of SMBus.
+    /// The UDP port of the end of SMBus.
     pub smbus_port: u16,
     /// How many turns each worker makes.
     pub turns: u32,
@@ -57,15 +57,15 @@ fn served_report<R: Threads + Wait + Clock + Sync>(
     alloc: Global,
     file: BoardFile,
     readings: &Option<Vec<Timed>>,
-    ends: Ends,
+    ends: BusLinks,
     words: &ServeWords,
-) -> Result<Report, Untold>
+) -> Result<Report, ReportFault>
     ensures stream { IfOk result (λ report. report.stream ≡ Output) }
     ensures told { IfOk result (λ report. TellsServed words.now.periods (list_in readings.now) file
         (string_bytes report.text)) }
     ensures status { IfOk result (λ report. report.status ≡ Success) }
 {
-    let Ends { ipmb, smbus } = ends;
+    let BusLinks { ipmb, smbus } = ends;
     match served(rt, alloc, file, readings, ipmb.link, smbus.link, words) {
         Ok(tally) => Ok(report(alloc, tally)?),
         Err(why) => Err(why),
@@ -74,7 +74,7 @@ fn served_report<R: Threads + Wait + Clock + Sync>(
 
 /// Writes the report of a run, lets it go, and gives the status.
 fn finish<W: io::Write, E: io::Write>(
-    report: Result<Report, Untold>,
+    report: Result<Report, ReportFault>,
     console: &mut Console<W, E>,
 ) -> u8
     ensures { RunEnds W.contents E.contents (SaysReport report) console.old console.new result }
@@ -97,7 +97,7 @@ fn tell_ports<W: io::Write, E: io::Write>(
         (RunEnds W.contents E.contents SaysNothing console.old console.new) }
 {
     let Ok(text) = ports_text(alloc, ipmb, smbus) else {
-        return Err(finish(Err(Untold::Memory), console));
+        return Err(finish(Err(ReportFault::Memory), console));
     };
     let written = console.write(Stream::Error, text.as_bytes());
     drop(text);
@@ -116,13 +116,13 @@ fn serve_ends<W: io::Write, E: io::Write, R: Threads + Wait + Clock + Sync>(
     alloc: Global,
     file: BoardFile,
     readings: &Option<Vec<Timed>>,
-    ends: Ends,
+    ends: BusLinks,
     words: &ServeWords,
     console: &mut Console<W, E>,
 ) -> u8
-    requires ipmb { IsTaken words.now.ipmb_port ends.ipmb.port }
-    requires smbus { IsTaken words.now.smbus_port ends.smbus.port }
-    ensures { (board : List ℕ) (given : Option (List ℕ)) → Reads board (Ok file)
+    requires ipmb { IsTakenPort words.now.ipmb_port ends.ipmb.port }
+    requires smbus { IsTakenPort words.now.smbus_port ends.smbus.port }
+    ensures { (board : List ℕ) (given : Option (List ℕ)) → ReadsText board (Ok file)
         → StandsFor given (list_in readings.now)
         → TextEnds W.contents E.contents words.now board given console.old console.new result }
 {
@@ -148,7 +148,7 @@ fn serve_board<W: io::Write, E: io::Write, R: Net + Threads + Wait + Clock + Syn
     words: &ServeWords,
     console: &mut Console<W, E>,
 ) -> u8
-    ensures { (board : List ℕ) (given : Option (List ℕ)) → Reads board (Ok file)
+    ensures { (board : List ℕ) (given : Option (List ℕ)) → ReadsText board (Ok file)
         → StandsFor given (list_in readings.now)
         → TextEnds W.contents E.contents words.now board given console.old console.new result }
 {
@@ -156,18 +156,18 @@ fn serve_board<W: io::Write, E: io::Write, R: Net + Threads + Wait + Clock + Syn
         Some(ends) => serve_ends(rt, alloc, file, readings, ends, words, console),
         None => {
             drop(file);
-            finish(Err(Untold::Stopped), console)
+            finish(Err(ReportFault::Stopped), console)
         }
     }
 }
 
 /// What is said of a text that holds no board.
-fn refusal(alloc: Global, why: FileFault) -> Result<Report, Untold>
+fn refusal(alloc: Global, why: FileFault) -> Result<Report, ReportFault>
     ensures { (board : List ℕ) (given : Option (List ℕ))
-        → (why ≡ Memory) ⊎ Reads board (Err why) → Tells (SaysUnserved board given) result }
+        → (why ≡ Memory) ⊎ ReadsText board (Err why) → ReportTells (SaysUnserved board given) result }
 {
     match why {
-        FileFault::Memory => Err(Untold::Memory),
+        FileFault::Memory => Err(ReportFault::Memory),
         why => Ok(Report::of_board(alloc, why)?),
     }
 }
@@ -181,7 +181,7 @@ fn serve_file<W: io::Write, E: io::Write, R: Net + Threads + Wait + Clock + Sync
     words: &ServeWords,
     console: &mut Console<W, E>,
 ) -> u8
-    ensures { (board : List ℕ) → Reads board (Ok file)
+    ensures { (board : List ℕ) → ReadsText board (Ok file)
         → TextEnds W.contents E.contents words.now board (option_copied readings.entry)
         console.old console.new result }
 {

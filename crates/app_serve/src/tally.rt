@@ -7,7 +7,7 @@ ghost use Rattle.app_base.specs.declared.status.Status.TheVariants.{Success};
 ghost use Rattle.cfg_records.specs.Changed.{changed_in};
 ghost use Rattle.app_serve.specs.Served.{text_of};
 
-use crate::board::Served;
+use crate::board::ClosedBoard;
 use app_base::{Report, Status, Stream};
 use bmc_board::{Board, Records};
 use cfg_records::{BoardFile, Key, StartValue, changed_count};
@@ -63,7 +63,7 @@ pub(crate) fn count(start: &[(Key, StartValue)], board: &Board<Records>, events:
 }
 
 /// What is counted of a board that was served with one history.
-pub fn tally_of(start: &[(Key, StartValue)], served: &Served) -> Tally
+pub fn tally_of(start: &[(Key, StartValue)], served: &ClosedBoard) -> Tally
     ensures events { result.events ≡ length served.now.history }
     ensures changed { result.changed
         ≡ changed_in (state_of served.now.board).records start.now }

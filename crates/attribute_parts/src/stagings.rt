@@ -4,7 +4,7 @@ ghost use Rattle.std.specs.Option.{option_copied};
 ghost use Rattle.two_wire.specs.Codes.{pldm_invalid_data};
 ghost use Rattle.bios_attr.specs.EntryParts.{most_entry};
 ghost use Rattle.attribute_parts.specs.Stagings.{most_stagings, is_by, staged_by, without, with_staged};
-ghost use Rattle.attribute_parts.specs.StagingsLaws.{IsBegun};
+ghost use Rattle.attribute_parts.specs.StagingsLaws.{BeginsEntry};
 
 use crate::entry::{Entry, check_first, check_last, check_middle, op_in};
 use bios_attr::AttributeLimits;
@@ -45,18 +45,18 @@ fn joined(staged: &Entry, bytes: &[u8]) -> Entry
 
 impl Model for Stagings {
     ghost use Rattle.std.specs.Vec.{vec_capacity};
-    ghost use Rattle.attribute_parts.specs.Stagings.{Staged};
-    ghost use Rattle.attribute_parts.specs.StagingsLaws.{AreSound};
+    ghost use Rattle.attribute_parts.specs.Stagings.{StagedParts};
+    ghost use Rattle.attribute_parts.specs.StagingsLaws.{AreSoundStagings};
 
-    ghost Value = { Staged };
+    ghost Value = { StagedParts };
 
     ghost view = { λ s. s.kept.items };
 
-    ghost invariant = { λ s. AreSound (vec_capacity s.kept) s.kept.items };
+    ghost invariant = { λ s. AreSoundStagings (vec_capacity s.kept) s.kept.items };
 }
 
 impl Stagings {
-    ghost use Rattle.attribute_parts.specs.Stagings.{start_outcome, add_outcome, end_outcome, Leaves};
+    ghost use Rattle.attribute_parts.specs.Stagings.{start_outcome, add_outcome, end_outcome, PartLeaves};
 
     /// Nothing is staged.
     pub fn opening(alloc: Global) -> Result<Self, AllocError>
@@ -70,7 +70,7 @@ impl Stagings {
     /// The requester's staging.
     fn staging(&self, from: u8) -> Option<&Staging>
         ensures kept { option_copied result ≡ find (is_by from) self.now }
-        ensures begun { IfSome result (λ staging. IsBegun staging.now.entry) }
+        ensures begun { IfSome result (λ staging. BeginsEntry staging.now.entry) }
     {
         self.kept.iter().find(|staging| staging.from == from)
     }
@@ -79,7 +79,7 @@ impl Stagings {
     fn staged(&self, from: u8) -> Result<&Entry, Code>
         ensures value { MatchOption (staged_by from self.now) (result ≡ Err pldm_invalid_data)
             (λ entry. IsOkAnd result (λ staged. staged.now ≡ entry)) }
-        ensures begun { IfOk result (λ staged. IsBegun staged.now) }
+        ensures begun { IfOk result (λ staged. BeginsEntry staged.now) }
         ensures room { IfOk result (λ _. length (without from self.now) < most_stagings) }
     {
         let _ = &self.kept;
@@ -99,10 +99,10 @@ impl Stagings {
             .count()
     }
 
-    /// These bytes become what the requester has staged, in place of others.
+    /// Keeps these bytes as what the requester has staged, in place of others.
     fn keep(&mut self, from: u8, entry: Entry)
         requires room { length (without from self.old) < most_stagings }
-        requires begun { IsBegun entry }
+        requires begun { BeginsEntry entry }
         ensures { self.new ≡ with_staged from entry self.old }
     {
         self.end(from);
@@ -116,7 +116,7 @@ impl Stagings {
         from: u8,
         entry: &[u8],
     ) -> Result<u32, Code>
-        ensures { Leaves from (start_outcome (option_copied limits.entry) self.old from entry.now)
+        ensures { PartLeaves from (start_outcome (option_copied limits.entry) self.old from entry.now)
             result self.old self.new }
     {
         let Some(limits) = limits else {
@@ -132,7 +132,7 @@ impl Stagings {
 
     /// Carries out a part between the first and the last: the handle of the part behind it.
     pub fn add(&mut self, from: u8, handle: u32, bytes: &[u8]) -> Result<u32, Code>
-        ensures { Leaves from (add_outcome self.old from handle bytes.now)
+        ensures { PartLeaves from (add_outcome self.old from handle bytes.now)
             result self.old self.new }
     {
         let staged = self.staged(from)?;

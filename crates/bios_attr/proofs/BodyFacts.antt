@@ -22,9 +22,9 @@ use Rattle.bios_attr.specs.Attributes.{string_entries}
 use Rattle.bios_attr.specs.StringEntry.{string_bytes}
 use Rattle.bios_attr.specs.StringTable.{numbered}
 use Rattle.bios_attr.specs.StringTableLaws.{numbered_entries}
-use Rattle.bios_attr.specs.ValueEntry.{AreBytes}
+use Rattle.bios_attr.specs.ValueEntry.{IsByteList}
 use Rattle.bios_attr.specs.Tables.{padded, IsTable}
-use Rattle.bios_attr.specs.TableEntry.{table_of, written, IsWhole, entry_at, AreOf, HasBody, IsNoBody, IsTableOf, HasEntries, IsNoTable, BeginsWith, IsBodyFault, IsChecked, HasLength, IsFault}
+use Rattle.bios_attr.specs.TableEntry.{table_of, written, IsWhole, entry_at, AreEntriesOf, HasBody, IsNoBody, IsTableOf, HasEntries, IsNoTable, BeginsWith, IsBodyFault, IsChecked, HasLength, IsFault}
 use Rattle.bios_attr.specs.TableEntryLaws.{entry_back, entry_is_read, four_or_more}
 
 abbrev pub all_written : List TableEntry → List ℕ
@@ -33,19 +33,19 @@ all_written entries = flat_map written entries
 -- entries of the table that are left, and some padding
 pub record Left (t : BiosTable) (rest pad : List ℕ) : Type 0 where
   pub entries : List TableEntry
-  pub of_table : AreOf t entries
+  pub of_table : AreEntriesOf t entries
   pub spelled : all_written entries ++ pad ≡ rest
 
 -- what was read of the bytes, and that whatever they are read as goes on where this ends
 pub record SoFar (t : BiosTable) (bytes rest : List ℕ) (count : ℕ) : Type 0 where
   pub before : List TableEntry
-  pub of_table : AreOf t before
+  pub of_table : AreEntriesOf t before
   pub counted : length before ≡ count
   pub spelled : all_written before ++ rest ≡ bytes
   pub few : count + length rest ≤ length bytes
-  pub left : (entries : List TableEntry) (pad : List ℕ) → AreOf t entries → length pad < 4 → all_written entries ++ pad ≡ bytes → Left t rest pad
+  pub left : (entries : List TableEntry) (pad : List ℕ) → AreEntriesOf t entries → length pad < 4 → all_written entries ++ pad ≡ bytes → Left t rest pad
 
-of_more : (t : BiosTable) (entries : List TableEntry) (entry : TableEntry) → AreOf t entries → table_of entry ≡ t → IsWhole entry → AreOf t (entries ++ entry ∷ [])
+of_more : (t : BiosTable) (entries : List TableEntry) (entry : TableEntry) → AreEntriesOf t entries → table_of entry ≡ t → IsWhole entry → AreEntriesOf t (entries ++ entry ∷ [])
 of_more t [] entry of_table is whole = (is, whole, tt)
 of_more t (first ∷ entries) entry of_table is whole = (of_table.0, of_table.1, of_more t entries entry of_table.2 is whole)
 
@@ -57,7 +57,7 @@ first_written : (entry : TableEntry) (entries : List TableEntry) (pad : List ℕ
 first_written entry entries pad = ap (λ (xs : List ℕ). xs ++ pad) (flat_map-cons written entry entries) ∙ append_assoc (written entry) (all_written entries) pad
 
 -- entries that are left are read, the first of them first
-left_read : (t : BiosTable) (rest pad : List ℕ) (entry : TableEntry) (entries : List TableEntry) → AreOf t (entry ∷ entries) → all_written (entry ∷ entries) ++ pad ≡ rest
+left_read : (t : BiosTable) (rest pad : List ℕ) (entry : TableEntry) (entries : List TableEntry) → AreEntriesOf t (entry ∷ entries) → all_written (entry ∷ entries) ++ pad ≡ rest
     → entry_at t rest ≡ Some (entry, all_written entries ++ pad)
 left_read t rest pad entry entries of_table spelled =
     subst (λ (xs : List ℕ). entry_at t xs ≡ Some (entry, all_written entries ++ pad)) (sym (first_written entry entries pad) ∙ spelled)
@@ -66,7 +66,7 @@ left_read t rest pad entry entries of_table spelled =
 
 -- where an entry stands, the first that is left is it
 goes_on : (t : BiosTable) (rest behind pad : List ℕ) (entry : TableEntry) → entry_at t rest ≡ Some (entry, behind) → 4 ≤ length rest → length pad < 4
-    → (entries : List TableEntry) → AreOf t entries → all_written entries ++ pad ≡ rest → Left t behind pad
+    → (entries : List TableEntry) → AreEntriesOf t entries → all_written entries ++ pad ≡ rest → Left t behind pad
 goes_on t rest behind pad entry read long short [] of_table spelled =
     let same : length pad ≡ length rest = ap (λ (xs : List ℕ). length xs) spelled in absurd (omega (arith, same, long, short))
 goes_on t rest behind pad entry read long short (first ∷ entries) of_table spelled =
@@ -76,14 +76,14 @@ goes_on t rest behind pad entry read long short (first ∷ entries) of_table spe
 pub begins : (t : BiosTable) (bytes rest : List ℕ) (count : ℕ) → SoFar t bytes rest count → BeginsWith t bytes rest
 begins t bytes rest count so_far = record { entries = so_far.before; of_table = so_far.of_table; spelled = so_far.spelled }
 
-small_end : (xs rest : List ℕ) → AreBytes (xs ++ rest) → AreBytes rest
+small_end : (xs rest : List ℕ) → IsByteList (xs ++ rest) → IsByteList rest
 small_end [] rest small = small
 small_end (x ∷ xs) rest small = small_end xs rest (λ i. small (suc i))
 
-pub small_rest : (t : BiosTable) (bytes rest : List ℕ) (count : ℕ) → SoFar t bytes rest count → AreBytes bytes → AreBytes rest
-small_rest t bytes rest count so_far small = small_end (all_written so_far.before) rest (subst AreBytes (sym so_far.spelled) small)
+pub small_rest : (t : BiosTable) (bytes rest : List ℕ) (count : ℕ) → SoFar t bytes rest count → IsByteList bytes → IsByteList rest
+small_rest t bytes rest count so_far small = small_end (all_written so_far.before) rest (subst IsByteList (sym so_far.spelled) small)
 
-pub one_more : (t : BiosTable) (bytes rest behind : List ℕ) (count : ℕ) (entry : TableEntry) → SoFar t bytes rest count → AreBytes rest → 4 ≤ length rest → entry_at t rest ≡ Some (entry, behind) → SoFar t bytes behind (count + 1)
+pub one_more : (t : BiosTable) (bytes rest behind : List ℕ) (count : ℕ) (entry : TableEntry) → SoFar t bytes rest count → IsByteList rest → 4 ≤ length rest → entry_at t rest ≡ Some (entry, behind) → SoFar t bytes behind (count + 1)
 one_more t bytes rest behind count entry so_far small long read =
     let is = entry_is_read t rest (entry, behind) small read in
     let lengths : length (written entry ++ behind) ≡ length rest = ap (λ (xs : List ℕ). length xs) is.spelled in
@@ -100,7 +100,7 @@ one_more t bytes rest behind count entry so_far small long read =
       left = λ entries pad of_table short spelled. let left = so_far.left entries pad of_table short spelled in goes_on t rest behind pad entry read long short left.entries left.of_table left.spelled;
     }
 
-pub behind_less : (t : BiosTable) (rest behind : List ℕ) (entry : TableEntry) → AreBytes rest → entry_at t rest ≡ Some (entry, behind) → length behind < length rest
+pub behind_less : (t : BiosTable) (rest behind : List ℕ) (entry : TableEntry) → IsByteList rest → entry_at t rest ≡ Some (entry, behind) → length behind < length rest
 behind_less t rest behind entry small read =
     let is = entry_is_read t rest (entry, behind) small read in
     let lengths : length (written entry ++ behind) ≡ length rest = ap (λ (xs : List ℕ). length xs) is.spelled in
@@ -155,7 +155,7 @@ whole_body t bytes rest count so_far even short zeros =
     }
 
 -- what is left, where nothing could be read
-none_left : (t : BiosTable) (rest pad : List ℕ) → entry_at t rest ≡ None → 4 ≤ length rest → length pad < 4 → (entries : List TableEntry) → AreOf t entries → all_written entries ++ pad ≡ rest → ⊥
+none_left : (t : BiosTable) (rest pad : List ℕ) → entry_at t rest ≡ None → 4 ≤ length rest → length pad < 4 → (entries : List TableEntry) → AreEntriesOf t entries → all_written entries ++ pad ≡ rest → ⊥
 none_left t rest pad none long short [] of_table spelled =
     let same : length pad ≡ length rest = ap (λ (xs : List ℕ). length xs) spelled in omega (arith, same, long, short)
 none_left t rest pad none long short (entry ∷ entries) of_table spelled =
@@ -168,7 +168,7 @@ no_entry t bytes rest count so_far long none entries body =
     none_left t rest pad none long (padding_short (all_written entries)) left.entries left.of_table left.spelled
 
 -- what is left, where it is shorter than an entry, is padding
-only_padding : (t : BiosTable) (rest pad : List ℕ) → length rest < 4 → (entries : List TableEntry) → AreOf t entries → all_written entries ++ pad ≡ rest → pad ≡ rest
+only_padding : (t : BiosTable) (rest pad : List ℕ) → length rest < 4 → (entries : List TableEntry) → AreEntriesOf t entries → all_written entries ++ pad ≡ rest → pad ≡ rest
 only_padding t rest pad short [] of_table spelled = spelled
 only_padding t rest pad short (entry ∷ entries) of_table spelled =
     let lengths : length (written entry ++ (all_written entries ++ pad)) ≡ length rest = ap (λ (xs : List ℕ). length xs) (sym (first_written entry entries pad) ∙ spelled) in
@@ -264,7 +264,7 @@ not_padding entry entries pad other short same =
     let lengths : length (written entry ++ (all_written entries ++ pad)) ≡ length other = ap (λ (xs : List ℕ). length xs) (sym (first_written entry entries pad) ∙ same) in
     omega (arith, lengths, short, length-append (written entry) (all_written entries ++ pad), four_or_more entry)
 
-one_list : (t : BiosTable) (entries others : List TableEntry) (pad padding : List ℕ) → AreOf t entries → AreOf t others → length pad < 4 → length padding < 4 → all_written entries ++ pad ≡ all_written others ++ padding → entries ≡ others
+one_list : (t : BiosTable) (entries others : List TableEntry) (pad padding : List ℕ) → AreEntriesOf t entries → AreEntriesOf t others → length pad < 4 → length padding < 4 → all_written entries ++ pad ≡ all_written others ++ padding → entries ≡ others
 one_list t [] [] pad padding are also short small same = refl
 one_list t [] (other ∷ others) pad padding are also short small same = absurd (not_padding other others padding pad short (sym same))
 one_list t (entry ∷ entries) [] pad padding are also short small same = absurd (not_padding entry entries pad padding small same)
@@ -285,7 +285,7 @@ one_table t entries others bytes is also =
 
 -- ---- the table of strings
 
-strings_of_table : (strings : List StringEntry) → AreOf Strings (map String strings)
+strings_of_table : (strings : List StringEntry) → AreEntriesOf Strings (map String strings)
 strings_of_table [] = tt
 strings_of_table (entry ∷ strings) = (refl, tt, strings_of_table strings)
 

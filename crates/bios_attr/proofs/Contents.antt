@@ -15,7 +15,7 @@ use Rattle.bios_attr.specs.Attributes.{handle_of, handles_of, kind_fields, attri
 use Rattle.bios_attr.specs.ValueEntry.{shown_type, entry_bytes}
 use Rattle.bios_attr.specs.AttributeEntry.{HasItsBytes, type_of_fields, fields_bytes, attribute_bytes}
 use Rattle.bios_attr.specs.declared.current_values.EntryHead.{EntryHead}
-use Rattle.bios_attr.specs.TableEntry.{written, AreOf, IsTableOf}
+use Rattle.bios_attr.specs.TableEntry.{written, AreEntriesOf, IsTableOf}
 use Rattle.bios_attr.specs.Tables.{IsTable}
 use Rattle.bios_attr.specs.Values.{head_of, value_entries, IsShown}
 use Rattle.bios_attr.specs.ValueEntryLaws.{value_told}
@@ -53,7 +53,7 @@ attributes_written strings (a ∷ attributes) =
     ∙ (λ i. entry_is strings a i ++ attributes_written strings attributes i)
     ∙ sym (flat_map-cons (attribute_entry strings) a attributes)
 
-pub attribute_table : (strings : List (List ℕ)) (attributes : List Attribute) (table : List ℕ) → AreOf Attributes (attribute_contents strings attributes) → IsTable (attribute_entries strings attributes) table
+pub attribute_table : (strings : List (List ℕ)) (attributes : List Attribute) (table : List ℕ) → AreEntriesOf Attributes (attribute_contents strings attributes) → IsTable (attribute_entries strings attributes) table
     → IsTableOf Attributes (attribute_contents strings attributes) table
 attribute_table strings attributes table whole is = record {
   of_table = whole;
@@ -61,8 +61,8 @@ attribute_table strings attributes table whole is = record {
 }
 
 -- attributes and one more
-pub contents_more : (strings : List (List ℕ)) (attributes : List Attribute) (a : Attribute) → AreOf Attributes (attribute_contents strings attributes) → HasItsBytes (fields_of strings a.kind)
-    → AreOf Attributes (attribute_contents strings (attributes ++ a ∷ []))
+pub contents_more : (strings : List (List ℕ)) (attributes : List Attribute) (a : Attribute) → AreEntriesOf Attributes (attribute_contents strings attributes) → HasItsBytes (fields_of strings a.kind)
+    → AreEntriesOf Attributes (attribute_contents strings (attributes ++ a ∷ []))
 contents_more strings [] a are whole = (refl, whole, tt)
 contents_more strings (first ∷ attributes) a are whole = (are.0, are.1, contents_more strings attributes a are.2 whole)
 
@@ -91,7 +91,7 @@ entry_found values current a shown read =
       whole = value_fits (type_of_kind a.kind) (values a.handle) (current a.handle) shown.small _ _ _ read;
     }
 
-entries_whole : (values : ℕ → List ℕ) (current : ℕ → AttributeValue) (attributes : List Attribute) → AreShown values (map head_of attributes) → AreValuesOf attributes values current → AreOf Values (value_contents current attributes)
+entries_whole : (values : ℕ → List ℕ) (current : ℕ → AttributeValue) (attributes : List Attribute) → AreShown values (map head_of attributes) → AreValuesOf attributes values current → AreEntriesOf Values (value_contents current attributes)
 entries_whole values current [] shown read = tt
 entries_whole values current (a ∷ attributes) shown read =
     let head : IsShown (values a.handle) = first_of (λ (head : EntryHead). IsShown (values head.attribute)) (head_of a) (map head_of attributes) shown in

@@ -4,7 +4,7 @@ use Rattle.std.specs.Option.{IsSomeAnd, option_map}
 use Rattle.std.proofs.Props.{props}
 use Rattle.two_wire.specs.Codes.{pldm_invalid_data, pldm_invalid_length, pldm_invalid_attribute}
 use Rattle.record_base.specs.MaskLaws.{both_true, both}
-use Rattle.record_base.specs.Meaning.{Decides, IsRefusal}
+use Rattle.record_base.specs.Meaning.{DecidesValue, IsRefusal}
 use Rattle.record_base.specs.InverseLaws.{some_where, made_where, tested_same, same_tested}
 use Rattle.record_base.specs.Kind.{KindLaws, RecordLaws}
 use Rattle.record_base.specs.declared.attribute_range.AttributeRange.{AttributeRange}
@@ -18,24 +18,24 @@ use Rattle.bios_attr.specs.declared.bios_attribute.AttributeLimits.{AttributeLim
 use Rattle.record_base.specs.declared.bios_attribute.SetBiosAttribute.{SetBiosAttribute}
 use Rattle.record_base.specs.AttributeValue.{value_in}
 use Rattle.bios_attr.specs.ValueEntry.{shown_type}
-use Rattle.record_base.specs.AttributeRange.{type_of, Allows, IsValue, is_allowed}
+use Rattle.record_base.specs.AttributeRange.{type_of, AllowsValue, IsValue, is_allowed}
 use Rattle.bios_attr.specs.BiosAttribute.{SetsAttribute, is_settable, value_given, attribute_view, is_within, is_entry_within, IsAttributeReply, is_attribute_reply, undo_attribute, words, record_words}
 
-allowed : (r : AttributeRange) (o : Option AttributeValue) → is_allowed r o ≡ true → IsSomeAnd o (Allows r)
+allowed : (r : AttributeRange) (o : Option AttributeValue) → is_allowed r o ≡ true → IsSomeAnd o (AllowsValue r)
 allowed r (Some v) h = true_allows r v h
 allowed r None h = absurd cc
 
-is_allowed_where : (r : AttributeRange) (o : Option AttributeValue) → IsSomeAnd o (Allows r) → is_allowed r o ≡ true
+is_allowed_where : (r : AttributeRange) (o : Option AttributeValue) → IsSomeAnd o (AllowsValue r) → is_allowed r o ≡ true
 is_allowed_where r (Some v) is = allows_true r v is
 is_allowed_where r None is = absurd is
 
-there : (r : AttributeRange) (o : Option AttributeValue) → IsSomeAnd o (Allows r) → is_some o ≡ true
+there : (r : AttributeRange) (o : Option AttributeValue) → IsSomeAnd o (AllowsValue r) → is_some o ≡ true
 there r (Some v) is = refl
 there r None is = absurd is
 
 -- ---- that a value is valid is proved in one way at most
 
-some_prop : (r : AttributeRange) (o : Option AttributeValue) → IsProp (IsSomeAnd o (Allows r))
+some_prop : (r : AttributeRange) (o : Option AttributeValue) → IsProp (IsSomeAnd o (AllowsValue r))
 some_prop r (Some v) = Allows-prop r v
 some_prop r None = hlevel props
 
@@ -62,7 +62,7 @@ given limits op new s = subst (IsValue limits.range) s.is_new s.is_value
 
 decided : (limits : AttributeLimits) (op : SetBiosAttribute) (a b c d : Bool)
     → (op.attribute == limits.handle) ≡ a → is_settable limits op ≡ b → is_some (value_given limits op) ≡ c → is_allowed limits.range (value_given limits op) ≡ d
-    → Decides (if a then (if b then (if c then (if d then Ok op.value else Err pldm_invalid_data) else Err pldm_invalid_length) else Err pldm_invalid_data) else Err pldm_invalid_attribute) (SetsAttribute limits op)
+    → DecidesValue (if a then (if b then (if c then (if d then Ok op.value else Err pldm_invalid_data) else Err pldm_invalid_length) else Err pldm_invalid_data) else Err pldm_invalid_attribute) (SetsAttribute limits op)
 decided limits op true true true true own set some is =
     let tests = both_true _ _ set in
     record { own = tested_same _ _ own; of_type = tested_same _ _ tests.0; can_be_set = not_true _ tests.1; is_new = refl; is_value = allowed limits.range (value_given limits op) is }
@@ -95,7 +95,7 @@ type_kept false (range.Text lengths) = refl
 type_kept false (range.Integer steps) = refl
 
 -- what an attribute can have is within the limits of all
-within : (r : AttributeRange) (v : AttributeValue) → Allows r v → is_within v ≡ true
+within : (r : AttributeRange) (v : AttributeValue) → AllowsValue r v → is_within v ≡ true
 within (range.Enumeration possible) (Indexes indexes) is = both _ _ (le_true _ _ is.some) (le_true _ _ (omega (arith, is.few, possible.few)))
 within (range.Text lengths) (Text text) is = le_true _ _ (omega (arith, is.few, lengths.few))
 within (range.Integer steps) (Number n) is = refl
@@ -106,7 +106,7 @@ within (range.Text lengths) (Number n) is = absurd is
 within (range.Integer steps) (Indexes indexes) is = absurd is
 within (range.Integer steps) (Text text) is = absurd is
 
-entry_within : (r : AttributeRange) (entry : AttributeValue → ValueEntry) (o : Option AttributeValue) → ((v : AttributeValue) → (entry v).value ≡ v) → IsSomeAnd o (Allows r) → is_entry_within (option_map entry o) ≡ true
+entry_within : (r : AttributeRange) (entry : AttributeValue → ValueEntry) (o : Option AttributeValue) → ((v : AttributeValue) → (entry v).value ≡ v) → IsSomeAnd o (AllowsValue r) → is_entry_within (option_map entry o) ≡ true
 entry_within r entry (Some v) shows is = ap is_within (shows v) ∙ within r v is
 entry_within r entry None shows is = absurd is
 
@@ -114,7 +114,7 @@ reply_is : (limits : AttributeLimits) (value : List ℕ) → IsValue limits.rang
 reply_is limits value is = record {
   flagged = refl;
   holds_entry = entry_within limits.range _ (value_in (shown_type limits.read_only (type_of limits.range) % 128) value) (λ v. refl)
-      (subst (λ (code : ℕ). IsSomeAnd (value_in code value) (Allows limits.range)) (sym (type_kept limits.read_only limits.range)) is);
+      (subst (λ (code : ℕ). IsSomeAnd (value_in code value) (AllowsValue limits.range)) (sym (type_kept limits.read_only limits.range)) is);
 }
 
 undoes_attribute : (limits : AttributeLimits) (old : List ℕ) → limits.read_only ≡ false → IsValue limits.range old → SetsAttribute limits (undo_attribute (attribute_view limits old)) old

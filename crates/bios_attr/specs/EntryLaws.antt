@@ -13,7 +13,7 @@ use Rattle.bios_attr.specs.declared.string_entry.StringEntry.{StringEntry}
 use Rattle.bios_attr.specs.declared.attribute_entry.AttributeEntry.{AttributeEntry}
 use Rattle.bios_attr.specs.declared.attribute_entry.KindFields.{KindFields}
 use Rattle.bios_attr.specs.declared.attribute_entry.KindFields.TheVariants.{Enumeration, Text, Integer}
-use Rattle.bios_attr.specs.ValueEntry.{shown_type, AreBytes}
+use Rattle.bios_attr.specs.ValueEntry.{shown_type, IsByteList}
 use Rattle.bios_attr.specs.StringEntry.{piece, string_bytes, string_at}
 use Rattle.bios_attr.specs.AttributeEntry.{HasItsBytes, type_of_fields, fields_bytes, attribute_bytes, default_at, enumeration_at, text_at, numbers_in, integer_at, fields_at, attribute_at}
 
@@ -52,7 +52,7 @@ string_back entry rest =
     piece_back (number_of (length entry.text % 256) (length entry.text / 256)) entry.text rest (λ text rest. Some (record { handle = number_of (entry.handle % 256) (entry.handle / 256); text = text }, rest)) (number_back (length entry.text))
     ∙ (λ i. Some (record { handle = number_back entry.handle i; text = entry.text }, rest))
 
-pub string_told : (bytes : List ℕ) (entry : StringEntry) (rest : List ℕ) → AreBytes bytes → string_at bytes ≡ Some (entry, rest) → string_bytes entry ++ rest ≡ bytes
+pub string_told : (bytes : List ℕ) (entry : StringEntry) (rest : List ℕ) → IsByteList bytes → string_at bytes ≡ Some (entry, rest) → string_bytes entry ++ rest ≡ bytes
 string_told [] entry rest small h = absurd cc
 string_told (low ∷ []) entry rest small h = absurd cc
 string_told (low ∷ high ∷ []) entry rest small h = absurd cc
@@ -125,7 +125,7 @@ record IsTold (code : ℕ) (bytes : List ℕ) (found : KindFields × List ℕ) :
   spelled : fields_bytes found.0 ++ found.1 ≡ bytes
   whole : HasItsBytes found.0
 
-small_behind : (count : ℕ) (bytes : List ℕ) → AreBytes bytes → AreBytes (drop count bytes)
+small_behind : (count : ℕ) (bytes : List ℕ) → IsByteList bytes → IsByteList (drop count bytes)
 small_behind count bytes small place = subst (λ (n : ℕ). n < 256) (sym (get_or-drop count bytes place 0)) (small (count + place))
 
 some_same : {X : Type 0} (x y : X) → Some x ≡ Some y → x ≡ y
@@ -162,7 +162,7 @@ enumeration_told (count ∷ bytes) found h =
       whole = is.whole;
     }
 
-text_told : (bytes : List ℕ) (found : KindFields × List ℕ) → AreBytes bytes → text_at bytes ≡ Some found → IsTold string_type bytes found
+text_told : (bytes : List ℕ) (found : KindFields × List ℕ) → IsByteList bytes → text_at bytes ≡ Some found → IsTold string_type bytes found
 text_told [] found small h = absurd cc
 text_told (type ∷ []) found small h = absurd cc
 text_told (type ∷ a ∷ []) found small h = absurd cc
@@ -190,16 +190,16 @@ text_told (type ∷ a ∷ b ∷ c ∷ d ∷ low ∷ high ∷ bytes) found small 
       whole = tt;
     })
 
-pub small_front : (count : ℕ) (bytes : List ℕ) → AreBytes bytes → AreBytes (take count bytes)
+pub small_front : (count : ℕ) (bytes : List ℕ) → IsByteList bytes → IsByteList (take count bytes)
 small_front zero bytes small place = omega arith
 small_front (suc count) [] small place = omega arith
 small_front (suc count) (byte ∷ bytes) small zero = small 0
 small_front (suc count) (byte ∷ bytes) small (suc place) = small_front count bytes (λ i. small (suc i)) place
 
-pub fits_eight : (bytes : List ℕ) → AreBytes bytes → from_le_bytes w64 bytes < 2 ^ 64
+pub fits_eight : (bytes : List ℕ) → IsByteList bytes → from_le_bytes w64 bytes < 2 ^ 64
 fits_eight bytes small = omega (arith, small 0, small 1, small 2, small 3, small 4, small 5, small 6, small 7)
 
-fits_four : (bytes : List ℕ) → AreBytes bytes → from_le_bytes w32 bytes < 2 ^ 32
+fits_four : (bytes : List ℕ) → IsByteList bytes → from_le_bytes w32 bytes < 2 ^ 32
 fits_four bytes small = omega (arith, small 0, small 1, small 2, small 3)
 
 -- so many bytes from a place on, and what is behind them
@@ -210,11 +210,11 @@ from_on from count next bytes is =
     ∙ take-append-drop count (drop from bytes)
 
 -- the bytes of a number that is read there
-eight_back : (from : ℕ) (bytes : List ℕ) → AreBytes bytes → from + 8 ≤ length bytes → to_le_bytes w64 (from_le_bytes w64 (take 8 (drop from bytes))) ≡ take 8 (drop from bytes)
+eight_back : (from : ℕ) (bytes : List ℕ) → IsByteList bytes → from + 8 ≤ length bytes → to_le_bytes w64 (from_le_bytes w64 (take 8 (drop from bytes))) ≡ take 8 (drop from bytes)
 eight_back from bytes small long =
     le_bytes_8 (take 8 (drop from bytes)) _ (length-take-le 8 (drop from bytes) (omega (arith, length-drop from bytes, long))) (small_front 8 (drop from bytes) (small_behind from bytes small)) refl
 
-four_back : (from : ℕ) (bytes : List ℕ) → AreBytes bytes → from + 4 ≤ length bytes → to_le_bytes w32 (from_le_bytes w32 (take 4 (drop from bytes))) ≡ take 4 (drop from bytes)
+four_back : (from : ℕ) (bytes : List ℕ) → IsByteList bytes → from + 4 ≤ length bytes → to_le_bytes w32 (from_le_bytes w32 (take 4 (drop from bytes))) ≡ take 4 (drop from bytes)
 four_back from bytes small long =
     le_bytes_4 (take 4 (drop from bytes)) _ (length-take-le 4 (drop from bytes) (omega (arith, length-drop from bytes, long))) (small_front 4 (drop from bytes) (small_behind from bytes small)) refl
 
@@ -222,7 +222,7 @@ five_pieces : (a b c d e : List ℕ) → (a ++ (b ++ (c ++ d))) ++ e ≡ a ++ (b
 five_pieces a b c d e =
     append_assoc a (b ++ (c ++ d)) e ∙ ap (λ (xs : List ℕ). a ++ xs) (append_assoc b (c ++ d) e ∙ ap (λ (xs : List ℕ). b ++ xs) (append_assoc c d e))
 
-numbers_told : (bytes : List ℕ) → AreBytes bytes → 28 ≤ length bytes → fields_bytes (Integer (numbers_in bytes)) ++ drop 28 bytes ≡ bytes
+numbers_told : (bytes : List ℕ) → IsByteList bytes → 28 ≤ length bytes → fields_bytes (Integer (numbers_in bytes)) ++ drop 28 bytes ≡ bytes
 numbers_told bytes small long =
     let lower : to_le_bytes w64 (from_le_bytes w64 (take 8 bytes)) ≡ take 8 bytes = eight_back 0 bytes small (omega (arith, long)) in
     let upper = eight_back 8 bytes small (omega (arith, long)) in
@@ -236,7 +236,7 @@ numbers_told bytes small long =
     ∙ ap (λ (xs : List ℕ). take 8 bytes ++ xs) (from_on 8 8 16 bytes refl)
     ∙ take-append-drop 8 bytes
 
-integer_told : (bytes : List ℕ) (found : KindFields × List ℕ) → AreBytes bytes → integer_at bytes ≡ Some found → IsTold integer_type bytes found
+integer_told : (bytes : List ℕ) (found : KindFields × List ℕ) → IsByteList bytes → integer_at bytes ≡ Some found → IsTold integer_type bytes found
 integer_told bytes found small h =
     let here = comes_of _ (Some (Integer (numbers_in bytes), drop 28 bytes)) found h in
     subst (IsTold integer_type bytes) (some_same (Integer (numbers_in bytes), drop 28 bytes) found here.1)
@@ -252,14 +252,14 @@ integer_told bytes found small h =
     })
 
 -- one of three comes, by its test
-chosen : (code : ℕ) (bytes : List ℕ) (found : KindFields × List ℕ) → AreBytes bytes → (a b c : Bool) → (code == enumeration_type) ≡ a → (code == string_type) ≡ b → (code == integer_type) ≡ c
+chosen : (code : ℕ) (bytes : List ℕ) (found : KindFields × List ℕ) → IsByteList bytes → (a b c : Bool) → (code == enumeration_type) ≡ a → (code == string_type) ≡ b → (code == integer_type) ≡ c
     → (if a then enumeration_at bytes else (if b then text_at bytes else (if c then integer_at bytes else None))) ≡ Some found → IsTold code bytes found
 chosen code bytes found small true b c p q r h = subst (λ (n : ℕ). IsTold n bytes found) (sym (tested_same _ _ p)) (enumeration_told bytes found h)
 chosen code bytes found small false true c p q r h = subst (λ (n : ℕ). IsTold n bytes found) (sym (tested_same _ _ q)) (text_told bytes found small h)
 chosen code bytes found small false false true p q r h = subst (λ (n : ℕ). IsTold n bytes found) (sym (tested_same _ _ r)) (integer_told bytes found small h)
 chosen code bytes found small false false false p q r h = absurd cc
 
-fields_told : (code : ℕ) (bytes : List ℕ) (found : KindFields × List ℕ) → AreBytes bytes → fields_at code bytes ≡ Some found → IsTold code bytes found
+fields_told : (code : ℕ) (bytes : List ℕ) (found : KindFields × List ℕ) → IsByteList bytes → fields_at code bytes ≡ Some found → IsTold code bytes found
 fields_told code bytes found small h = chosen code bytes found small _ _ _ refl refl refl h
 
 shown_back : (high : Bool) (code : ℕ) → code < 256 → nat_le 128 code ≡ high → shown_type high (code % 128) ≡ code
@@ -275,7 +275,7 @@ pub record IsReadFrom (bytes : List ℕ) (read : AttributeEntry × List ℕ) : T
   pub spelled : attribute_bytes read.0 ++ read.1 ≡ bytes
   pub whole : HasItsBytes read.0.kind
 
-read_from : (bytes : List ℕ) (read : AttributeEntry × List ℕ) → AreBytes bytes → attribute_at bytes ≡ Some read → IsReadFrom bytes read
+read_from : (bytes : List ℕ) (read : AttributeEntry × List ℕ) → IsByteList bytes → attribute_at bytes ≡ Some read → IsReadFrom bytes read
 read_from [] read small h = absurd cc
 read_from (low ∷ []) read small h = absurd cc
 read_from (low ∷ high ∷ []) read small h = absurd cc
@@ -298,5 +298,5 @@ read_from (low ∷ high ∷ code ∷ a ∷ b ∷ bytes) read small h =
       whole = is.whole;
     })
 
-pub attribute_told : (bytes : List ℕ) (entry : AttributeEntry) (rest : List ℕ) → AreBytes bytes → attribute_at bytes ≡ Some (entry, rest) → (attribute_bytes entry ++ rest ≡ bytes) × HasItsBytes entry.kind
+pub attribute_told : (bytes : List ℕ) (entry : AttributeEntry) (rest : List ℕ) → IsByteList bytes → attribute_at bytes ≡ Some (entry, rest) → (attribute_bytes entry ++ rest ≡ bytes) × HasItsBytes entry.kind
 attribute_told bytes entry rest small h = let is = read_from bytes (entry, rest) small h in (is.spelled, is.whole)

@@ -19,7 +19,7 @@ use Rattle.bios_attr.specs.declared.current_values.EntryHead.{EntryHead}
 use Rattle.bios_attr.specs.Attributes.{strings_of, handle_of, handles_of}
 use Rattle.bios_attr.specs.StringTable.{numbered}
 use Rattle.bios_attr.specs.TableEntry.{IsTableOf}
-use Rattle.bios_attr.specs.Tables.{Opened}
+use Rattle.bios_attr.specs.Tables.{OpenedTables}
 use Rattle.bios_attr.specs.Values.{head_of}
 
 -- the entries of strings: each text, with handles from 0 on
@@ -54,7 +54,7 @@ abbrev pub value_contents : (ℕ → AttributeValue) → List Attribute → List
 value_contents current attributes = map (λ a. entry.Value (value_entry_of current a)) attributes
 
 -- the tables of strings and of attributes are those of these entries, as the readers of entries have them
-pub record HaveContents (attributes : List Attribute) (tables : Opened) : Type 0 where
+pub record HaveContents (attributes : List Attribute) (tables : OpenedTables) : Type 0 where
   pub strings : IsTableOf Strings (string_contents (strings_of attributes)) tables.strings
   pub described : IsTableOf Attributes (attribute_contents (strings_of attributes) attributes) tables.attributes
 

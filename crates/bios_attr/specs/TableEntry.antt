@@ -60,7 +60,7 @@ entry_at table.Attributes bytes = option_map (λ found. (Attribute found.0, foun
 entry_at table.Values bytes = option_map (λ found. (Value found.0, found.1)) (value_at bytes)
 
 -- an entry of a table and what is behind it, as they were read from these bytes
-pub record IsRead (t : BiosTable) (bytes : List ℕ) (read : TableEntry × List ℕ) : Type 0 where
+pub record IsEntryRead (t : BiosTable) (bytes : List ℕ) (read : TableEntry × List ℕ) : Type 0 where
   pub of_table : table_of read.0 ≡ t
   pub spelled : written read.0 ++ read.1 ≡ bytes
   pub whole : IsWhole read.0
@@ -68,14 +68,14 @@ pub record IsRead (t : BiosTable) (bytes : List ℕ) (read : TableEntry × List 
 -- ---- whole tables
 
 -- each is a whole entry of this table
-abbrev pub AreOf : BiosTable → List TableEntry → Type 0
-AreOf t [] = Unit {0}
-AreOf t (entry ∷ entries) = (table_of entry ≡ t) × IsWhole entry × AreOf t entries
+abbrev pub AreEntriesOf : BiosTable → List TableEntry → Type 0
+AreEntriesOf t [] = Unit {0}
+AreEntriesOf t (entry ∷ entries) = (table_of entry ≡ t) × IsWhole entry × AreEntriesOf t entries
 
 -- the bytes are the table of these entries: they, one behind the other, then bytes 00h up to a multiple of four, then the CRC-32. The padding has
 -- three bytes at most, and no entry has fewer than four, so no padding is an entry
 pub record IsTableOf (t : BiosTable) (entries : List TableEntry) (bytes : List ℕ) : Type 0 where
-  pub of_table : AreOf t entries
+  pub of_table : AreEntriesOf t entries
   pub spelled : IsTable (flat_map written entries) bytes
 
 -- they are the table of so many entries
@@ -90,7 +90,7 @@ IsNoTable t bytes = (entries : List TableEntry) → IsTableOf t entries bytes �
 
 -- the entries and the padding of a table
 pub record IsBody (t : BiosTable) (bytes : List ℕ) (entries : List TableEntry) : Type 0 where
-  pub of_table : AreOf t entries
+  pub of_table : AreEntriesOf t entries
   pub spelled : padded (flat_map written entries) ≡ bytes
 
 pub record HasBody (t : BiosTable) (bytes : List ℕ) (count : ℕ) : Type 0 where
@@ -106,7 +106,7 @@ IsNoBody t bytes = (entries : List TableEntry) → IsBody t bytes entries → �
 -- whole entries of the table that stand first, and what is behind them
 pub record BeginsWith (t : BiosTable) (bytes rest : List ℕ) : Type 0 where
   pub entries : List TableEntry
-  pub of_table : AreOf t entries
+  pub of_table : AreEntriesOf t entries
   pub spelled : flat_map written entries ++ rest ≡ bytes
 
 -- behind whole entries stand four bytes or more that are no entry

@@ -14,12 +14,12 @@ use Rattle.bios_attr.specs.declared.string_entry.StringEntry.{StringEntry}
 use Rattle.bios_attr.specs.declared.attribute_entry.AttributeEntry.{AttributeEntry}
 use Rattle.bios_attr.specs.declared.table_entry.TableEntry.{TableEntry}
 use Rattle.bios_attr.specs.declared.table_entry.TableEntry.TheVariants.{String, Attribute, Value}
-use Rattle.bios_attr.specs.ValueEntry.{shown_type, entry_bytes, AreBytes}
+use Rattle.bios_attr.specs.ValueEntry.{shown_type, entry_bytes, IsByteList}
 use Rattle.bios_attr.specs.ValueEntryLaws.{entry_told, type_back, bit_back}
 use Rattle.bios_attr.specs.StringEntry.{piece, string_at}
 use Rattle.bios_attr.specs.AttributeEntry.{attribute_bytes, attribute_at}
 use Rattle.bios_attr.specs.EntryLaws.{comes_of, piece_back, piece_told, fits_eight, mapped, small_front, string_back, string_told, attribute_back, attribute_told}
-use Rattle.bios_attr.specs.TableEntry.{value_size, value_at, table_of, written, IsWhole, IsRead, entry_at}
+use Rattle.bios_attr.specs.TableEntry.{value_size, value_at, table_of, written, IsWhole, IsEntryRead, entry_at}
 
 -- ---- value entries, written, then read
 
@@ -43,7 +43,7 @@ value_entry_back entry rest whole =
 
 -- ---- value entries, read, then written
 
-pub value_fits : (code : ℕ) (bytes : List ℕ) (v : AttributeValue) → AreBytes bytes → (a b c : Bool)
+pub value_fits : (code : ℕ) (bytes : List ℕ) (v : AttributeValue) → IsByteList bytes → (a b c : Bool)
     → (if a then indexes_in bytes else (if b then text_in bytes else (if c then number_in bytes else None))) ≡ Some v → HasEightBytes v
 value_fits code [] v small true b c h = absurd cc
 value_fits code (count ∷ indexes) v small true b c h =
@@ -64,7 +64,7 @@ record IsValueRead (bytes : List ℕ) (read : ValueEntry × List ℕ) : Type 0 w
   spelled : entry_bytes read.0 ++ read.1 ≡ bytes
   whole : HasEightBytes read.0.value
 
-value_told : (bytes : List ℕ) (read : ValueEntry × List ℕ) → AreBytes bytes → value_at bytes ≡ Some read → IsValueRead bytes read
+value_told : (bytes : List ℕ) (read : ValueEntry × List ℕ) → IsByteList bytes → value_at bytes ≡ Some read → IsValueRead bytes read
 value_told [] read small h = absurd cc
 value_told (low ∷ []) read small h = absurd cc
 value_told (low ∷ high ∷ []) read small h = absurd cc
@@ -77,9 +77,9 @@ value_told (low ∷ high ∷ code ∷ bytes) read small h =
     let got = mapped (λ v. (make v, drop size bytes)) (value_in kind (take size bytes)) read found.1 in
     let v : AttributeValue = got.0 in
     let front : List ℕ = low ∷ high ∷ code ∷ take size bytes in
-    let small_behind : AreBytes bytes = λ i. small (suc (suc (suc i))) in
-    let small_value : AreBytes (take size bytes) = small_front size bytes small_behind in
-    let small_entry : AreBytes front = small_front (suc (suc (suc size))) (low ∷ high ∷ code ∷ bytes) small in
+    let small_behind : IsByteList bytes = λ i. small (suc (suc (suc i))) in
+    let small_value : IsByteList (take size bytes) = small_front size bytes small_behind in
+    let small_entry : IsByteList front = small_front (suc (suc (suc size))) (low ∷ high ∷ code ∷ bytes) small in
     let spelled : entry_bytes (make v) ≡ front = entry_told front (make v) small_entry (ap (option_map make) got.1) in
     subst (IsValueRead (low ∷ high ∷ code ∷ bytes)) got.2
     (record {
@@ -94,18 +94,18 @@ entry_back (String e) rest whole = ap (option_map (λ found. (String found.0, fo
 entry_back (Attribute e) rest whole = ap (option_map (λ found. (Attribute found.0, found.1))) (attribute_back e rest whole)
 entry_back (Value e) rest whole = ap (option_map (λ found. (Value found.0, found.1))) (value_entry_back e rest whole)
 
-pub entry_is_read : (t : BiosTable) (bytes : List ℕ) (read : TableEntry × List ℕ) → AreBytes bytes → entry_at t bytes ≡ Some read → IsRead t bytes read
+pub entry_is_read : (t : BiosTable) (bytes : List ℕ) (read : TableEntry × List ℕ) → IsByteList bytes → entry_at t bytes ≡ Some read → IsEntryRead t bytes read
 entry_is_read table.Strings bytes read small h =
     let found = mapped (λ (found : StringEntry × List ℕ). (String found.0, found.1)) (string_at bytes) read h in
-    subst (IsRead table.Strings bytes) found.2 (record { of_table = refl; spelled = string_told bytes found.0.0 found.0.1 small found.1; whole = tt })
+    subst (IsEntryRead table.Strings bytes) found.2 (record { of_table = refl; spelled = string_told bytes found.0.0 found.0.1 small found.1; whole = tt })
 entry_is_read table.Attributes bytes read small h =
     let found = mapped (λ (found : AttributeEntry × List ℕ). (Attribute found.0, found.1)) (attribute_at bytes) read h in
     let is = attribute_told bytes found.0.0 found.0.1 small found.1 in
-    subst (IsRead table.Attributes bytes) found.2 (record { of_table = refl; spelled = is.0; whole = is.1 })
+    subst (IsEntryRead table.Attributes bytes) found.2 (record { of_table = refl; spelled = is.0; whole = is.1 })
 entry_is_read table.Values bytes read small h =
     let found = mapped (λ (found : ValueEntry × List ℕ). (Value found.0, found.1)) (value_at bytes) read h in
     let is = value_told bytes found.0 small found.1 in
-    subst (IsRead table.Values bytes) found.2 (record { of_table = refl; spelled = is.spelled; whole = is.whole })
+    subst (IsEntryRead table.Values bytes) found.2 (record { of_table = refl; spelled = is.spelled; whole = is.whole })
 
 -- no entry has fewer than four bytes
 fields_some : (entry : AttributeEntry) → 4 ≤ length (attribute_bytes entry)

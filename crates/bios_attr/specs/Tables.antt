@@ -22,28 +22,28 @@ pub record IsTable (entries table : List ℕ) : Type 0 where
 
 -- the tables of some attributes, which were opened with them: those of strings and attributes, what the entries of their values begin with,
 -- and the table of values that was shown last
-pub record Opened : Type 0 where
+pub record OpenedTables : Type 0 where
   pub strings : List ℕ
   pub attributes : List ℕ
   pub heads : List EntryHead
   pub values : List ℕ
 
 -- they are those of these attributes, whose strings are the texts that these use
-pub record AreTables (attributes : List Attribute) (tables : Opened) : Type 0 where
+pub record AreTables (attributes : List Attribute) (tables : OpenedTables) : Type 0 where
   pub strings : IsTable (string_entries 0 (strings_of attributes)) tables.strings
   pub described : IsTable (attribute_entries (strings_of attributes) attributes) tables.attributes
   pub heads : tables.heads ≡ map head_of attributes
   pub texts : AreStrings (texts_used attributes) (strings_of attributes)
 
 -- the same tables, with values that now stand
-pub record ShowsValues (before : Opened) (values : ℕ → List ℕ) (after : Opened) : Type 0 where
+pub record ShowsValues (before : OpenedTables) (values : ℕ → List ℕ) (after : OpenedTables) : Type 0 where
   pub strings : after.strings ≡ before.strings
   pub attributes : after.attributes ≡ before.attributes
   pub heads : after.heads ≡ before.heads
   pub shown : IsTable (value_entries values before.heads) after.values
 
 -- the table of this name
-abbrev pub table_named : Opened → BiosTable → List ℕ
+abbrev pub table_named : OpenedTables → BiosTable → List ℕ
 table_named tables Strings = tables.strings
 table_named tables Attributes = tables.attributes
 table_named tables Values = tables.values

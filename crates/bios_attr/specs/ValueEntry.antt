@@ -17,8 +17,8 @@ abbrev pub entry_bytes : ValueEntry → List ℕ
 entry_bytes entry = two_bytes entry.attribute ++ shown_type entry.read_only (type_of_value entry.value) ∷ value_bytes entry.value
 
 -- they are bytes
-abbrev pub AreBytes : List ℕ → Type 0
-AreBytes bytes = (place : ℕ) → slice_index bytes place < 256
+abbrev pub IsByteList : List ℕ → Type 0
+IsByteList bytes = (place : ℕ) → slice_index bytes place < 256
 
 -- the entry that the bytes are, if they are one
 abbrev pub entry_in : List ℕ → Option ValueEntry

@@ -10,7 +10,7 @@ use Rattle.record_base.specs.declared.attribute_value.AttributeValue.TheVariants
 use Rattle.record_base.specs.AttributeRangeLaws.{value_back, number_back}
 use Rattle.bios_attr.specs.declared.value_entry.ValueEntry.{ValueEntry}
 use Rattle.record_base.specs.AttributeValue.{number_of, enumeration_type, string_type, integer_type, type_of_value, value_bytes, indexes_in, text_in, number_in, value_in, HasEightBytes}
-use Rattle.bios_attr.specs.ValueEntry.{shown_type, entry_bytes, entry_in, AreBytes}
+use Rattle.bios_attr.specs.ValueEntry.{shown_type, entry_bytes, entry_in, IsByteList}
 
 -- where one of two comes, the test holds
 comes_of : {X : Type 0} (b : Bool) (x y : X) → (if b then Some x else None) ≡ Some y → (b ≡ true) × (x ≡ y)
@@ -56,7 +56,7 @@ indexes_told (count ∷ indexes) v h =
     let here = comes_of (count == length indexes) (Indexes indexes) v h in
     subst (IsTold enumeration_type (count ∷ indexes)) here.1 (record { of_type = refl; spelled = ap (λ (n : ℕ). n ∷ indexes) (sym (tested_same _ _ here.0)) })
 
-text_told : (bytes : List ℕ) (v : AttributeValue) → AreBytes bytes → text_in bytes ≡ Some v → IsTold string_type bytes v
+text_told : (bytes : List ℕ) (v : AttributeValue) → IsByteList bytes → text_in bytes ≡ Some v → IsTold string_type bytes v
 text_told [] v small h = absurd cc
 text_told (low ∷ []) v small h = absurd cc
 text_told (low ∷ high ∷ text) v small h =
@@ -66,20 +66,20 @@ text_told (low ∷ high ∷ text) v small h =
     let is_high : length text / 256 ≡ high = omega (arith, long, small 0) in
     subst (IsTold string_type (low ∷ high ∷ text)) here.1 (record { of_type = refl; spelled = ap (λ (n : ℕ). n ∷ length text / 256 ∷ text) is_low ∙ ap (λ (n : ℕ). low ∷ n ∷ text) is_high })
 
-number_told : (bytes : List ℕ) (v : AttributeValue) → AreBytes bytes → number_in bytes ≡ Some v → IsTold integer_type bytes v
+number_told : (bytes : List ℕ) (v : AttributeValue) → IsByteList bytes → number_in bytes ≡ Some v → IsTold integer_type bytes v
 number_told bytes v small h =
     let here = comes_of (length bytes == 8) (Number (from_le_bytes w64 bytes)) v h in
     subst (IsTold integer_type bytes) here.1 (record { of_type = refl; spelled = le_bytes_8 bytes (from_le_bytes w64 bytes) (tested_same _ _ here.0) small refl })
 
 -- one of three comes, by its test
-chosen : (code : ℕ) (bytes : List ℕ) (v : AttributeValue) → AreBytes bytes → (a b c : Bool) → (code == enumeration_type) ≡ a → (code == string_type) ≡ b → (code == integer_type) ≡ c
+chosen : (code : ℕ) (bytes : List ℕ) (v : AttributeValue) → IsByteList bytes → (a b c : Bool) → (code == enumeration_type) ≡ a → (code == string_type) ≡ b → (code == integer_type) ≡ c
     → (if a then indexes_in bytes else (if b then text_in bytes else (if c then number_in bytes else None))) ≡ Some v → IsTold code bytes v
 chosen code bytes v small true b c p q r h = subst (λ (n : ℕ). IsTold n bytes v) (sym (tested_same _ _ p)) (indexes_told bytes v h)
 chosen code bytes v small false true c p q r h = subst (λ (n : ℕ). IsTold n bytes v) (sym (tested_same _ _ q)) (text_told bytes v small h)
 chosen code bytes v small false false true p q r h = subst (λ (n : ℕ). IsTold n bytes v) (sym (tested_same _ _ r)) (number_told bytes v small h)
 chosen code bytes v small false false false p q r h = absurd cc
 
-pub value_told : (code : ℕ) (bytes : List ℕ) (v : AttributeValue) → AreBytes bytes → value_in code bytes ≡ Some v → IsTold code bytes v
+pub value_told : (code : ℕ) (bytes : List ℕ) (v : AttributeValue) → IsByteList bytes → value_in code bytes ≡ Some v → IsTold code bytes v
 value_told code bytes v small h = chosen code bytes v small _ _ _ refl refl refl h
 
 shown_back : (high : Bool) (code : ℕ) → code < 256 → nat_le 128 code ≡ high → shown_type high (code % 128) ≡ code
@@ -90,7 +90,7 @@ mapped : (make : AttributeValue → ValueEntry) (o : Option AttributeValue) (ent
 mapped make (Some v) entry h = (v, refl, cc)
 mapped make None entry h = absurd cc
 
-pub entry_told : (bytes : List ℕ) (entry : ValueEntry) → AreBytes bytes → entry_in bytes ≡ Some entry → entry_bytes entry ≡ bytes
+pub entry_told : (bytes : List ℕ) (entry : ValueEntry) → IsByteList bytes → entry_in bytes ≡ Some entry → entry_bytes entry ≡ bytes
 entry_told [] entry small h = absurd cc
 entry_told (low ∷ []) entry small h = absurd cc
 entry_told (low ∷ high ∷ []) entry small h = absurd cc

@@ -5,7 +5,7 @@ use Rattle.record_base.specs.declared.attribute.Attribute.{Attribute}
 use Rattle.bios_attr.specs.declared.current_values.EntryHead.{EntryHead}
 use Rattle.record_base.specs.AttributeValue.{two_bytes}
 use Rattle.record_base.specs.AttributeSizes.{most_value}
-use Rattle.bios_attr.specs.ValueEntry.{shown_type, AreBytes}
+use Rattle.bios_attr.specs.ValueEntry.{shown_type, IsByteList}
 use Rattle.record_base.specs.Attribute.{type_of_kind}
 
 -- what an attribute's entry has before the value: its handle, and its type
@@ -18,5 +18,5 @@ value_entries values heads = flat_map (λ head. two_bytes head.attribute ++ head
 
 -- they are bytes, and no more than an attribute's value has
 pub record IsShown (value : List ℕ) : Type 0 where
-  pub small : AreBytes value
+  pub small : IsByteList value
   pub short : length value ≤ most_value

@@ -2,7 +2,7 @@
 ghost use Rattle.std.specs.Prelude.{◌≡◌, ◌+◌, ◌*◌, ◌≤◌, ◌++◌, ◌∷◌, map, All, IfOk, ℕ, List, length, vec_len, vec_capacity};
 ghost use Rattle.record_base.specs.AttributeSizes.{most_value};
 ghost use Rattle.record_base.specs.AttributeValue.{two_bytes};
-ghost use Rattle.bios_attr.specs.ValueEntry.{AreBytes};
+ghost use Rattle.bios_attr.specs.ValueEntry.{IsByteList};
 ghost use Rattle.bios_attr.specs.Values.{head_of, value_entries, IsShown};
 ghost use Rattle.bios_attr.specs.Tables.{IsTable};
 
@@ -44,7 +44,7 @@ fn push_value(table: &mut Vec<u8>, head: EntryHead, value: &[u8])
     requires { vec_len table.old + 3 + length value.now ≤ vec_capacity table.old }
     ensures bytes { table.new.items
         ≡ table.old.items ++ (two_bytes head.attribute ++ head.code ∷ value.now) }
-    ensures small { AreBytes value.now }
+    ensures small { IsByteList value.now }
     ensures len { vec_len table.new ≡ vec_len table.old + 3 + length value.now }
     ensures capacity { vec_capacity table.old ≤ vec_capacity table.new }
 {

@@ -4,7 +4,7 @@ ghost use Rattle.record_base.specs.declared.attribute.AttributeKind.TheVariants.
 ghost use Rattle.bios_attr.specs.declared.bios_table.BiosTable.TheVariants.{Attributes};
 ghost use Rattle.bios_attr.specs.Attributes.{handles_of, string_entry, string_entries, integer_fields, kind_fields, attribute_entry, attribute_entries};
 ghost use Rattle.bios_attr.specs.AttributeEntry.{AreSmall, HasItsBytes};
-ghost use Rattle.bios_attr.specs.TableEntry.{AreOf};
+ghost use Rattle.bios_attr.specs.TableEntry.{AreEntriesOf};
 ghost use Rattle.bios_attr.specs.TableContents.{numbers_of, fields_of, attribute_contents};
 
 use crate::strings::handle_of;
@@ -158,7 +158,7 @@ pub(crate) fn push_attributes(
     requires { length strings.now ≤ 65535 }
     ensures bytes { OnOk result (table.new.items
         ≡ table.old.items ++ attribute_entries strings.now attributes.now) }
-    ensures whole { OnOk result (AreOf Attributes (attribute_contents strings.now attributes.now)) }
+    ensures whole { OnOk result (AreEntriesOf Attributes (attribute_contents strings.now attributes.now)) }
 {
     for attribute in attributes {
         push_attribute(table, strings, attribute)?;

@@ -8,22 +8,22 @@ ghost use Rattle.bios_attr.specs.declared.attribute_entry.AttributeEntry.{Attrib
 ghost use Rattle.record_base.specs.AttributeValue.{HasEightBytes};
 ghost use Rattle.bios_attr.specs.StringEntry.{string_bytes, string_at};
 ghost use Rattle.bios_attr.specs.AttributeEntry.{HasItsBytes, attribute_bytes, attribute_at};
-ghost use Rattle.bios_attr.specs.ValueEntry.{entry_bytes, entry_in, AreBytes};
+ghost use Rattle.bios_attr.specs.ValueEntry.{entry_bytes, entry_in, IsByteList};
 ghost use Rattle.bios_attr.specs.declared.bios_table.BiosTable.{BiosTable};
 ghost use Rattle.bios_attr.specs.declared.table_entry.TableEntry.{TableEntry};
-ghost use Rattle.bios_attr.specs.TableEntry.{table_of, written, IsWhole, IsRead, entry_at, IsTableOf};
+ghost use Rattle.bios_attr.specs.TableEntry.{table_of, written, IsWhole, IsEntryRead, entry_at, IsTableOf};
 ghost use Rattle.bios_attr.specs.declared.bios_table.BiosTable.TheVariants.{Strings};
 ghost use Rattle.bios_attr.specs.declared.table_entry.TableEntry.TheVariants.{String};
 ghost use Rattle.bios_attr.specs.Attributes.{string_entries};
 ghost use Rattle.bios_attr.specs.Tables.{IsTable};
 ghost use Rattle.bios_attr.specs.StringTable.{numbered};
-ghost use Rattle.record_base.specs.AttributeRange.{Allows, allows};
+ghost use Rattle.record_base.specs.AttributeRange.{AllowsValue, allows};
 
 /// A value entry that is written is read as itself, so bytes are at most one; and one that is read is written as the same bytes.
 pub fn entries_are_read_as_written()
     ensures written { (entry : ValueEntry) → HasEightBytes entry.value
         → entry_in (entry_bytes entry) ≡ Some entry }
-    ensures read { (bytes : List ℕ) (entry : ValueEntry) → AreBytes bytes
+    ensures read { (bytes : List ℕ) (entry : ValueEntry) → IsByteList bytes
         → entry_in bytes ≡ Some entry → entry_bytes entry ≡ bytes }
 {}
 
@@ -31,7 +31,7 @@ pub fn entries_are_read_as_written()
 pub fn strings_are_read_as_written()
     ensures written { (entry : StringEntry) (rest : List ℕ)
         → string_at (string_bytes entry ++ rest) ≡ Some (entry, rest) }
-    ensures read { (bytes : List ℕ) (entry : StringEntry) (rest : List ℕ) → AreBytes bytes
+    ensures read { (bytes : List ℕ) (entry : StringEntry) (rest : List ℕ) → IsByteList bytes
         → string_at bytes ≡ Some (entry, rest) → string_bytes entry ++ rest ≡ bytes }
 {}
 
@@ -39,7 +39,7 @@ pub fn strings_are_read_as_written()
 pub fn attributes_are_read_as_written()
     ensures written { (entry : AttributeEntry) (rest : List ℕ) → HasItsBytes entry.kind
         → attribute_at (attribute_bytes entry ++ rest) ≡ Some (entry, rest) }
-    ensures read { (bytes : List ℕ) (entry : AttributeEntry) (rest : List ℕ) → AreBytes bytes
+    ensures read { (bytes : List ℕ) (entry : AttributeEntry) (rest : List ℕ) → IsByteList bytes
         → attribute_at bytes ≡ Some (entry, rest)
         → (attribute_bytes entry ++ rest ≡ bytes) × HasItsBytes entry.kind }
 {}
@@ -50,8 +50,8 @@ pub fn table_entries_are_read_as_written()
     ensures written { (entry : TableEntry) (rest : List ℕ) → IsWhole entry
         → entry_at (table_of entry) (written entry ++ rest) ≡ Some (entry, rest) }
     ensures read { (table : BiosTable) (bytes : List ℕ) (entry : TableEntry) (rest : List ℕ)
-        → AreBytes bytes → entry_at table bytes ≡ Some (entry, rest)
-        → IsRead table bytes (entry, rest) }
+        → IsByteList bytes → entry_at table bytes ≡ Some (entry, rest)
+        → IsEntryRead table bytes (entry, rest) }
     ensures long { (entry : TableEntry) → 4 ≤ length (written entry) }
 {}
 
@@ -69,5 +69,5 @@ pub fn string_tables_have_their_strings()
 
 /// The test says which values an attribute can have.
 pub fn allows_is_the_rule()
-    ensures { (r : AttributeRange) (v : AttributeValue) → IsTrue (allows r v) ↔ Allows r v }
+    ensures { (r : AttributeRange) (v : AttributeValue) → IsTrue (allows r v) ↔ AllowsValue r v }
 {}

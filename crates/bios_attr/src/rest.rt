@@ -18,7 +18,7 @@ impl<'a> Model for Rest<'a> {
 impl<'a> Rest<'a> {
     ghost use Rattle.std.specs.Prelude.{◌≡◌};
 
-    /// These bytes.
+    /// A rest that begins with all of the bytes.
     pub fn new(bytes: &'a [u8]) -> Self
         ensures { result ≡ bytes.now }
     {

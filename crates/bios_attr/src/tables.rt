@@ -46,9 +46,9 @@ impl Model for Tables {
     ghost use Rattle.std.specs.Prelude.{◌+◌, ◌*◌, ◌≤◌, length};
     ghost use Rattle.std.specs.Vec.{vec_capacity};
     ghost use Rattle.record_base.specs.AttributeSizes.{most_value};
-    ghost use Rattle.bios_attr.specs.Tables.{Opened};
+    ghost use Rattle.bios_attr.specs.Tables.{OpenedTables};
 
-    ghost Value = { Opened };
+    ghost Value = { OpenedTables };
 
     ghost view = { λ t. record {
       strings = t.strings.items;

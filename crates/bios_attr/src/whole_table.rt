@@ -16,7 +16,7 @@ const CHECK_LENGTH: usize = 4;
 /// Why bytes are no table.
 #[derive(Clone, Copy, Debug, PartialEq, Eq)]
 pub enum TableError {
-    /// They are too few, or their number is no multiple of four.
+    /// The bytes are too few, or their number is no multiple of four.
     WrongLength,
     /// The last four aren't the CRC-32 of the others.
     WrongCheck,

@@ -5,7 +5,7 @@ use Rattle.two_wire.specs.Codes.{success, pldm_invalid_data}
 use Rattle.two_wire.specs.Sizes.{most_pldm_reply_data}
 use Rattle.pldm_base.specs.Parts.{asked_of_entry}
 use Rattle.record_kinds.specs.Limits.{key_of, limits_at}
-use Rattle.record_base.specs.Meaning.{Decides, room_for}
+use Rattle.record_base.specs.Meaning.{DecidesValue, room_for}
 use Rattle.record_base.specs.declared.key.Key.{Key}
 use Rattle.record_base.specs.declared.key.Key.TheVariants as key
 use Rattle.record_base.specs.declared.op.Op.{Op}
@@ -16,7 +16,7 @@ use Rattle.record_kinds.specs.declared.limits.Limits.{Limits}
 use Rattle.record_kinds.specs.Limits.{is_of, sets, outcome, get_asked, set_asked}
 use Rattle.record_kinds.specs.LimitsLaws as laws
 use Rattle.record_kinds.specs.SeriesLaws.{first_short}
-use Rattle.record_kinds.specs.Sound.{IsSound, IsSoundAt}
+use Rattle.record_kinds.specs.Sound.{AreSoundRecords, IsSoundAt}
 use Rattle.record_kinds.specs.SoundLaws.{sound_set, sound_with}
 use Rattle.record_base.specs.declared.bios_attribute.SetBiosAttribute.{SetBiosAttribute}
 use Rattle.attribute_parts.specs.Stagings.{start_outcome, add_outcome, end_outcome}
@@ -32,10 +32,10 @@ use Rattle.cfg_records.specs.Records.{with_record}
 use Rattle.bmc_board.specs.Table.{is_changing}
 use Rattle.bmc_board.specs.Request.{asked_by}
 use Rattle.bmc_board.specs.State.{State}
-use Rattle.bmc_board.specs.Leaves.{Leaves}
+use Rattle.bmc_board.specs.Leaves.{RefusalLeaves}
 use Rattle.bmc_board.specs.Replies.{done, refused, unknown_code}
 use Rattle.bmc_board.specs.Room.{longest_reply}
-use Rattle.bmc_board.specs.Answer.{Given, get_answer, set_result, set_answer, outcome_at, both_given, set_at, staged, ended, part_given, serve, reply, answer_of}
+use Rattle.bmc_board.specs.Answer.{AnswerAndState, get_answer, set_result, set_answer, outcome_at, both_given, set_at, staged, ended, part_given, serve, reply, answer_of}
 use Rattle.bmc_board.specs.AttributeParts.{named_in, limits_named, entry_shown, later_answer}
 use Rattle.bios_attr.specs.BiosAttribute.{get_next_part}
 use Rattle.bmc_board.specs.BiosTables.{part_answer, longest_part}
@@ -48,14 +48,14 @@ use Rattle.bmc_board.proofs.BothFacts.{outcome_code}
 
 -- ---- its code is not a busy controller's, and what a refusal leaves
 
-record IsProper (r : Result Request ℕ) (before : State) (given : Given) : Type 0 where
+record IsProper (r : Result Request ℕ) (before : State) (given : AnswerAndState) : Type 0 where
   has_code : IsCode given.0.code
-  left : given.0.code ≢ success → Leaves r given.0.code before given.1
+  left : given.0.code ≢ success → RefusalLeaves r given.0.code before given.1
 
 done_proper : (r : Result Request ℕ) (before after : State) (body : List ℕ) → IsProper r before (done body, after)
 done_proper r before after body = record { has_code = code_of success refl; left = λ fault. absurd (fault refl) }
 
-refused_proper : (r : Result Request ℕ) (before : State) (fault : ℕ) → IsCode fault → Leaves r fault before before → IsProper r before (refused fault, before)
+refused_proper : (r : Result Request ℕ) (before : State) (fault : ℕ) → IsCode fault → RefusalLeaves r fault before before → IsProper r before (refused fault, before)
 refused_proper r before fault is stays = record { has_code = is; left = λ _. stays }
 
 get_proper : (key : Key) (limits : Option Limits) (value : Option (List ℕ)) (live : LivePart) (unknown : ℕ) (before : State) → IsCode unknown → IsProper (Ok (Get key)) before (get_answer limits value live unknown, before)
@@ -140,11 +140,11 @@ refused_leaves setup before asked = (answer_proper setup before asked).left
 
 -- ---- its data fits the frame or message that carries it, and each record keeps a valid value
 
-record IsFit (setup : BoardFile) (room : ℕ) (given : Given) : Type 0 where
+record IsFit (setup : BoardFile) (room : ℕ) (given : AnswerAndState) : Type 0 where
   short : length given.0.body ≤ room
-  sound : IsSound setup given.1.records
+  sound : AreSoundRecords setup given.1.records
 
-refused_fit : (setup : BoardFile) (room fault : ℕ) (before : State) → IsSound setup before.records → IsFit setup room (refused fault, before)
+refused_fit : (setup : BoardFile) (room fault : ℕ) (before : State) → AreSoundRecords setup before.records → IsFit setup room (refused fault, before)
 refused_fit setup room fault before sound = record { short = omega arith; sound = sound }
 
 get_short : (limits : Option Limits) (value : Option (List ℕ)) (live : LivePart) (unknown : ℕ) (key : Key) (room : ℕ) → ((l : Limits) → limits ≡ Some l → is_of l key) → IsSoundAt limits value → room_for (get_asked key) ≤ room
@@ -154,22 +154,22 @@ get_short (Some l) None live unknown key room of sound le = omega arith
 get_short None (Some v) live unknown key room of sound le = omega arith
 get_short None None live unknown key room of sound le = omega arith
 
-result_fit : (setup : BoardFile) (room : ℕ) (limits : Limits) (old : List ℕ) (op : Op) (before : State) (r : Result (List ℕ) ℕ) → IsSound setup before.records → limits_at setup (key_of op) ≡ Some limits → before.records (key_of op) ≡ Some old
-    → Decides r (sets limits op old) → room_for (set_asked op) ≤ room → IsFit setup room (set_result r op before)
+result_fit : (setup : BoardFile) (room : ℕ) (limits : Limits) (old : List ℕ) (op : Op) (before : State) (r : Result (List ℕ) ℕ) → AreSoundRecords setup before.records → limits_at setup (key_of op) ≡ Some limits → before.records (key_of op) ≡ Some old
+    → DecidesValue r (sets limits op old) → room_for (set_asked op) ≤ room → IsFit setup room (set_result r op before)
 result_fit setup room limits old op before (Ok new) sound at had is le = record {
   short = omega (arith, laws.kind_laws.set_short op);
   sound = sound_set setup before.records (key_of op) limits op old new sound at had is;
 }
 result_fit setup room limits old op before (Err fault) sound at had is le = refused_fit setup room fault before sound
 
-set_fit : (setup : BoardFile) (room : ℕ) (limits : Option Limits) (value : Option (List ℕ)) (unknown : ℕ) (op : Op) (before : State) → IsSound setup before.records → limits_at setup (key_of op) ≡ limits → before.records (key_of op) ≡ value
+set_fit : (setup : BoardFile) (room : ℕ) (limits : Option Limits) (value : Option (List ℕ)) (unknown : ℕ) (op : Op) (before : State) → AreSoundRecords setup before.records → limits_at setup (key_of op) ≡ limits → before.records (key_of op) ≡ value
     → room_for (set_asked op) ≤ room → IsFit setup room (set_answer limits value unknown op before)
 set_fit setup room (Some l) (Some old) unknown op before sound at had le = result_fit setup room l old op before (outcome l op old) sound at had ((laws.record_laws l).decides op old) le
 set_fit setup room (Some l) None unknown op before sound at had le = refused_fit setup room unknown before sound
 set_fit setup room None (Some old) unknown op before sound at had le = refused_fit setup room unknown before sound
 set_fit setup room None None unknown op before sound at had le = refused_fit setup room unknown before sound
 
-both_fit : (setup : BoardFile) (room : ℕ) (first second : Op) (before : State) (a b : Result (List ℕ) ℕ) → IsSound setup before.records
+both_fit : (setup : BoardFile) (room : ℕ) (first second : Op) (before : State) (a b : Result (List ℕ) ℕ) → AreSoundRecords setup before.records
     → ((new : List ℕ) → a ≡ Ok new → IsWritten setup first new) → ((new : List ℕ) → b ≡ Ok new → IsWritten setup second new) → IsFit setup room (both_given a b (key_of first) (key_of second) before)
 both_fit setup room first second before (Ok new) (Ok value) sound p q =
     let one = p new refl in
@@ -182,19 +182,19 @@ both_fit setup room first second before (Ok new) (Err code) sound p q = refused_
 both_fit setup room first second before (Err code) (Ok value) sound p q = refused_fit setup room code before sound
 both_fit setup room first second before (Err code) (Err later) sound p q = refused_fit setup room code before sound
 
-staged_fit : (setup : BoardFile) (room from : ℕ) (before : State) (r : Result (List ℕ) ℕ) → IsSound setup before.records → most_pldm_reply_data ≤ room → IsFit setup room (staged from before r)
+staged_fit : (setup : BoardFile) (room from : ℕ) (before : State) (r : Result (List ℕ) ℕ) → AreSoundRecords setup before.records → most_pldm_reply_data ≤ room → IsFit setup room (staged from before r)
 staged_fit setup room from before (Ok entry) sound le = let four : length (to_le_bytes w32 (length entry)) ≡ 4 = refl in record { short = omega (arith, four, le); sound = sound }
 staged_fit setup room from before (Err code) sound le = refused_fit setup room code before sound
 
-ended_fit : (setup : BoardFile) (room from : ℕ) (before : State) (r : Result SetBiosAttribute ℕ) → IsSound setup before.records → most_pldm_reply_data ≤ room → IsFit setup room (ended setup from before r)
+ended_fit : (setup : BoardFile) (room from : ℕ) (before : State) (r : Result SetBiosAttribute ℕ) → AreSoundRecords setup before.records → most_pldm_reply_data ≤ room → IsFit setup room (ended setup from before r)
 ended_fit setup room from before (Ok change) sound le =
     let op : Op = of_kind.BiosAttribute change in
-    let given : Given = set_at setup before op in
+    let given : AnswerAndState = set_at setup before op in
     let set : IsFit setup room given = set_fit setup room _ _ _ op before sound refl refl le in
-    record { short = set.short; sound = subst (IsSound setup) (sym (unstaged_records from given.0.code given.1)) set.sound }
+    record { short = set.short; sound = subst (AreSoundRecords setup) (sym (unstaged_records from given.0.code given.1)) set.sound }
 ended_fit setup room from before (Err code) sound le = refused_fit setup room code before sound
 
-part_fit : (setup : BoardFile) (room from : ℕ) (part : SetPart) (before : State) → IsSound setup before.records → most_pldm_reply_data ≤ room → IsFit setup room (part_given setup from before part)
+part_fit : (setup : BoardFile) (room from : ℕ) (part : SetPart) (before : State) → AreSoundRecords setup before.records → most_pldm_reply_data ≤ room → IsFit setup room (part_given setup from before part)
 part_fit setup room from (Start entry) before sound le = staged_fit setup room from before (start_outcome (limits_named setup (named_in entry)) before.activity.stagings from entry) sound le
 part_fit setup room from (Middle handle bytes) before sound le = staged_fit setup room from before (add_outcome before.activity.stagings from handle bytes) sound le
 part_fit setup room from (End handle bytes) before sound le = ended_fit setup room from before (end_outcome before.activity.stagings from handle bytes) sound le
@@ -209,7 +209,7 @@ later_short (Some limits) None live unknown transfer room le = omega arith
 later_short None (Some value) live unknown transfer room le = omega arith
 later_short None None live unknown transfer room le = omega arith
 
-serve_fit : (setup : BoardFile) (before : State) (request : Request) (room : ℕ) → IsSound setup before.records → longest_reply request ≤ room → IsFit setup room (serve setup before request)
+serve_fit : (setup : BoardFile) (before : State) (request : Request) (room : ℕ) → AreSoundRecords setup before.records → longest_reply request ≤ room → IsFit setup room (serve setup before request)
 serve_fit setup before (Live command body) room sound has = record { short = omega (arith, (are_live setup before.records before.activity command body).short, has); sound = sound }
 serve_fit setup before (Get key) room sound has = record { short = get_short (limits_at setup key) (before.records key) before.activity.live (unknown_code setup key) key room (limits_are_of setup key) (sound key) has; sound = sound }
 serve_fit setup before (Set op) room sound has = set_fit setup room _ _ _ op before sound refl refl has
@@ -222,11 +222,11 @@ serve_fit setup before (LaterPart handle transfer) room sound has =
     let named : Key = key.BiosAttribute handle in
     record { short = later_short (limits_at setup named) (before.records named) before.activity.live (unknown_code setup named) transfer room has; sound = sound }
 
-reply_fit : (setup : BoardFile) (before : State) (room : ℕ) (changing : Bool) (r : Result Request ℕ) → IsRight room changing r → IsSound setup before.records → IsFit setup room (reply setup before r)
+reply_fit : (setup : BoardFile) (before : State) (room : ℕ) (changing : Bool) (r : Result Request ℕ) → IsRight room changing r → AreSoundRecords setup before.records → IsFit setup room (reply setup before r)
 reply_fit setup before room changing (Ok request) right sound = serve_fit setup before request room sound right.0
 reply_fit setup before room changing (Err fault) right sound = refused_fit setup room fault before sound
 
-answer_fit : (setup : BoardFile) (before : State) (asked : Asked) → IsSound setup before.records → IsFit setup (room_for asked) (answer_of setup before asked)
+answer_fit : (setup : BoardFile) (before : State) (asked : Asked) → AreSoundRecords setup before.records → IsFit setup (room_for asked) (answer_of setup before asked)
 answer_fit setup before asked sound = reply_fit setup before (room_for asked) (is_changing asked) (asked_by asked) (asked_right asked) sound
 
 pub answers_fit : AnswersFit

@@ -10,7 +10,7 @@ use Rattle.bmc_board.specs.declared.command.Line.{Line}
 use Rattle.bmc_board.specs.declared.request.Refusals.{Refusals}
 use Rattle.bmc_board.specs.Request.{Request}
 use Rattle.bmc_board.specs.Request.{Live, Get, Set, SetStores, PartOfSet, LaterPart}
-use Rattle.bmc_board.specs.Table.{Listed, table, pldm_table, line_in, line_under, line_of, pldm_line_of, allow, is_pldm_type, changes, is_changing}
+use Rattle.bmc_board.specs.Table.{TableLine, table, pldm_table, line_in, line_under, line_of, pldm_line_of, allow, is_pldm_type, changes, is_changing}
 use Rattle.bmc_board.specs.Request.{request_of, asked_at, asked_by, ipmi_refusals, pldm_refusals}
 use Rattle.bmc_board.specs.Room.{longest_reply}
 use Rattle.bmc_board.specs.AnyAnswer.{IsCode}
@@ -40,10 +40,10 @@ abbrev asks_rightly : ℕ → ℕ → List ℕ → Line → Bool
 asks_rightly room from body line = is_right room line.changing (request_of from line.command body)
 
 -- whatever the data is, each line of the tables passes it
-all_right : (from : ℕ) (body : List ℕ) → list_all (λ (l : Listed). asks_rightly 24 from body l.line) table ≡ true
+all_right : (from : ℕ) (body : List ℕ) → list_all (λ (l : TableLine). asks_rightly 24 from body l.line) table ≡ true
 all_right from body = both_right _ _ (boot.set_right body) (both_right _ _ (boot.get_right body) (both_right _ _ (channel.set_right body) (both_right _ _ (lan.set_right body) (both_right _ _ (lan.get_right body) refl))))
 
-all_pldm_right : (from : ℕ) (body : List ℕ) → list_all (λ (l : Listed). asks_rightly 251 from body l.line) pldm_table ≡ true
+all_pldm_right : (from : ℕ) (body : List ℕ) → list_all (λ (l : TableLine). asks_rightly 251 from body l.line) pldm_table ≡ true
 all_pldm_right from body = both_right _ _ (attribute.set_right from body) (both_right _ _ (attribute.get_right body) refl)
 
 -- ---- what passes it
@@ -71,15 +71,15 @@ abbrev Passes : (Line → Bool) → Option Line → Type 0
 Passes test (Some line) = test line ≡ true
 Passes test None = Unit {0}
 
-found_at : (test : Line → Bool) (b : Bool) (l : Listed) (rest : Option Listed) → test l.line ≡ true → Passes test (line_in rest) → Passes test (line_in (if b then Some l else rest))
+found_at : (test : Line → Bool) (b : Bool) (l : TableLine) (rest : Option TableLine) → test l.line ≡ true → Passes test (line_in rest) → Passes test (line_in (if b then Some l else rest))
 found_at test true l rest passes others = passes
 found_at test false l rest passes others = others
 
-found : (test : Line → Bool) (p : Listed → Bool) (ls : List Listed) → list_all (λ (l : Listed). test l.line) ls ≡ true → Passes test (line_in (find p ls))
+found : (test : Line → Bool) (p : TableLine → Bool) (ls : List TableLine) → list_all (λ (l : TableLine). test l.line) ls ≡ true → Passes test (line_in (find p ls))
 found test p [] all = tt
-found test p (l ∷ ls) all = let parts : (test l.line ≡ true) × (list_all (λ (l : Listed). test l.line) ls ≡ true) = both _ _ all in found_at test (p l) l (find p ls) parts.0 (found test p ls parts.1)
+found test p (l ∷ ls) all = let parts : (test l.line ≡ true) × (list_all (λ (l : TableLine). test l.line) ls ≡ true) = both _ _ all in found_at test (p l) l (find p ls) parts.0 (found test p ls parts.1)
 
-found_under : (test : Line → Bool) (group number : ℕ) (lines : List Listed) → list_all (λ (l : Listed). test l.line) lines ≡ true → Passes test (line_under group number lines)
+found_under : (test : Line → Bool) (group number : ℕ) (lines : List TableLine) → list_all (λ (l : TableLine). test l.line) lines ≡ true → Passes test (line_under group number lines)
 found_under test group number lines all = found test (λ l. (l.group == group) && (l.number == number)) lines all
 
 -- ---- what is asked for

@@ -13,7 +13,7 @@ use Rattle.record_base.specs.declared.attribute.AttributeKind.TheVariants as kin
 use Rattle.record_base.specs.declared.attribute_value.AttributeValue.{AttributeValue}
 use Rattle.record_base.specs.declared.attribute_value.AttributeValue.TheVariants.{Number}
 use Rattle.record_base.specs.Attribute.{type_of_kind, range_of}
-use Rattle.record_base.specs.AttributeRange.{type_of, Allows}
+use Rattle.record_base.specs.AttributeRange.{type_of, AllowsValue}
 use Rattle.record_base.specs.AttributeValue.{value_in}
 use Rattle.record_kinds.specs.declared.limits.Limits.{Limits}
 use Rattle.record_kinds.specs.declared.limits.Limits.TheVariants as limits
@@ -58,7 +58,7 @@ limits_of handle a = limits.BiosAttribute (record { handle = handle; read_only =
 read_at : (a : Attribute) (handle : ℕ) (value : Option (List ℕ)) → IsSoundAt (Some (limits_of handle a)) value → value_in (type_of_kind a.kind) (bytes_of value) ≡ Some (current_at (Some a) (bytes_of value))
 read_at a handle (Some bytes) sound =
     subst (λ (code : ℕ). value_in code bytes ≡ Some (unwrap_or (value_in code bytes) (Number 0))) (type_is a.kind)
-    (some_read (Allows (range_of a.kind)) (value_in (type_of (range_of a.kind)) bytes) sound)
+    (some_read (AllowsValue (range_of a.kind)) (value_in (type_of (range_of a.kind)) bytes) sound)
 read_at a handle None sound = absurd sound
 
 pub attributes_have_values : AttributesHaveValues

@@ -3,7 +3,7 @@ use Rattle.std.proofs.Common.{◌≡◌, ℕ, ◌+◌, ◌*◌, ◌/◌, ◌%◌
 use Rattle.std.proofs.lemmas.Bool.Decides.{nat_tests}
 use Rattle.record_base.specs.declared.key.Key.TheVariants as key
 use Rattle.record_base.specs.declared.op.Op.{Op}
-use Rattle.record_base.specs.declared.sensor_thresholds.SetThresholds.{SetThresholds}
+use Rattle.record_base.specs.declared.thresholds.SetThresholds.{SetThresholds}
 use Rattle.record_base.specs.declared.watchdog.SetWatchdog.{SetWatchdog}
 use Rattle.record_base.specs.declared.event_enable.EventMasks.{EventMasks}
 use Rattle.record_base.specs.declared.event_enable.EventChange.{EventChange}

@@ -2,12 +2,12 @@
 use Rattle.std.proofs.Common.{◌≡◌, ℕ, ◌/◌, ◌%◌, ◌<◌, ◌==◌, ap, List, Bool, true, false, if◌then◌else◌, Option, Some, None, Result, Ok, refl, arith, lit≤}
 use Rattle.two_wire.specs.Codes.{invalid_length, invalid_data_field}
 use Rattle.record_base.specs.declared.op.Op.TheVariants as op
-use Rattle.record_base.specs.declared.lan.LanAddress.TheVariants.{Ip, SubnetMask, DefaultGateway}
-use Rattle.record_base.specs.declared.lan.LanParameter.{LanParameter}
-use Rattle.record_base.specs.declared.lan.LanParameter.TheVariants as parameter
-use Rattle.record_base.specs.declared.lan.LanChange.{LanChange}
-use Rattle.record_base.specs.declared.lan.LanChange.TheVariants.{Address, AddressSource, Vlan}
-use Rattle.record_base.specs.declared.lan_item.Lan.{Lan}
+use Rattle.record_base.specs.declared.lan_parameter.LanAddress.TheVariants.{Ip, SubnetMask, DefaultGateway}
+use Rattle.record_base.specs.declared.lan_parameter.LanParameter.{LanParameter}
+use Rattle.record_base.specs.declared.lan_parameter.LanParameter.TheVariants as parameter
+use Rattle.record_base.specs.declared.lan_parameter.LanChange.{LanChange}
+use Rattle.record_base.specs.declared.lan_parameter.LanChange.TheVariants.{Address, AddressSource, Vlan}
+use Rattle.record_base.specs.declared.lan.Lan.{Lan}
 use Rattle.record_base.specs.LanItems.{lan_key}
 use Rattle.record_base.specs.Masks.{has}
 use Rattle.record_base.specs.Numbers.{ChannelNumber}
@@ -32,7 +32,7 @@ use Rattle.bmc_board.specs.Request.{asked_by}
 use Rattle.bmc_board.specs.LanCommands.{lan_set, lan_get, lan_set_asked, lan_get_asked, unsupported_parameter, lan_where, lan_answer}
 use Rattle.bmc_board.specs.Replies.{refused}
 use Rattle.bmc_board.specs.AnyAnswer.{IsCode}
-use Rattle.bmc_board.specs.AnyLive.{IsLive}
+use Rattle.bmc_board.specs.AnyLive.{IsLiveAnswer}
 use Rattle.bmc_board.proofs.Rightly.{is_right, code_of}
 use Rattle.bmc_board.proofs.LiveReplies.{is_done, is_refused}
 
@@ -92,16 +92,16 @@ set_read c (Vlan vlan) = λ i. asks_to_set (low_bits_again c i) (Vlan vlan)
 -- ---- a request that names no parameter is answered
 
 refuses : (channel : ChannelNumber) (answer : LanAnswer) (asked : List ℕ) (records : Records) (before : Activity) (code : ℕ) → IsCode code
-    → IsLive (live.AnswerLan channel answer) asked records before (refused code, before)
+    → IsLiveAnswer (live.AnswerLan channel answer) asked records before (refused code, before)
 refuses channel answer asked records before code is = is_refused (live.AnswerLan channel answer) asked records before code is (λ code. refl)
 
 answers_where : (lan : Option Lan) (channel : ChannelNumber) (answer : LanAnswer) (asked : List ℕ) (records : Records) (before : Activity)
-    → IsLive (live.AnswerLan channel answer) asked records before (lan_where lan answer, before)
+    → IsLiveAnswer (live.AnswerLan channel answer) asked records before (lan_where lan answer, before)
 answers_where (Some lan) channel Revision asked records before = is_done (live.AnswerLan channel Revision) asked records before before _ (lit≤ tt)
 answers_where (Some lan) channel Unsupported asked records before = refuses channel Unsupported asked records before _ (code_of unsupported_parameter refl)
 answers_where (Some lan) channel WrongLength asked records before = refuses channel WrongLength asked records before _ (code_of invalid_length refl)
 answers_where None channel answer asked records before = refuses channel answer asked records before _ (code_of invalid_data_field refl)
 
 pub answers : (setup : BoardFile) (records : Records) (before : Activity) (channel : ChannelNumber) (answer : LanAnswer) (asked : List ℕ)
-    → IsLive (live.AnswerLan channel answer) asked records before (lan_answer setup channel answer, before)
+    → IsLiveAnswer (live.AnswerLan channel answer) asked records before (lan_answer setup channel answer, before)
 answers setup records before channel answer asked = answers_where (lan_at setup.lans.items channel.number) channel answer asked records before

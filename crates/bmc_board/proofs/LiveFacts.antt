@@ -12,7 +12,7 @@ use Rattle.record_base.specs.declared.sensor.Sensor.{Sensor}
 use Rattle.sel_log.specs.LogRecord.{kept}
 use Rattle.sel_log.specs.Reservations.{is_present}
 use Rattle.sel_log.specs.Log.{Log, after_clear, is_full, next_id}
-use Rattle.sensor_recs.specs.declared.compared.Taken.{Taken}
+use Rattle.sensor_recs.specs.declared.comparator.LastReading.{LastReading}
 use Rattle.watch_boot.specs.Watchdog.{was_set, live_after_reset}
 use Rattle.bmc_board.specs.declared.activity.Activity.{Activity}
 use Rattle.bmc_board.specs.declared.storage.PartAsked.{PartAsked}
@@ -42,7 +42,7 @@ use Rattle.record_base.specs.declared.attribute.Attribute.{Attribute}
 use Rattle.pldm_base.specs.Parts.{asked_offset}
 use Rattle.bios_attr.specs.EntryParts.{transfer_handle}
 use Rattle.bmc_board.specs.BiosTables.{values_in, table_bytes, table_numbered, table_asked, part_data, part_answer, table_where, longest_part}
-use Rattle.bmc_board.specs.AnyLive.{IsLive, AreLive}
+use Rattle.bmc_board.specs.AnyLive.{IsLiveAnswer, AreLive}
 use Rattle.bmc_board.proofs.Rightly.{code_of}
 use Rattle.bmc_board.proofs.LiveReplies.{is_done, Stays, is_refused}
 use Rattle.bmc_board.proofs.LanFacts as lan
@@ -102,16 +102,16 @@ unknown_is_refused setup _ = not_present_refuses
 -- ---- live commands
 
 reset_where : (asked : List ℕ) (records : Records) (value : List ℕ) (before : Activity) (b : Bool)
-    → IsLive live.ResetWatchdog asked records before (if b then (done [], record before { live = live_after_reset value before.live }) else (refused uninitialized_watchdog, before))
+    → IsLiveAnswer live.ResetWatchdog asked records before (if b then (done [], record before { live = live_after_reset value before.live }) else (refused uninitialized_watchdog, before))
 reset_where asked records value before true = is_done live.ResetWatchdog asked records before _ [] (omega arith)
 reset_where asked records value before false = is_refused live.ResetWatchdog asked records before _ (code_of uninitialized_watchdog refl) (λ code. refl)
 
-resets : (asked : List ℕ) (records : Records) (value : Option (List ℕ)) (unknown : ℕ) (before : Activity) → IsCode unknown → IsLive live.ResetWatchdog asked records before (reset_answer value unknown before)
+resets : (asked : List ℕ) (records : Records) (value : Option (List ℕ)) (unknown : ℕ) (before : Activity) → IsCode unknown → IsLiveAnswer live.ResetWatchdog asked records before (reset_answer value unknown before)
 resets asked records (Some value) unknown before is = reset_where asked records value before (was_set value)
 resets asked records None unknown before is = is_refused live.ResetWatchdog asked records before unknown is (λ code. refl)
 
-reads : (asked : List ℕ) (records : Records) (before : Activity) (sensor : Option Sensor) (unknown : ℕ) (events : List ℕ) (last : Option Taken) → IsCode unknown
-    → IsLive live.GetSensorReading asked records before (reading_of sensor unknown events last, before)
+reads : (asked : List ℕ) (records : Records) (before : Activity) (sensor : Option Sensor) (unknown : ℕ) (events : List ℕ) (last : Option LastReading) → IsCode unknown
+    → IsLiveAnswer live.GetSensorReading asked records before (reading_of sensor unknown events last, before)
 reads asked records before (Some s) unknown events last is = is_done live.GetSensorReading asked records before before _ (lit≤ tt)
 reads asked records before None unknown events last is = is_refused live.GetSensorReading asked records before unknown is (λ code. refl)
 
@@ -130,20 +130,20 @@ few_shown part bytes next within =
     omega (arith, few, cut)
 
 part_where : (command : LiveCommand) (asked : List ℕ) (records : Records) (before : Activity) (a b c : Bool) (shown : List ℕ) → (c ≡ false → length shown ≤ longest_live_reply) → Stays command asked (state records before)
-    → IsLive command asked records before ((if a then refused reservation_canceled else (if b then refused out_of_range else (if c then refused too_many_bytes else done shown))), before)
+    → IsLiveAnswer command asked records before ((if a then refused reservation_canceled else (if b then refused out_of_range else (if c then refused too_many_bytes else done shown))), before)
 part_where command asked records before true b c shown short stays = is_refused command asked records before _ (code_of reservation_canceled refl) stays
 part_where command asked records before false true c shown short stays = is_refused command asked records before _ (code_of out_of_range refl) stays
 part_where command asked records before false false true shown short stays = is_refused command asked records before _ (code_of too_many_bytes refl) stays
 part_where command asked records before false false false shown short stays = is_done command asked records before before shown (short refl)
 
 shows_part : (command : LiveCommand) (asked : List ℕ) (records : Records) (before : Activity) (part : PartAsked) (reserved : Bool) (bytes : Option (List ℕ)) (next : ℕ) → Stays command asked (state records before)
-    → IsLive command asked records before (part_shown part reserved bytes next, before)
+    → IsLiveAnswer command asked records before (part_shown part reserved bytes next, before)
 shows_part command asked records before part reserved (Some bytes) next stays =
     part_where command asked records before _ _ _ _ (few_shown part bytes next) stays
 shows_part command asked records before part reserved None next stays = is_refused command asked records before _ (code_of not_present refl) stays
 
 add_where : (asked : List ℕ) (records : Records) (before : Activity) (b : Bool) → is_full before.log ≡ b
-    → IsLive live.AddSelEntry asked records before (with_log before (
+    → IsLiveAnswer live.AddSelEntry asked records before (with_log before (
       id_reply (if b then Err out_of_space else Ok (next_id before.log)),
       if b then record before.log { overflow = true } else record before.log { records = before.log.records ++ kept (next_id before.log) before.log.clock.seconds (record_in asked) ∷ []; last_add = before.log.clock.seconds },
     ))
@@ -155,7 +155,7 @@ add_where asked records before true full = record {
 add_where asked records before false full = is_done live.AddSelEntry asked records before _ _ (lit≤ tt)
 
 clear_where : (asked : List ℕ) (records : Records) (before : Activity) (emptied : Log) (a b c d : Bool)
-    → IsLive live.ClearSel asked records before (with_log before (
+    → IsLiveAnswer live.ClearSel asked records before (with_log before (
     if a then (refused reservation_canceled, before.log)
     else (if b then (refused invalid_data_field, before.log)
     else (if c then (erased, emptied) else (if d then (erased, before.log) else (refused invalid_data_field, before.log))))))
@@ -166,23 +166,23 @@ clear_where asked records before emptied false false false true = is_done live.C
 clear_where asked records before emptied false false false false = is_refused live.ClearSel asked records before _ (code_of invalid_data_field refl) (λ code. refl)
 
 progress_where : (command : LiveCommand) (asked : List ℕ) (records : Records) (before : Activity) (progress : Bool) → Stays command asked (state records before)
-    → IsLive command asked records before (begun progress before)
+    → IsLiveAnswer command asked records before (begun progress before)
 progress_where command asked records before true stays = is_refused command asked records before _ (code_of already_in_progress refl) stays
 progress_where command asked records before false stays = is_done command asked records before _ [] (omega arith)
 
 progress_tests : (command : LiveCommand) (asked : List ℕ) (records : Records) (before : Activity) (a b : Bool) → Stays command asked (state records before)
-    → IsLive command asked records before (if a then (done [], with_progress before false) else (if b then begun before.boot_progress before else (refused invalid_data_field, before)))
+    → IsLiveAnswer command asked records before (if a then (done [], with_progress before false) else (if b then begun before.boot_progress before else (refused invalid_data_field, before)))
 progress_tests command asked records before true b stays = is_done command asked records before _ [] (omega arith)
 progress_tests command asked records before false true stays = progress_where command asked records before before.boot_progress stays
 progress_tests command asked records before false false stays = is_refused command asked records before _ (code_of invalid_data_field refl) stays
 
 progresses : (command : LiveCommand) (asked : List ℕ) (records : Records) (before : Activity) (byte : Option ℕ) → Stays command asked (state records before)
-    → IsLive command asked records before (progress_answer byte before)
+    → IsLiveAnswer command asked records before (progress_answer byte before)
 progresses command asked records before None stays = is_done command asked records before before [] (omega arith)
 progresses command asked records before (Some byte) stays = progress_tests command asked records before (byte == 0) (byte == 1) stays
 
 leaves : (command : LiveCommand) (asked : List ℕ) (records : Records) (before : Activity) (channel : Option Channel) (unknown : ℕ) → IsCode unknown → Stays command asked (state records before)
-    → IsLive command asked records before (leave_where channel unknown, before)
+    → IsLiveAnswer command asked records before (leave_where channel unknown, before)
 leaves command asked records before (Some c) unknown is stays = is_done command asked records before before [] (omega arith)
 leaves command asked records before None unknown is stays = is_refused command asked records before unknown is stays
 
@@ -210,13 +210,13 @@ change_code : (body : List ℕ) (code : ℕ) → change_of body ≡ Err code →
 change_code body code e = change_where (byte_at body 1 % 4 == 0) (byte_at body 1 % 4 == 1) (byte_at body 1 % 4 == 2) (has (byte_at body 0) 7) (drop 2 body) code e
 
 tested_where : (command : LiveCommand) (asked : List ℕ) (records : Records) (before : Activity) (a b : Bool) → Stays command asked (state records before)
-    → IsLive command asked records before (tested (if a then Ok tt else Err (if b then wrong_text else wrong_size)), before)
+    → IsLiveAnswer command asked records before (tested (if a then Ok tt else Err (if b then wrong_text else wrong_size)), before)
 tested_where command asked records before true b stays = is_done command asked records before before [] (omega arith)
 tested_where command asked records before false true stays = is_refused command asked records before _ (code_of wrong_text refl) stays
 tested_where command asked records before false false stays = is_refused command asked records before _ (code_of wrong_size refl) stays
 
 changes_password : (command : LiveCommand) (asked : List ℕ) (records : Records) (before : Activity) (change : PasswordChange) (user : ℕ) → Stays command asked (state records before)
-    → IsLive command asked records before (password_changed change user before)
+    → IsLiveAnswer command asked records before (password_changed change user before)
 changes_password command asked records before Disable user stays = is_done command asked records before _ [] (omega arith)
 changes_password command asked records before Enable user stays = is_done command asked records before _ [] (omega arith)
 changes_password command asked records before (ToSet password) user stays = is_done command asked records before _ [] (omega arith)
@@ -224,7 +224,7 @@ changes_password command asked records before (Test password) user stays =
     tested_where command asked records before (same_password (password_of before.passwords user) password) (same_size (password_of before.passwords user) password) stays
 
 passwords : (command : LiveCommand) (asked : List ℕ) (records : Records) (before : Activity) (known : Option User) (change : Result PasswordChange ℕ) (user : ℕ) → ((code : ℕ) → change ≡ Err code → IsCode code)
-    → Stays command asked (state records before) → IsLive command asked records before (password_answer known change user before)
+    → Stays command asked (state records before) → IsLiveAnswer command asked records before (password_answer known change user before)
 passwords command asked records before None change user is stays = is_refused command asked records before _ (code_of invalid_data_field refl) stays
 passwords command asked records before (Some known) (Err code) user is stays = is_refused command asked records before code (is code refl) stays
 passwords command asked records before (Some known) (Ok change) user is stays = changes_password command asked records before change user stays
@@ -233,12 +233,12 @@ passwords command asked records before (Some known) (Ok change) user is stays = 
 pub part_long : (table : List ℕ) (offset : ℕ) → length (part_data table offset) ≤ longest_part
 part_long table offset = omega (arith, length-take 192 (drop offset table))
 
-shows_part_of : (asked : List ℕ) (records : Records) (before : Activity) (table : List ℕ) (offset : Option ℕ) → IsLive live.GetBiosTable asked records before (part_answer table offset, before)
+shows_part_of : (asked : List ℕ) (records : Records) (before : Activity) (table : List ℕ) (offset : Option ℕ) → IsLiveAnswer live.GetBiosTable asked records before (part_answer table offset, before)
 shows_part_of asked records before table (Some offset) = record { has_code = code_of success refl; short = part_long table offset; left = λ fault. absurd (fault refl) }
 shows_part_of asked records before table None = is_refused live.GetBiosTable asked records before _ (code_of pldm_invalid_data refl) (λ code. refl)
 
 shows_table : (asked : List ℕ) (records : Records) (before : Activity) (table : Result BiosTable ℕ) (bytes_of : BiosTable → List ℕ) → ((code : ℕ) → table ≡ Err code → IsCode code)
-    → IsLive live.GetBiosTable asked records before (table_where table asked bytes_of, before)
+    → IsLiveAnswer live.GetBiosTable asked records before (table_where table asked bytes_of, before)
 shows_table asked records before (Ok table) bytes_of is = shows_part_of asked records before (bytes_of table) (asked_offset (bytes_of table) (byte_at asked 4) (transfer_handle asked))
 shows_table asked records before (Err code) bytes_of is = is_refused live.GetBiosTable asked records before code (is code refl) (λ code. refl)
 

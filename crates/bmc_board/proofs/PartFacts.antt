@@ -7,7 +7,7 @@ use Rattle.record_base.specs.Meaning.{IsRefusal}
 use Rattle.bios_attr.specs.BiosAttribute.{is_settable}
 use Rattle.bios_attr.specs.declared.bios_attribute.AttributeLimits.{AttributeLimits}
 use Rattle.attribute_parts.specs.Entries.{text_length, whole_length, op_of, begins_string, allows_length, first_fault, middle_fault, last_fault}
-use Rattle.attribute_parts.specs.Stagings.{Staged, most_stagings, staged_by, without, or_else, room_fault, start_fault, later_fault, add_fault, end_fault, unless, joined, start_outcome, add_outcome, end_outcome}
+use Rattle.attribute_parts.specs.Stagings.{StagedParts, most_stagings, staged_by, without, or_else, room_fault, start_fault, later_fault, add_fault, end_fault, unless, joined, start_outcome, add_outcome, end_outcome}
 use Rattle.bmc_board.specs.State.{State}
 use Rattle.bmc_board.specs.AttributeParts.{with_stagings, unstaged}
 use Rattle.bmc_board.specs.Answer.{staged}
@@ -62,7 +62,7 @@ first_is limits entry =
     either (not (is_settable limits (op_of entry))) pldm_invalid_data _ data_is
     (either (not (begins_string entry)) pldm_invalid_length _ length_is (either (not (allows_length limits.range (text_length entry))) pldm_invalid_data None data_is tt))
 
-start_is : (limits : Option AttributeLimits) (stagings : Staged) (from : ℕ) (entry : List ℕ) → IsFault (start_fault limits stagings from entry)
+start_is : (limits : Option AttributeLimits) (stagings : StagedParts) (from : ℕ) (entry : List ℕ) → IsFault (start_fault limits stagings from entry)
 start_is None stagings from entry = refusal_of pldm_invalid_attribute refl
 start_is (Some limits) stagings from entry =
     both_codes (first_fault limits entry) (room_fault stagings from) (first_is limits entry) (either (nat_le most_stagings (length (without from stagings))) pldm_error None (refusal_of pldm_error refl) tt)
@@ -81,14 +81,14 @@ later_is : (fault : List ℕ → Option ℕ) (staged : Option (List ℕ)) → ((
 later_is fault None is = data_is
 later_is fault (Some entry) is = is entry
 
-pub start_code : (limits : Option AttributeLimits) (stagings : Staged) (from : ℕ) (entry : List ℕ) → Refuses (start_outcome limits stagings from entry)
+pub start_code : (limits : Option AttributeLimits) (stagings : StagedParts) (from : ℕ) (entry : List ℕ) → Refuses (start_outcome limits stagings from entry)
 start_code limits stagings from entry = unless_code (start_fault limits stagings from entry) entry (start_is limits stagings from entry)
 
-pub add_code : (stagings : Staged) (from handle : ℕ) (bytes : List ℕ) → Refuses (add_outcome stagings from handle bytes)
+pub add_code : (stagings : StagedParts) (from handle : ℕ) (bytes : List ℕ) → Refuses (add_outcome stagings from handle bytes)
 add_code stagings from handle bytes =
     unless_code (add_fault stagings from handle bytes) (joined (staged_by from stagings) bytes) (later_is (λ staged. middle_fault staged handle bytes) (staged_by from stagings) (λ staged. middle_is staged handle bytes))
 
-pub end_code : (stagings : Staged) (from handle : ℕ) (bytes : List ℕ) → Refuses (end_outcome stagings from handle bytes)
+pub end_code : (stagings : StagedParts) (from handle : ℕ) (bytes : List ℕ) → Refuses (end_outcome stagings from handle bytes)
 end_code stagings from handle bytes =
     unless_code (end_fault stagings from handle bytes) (op_of (joined (staged_by from stagings) bytes)) (later_is (λ staged. last_fault staged handle bytes) (staged_by from stagings) (λ staged. last_is staged handle bytes))
 
@@ -111,7 +111,7 @@ pub not_unstaged : (from code : ℕ) (after : State) → code ≢ success → un
 not_unstaged from code after fault = left_where (code == success) code (with_stagings after (without from after.activity.stagings)) after refl fault
 
 -- the end of a staging leaves the records
-records_where : (b : Bool) (after : State) (stagings : Staged) → (if b then with_stagings after stagings else after).records ≡ after.records
+records_where : (b : Bool) (after : State) (stagings : StagedParts) → (if b then with_stagings after stagings else after).records ≡ after.records
 records_where true after stagings = refl
 records_where false after stagings = refl
 

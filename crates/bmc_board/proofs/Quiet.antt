@@ -10,7 +10,7 @@ use Rattle.user_chan.specs.Passwords.{change_of}
 use Rattle.watch_boot.specs.Watchdog.{was_set}
 use Rattle.cfg_records.specs.Records.{Records}
 use Rattle.record_kinds.specs.Boards.{user_at}
-use Rattle.attribute_parts.specs.Stagings.{Staged}
+use Rattle.attribute_parts.specs.Stagings.{StagedParts}
 use Rattle.record_base.specs.Meaning.{room_for}
 use Rattle.record_base.specs.declared.message.Answered.{Answered}
 use Rattle.cfg_records.specs.declared.board_file.BoardFile.{BoardFile}
@@ -18,8 +18,8 @@ use Rattle.bmc_board.specs.Request.{Request}
 use Rattle.bmc_board.specs.Request.{Live, Get, Set, SetStores, PartOfSet, LaterPart}
 use Rattle.bmc_board.specs.Request.{asked_by}
 use Rattle.bmc_board.specs.State.{State}
-use Rattle.bmc_board.specs.Answer.{Given}
-use Rattle.bmc_board.specs.Row.{Serves, Replies}
+use Rattle.bmc_board.specs.Answer.{AnswerAndState}
+use Rattle.bmc_board.specs.Row.{AnswersRequest, AnswersResult}
 use Rattle.bmc_board.specs.Quiet.{KeepsRecords, KeepsStagings}
 use Rattle.bmc_board.specs.declared.activity.Activity.{Activity}
 use Rattle.bmc_board.specs.declared.live.LiveCommand.{LiveCommand}
@@ -28,17 +28,17 @@ use Rattle.bmc_board.specs.Replies.{unknown_code}
 use Rattle.bmc_board.specs.Live.{reset_answer, begun, progress_answer, password_answer, live_answer}
 use Rattle.bmc_board.proofs.AskedFacts.{IsQuiet, IsRight, asked_right}
 
-served_quietly : (setup : BoardFile) (before : State) (request : Request) (answered : Answered) (after : State) → IsQuiet request → Serves setup before request answered after → after.records ≡ before.records
-served_quietly setup before (Live command body) answered after quiet row = ap (λ (g : Given). g.1.records) row
-served_quietly setup before (Get key) answered after quiet row = ap (λ (g : Given). g.1.records) row
+served_quietly : (setup : BoardFile) (before : State) (request : Request) (answered : Answered) (after : State) → IsQuiet request → AnswersRequest setup before request answered after → after.records ≡ before.records
+served_quietly setup before (Live command body) answered after quiet row = ap (λ (g : AnswerAndState). g.1.records) row
+served_quietly setup before (Get key) answered after quiet row = ap (λ (g : AnswerAndState). g.1.records) row
 served_quietly setup before (Set op) answered after quiet row = absurd quiet
 served_quietly setup before (SetStores first second) answered after quiet row = absurd quiet
 served_quietly setup before (PartOfSet from part) answered after quiet row = absurd quiet
-served_quietly setup before (LaterPart handle transfer) answered after quiet row = ap (λ (g : Given). g.1.records) row
+served_quietly setup before (LaterPart handle transfer) answered after quiet row = ap (λ (g : AnswerAndState). g.1.records) row
 
-replied_quietly : (setup : BoardFile) (before : State) (room : ℕ) (r : Result Request ℕ) (answered : Answered) (after : State) → IsRight room false r → Replies setup before r answered after → after.records ≡ before.records
+replied_quietly : (setup : BoardFile) (before : State) (room : ℕ) (r : Result Request ℕ) (answered : Answered) (after : State) → IsRight room false r → AnswersResult setup before r answered after → after.records ≡ before.records
 replied_quietly setup before room (Ok request) answered after right row = served_quietly setup before request answered after (right.1 refl) row
-replied_quietly setup before room (Err fault) answered after right row = ap (λ (g : Given). g.1.records) row
+replied_quietly setup before room (Err fault) answered after right row = ap (λ (g : AnswerAndState). g.1.records) row
 
 pub keeps_records : KeepsRecords
 keeps_records setup before asked answered after quiet row =
@@ -47,7 +47,7 @@ keeps_records setup before asked answered after quiet row =
 -- ---- what is staged
 
 -- both ways of a test leave it
-either_keeps : (b : Bool) (one other : Answered × Activity) (stagings : Staged) → one.1.stagings ≡ stagings → other.1.stagings ≡ stagings → (if b then one else other).1.stagings ≡ stagings
+either_keeps : (b : Bool) (one other : Answered × Activity) (stagings : StagedParts) → one.1.stagings ≡ stagings → other.1.stagings ≡ stagings → (if b then one else other).1.stagings ≡ stagings
 either_keeps true one other stagings is is_too = is
 either_keeps false one other stagings is is_too = is_too
 
@@ -78,17 +78,17 @@ live_keeps setup records before (live.SetBootProgress byte) body = progress_keep
 live_keeps setup records before live.SetUserPassword body = password_keeps (user_at setup.users.items (user_in (byte_at body 0)).number) (change_of body) (user_in (byte_at body 0)).number before
 live_keeps setup records before _ body = refl
 
-staged_quietly : (setup : BoardFile) (before : State) (request : Request) (answered : Answered) (after : State) → IsQuiet request → Serves setup before request answered after → after.activity.stagings ≡ before.activity.stagings
-staged_quietly setup before (Live command body) answered after quiet row = ap (λ (g : Given). g.1.activity.stagings) row ∙ live_keeps setup before.records before.activity command body
-staged_quietly setup before (Get key) answered after quiet row = ap (λ (g : Given). g.1.activity.stagings) row
+staged_quietly : (setup : BoardFile) (before : State) (request : Request) (answered : Answered) (after : State) → IsQuiet request → AnswersRequest setup before request answered after → after.activity.stagings ≡ before.activity.stagings
+staged_quietly setup before (Live command body) answered after quiet row = ap (λ (g : AnswerAndState). g.1.activity.stagings) row ∙ live_keeps setup before.records before.activity command body
+staged_quietly setup before (Get key) answered after quiet row = ap (λ (g : AnswerAndState). g.1.activity.stagings) row
 staged_quietly setup before (Set op) answered after quiet row = absurd quiet
 staged_quietly setup before (SetStores first second) answered after quiet row = absurd quiet
 staged_quietly setup before (PartOfSet from part) answered after quiet row = absurd quiet
-staged_quietly setup before (LaterPart handle transfer) answered after quiet row = ap (λ (g : Given). g.1.activity.stagings) row
+staged_quietly setup before (LaterPart handle transfer) answered after quiet row = ap (λ (g : AnswerAndState). g.1.activity.stagings) row
 
-left_quietly : (setup : BoardFile) (before : State) (room : ℕ) (r : Result Request ℕ) (answered : Answered) (after : State) → IsRight room false r → Replies setup before r answered after → after.activity.stagings ≡ before.activity.stagings
+left_quietly : (setup : BoardFile) (before : State) (room : ℕ) (r : Result Request ℕ) (answered : Answered) (after : State) → IsRight room false r → AnswersResult setup before r answered after → after.activity.stagings ≡ before.activity.stagings
 left_quietly setup before room (Ok request) answered after right row = staged_quietly setup before request answered after (right.1 refl) row
-left_quietly setup before room (Err fault) answered after right row = ap (λ (g : Given). g.1.activity.stagings) row
+left_quietly setup before room (Err fault) answered after right row = ap (λ (g : AnswerAndState). g.1.activity.stagings) row
 
 pub keeps_stagings : KeepsStagings
 keeps_stagings setup before asked answered after quiet row =

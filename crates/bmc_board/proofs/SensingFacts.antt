@@ -7,9 +7,9 @@ use Rattle.cfg_records.specs.Records.{Records}
 use Rattle.record_base.specs.declared.key.Key.TheVariants as key
 use Rattle.record_base.specs.declared.sensor.Sensor.{Sensor}
 use Rattle.sel_log.specs.Log.{Log}
-use Rattle.sensor_recs.specs.declared.compared.Compared.{Compared}
-use Rattle.sensor_recs.specs.declared.compared.Event.{Event}
-use Rattle.sensor_recs.specs.declared.compared.Taken.{Taken}
+use Rattle.sensor_recs.specs.declared.comparator.Comparator.{Comparator}
+use Rattle.sensor_recs.specs.declared.comparator.Event.{Event}
+use Rattle.sensor_recs.specs.declared.comparator.LastReading.{LastReading}
 use Rattle.sensor_recs.specs.Readings.{events_of}
 use Rattle.sensor_recs.specs.Taken.{LastReadings, last_of, with_reading, last_beyond, taken_after, log_record}
 use Rattle.record_kinds.specs.Boards.{sensor_at}
@@ -28,32 +28,32 @@ left_out b x y is = ap (λ (t : Bool). if t then x else y) is
 
 module _ (records : Records) (sensor : Sensor) where
   -- where events go into the log, each is added
-  pub logged : (s : Compared) (last : Option Taken) (reading : ℕ) (before after : Log) (events : List Event) → logs records ≡ true
+  pub logged : (s : Comparator) (last : Option LastReading) (reading : ℕ) (before after : Log) (events : List Event) → logs records ≡ true
       → after ≡ after_all before (map (log_record sensor.sensor_type sensor.number s reading) events) → events ≡ events_of s (last_beyond last) reading
       → after ≡ log_after records sensor s last reading before
   logged s last reading before after events on is made =
       is ∙ ap (λ (es : List Event). after_all before (map (log_record sensor.sensor_type sensor.number s reading) es)) made ∙ sym (picked (logs records) _ _ on)
 
   -- else the log stays
-  pub not_logged : (s : Compared) (last : Option Taken) (reading : ℕ) (before : Log) → logs records ≡ false → before ≡ log_after records sensor s last reading before
+  pub not_logged : (s : Comparator) (last : Option LastReading) (reading : ℕ) (before : Log) → logs records ≡ false → before ≡ log_after records sensor s last reading before
   not_logged s last reading before off = sym (left_out (logs records) _ _ off)
 
   -- a reading that is taken, by what it was compared with and by the last one
-  abbrev taking : Compared → Option Taken → ℕ → Activity → Activity
+  abbrev taking : Comparator → Option LastReading → ℕ → Activity → Activity
   taking s last reading before = record before {
     readings = with_reading before.readings sensor.number (taken_after s last reading);
     log = log_after records sensor s last reading before.log;
   }
 
-  pub takes : (s : Compared) (last : Option Taken) (reading : ℕ) (before : Activity) (readings : LastReadings) (log : Log)
+  pub takes : (s : Comparator) (last : Option LastReading) (reading : ℕ) (before : Activity) (readings : LastReadings) (log : Log)
       → is_scanning (byte_at (value_at records (key.EventEnable sensor.number)) 0) ≡ true → s ≡ compared_at records sensor → last ≡ last_of before.readings sensor.number
       → readings ≡ with_reading before.readings sensor.number (taken_after s last reading) → log ≡ log_after records sensor s last reading before.log
       → record before { readings = readings; log = log } ≡ after_reading records sensor reading before
   takes s last reading before readings log scans same at put adds =
       ap (λ (r : LastReadings). record before { readings = r; log = log }) put
       ∙ ap (λ (l : Log). record before { readings = with_reading before.readings sensor.number (taken_after s last reading); log = l }) adds
-      ∙ ap (λ (c : Compared). taking c last reading before) same
-      ∙ ap (λ (o : Option Taken). taking (compared_at records sensor) o reading before) at
+      ∙ ap (λ (c : Comparator). taking c last reading before) same
+      ∙ ap (λ (o : Option LastReading). taking (compared_at records sensor) o reading before) at
       ∙ sym (picked (is_scanning (byte_at (value_at records (key.EventEnable sensor.number)) 0)) _ _ scans)
 
 -- What happens on the bench leaves what is staged. So the state after it is the one before it, with its activity then.

@@ -22,8 +22,8 @@ use Rattle.bmc_board.specs.Request.{Get, Set}
 use Rattle.bmc_board.specs.Request.{asked_by}
 use Rattle.bmc_board.specs.State.{State}
 use Rattle.bmc_board.specs.Replies.{done, refused, unknown_code}
-use Rattle.bmc_board.specs.Answer.{Given, get_answer}
-use Rattle.bmc_board.specs.Row.{IsCarriedOut, Sets, Serves, Replies, Row}
+use Rattle.bmc_board.specs.Answer.{AnswerAndState, get_answer}
+use Rattle.bmc_board.specs.Row.{IsCarriedOut, SetAnswered, AnswersRequest, AnswersResult, Row}
 use Rattle.bmc_board.specs.Decode.{sent_by, asked_from}
 use Rattle.bmc_board.specs.Undo.{IsUndone, IsAReply}
 use Rattle.bmc_board.proofs.AnswerFacts.{limits_are_of}
@@ -33,13 +33,13 @@ use Rattle.bmc_board.proofs.Decoded.{gets_are_read, sets_are_read}
 
 -- ---- requests that are read
 
-read_as : (setup : BoardFile) (before : State) (asked : Asked) (request : Request) (answered : Answered) (after : State) → asked_by asked ≡ Ok request → Row setup before asked answered after → Serves setup before request answered after
-read_as setup before asked request answered after is row = subst (λ (r : Result Request ℕ). Replies setup before r answered after) is row
+read_as : (setup : BoardFile) (before : State) (asked : Asked) (request : Request) (answered : Answered) (after : State) → asked_by asked ≡ Ok request → Row setup before asked answered after → AnswersRequest setup before request answered after
+read_as setup before asked request answered after is row = subst (λ (r : Result Request ℕ). AnswersResult setup before r answered after) is row
 
-pub get_served : (setup : BoardFile) (before : State) (from : ℕ) (key : Key) (answered : Answered) (after : State) → Row setup before (sent_by from (get_asked key)) answered after → Serves setup before (Get key) answered after
+pub get_served : (setup : BoardFile) (before : State) (from : ℕ) (key : Key) (answered : Answered) (after : State) → Row setup before (sent_by from (get_asked key)) answered after → AnswersRequest setup before (Get key) answered after
 get_served setup before from key answered after row = read_as setup before (sent_by from (get_asked key)) (Get key) answered after (is_read_from_all from (get_asked key) ∙ ap (asked_from from) (gets_are_read key).is_read) row
 
-pub set_served : (setup : BoardFile) (before : State) (from : ℕ) (op : Op) (answered : Answered) (after : State) → Row setup before (sent_by from (set_whole op)) answered after → Serves setup before (Set op) answered after
+pub set_served : (setup : BoardFile) (before : State) (from : ℕ) (op : Op) (answered : Answered) (after : State) → Row setup before (sent_by from (set_whole op)) answered after → AnswersRequest setup before (Set op) answered after
 set_served setup before from op answered after row = read_as setup before (sent_by from (set_whole op)) (Set op) answered after (is_read_from_all from (set_whole op) ∙ ap (asked_from from) (sets_are_read op).is_read) row
 
 -- ---- requests that are carried out
@@ -67,7 +67,7 @@ shows None (Some value) live unknown shown is_fault gets carried = absurd (not_r
 shows None None live unknown shown is_fault gets carried = absurd (not_refused shown unknown is_fault gets carried)
 
 -- a Set that was carried out wasn't refused by its record
-pub carried_out : (limits : Limits) (old : List ℕ) (unknown : ℕ) (op : Op) (before : State) (changed : Answered) (after : State) → Sets (Some limits) (Some old) unknown op before changed after → changed.code ≡ success → IsCarriedOut limits old op before changed after
+pub carried_out : (limits : Limits) (old : List ℕ) (unknown : ℕ) (op : Op) (before : State) (changed : Answered) (after : State) → SetAnswered (Some limits) (Some old) unknown op before changed after → changed.code ≡ success → IsCarriedOut limits old op before changed after
 carried_out limits old unknown op before changed after (inl is) carried = is
 carried_out limits old unknown op before changed after (inr is) carried =
     let fault : 0 < is.fault = ((laws.record_laws limits).refuses op old is.fault is.has_fault).is_fault in
@@ -78,7 +78,7 @@ carried_out limits old unknown op before changed after (inr is) carried =
 -- where an operation can make the old value of the new one, it is carried out, and it writes the old value
 undone_at : (limits : Limits) (key : Key) (op : Op) (unknown : ℕ) (records : Records) (old new : List ℕ) (from back : State) (undone : Answered)
     → key_of op ≡ key → records key ≡ Some old → from.records ≡ with_record records key new → sets limits op new old
-    → Sets (Some limits) (Some new) unknown op from undone back
+    → SetAnswered (Some limits) (Some new) unknown op from undone back
     → (undone.code ≡ success) × (back.records ≡ records)
 undone_at limits key op unknown records old new from back undone same had changed can (inl is) = (
   ap (λ (a : Answered). a.code) is.replied,
@@ -92,16 +92,16 @@ undone_at limits key op unknown records old new from back undone same had change
 
 -- a Set at a record with these limits and this value
 pub sets_at : (limits : Option Limits) (value : Option (List ℕ)) (of : Limits) (old : List ℕ) (unknown : ℕ) (op : Op) (before : State) (answered : Answered) (after : State)
-    → limits ≡ Some of → value ≡ Some old → Sets limits value unknown op before answered after → Sets (Some of) (Some old) unknown op before answered after
+    → limits ≡ Some of → value ≡ Some old → SetAnswered limits value unknown op before answered after → SetAnswered (Some of) (Some old) unknown op before answered after
 sets_at limits value of old unknown op before answered after limits_are value_is s =
-    subst (λ (v : Option (List ℕ)). Sets (Some of) v unknown op before answered after) value_is (subst (λ (l : Option Limits). Sets l value unknown op before answered after) limits_are s)
+    subst (λ (v : Option (List ℕ)). SetAnswered (Some of) v unknown op before answered after) value_is (subst (λ (l : Option Limits). SetAnswered l value unknown op before answered after) limits_are s)
 
 -- what a Get replies is a reply of the record's kind, or the first part of one
 pub is_a_reply : IsAReply
 is_a_reply setup op before got shown h =
     let key : Key = key_of op in
-    let served : Serves setup before (Get key) shown got = get_served setup before h.reader key shown got h.read in
-    let seen : Shows (limits_at setup key) (before.records key) before.activity.live shown = shows _ _ before.activity.live (unknown_code setup key) shown (unknown_is_fault setup key) (ap (λ (g : Given). g.0) served) h.was_read in
+    let served : AnswersRequest setup before (Get key) shown got = get_served setup before h.reader key shown got h.read in
+    let seen : Shows (limits_at setup key) (before.records key) before.activity.live shown = shows _ _ before.activity.live (unknown_code setup key) shown (unknown_is_fault setup key) (ap (λ (g : AnswerAndState). g.0) served) h.was_read in
     let is_valid : valid seen.of seen.old = valid_at _ _ seen.of seen.old seen.limits_are seen.value_is (h.sound key) in
     let reply : is_reply op (view seen.of seen.old before.activity.live) = (laws.record_laws seen.of).replies op seen.old before.activity.live (limits_are_of setup key seen.of seen.limits_are) is_valid in
     record { limits = seen.of; has_limits = seen.limits_are; whole = view seen.of seen.old before.activity.live; is_whole = reply; shown = ap (λ (a : Answered). a.body) seen.body_is }
@@ -110,10 +110,10 @@ pub is_undone : IsUndone
 is_undone setup op made before got until after from back shown changed undone h =
     let key : Key = key_of op in
     let unknown : ℕ = unknown_code setup key in
-    let served : Serves setup before (Get key) shown got = get_served setup before h.reader key shown got h.read in
-    let seen : Shows (limits_at setup key) (before.records key) before.activity.live shown = shows _ _ before.activity.live unknown shown (unknown_is_fault setup key) (ap (λ (g : Given). g.0) served) h.was_read in
+    let served : AnswersRequest setup before (Get key) shown got = get_served setup before h.reader key shown got h.read in
+    let seen : Shows (limits_at setup key) (before.records key) before.activity.live shown = shows _ _ before.activity.live unknown shown (unknown_is_fault setup key) (ap (λ (g : AnswerAndState). g.0) served) h.was_read in
     let is_valid : valid seen.of seen.old = valid_at _ _ seen.of seen.old seen.limits_are seen.value_is (h.sound key) in
-    let stayed : until.records ≡ before.records = h.stayed ∙ ap (λ (g : Given). g.1.records) served in
+    let stayed : until.records ≡ before.records = h.stayed ∙ ap (λ (g : AnswerAndState). g.1.records) served in
     let had : until.records key ≡ Some seen.old = ap (λ (r : Records). r key) stayed ∙ seen.value_is in
     let change : IsCarriedOut seen.of seen.old op until changed after =
     carried_out seen.of seen.old unknown op until changed after (sets_at _ _ seen.of seen.old unknown op until changed after seen.limits_are had (set_served setup until h.changer op changed after h.change)) h.was_changed in
@@ -126,8 +126,8 @@ is_undone setup op made before got until after from back shown changed undone h 
     let same : key_of made ≡ key = of_seen.same_record op made seen.old before.activity.live here is_valid is_made in
     let written : from.records ≡ with_record until.records key change.new = h.stayed_changed ∙ ap (λ (s : State). s.records) change.left in
     let has : from.records key ≡ Some change.new = ap (λ (r : Records). r key) written ∙ with_record_same until.records key change.new in
-    let way : Sets (limits_at setup key) (from.records key) unknown made from undone back =
-    subst (λ (k : Key). Sets (limits_at setup k) (from.records k) (unknown_code setup k) made from undone back) same (set_served setup from h.undoer made undone back h.way_back) in
+    let way : SetAnswered (limits_at setup key) (from.records key) unknown made from undone back =
+    subst (λ (k : Key). SetAnswered (limits_at setup k) (from.records k) (unknown_code setup k) made from undone back) same (set_served setup from h.undoer made undone back h.way_back) in
     let end : (undone.code ≡ success) × (back.records ≡ until.records) =
     undone_at seen.of key made unknown until.records seen.old change.new from back undone same had written can (sets_at _ _ seen.of change.new unknown made from undone back seen.limits_are has way) in
     (end.0, end.1 ∙ stayed)

@@ -6,13 +6,13 @@ use Rattle.record_base.specs.declared.key.Key.{Key}
 use Rattle.record_base.specs.declared.message.Asked.{Asked}
 use Rattle.record_base.specs.declared.message.Answered.{Answered}
 use Rattle.cfg_records.specs.declared.board_file.BoardFile.{BoardFile}
-use Rattle.record_kinds.specs.Sound.{IsSound}
+use Rattle.record_kinds.specs.Sound.{AreSoundRecords}
 use Rattle.bmc_board.specs.Request.{asked_by}
 use Rattle.bmc_board.specs.State.{State}
-use Rattle.bmc_board.specs.Leaves.{Leaves}
+use Rattle.bmc_board.specs.Leaves.{RefusalLeaves}
 use Rattle.bmc_board.specs.Replies.{unknown_code}
 use Rattle.bmc_board.specs.Answer.{answer_of}
-use Rattle.bmc_board.specs.Row.{Is, Row}
+use Rattle.bmc_board.specs.Row.{IsAnswerGiven, Row}
 
 -- each request has an answer: the function's
 abbrev pub HasAnswer : Type 0
@@ -20,7 +20,7 @@ HasAnswer = (setup : BoardFile) (before : State) (asked : Asked) → Row setup b
 
 -- and no other
 abbrev pub HasOneAnswer : Type 0
-HasOneAnswer = (setup : BoardFile) (before : State) (asked : Asked) (answered : Answered) (after : State) → Row setup before asked answered after → Is answered after (answer_of setup before asked)
+HasOneAnswer = (setup : BoardFile) (before : State) (asked : Asked) (answered : Answered) (after : State) → Row setup before asked answered after → IsAnswerGiven answered after (answer_of setup before asked)
 
 -- the code is neither node busy nor not ready, which are a busy controller's
 pub record IsCode (code : ℕ) : Type 0 where
@@ -38,12 +38,12 @@ UnknownIsRefused = (setup : BoardFile) (key : Key) → IsRefusal (unknown_code s
 -- a refused request leaves what was there, but for the log's note of an overflow
 abbrev pub RefusedLeaves : Type 0
 RefusedLeaves = (setup : BoardFile) (before : State) (asked : Asked) → (answer_of setup before asked).0.code ≢ success
-    → Leaves (asked_by asked) (answer_of setup before asked).0.code before (answer_of setup before asked).1
+    → RefusalLeaves (asked_by asked) (answer_of setup before asked).0.code before (answer_of setup before asked).1
 
 -- every record keeps a value that its limits allow
 abbrev pub StaysSound : Type 0
-StaysSound = (setup : BoardFile) (before : State) (asked : Asked) → IsSound setup before.records → IsSound setup (answer_of setup before asked).1.records
+StaysSound = (setup : BoardFile) (before : State) (asked : Asked) → AreSoundRecords setup before.records → AreSoundRecords setup (answer_of setup before asked).1.records
 
 -- the data of each answer fits the frame or message that carries it
 abbrev pub AnswersFit : Type 0
-AnswersFit = (setup : BoardFile) (before : State) (asked : Asked) → IsSound setup before.records → length (answer_of setup before asked).0.body ≤ room_for asked
+AnswersFit = (setup : BoardFile) (before : State) (asked : Asked) → AreSoundRecords setup before.records → length (answer_of setup before asked).0.body ≤ room_for asked

@@ -2,14 +2,14 @@
 use Rattle.std.proofs.Props.{props}
 use Rattle.std.specs.Prelude.{ℕ, List}
 use Rattle.record_base.specs.declared.attribute.Attribute.{Attribute}
-use Rattle.bios_attr.specs.Tables.{Opened}
+use Rattle.bios_attr.specs.Tables.{OpenedTables}
 use Rattle.bmc_board.specs.declared.board.Kept.{Kept}
 use Rattle.bmc_board.specs.declared.board.Kept.TheVariants.{Stale, Current}
-use Rattle.bmc_board.specs.ToldTables.{Tells, IsKept}
+use Rattle.bmc_board.specs.ToldTables.{TellsAttributes, KeepsValueTable}
 
-pub Tells-prop : (attributes : List Attribute) (tables : Opened) → IsProp (Tells attributes tables)
-Tells-prop attributes tables = hlevel props
+pub TellsAttributes-prop : (attributes : List Attribute) (tables : OpenedTables) → IsProp (TellsAttributes attributes tables)
+TellsAttributes-prop attributes tables = hlevel props
 
-pub IsKept-prop : (kept : Kept) (attributes : List Attribute) (values : ℕ → List ℕ) (tables : Opened) → IsProp (IsKept kept attributes values tables)
-IsKept-prop Stale attributes values tables = hlevel props
-IsKept-prop Current attributes values tables = hlevel props
+pub KeepsValueTable-prop : (kept : Kept) (attributes : List Attribute) (values : ℕ → List ℕ) (tables : OpenedTables) → IsProp (KeepsValueTable kept attributes values tables)
+KeepsValueTable-prop Stale attributes values tables = hlevel props
+KeepsValueTable-prop Current attributes values tables = hlevel props

@@ -31,17 +31,17 @@ IsFromNobody (Ipmi from net_fn lun number body) = (from ≡ 0) × (lun ≡ 0)
 IsFromNobody (Pldm from kind number body) = from ≡ 0
 
 -- a controller reads this in the request
-pub record Asks (asked : Asked) (request : Request) : Type 0 where
+pub record AsksRequest (asked : Asked) (request : Request) : Type 0 where
   pub is_read : asked_by asked ≡ Ok request
   pub from_nobody : IsFromNobody asked
 
 -- the request for a record is read as a Get of that record
 abbrev pub GetsAreRead : Type 0
-GetsAreRead = (key : Key) → Asks (get_asked key) (Get key)
+GetsAreRead = (key : Key) → AsksRequest (get_asked key) (Get key)
 
 -- the request for an operation, with all its data, is read as that operation
 abbrev pub SetsAreRead : Type 0
-SetsAreRead = (op : Op) → Asks (set_whole op) (Set op)
+SetsAreRead = (op : Op) → AsksRequest (set_whole op) (Set op)
 
 -- the operation that undoes another has 0 in each bit that a controller ignores
 abbrev pub UndosArePlain : Type 0

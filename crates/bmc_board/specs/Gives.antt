@@ -1,2 +1,2 @@
 -- What a call that appends a reply's data gives.
-pub use Rattle.board_records.specs.Gives.{Gives, Appends, Says}
+pub use Rattle.board_records.specs.Gives.{GivesReply, AppendsReply, AnswersCode}

@@ -4,7 +4,7 @@ use Rattle.std.specs.Prelude.{ℕ, List, [], ◌∷◌, Option, Some, None}
 use Rattle.two_wire.specs.Codes.{invalid_length, invalid_data_field}
 use Rattle.record_base.specs.Numbers.{ChannelNumber}
 use Rattle.record_base.specs.declared.key.Key.TheVariants as key
-use Rattle.record_base.specs.declared.lan_item.Lan.{Lan}
+use Rattle.record_base.specs.declared.lan.Lan.{Lan}
 use Rattle.record_base.specs.declared.message.Answered.{Answered}
 use Rattle.record_base.specs.declared.op.Op.TheVariants as op
 use Rattle.cfg_records.specs.declared.board_file.BoardFile.{BoardFile}

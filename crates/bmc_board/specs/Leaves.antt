@@ -18,6 +18,6 @@ pub record NotesOverflow (code : ℕ) (before after : State) : Type 0 where
   pub left : after ≡ overflowed before
 
 -- a refusal of any request leaves what was there. Add SEL Entry alone is refused because the log is full, and leaves that noted.
-abbrev pub Leaves : Result Request ℕ → ℕ → State → State → Type 0
-Leaves (Ok (Live live.AddSelEntry body)) code before after = NotesOverflow code before after
-Leaves _ code before after = IsUnchanged before after
+abbrev pub RefusalLeaves : Result Request ℕ → ℕ → State → State → Type 0
+RefusalLeaves (Ok (Live live.AddSelEntry body)) code before after = NotesOverflow code before after
+RefusalLeaves _ code before after = IsUnchanged before after

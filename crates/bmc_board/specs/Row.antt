@@ -18,7 +18,7 @@ use Rattle.bmc_board.specs.Request.{asked_by}
 use Rattle.bmc_board.specs.State.{State, state, IsUnchanged}
 use Rattle.bmc_board.specs.Replies.{done, refused, unknown_code}
 use Rattle.bmc_board.specs.AttributeParts.{unstaged}
-use Rattle.bmc_board.specs.Answer.{Given, activity_after, serve}
+use Rattle.bmc_board.specs.Answer.{AnswerAndState, activity_after, serve}
 
 -- a Set that its kind accepts writes the new value
 pub record IsCarriedOut (limits : Limits) (old : List ℕ) (op : Op) (before : State) (answered : Answered) (after : State) : Type 0 where
@@ -36,17 +36,17 @@ pub record IsRefused (limits : Limits) (old : List ℕ) (op : Op) (before : Stat
   pub left : IsUnchanged before after
 
 -- a Set of a record
-abbrev pub Sets : Option Limits → Option (List ℕ) → ℕ → Op → State → Answered → State → Type 0
-Sets (Some limits) (Some old) unknown op before answered after = IsCarriedOut limits old op before answered after ⊎ IsRefused limits old op before answered after
-Sets _ _ unknown op before answered after = (answered ≡ refused unknown) × IsUnchanged before after
+abbrev pub SetAnswered : Option Limits → Option (List ℕ) → ℕ → Op → State → Answered → State → Type 0
+SetAnswered (Some limits) (Some old) unknown op before answered after = IsCarriedOut limits old op before answered after ⊎ IsRefused limits old op before answered after
+SetAnswered _ _ unknown op before answered after = (answered ≡ refused unknown) × IsUnchanged before after
 
 -- the same, of an operation at its record
 abbrev pub SetsAt : BoardFile → Op → State → Answered → State → Type 0
-SetsAt setup op before answered after = Sets (limits_at setup (key_of op)) (before.records (key_of op)) (unknown_code setup (key_of op)) op before answered after
+SetsAt setup op before answered after = SetAnswered (limits_at setup (key_of op)) (before.records (key_of op)) (unknown_code setup (key_of op)) op before answered after
 
 -- the answer, with the state after it, is this
-abbrev pub Is : Answered → State → Given → Type 0
-Is answered after given = (let here : Given = (answered, after) in here) ≡ given
+abbrev pub IsAnswerGiven : Answered → State → AnswerAndState → Type 0
+IsAnswerGiven answered after given = (let here : AnswerAndState = (answered, after) in here) ≡ given
 
 -- the Set of an entry whose last part came: where it is carried out, its requester has nothing staged any more
 pub record SetsWhole (setup : BoardFile) (from : ℕ) (op : Op) (before : State) (answered : Answered) (after : State) : Type 0 where
@@ -55,21 +55,21 @@ pub record SetsWhole (setup : BoardFile) (from : ℕ) (op : Op) (before : State)
   pub left : after ≡ unstaged from answered.code set
 
 -- the last part of a Set is the Set of the whole entry, or refused
-abbrev pub Ends : BoardFile → (from : ℕ) → Result SetBiosAttribute ℕ → State → Answered → State → Type 0
-Ends setup from (Ok op) before answered after = SetsWhole setup from (of_kind.BiosAttribute op) before answered after
-Ends setup from (Err code) before answered after = Is answered after (refused code, before)
+abbrev pub AnswersLastPart : BoardFile → (from : ℕ) → Result SetBiosAttribute ℕ → State → Answered → State → Type 0
+AnswersLastPart setup from (Ok op) before answered after = SetsWhole setup from (of_kind.BiosAttribute op) before answered after
+AnswersLastPart setup from (Err code) before answered after = IsAnswerGiven answered after (refused code, before)
 
 -- a Set is served as its kind's relation says, and so is the last part of one, anything else by its function
-abbrev pub Serves : BoardFile → State → Request → Answered → State → Type 0
-Serves setup before (Set op) answered after = SetsAt setup op before answered after
-Serves setup before (PartOfSet from (End handle bytes)) answered after = Ends setup from (end_outcome before.activity.stagings from handle bytes) before answered after
-Serves setup before request answered after = Is answered after (serve setup before request)
+abbrev pub AnswersRequest : BoardFile → State → Request → Answered → State → Type 0
+AnswersRequest setup before (Set op) answered after = SetsAt setup op before answered after
+AnswersRequest setup before (PartOfSet from (End handle bytes)) answered after = AnswersLastPart setup from (end_outcome before.activity.stagings from handle bytes) before answered after
+AnswersRequest setup before request answered after = IsAnswerGiven answered after (serve setup before request)
 
 -- a request that asks for something is served, and any other refused
-abbrev pub Replies : BoardFile → State → Result Request ℕ → Answered → State → Type 0
-Replies setup before (Ok request) answered after = Serves setup before request answered after
-Replies setup before (Err fault) answered after = Is answered after (refused fault, before)
+abbrev pub AnswersResult : BoardFile → State → Result Request ℕ → Answered → State → Type 0
+AnswersResult setup before (Ok request) answered after = AnswersRequest setup before request answered after
+AnswersResult setup before (Err fault) answered after = IsAnswerGiven answered after (refused fault, before)
 
 -- a board of this setup answers the request so, and goes from one state to the other
 abbrev pub Row : BoardFile → State → Asked → Answered → State → Type 0
-Row setup before asked answered after = Replies setup before (asked_by asked) answered after
+Row setup before asked answered after = AnswersResult setup before (asked_by asked) answered after

@@ -10,9 +10,9 @@ use Rattle.record_base.specs.declared.message.Answered.{Answered}
 use Rattle.cfg_records.specs.declared.board_file.BoardFile.{BoardFile}
 use Rattle.sel_log.specs.Clock.{ticked}
 use Rattle.sel_log.specs.Log.{Log, after_add}
-use Rattle.sensor_recs.specs.declared.compared.Compared.{Compared}
-use Rattle.sensor_recs.specs.declared.compared.Taken.{Taken}
-use Rattle.sensor_recs.specs.declared.compared.Event.{Event}
+use Rattle.sensor_recs.specs.declared.comparator.Comparator.{Comparator}
+use Rattle.sensor_recs.specs.declared.comparator.LastReading.{LastReading}
+use Rattle.sensor_recs.specs.declared.comparator.Event.{Event}
 use Rattle.sensor_recs.specs.Readings.{events_of}
 use Rattle.sensor_recs.specs.Taken.{last_of, with_reading, last_beyond, taken_after, compared_of, reading_data, log_record}
 use Rattle.watch_boot.specs.Watchdog.{live_after_tick}
@@ -27,7 +27,7 @@ use Rattle.bmc_board.specs.State.{State, state}
 
 -- ---- Get Sensor Reading
 
-abbrev pub reading_of : Option Sensor → ℕ → List ℕ → Option Taken → Answered
+abbrev pub reading_of : Option Sensor → ℕ → List ℕ → Option LastReading → Answered
 reading_of (Some sensor) unknown events last = done (reading_data events last)
 reading_of None unknown events last = refused unknown
 
@@ -39,7 +39,7 @@ reading_answer setup records before number =
 -- ---- a reading
 
 -- what the sensor's readings are compared with
-abbrev pub compared_at : Records → Sensor → Compared
+abbrev pub compared_at : Records → Sensor → Comparator
 compared_at records sensor =
     compared_of sensor.thresholds.masks (value_at records (key.Thresholds sensor.number)) (value_at records (key.Hysteresis sensor.number)) (value_at records (key.EventEnable sensor.number))
 
@@ -52,16 +52,16 @@ abbrev pub after_all : Log → List (List ℕ) → Log
 after_all log records = fold after_add log records
 
 -- the log, once each of these events that a reading of the sensor makes was added to it
-abbrev pub after_events : Sensor → Compared → ℕ → List Event → Log → Log
+abbrev pub after_events : Sensor → Comparator → ℕ → List Event → Log → Log
 after_events sensor s reading events log = after_all log (map (log_record sensor.sensor_type sensor.number s reading) events)
 
 -- the log after a reading of the sensor: each event that the reading makes is added in order, where events go into the log
-abbrev pub log_after : Records → Sensor → Compared → Option Taken → ℕ → Log → Log
+abbrev pub log_after : Records → Sensor → Comparator → Option LastReading → ℕ → Log → Log
 log_after records sensor s last reading log =
     if logs records then after_events sensor s reading (events_of s (last_beyond last) reading) log else log
 
 -- what a reading that is taken leaves
-abbrev pub after_taking : Records → Sensor → Compared → ℕ → Activity → Activity
+abbrev pub after_taking : Records → Sensor → Comparator → ℕ → Activity → Activity
 after_taking records sensor s reading before = record before {
   readings = with_reading before.readings sensor.number (taken_after s (last_of before.readings sensor.number) reading);
   log = log_after records sensor s (last_of before.readings sensor.number) reading before.log;
@@ -84,14 +84,14 @@ after_tick records before = record before {
 -- ---- what happens
 
 -- an answer to the bench, with the activity after it
-abbrev pub Happened : Type 0
-Happened = Result (Unit {0}) NoSensor × Activity
+abbrev pub BenchResult : Type 0
+BenchResult = Result (Unit {0}) NoSensor × Activity
 
-abbrev pub reads : BoardFile → Records → Option Sensor → ℕ → Activity → Happened
+abbrev pub reads : BoardFile → Records → Option Sensor → ℕ → Activity → BenchResult
 reads setup records (Some sensor) reading before = (Ok tt, after_reading records sensor reading before)
 reads setup records None reading before = (Err (record {}), before)
 
-abbrev pub happens : BoardFile → Records → Activity → Bench → Happened
+abbrev pub happens : BoardFile → Records → Activity → Bench → BenchResult
 happens setup records before (Reading number reading) = reads setup records (sensor_at setup.sensors.items number) reading before
 happens setup records before Tick = (Ok tt, after_tick records before)
 happens setup records before (Chassis bits) = (Ok tt, record before { live = record before.live { chassis = bits } })

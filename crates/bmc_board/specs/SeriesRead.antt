@@ -9,7 +9,7 @@ use Rattle.bios_attr.specs.EntryParts.{is_in_parts, entry_of, first_request, req
 use Rattle.attribute_parts.specs.declared.set_part.SetPart.{SetPart}
 use Rattle.attribute_parts.specs.declared.set_part.SetPart.TheVariants.{Start, Middle, End}
 use Rattle.bmc_board.specs.Request.{PartOfSet, LaterPart, asked_by}
-use Rattle.bmc_board.specs.Decode.{sent_by, IsFromNobody, Asks}
+use Rattle.bmc_board.specs.Decode.{sent_by, IsFromNobody, AsksRequest}
 
 -- ---- a Set in parts
 
@@ -40,7 +40,7 @@ SetsBegin = (op : Op) → IsFirst op
 
 -- the request for a later part of an attribute's entry is read as that
 abbrev pub LaterPartsAreRead : Type 0
-LaterPartsAreRead = (handle transfer : ℕ) → transfer < 2 ^ 32 → Asks (get_part handle transfer) (LaterPart handle transfer)
+LaterPartsAreRead = (handle transfer : ℕ) → transfer < 2 ^ 32 → AsksRequest (get_part handle transfer) (LaterPart handle transfer)
 
 -- ---- who asks
 

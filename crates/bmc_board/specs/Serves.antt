@@ -11,23 +11,23 @@ use Rattle.bmc_board.specs.declared.live.LiveCommand.{LiveCommand}
 use Rattle.bmc_board.specs.Request.{Request, asked_by}
 use Rattle.bmc_board.specs.State.{records_in, state_of}
 use Rattle.bmc_board.specs.Room.{longest_reply}
-pub use Rattle.bmc_board.specs.Gives.{Says}
-use Rattle.bmc_board.specs.Gives.{Appends}
+pub use Rattle.bmc_board.specs.Gives.{AnswersCode}
+use Rattle.bmc_board.specs.Gives.{AppendsReply}
 use Rattle.bmc_board.specs.Live.{live_answer}
-use Rattle.bmc_board.specs.Answer.{Given, serve, reply, answer_of}
+use Rattle.bmc_board.specs.Answer.{AnswerAndState, serve, reply, answer_of}
 use Rattle.bmc_board.specs.BiosTables.{values_in, table_bytes, asked_part, table_answer}
-use Rattle.bmc_board.specs.Leaves.{Leaves}
+use Rattle.bmc_board.specs.Leaves.{RefusalLeaves}
 use Rattle.bmc_board.specs.Sensing.{reading_answer, after_reading}
 
 -- what a board gives to a request: the answer, and the state after it
-abbrev pub given_by : {S : Type 0} {g h : _} → Board S g h → Asked → Given
+abbrev pub given_by : {S : Type 0} {g h : _} → Board S g h → Asked → AnswerAndState
 given_by board asked = answer_of board.setup (state_of board) asked
 
 -- and to what was read in one, or to the code that refused it
-abbrev pub reply_by : {S : Type 0} {g h : _} → Board S g h → Result Request ℕ → Given
+abbrev pub reply_by : {S : Type 0} {g h : _} → Board S g h → Result Request ℕ → AnswerAndState
 reply_by board asked = reply board.setup (state_of board) asked
 
-abbrev pub serve_by : {S : Type 0} {g h : _} → Board S g h → Request → Given
+abbrev pub serve_by : {S : Type 0} {g h : _} → Board S g h → Request → AnswerAndState
 serve_by board asked = serve board.setup (state_of board) asked
 
 -- what it gives to a live command with this data, and what it leaves of what isn't configuration
@@ -35,23 +35,23 @@ abbrev pub live_by : {S : Type 0} {g h : _} → Board S g h → LiveCommand → 
 live_by board command body = live_answer board.setup (records_in board) board.activity command body
 
 -- the data of the reply to what is asked fit behind these bytes
-abbrev pub Fits : Result Request ℕ → List ℕ → ℕ → Type 0
-Fits asked before capacity = IfOk asked (λ request. length before + longest_reply request ≤ capacity)
+abbrev pub ReplyFits : Result Request ℕ → List ℕ → ℕ → Type 0
+ReplyFits asked before capacity = IfOk asked (λ request. length before + longest_reply request ≤ capacity)
 
 -- The board served what was asked: its answer is given behind the bytes of this buffer, and the board has the state after it. Its setup
 -- stays.
-pub record Serves {S A B : Type 0} {g h : _} (bytes : B → List ℕ) (old new : Board S g h) (asked : Result Request ℕ) (result : Result A ℕ) (before after : B) : Type 0 where
-  pub answer : Appends bytes result before after (reply_by old asked).0
+pub record ServesRequest {S A B : Type 0} {g h : _} (bytes : B → List ℕ) (old new : Board S g h) (asked : Result Request ℕ) (result : Result A ℕ) (before after : B) : Type 0 where
+  pub answer : AppendsReply bytes result before after (reply_by old asked).0
   pub left : state_of new ≡ (reply_by old asked).1
   pub setup : new.setup ≡ old.setup
 
 -- the same of what appends nothing, whatever bytes were there
 abbrev pub ServesSilently : {S A : Type 0} {g h : _} → Board S g h → Board S g h → Result Request ℕ → Result A ℕ → Type 0
-ServesSilently old new asked result = (bytes : List ℕ) → Serves (λ (same : List ℕ). same) old new asked result bytes bytes
+ServesSilently old new asked result = (bytes : List ℕ) → ServesRequest (λ (same : List ℕ). same) old new asked result bytes bytes
 
--- a refusal leaves the board as `Leaves` says
-abbrev pub Refuses : {S : Type 0} {g h : _} → Board S g h → Asked → Answered → Board S g h → Type 0
-Refuses old asked answer new = answer.code ≢ success → Leaves (asked_by asked) answer.code (state_of old) (state_of new)
+-- a refusal leaves the board as `RefusalLeaves` says
+abbrev pub IsRefusal : {S : Type 0} {g h : _} → Board S g h → Asked → Answered → Board S g h → Type 0
+IsRefusal old asked answer new = answer.code ≢ success → RefusalLeaves (asked_by asked) answer.code (state_of old) (state_of new)
 
 -- ---- parts of what a board gives
 

@@ -10,10 +10,10 @@ use Rattle.record_kinds.specs.Limits.{key_of}
 use Rattle.bmc_board.specs.Request.{SetStores}
 use Rattle.bmc_board.specs.State.{State, state, IsUnchanged}
 use Rattle.bmc_board.specs.Replies.{done}
-use Rattle.bmc_board.specs.Answer.{Given, outcome_at, serve}
+use Rattle.bmc_board.specs.Answer.{AnswerAndState, outcome_at, serve}
 
 -- both operations are accepted on the board as it was, and both new values are written
-pub record ChangesBoth (setup : BoardFile) (before : State) (first second : Op) (given : Given) : Type 0 where
+pub record ChangesBoth (setup : BoardFile) (before : State) (first second : Op) (given : AnswerAndState) : Type 0 where
   pub new : List ℕ
   pub other : List ℕ
   pub first_made : outcome_at setup before first ≡ Ok new
@@ -22,7 +22,7 @@ pub record ChangesBoth (setup : BoardFile) (before : State) (first second : Op) 
   pub left : given.1 ≡ state (with_record (with_record before.records (key_of first) new) (key_of second) other) before.activity
 
 -- the request is refused, and nothing changes
-pub record ChangesNeither (before : State) (given : Given) : Type 0 where
+pub record ChangesNeither (before : State) (given : AnswerAndState) : Type 0 where
   pub is_fault : given.0.code ≢ success
   pub left : IsUnchanged before given.1
 

@@ -14,23 +14,23 @@ use Rattle.bmc_board.specs.declared.command.Line.{Line}
 use Rattle.bmc_board.specs.declared.live.LiveCommand.TheVariants as live
 
 -- a line stands under a group, which is a network function or a PLDM type, and a command number
-pub record Listed : Type 0 where
+pub record TableLine : Type 0 where
   pub group : ℕ
   pub number : ℕ
   pub line : Line
 
-abbrev pub listed : ℕ → ℕ → Lengths → Bool → Command → Listed
+abbrev pub listed : ℕ → ℕ → Lengths → Bool → Command → TableLine
 listed group number lengths changing command = record { group = group; number = number; line = record { command = command; lengths = lengths; changing = changing } }
 
 -- the commands that set and get the records of a plain kind: each by its number, with its lengths
-abbrev pub set_and_get : ℕ → PlainKind → ℕ → Lengths → ℕ → Lengths → List Listed
+abbrev pub set_and_get : ℕ → PlainKind → ℕ → Lengths → ℕ → Lengths → List TableLine
 set_and_get group kind set set_lengths get get_lengths = listed group set set_lengths true (command.Set kind) ∷ listed group get get_lengths false (command.Get kind) ∷ []
 
 -- The commands on the power policy are Set Power Restore Policy and Get Chassis Status. Each other kind's have the kind's name in their own.
 
 -- IPMI. Of a plain kind: network function, kind, number and lengths of its Set, number and lengths of its Get. Of another command: network function, number,
 -- lengths, whether it sets the configuration, command.
-abbrev pub table : List Listed
+abbrev pub table : List TableLine
 table =
     set_and_get 0x00 kind.PowerPolicy 0x06 (Exactly 1) 0x01 (Exactly 0) ++
     set_and_get 0x04 kind.Hysteresis 0x24 (Exactly 4) 0x25 (Exactly 2) ++
@@ -64,7 +64,7 @@ table =
     []
 
 -- PLDM: the same, with the type in place of the network function
-abbrev pub pldm_table : List Listed
+abbrev pub pldm_table : List TableLine
 pldm_table =
     set_and_get 0x02 kind.NumericEffecter 0x31 (AtLeast 4) 0x32 (Exactly 2) ++
     set_and_get 0x02 kind.StateEffecter 0x39 (PairsCountedAt 2) 0x3A (Exactly 2) ++
@@ -75,12 +75,12 @@ pldm_table =
     listed 0x03 0x08 (Exactly 7) false command.GetBiosAttribute ∷
     []
 
-abbrev pub line_in : Option Listed → Option Line
+abbrev pub line_in : Option TableLine → Option Line
 line_in (Some l) = Some l.line
 line_in None = None
 
 -- the line of these numbers
-abbrev pub line_under : ℕ → ℕ → List Listed → Option Line
+abbrev pub line_under : ℕ → ℕ → List TableLine → Option Line
 line_under group number lines = line_in (find (λ l. (l.group == group) && (l.number == number)) lines)
 
 abbrev pub line_of : ℕ → ℕ → Option Line

@@ -10,7 +10,7 @@ use Rattle.cfg_records.specs.declared.board_file.BoardFile.{BoardFile}
 use Rattle.record_kinds.specs.declared.limits.Limits.{Limits}
 use Rattle.record_kinds.specs.Limits.{conf, get_asked, is_reply, inverse}
 use Rattle.record_kinds.specs.Series.{set_whole, first_shown}
-use Rattle.record_kinds.specs.Sound.{IsSound}
+use Rattle.record_kinds.specs.Sound.{AreSoundRecords}
 use Rattle.bmc_board.specs.State.{State}
 use Rattle.bmc_board.specs.Row.{Row}
 use Rattle.bmc_board.specs.Decode.{sent_by}
@@ -21,7 +21,7 @@ pub record ChangesAndBack (setup : BoardFile) (op made : Op) (before got until a
   pub reader : ℕ
   pub changer : ℕ
   pub undoer : ℕ
-  pub sound : IsSound setup before.records
+  pub sound : AreSoundRecords setup before.records
   pub read : Row setup before (sent_by reader (get_asked (key_of op))) shown got
   pub was_read : shown.code ≡ success
   pub undoes : inverse op shown.body ≡ Some made
@@ -32,9 +32,9 @@ pub record ChangesAndBack (setup : BoardFile) (op made : Op) (before got until a
   pub way_back : Row setup from (sent_by undoer (set_whole made)) undone back
 
 -- a record of the operation is read by any requester, where each record is valid
-pub record Reads (setup : BoardFile) (op : Op) (before got : State) (shown : Answered) : Type 0 where
+pub record ReadsRecord (setup : BoardFile) (op : Op) (before got : State) (shown : Answered) : Type 0 where
   pub reader : ℕ
-  pub sound : IsSound setup before.records
+  pub sound : AreSoundRecords setup before.records
   pub read : Row setup before (sent_by reader (get_asked (key_of op))) shown got
   pub was_read : shown.code ≡ success
 
@@ -48,7 +48,7 @@ pub record ShowsReply (setup : BoardFile) (op : Op) (body : List ℕ) : Type 0 w
 
 -- So are the data of its reply. From a Get reply of the kind `inverse` has an operation exactly where the operation can be undone.
 abbrev pub IsAReply : Type 0
-IsAReply = (setup : BoardFile) (op : Op) (before got : State) (shown : Answered) → Reads setup op before got shown → ShowsReply setup op shown.body
+IsAReply = (setup : BoardFile) (op : Op) (before got : State) (shown : Answered) → ReadsRecord setup op before got shown → ShowsReply setup op shown.body
 
 -- then the undo is carried out, and all records are as before
 abbrev pub IsUndone : Type 0

@@ -1,9 +1,9 @@
 //! A board.
-ghost use Rattle.record_kinds.specs.Sound.{IsSound};
-ghost use Rattle.record_kinds.specs.SoundLaws.{IsSound-prop};
+ghost use Rattle.record_kinds.specs.Sound.{AreSoundRecords};
+ghost use Rattle.record_kinds.specs.SoundLaws.{AreSoundRecords-prop};
 ghost use Rattle.bmc_board.specs.RecordBytes.{values_in};
-ghost use Rattle.bmc_board.specs.ToldTables.{Tells, IsKept};
-ghost use Rattle.bmc_board.specs.BiosTableLaws.{Tells-prop, IsKept-prop};
+ghost use Rattle.bmc_board.specs.ToldTables.{TellsAttributes, KeepsValueTable};
+ghost use Rattle.bmc_board.specs.BiosTableLaws.{TellsAttributes-prop, KeepsValueTable-prop};
 
 mod bios;
 mod happen;
@@ -36,9 +36,9 @@ pub struct Board<S: Store> {
     tables: Tables,
     /// Of the table of values among the tables.
     kept: Kept,
-    ghost sound: { IsSound setup (S.records records.store) } by { IsSound-prop setup (S.records records.store) },
-    ghost tell: { Tells setup.attributes.items tables } by { Tells-prop setup.attributes.items tables },
-    ghost is_kept: { IsKept kept setup.attributes.items (values_in (S.records records.store)) tables } by { IsKept-prop kept setup.attributes.items (values_in (S.records records.store)) tables },
+    ghost sound: { AreSoundRecords setup (S.records records.store) } by { AreSoundRecords-prop setup (S.records records.store) },
+    ghost tell: { TellsAttributes setup.attributes.items tables } by { TellsAttributes-prop setup.attributes.items tables },
+    ghost is_kept: { KeepsValueTable kept setup.attributes.items (values_in (S.records records.store)) tables } by { KeepsValueTable-prop kept setup.attributes.items (values_in (S.records records.store)) tables },
 }
 
 /// A derived `drop` would be proved anew in each crate above that lets a board go, and so would those of its parts. This one is proved here.

@@ -3,12 +3,12 @@
 #![tactic(auto)]
 
 pub mod activity;
-pub mod alone;
-pub mod asked;
+pub mod asked_ref;
 pub mod bench;
 pub mod board;
 pub mod carrier;
 pub mod command;
+pub mod direct_carrier;
 pub mod laws;
 pub mod live;
 pub mod reply;
@@ -16,12 +16,12 @@ pub mod request;
 pub mod storage;
 
 pub use activity::Activity;
-pub use alone::{Alone, answer_here};
-pub use asked::AskedHere;
+pub use asked_ref::AskedRef;
 pub use bench::{Bench, NoSensor};
 pub use board::{Board, Records};
 pub use carrier::Carrier;
 pub use command::{Command, Lengths, Line, is_changing};
+pub use direct_carrier::{DirectCarrier, answer_into};
 pub use live::LiveCommand;
 pub use reply::{Reply, answered, code_of};
 pub use request::read_request;

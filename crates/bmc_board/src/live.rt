@@ -68,7 +68,7 @@ pub(crate) fn device_data(device: &Device) -> [u8; 11]
 /// The code of a set of boot options that is in progress already (IPMI 2.0, Set System Boot Options).
 const ALREADY_IN_PROGRESS: u8 = 0x81;
 
-/// That code.
+/// The code of a command that is in progress already.
 pub(crate) fn already_in_progress() -> Code
     ensures { result ≡ already_in_progress }
 {

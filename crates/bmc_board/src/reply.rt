@@ -1,7 +1,7 @@
 //! Where a reply is made.
 ghost use Rattle.std.specs.Prelude.{◌≡◌, []};
 ghost use Rattle.record_base.specs.declared.message.Answered.{Answered as AnyAnswer};
-ghost use Rattle.bmc_board.specs.Gives.{Gives};
+ghost use Rattle.bmc_board.specs.Gives.{GivesReply};
 ghost use Rattle.bmc_board.specs.Carrying.{code_given};
 
 use record_base::Answered;
@@ -37,7 +37,7 @@ pub fn code_of(given: &Result<(), Code>) -> u8
 
 /// The answer whose data were appended to nothing.
 pub fn answered(given: Result<(), Code>, body: Bytes<{ MOST_PLDM_REPLY_DATA }>) -> Answered
-    ensures { (answer : AnyAnswer) → Gives given [] body answer → result ≡ answer }
+    ensures { (answer : AnyAnswer) → GivesReply given [] body answer → result ≡ answer }
 {
     match given {
         Ok(()) => Answered { code: 0, body },

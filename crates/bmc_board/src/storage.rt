@@ -1,7 +1,7 @@
 //! What the commands of the repository of sensor data records and of the System Event Log do.
 ghost use Rattle.std.specs.Prelude.{◌≡◌, ◌+◌, ◌≤◌, length};
 ghost use Rattle.two_wire.specs.Sizes.{most_ipmi_reply_data};
-ghost use Rattle.bmc_board.specs.Gives.{Appends};
+ghost use Rattle.bmc_board.specs.Gives.{AppendsReply};
 ghost use Rattle.bmc_board.specs.Storage.{word_at, sdr_info, sel_info, part_in, part_length, part_of, sdr_part, sel_part, record_in, added, says_clear, cleared, time_in};
 
 use record_base::{byte_at, bytes_at};
@@ -86,7 +86,7 @@ impl PartAsked {
         to: &mut B,
     ) -> Result<(), Code>
         requires { length (B.bytes to.old) + most_ipmi_reply_data ≤ B.capacity }
-        ensures { Appends B.bytes result to.old to.new
+        ensures { AppendsReply B.bytes result to.old to.new
             (part_of self.now reserved bytes.now next) }
     {
         let offset = self.offset as usize;
@@ -162,7 +162,7 @@ pub fn sel_info(info: &Info) -> [u8; 14]
 /// Get SDR.
 pub fn show_sdr<B: Buffer>(sdr: &Sdr, asked: &PartAsked, to: &mut B) -> Result<(), Code>
     requires { length (B.bytes to.old) + most_ipmi_reply_data ≤ B.capacity }
-    ensures { Appends B.bytes result to.old to.new (sdr_part sdr.now asked.now) }
+    ensures { AppendsReply B.bytes result to.old to.new (sdr_part sdr.now asked.now) }
 {
     let reserved = sdr.is_reserved(asked.reservation);
     match sdr.entry(asked.id) {
@@ -174,7 +174,7 @@ pub fn show_sdr<B: Buffer>(sdr: &Sdr, asked: &PartAsked, to: &mut B) -> Result<(
 /// Get SEL Entry.
 pub fn show_entry<B: Buffer>(log: &Sel, asked: &PartAsked, to: &mut B) -> Result<(), Code>
     requires { length (B.bytes to.old) + most_ipmi_reply_data ≤ B.capacity }
-    ensures { Appends B.bytes result to.old to.new (sel_part log.now asked.now) }
+    ensures { AppendsReply B.bytes result to.old to.new (sel_part log.now asked.now) }
 {
     let reserved = log.is_reserved(asked.reservation);
     match log.entry(asked.id) {
@@ -193,7 +193,7 @@ fn record_in(body: &[u8]) -> LogRecord
 /// Add SEL Entry.
 pub fn add_entry<B: Buffer>(log: &mut Sel, body: &[u8], to: &mut B) -> Result<(), Code>
     requires { length (B.bytes to.old) + most_ipmi_reply_data ≤ B.capacity }
-    ensures answer { Appends B.bytes result to.old to.new (added log.old body.now).0 }
+    ensures answer { AppendsReply B.bytes result to.old to.new (added log.old body.now).0 }
     ensures left { log.new ≡ (added log.old body.now).1 }
 {
     match log.add(&record_in(body)) {
@@ -215,7 +215,7 @@ fn says_clear(body: &[u8]) -> bool
 /// Clear SEL.
 pub fn clear<B: Buffer>(log: &mut Sel, body: &[u8], to: &mut B) -> Result<(), Code>
     requires { length (B.bytes to.old) + most_ipmi_reply_data ≤ B.capacity }
-    ensures answer { Appends B.bytes result to.old to.new (cleared log.old body.now).0 }
+    ensures answer { AppendsReply B.bytes result to.old to.new (cleared log.old body.now).0 }
     ensures left { log.new ≡ (cleared log.old body.now).1 }
 {
     let reservation = word_at(body, 0);

@@ -9,19 +9,19 @@ use Rattle.model_bus.specs.Numbering.{is_above}
 use Rattle.model_bus.specs.Carried.{Outcome, Repeats, IsBusy, IsNew, log_after, reply_after}
 use Rattle.bmc_board.specs.State.{State}
 use Rattle.model_ports.specs.Bytes.{heard_in}
-use Rattle.model_ports.specs.PortSteps.{PortState, Deed, Turn, spelled, asked_in, response_after, hears_request}
+use Rattle.model_ports.specs.PortSteps.{PortState, StepResult, Turn, spelled, asked_in, response_after, hears_request}
 use Rattle.model_ports.specs.Values.{Value, written}
 use Rattle.model_ports.proofs.Turning.{turns_by}
 use Rattle.bmc_core.specs.declared.out.Out.{Out}
 use Rattle.bmc_core.specs.declared.out.Reason.{Reason}
 use Rattle.bmc_core.specs.declared.step.Step.TheVariants as step
 use Rattle.bmc_core.specs.declared.ipmb_port.IpmbPort.{IpmbPort}
-use Rattle.bmc_core.specs.Outs.{sends, done_by, AreRead}
+use Rattle.bmc_core.specs.Outs.{sends, done_by, ReadBack}
 use Rattle.bmc_core.proofs.OwnBytes.{none_read}
-use Rattle.bmc_core.specs.IpmbShown.{Shows, Does, IsSettled, next_of, Steps, deed_of, done_of, outcome_at, after, out_after, response_at, carries, kept_of, first_answer, first_response}
+use Rattle.bmc_core.specs.IpmbShown.{Represents, IsStepResult, IsSettled, next_of, AskingStep, step_result_of, done_of, outcome_at, after, out_after, response_at, carries, kept_of, first_answer, first_response}
 
 -- what comes of a request after this turn
-abbrev deed_by : PortState → Request → Turn → Deed
+abbrev deed_by : PortState → Request → Turn → StepResult
 deed_by p r t = record { port = record p { log = t.log }; board = t.left; sent = response_after r t.replied ∷ [] }
 
 module _ (setup : BoardFile) (p : PortState) (before : State) (r : Request) where
@@ -33,15 +33,15 @@ module _ (setup : BoardFile) (p : PortState) (before : State) (r : Request) wher
   unfolding hears_request
   busy_deed is = ap (deed_by p r) ((turns_by (is_above 64) (heard_in r) (spelled Ipmb (heard_in r)) setup (asked_in r) p.log before).busy is)
 
-  settled : (port : IpmbPort) (out : Out) (o : Outcome) → outcome_at p r ≡ o → IsSettled r o out true → Shows port p → Does (hears_request setup p before r) (done_by o) port before out
+  settled : (port : IpmbPort) (out : Out) (o : Outcome) → outcome_at p r ≡ o → IsSettled r o out true → Represents port p → IsStepResult (hears_request setup p before r) (done_by o) port before out
   settled port out (Repeats reply) is settles shows =
-      subst (λ (d : Deed). Does d (done_by (Repeats reply)) port before out) (sym (repeat_deed reply is)) (record { shows = shows; left = refl; sent = settles.1.0; read = settles.1.1 })
+      subst (λ (d : StepResult). IsStepResult d (done_by (Repeats reply)) port before out) (sym (repeat_deed reply is)) (record { shows = shows; left = refl; sent = settles.1.0; read = settles.1.1 })
   settled port out IsBusy is settles shows =
-      subst (λ (d : Deed). Does d (done_by IsBusy) port before out) (sym (busy_deed is)) (record { shows = shows; left = refl; sent = settles.1.0; read = settles.1.1 })
+      subst (λ (d : StepResult). IsStepResult d (done_by IsBusy) port before out) (sym (busy_deed is)) (record { shows = shows; left = refl; sent = settles.1.0; read = settles.1.1 })
   settled port out IsNew is settles shows = absurd (true≢false settles)
 
   -- a request that isn't new
-  pub settled_does : (port : IpmbPort) (out : Out) → IsSettled r (outcome_at p r) out true → Shows port p → Does (hears_request setup p before r) (done_by (outcome_at p r)) port before out
+  pub settled_does : (port : IpmbPort) (out : Out) → IsSettled r (outcome_at p r) out true → Represents port p → IsStepResult (hears_request setup p before r) (done_by (outcome_at p r)) port before out
   settled_does port out settles shows = settled port out (outcome_at p r) refl settles shows
 
 -- what is new is new by the rule
@@ -59,7 +59,7 @@ new_by p r q out false settles given =
     let same : r ≡ q = cc in
     (ap Ok same, subst (λ (x : Request). outcome_at p x ≡ IsNew) same (is_new r (outcome_at p r) out settles))
 
-pub step_new : (p : PortState) (heard : Result Request Reason) (q : Request) (out : Out) → Steps p heard (step.Ask q) out → (heard ≡ Ok q) × (outcome_at p q ≡ IsNew)
+pub step_new : (p : PortState) (heard : Result Request Reason) (q : Request) (out : Out) → AskingStep p heard (step.Ask q) out → (heard ≡ Ok q) × (outcome_at p q ≡ IsNew)
 step_new p (Ok r) q out is = new_by p r q out is.0 is.1 is.2
 step_new p (Err why) q out is = let no : step.Ask q ≡ step.Done = is.0 in absurd cc
 
@@ -67,12 +67,12 @@ step_new p (Err why) q out is = let no : step.Ask q ≡ step.Done = is.0 in absu
 
 module _ (setup : BoardFile) (before : State) where
   settled_request : (p : PortState) (r : Request) (next : IpmbPort) (out : Out) (was : Bool) → IsSettled r (outcome_at p r) out was
-      → step.Done ≡ next_of was r → Shows next p → Does (hears_request setup p before r) (done_by (outcome_at p r)) next before out
+      → step.Done ≡ next_of was r → Represents next p → IsStepResult (hears_request setup p before r) (done_by (outcome_at p r)) next before out
   settled_request p r next out true settles given shows = settled_does setup p before r next out settles shows
   settled_request p r next out false settles given shows = let no : step.Done ≡ step.Ask r = given in absurd cc
 
-  pub settled_heard : (p : PortState) (heard : Result Request Reason) (next : IpmbPort) (out : Out) → Steps p heard step.Done out → Shows next p
-      → Does (deed_of setup p before heard) (done_of p heard) next before out
+  pub settled_heard : (p : PortState) (heard : Result Request Reason) (next : IpmbPort) (out : Out) → AskingStep p heard step.Done out → Represents next p
+      → IsStepResult (step_result_of setup p before heard) (done_of p heard) next before out
   settled_heard p (Ok r) next out is shows = settled_request p r next out is.0 is.1 is.2 shows
   settled_heard p (Err why) next out is shows = record { shows = shows; left = refl; sent = is.1; read = none_read Ipmb }
 
@@ -91,19 +91,19 @@ module _ (p : PortState) (r : Request) (a : Answered) where
 
   -- the port goes on by the rule, and sends what that says, which is read as itself
   abbrev IsAnsweredSo : IpmbPort → Out → Outcome → Type 0
-  IsAnsweredSo port out o = Shows port (after_by o) × (out ≡ answers_by o) × AreRead Ipmb (response_by o ∷ [])
+  IsAnsweredSo port out o = Represents port (after_by o) × (out ≡ answers_by o) × ReadBack Ipmb (response_by o ∷ [])
 
-  settled_answered : (port : IpmbPort) (out : Out) (o : Outcome) → IsSettled r o out true → Shows port p → IsAnsweredSo port out o
+  settled_answered : (port : IpmbPort) (out : Out) (o : Outcome) → IsSettled r o out true → Represents port p → IsAnsweredSo port out o
   settled_answered port out (Repeats reply) settles shows = (shows, settles.1.0, settles.1.1)
   settled_answered port out IsBusy settles shows = (shows, settles.1.0, settles.1.1)
   settled_answered port out IsNew settles shows = absurd (true≢false settles)
 
   -- to a request that isn't new any more
-  pub answered_settled : (port : IpmbPort) (out : Out) → IsSettled r (outcome_at p r) out true → Shows port p
-      → Shows port (after p r a) × (out ≡ out_after p r a) × AreRead Ipmb (response_at p r a ∷ [])
+  pub answered_settled : (port : IpmbPort) (out : Out) → IsSettled r (outcome_at p r) out true → Represents port p
+      → Represents port (after p r a) × (out ≡ out_after p r a) × ReadBack Ipmb (response_at p r a ∷ [])
   answered_settled port out settles shows = settled_answered port out (outcome_at p r) settles shows
 
   -- to a new one
-  pub answered_new : (next : IpmbPort) (out : Out) → outcome_at p r ≡ IsNew → Shows next (carries p r a) → out ≡ first_answer r a → AreRead Ipmb (first_response r a ∷ [])
-      → Shows next (after p r a) × (out ≡ out_after p r a) × AreRead Ipmb (response_at p r a ∷ [])
+  pub answered_new : (next : IpmbPort) (out : Out) → outcome_at p r ≡ IsNew → Represents next (carries p r a) → out ≡ first_answer r a → ReadBack Ipmb (first_response r a ∷ [])
+      → Represents next (after p r a) × (out ≡ out_after p r a) × ReadBack Ipmb (response_at p r a ∷ [])
   answered_new next out is shows sent read = subst (IsAnsweredSo next out) (sym is) (shows, sent, read)

@@ -14,9 +14,9 @@ use Rattle.model_bus.specs.Request.{Request as Asking, Kept, Entry, Carried}
 use Rattle.model_bus.specs.Numbering.{is_above}
 use Rattle.model_bus.specs.Carried.{IsNew, outcome}
 use Rattle.bmc_windows.specs.declared.request.Request.{Request as Heard}
-use Rattle.bmc_windows.specs.Keeps.{Reading, Held, Keeps}
+use Rattle.bmc_windows.specs.Keeps.{Reading, HeldWindows, WindowsKeep}
 use Rattle.bmc_windows.specs.Heard.{request_of, kept_of as kept_as}
-use Rattle.bmc_core.specs.IpmbShown.{reading, whole, response, response_giving, kept_of, IsKept}
+use Rattle.bmc_core.specs.IpmbShown.{reading, whole, response, response_giving, kept_of, KeepsAnswer}
 
 -- all but the last byte
 butlast : (xs : List ℕ) (last n : ℕ) → n ≡ length xs → take n (xs ++ last ∷ []) ≡ xs
@@ -69,15 +69,15 @@ kept_reply r a bytes is =
     ∷ packed (high h.sequence h.requester.lun is.header.requester.lun i) (low h.net_fn h.responder.lun is.header.responder.lun i) ∷ h.command ∷ a.code ∷ a.body)
 
 -- so windows that keep the request and this frame have carried the request out
-pub carried_of : (old next : Held) (heard : Heard 64) (r : Request) (a : Answered) (bytes given : List ℕ)
+pub carried_of : (old next : HeldWindows) (heard : Heard 64) (r : Request) (a : Answered) (bytes given : List ℕ)
     → request_of reading heard ≡ heard_in r → IsResponse (response_giving r a) bytes → given ≡ bytes
-    → ((how : Reading) (log : List Entry) → Keeps 64 how old log → outcome (is_above 64) (request_of how heard) log ≡ IsNew
-    → Keeps 64 how next (Carried (kept_as how heard given) ∷ log))
-    → IsKept old r a next
+    → ((how : Reading) (log : List Entry) → WindowsKeep 64 how old log → outcome (is_above 64) (request_of how heard) log ≡ IsNew
+    → WindowsKeep 64 how next (Carried (kept_as how heard given) ∷ log))
+    → KeepsAnswer old r a next
 carried_of old next heard r a bytes given same is written carried p of new fresh =
     let reply : reading.reply given ≡ (kept_of r a).reply = ap (λ (xs : List ℕ). reading.reply xs) written ∙ kept_reply r a bytes is in
     record {
-      keeps = subst (λ (k : Kept). Keeps 64 reading next (Carried k ∷ p.log)) (λ i. record { request = same i; reply = reply i })
+      keeps = subst (λ (k : Kept). WindowsKeep 64 reading next (Carried k ∷ p.log)) (λ i. record { request = same i; reply = reply i })
           (carried reading p.log of.keeps (ap (λ (q : Asking). outcome (is_above 64) q p.log) same ∙ new));
       frames = record {
         log = Carried (kept_as whole heard given) ∷ of.frames.log;

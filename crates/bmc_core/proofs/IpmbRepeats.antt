@@ -13,22 +13,22 @@ use Rattle.two_wire.specs.declared.Bus.TheVariants.{Ipmb}
 use Rattle.model_ports.specs.Bytes.{heard_in}
 use Rattle.model_ports.specs.Values.{written}
 use Rattle.model_ports.specs.PortSteps.{response_after}
-use Rattle.bmc_core.specs.Outs.{AreRead}
+use Rattle.bmc_core.specs.Outs.{ReadBack}
 use Rattle.bmc_core.proofs.OwnBytes.{response_read}
-use Rattle.bmc_core.specs.IpmbShown.{reading, HasUnits, IsAnswered, AllAnswered, response}
+use Rattle.bmc_core.specs.IpmbShown.{reading, HasUnits, IsKeptResponse, AllAnswered, response}
 use Rattle.bmc_core.proofs.IpmbFrames.{reply_bytes, frame_reply}
 
-answered_in : (front : List Entry) (k : Kept) (older : List Entry) → AllAnswered (front ++ Carried k ∷ older) → IsAnswered k
+answered_in : (front : List Entry) (k : Kept) (older : List Entry) → AllAnswered (front ++ Carried k ∷ older) → IsKeptResponse k
 answered_in [] k older all = all.0
 answered_in (Carried j ∷ front) k older all = answered_in front k older all.1
 answered_in (Idled q ∷ front) k older all = answered_in front k older all
 
 -- what is found for a request answers it
 pub found_answers : (r : Asking) (log : List Entry) (reply : List ℕ) → outcome (is_above 64) r log ≡ Repeats reply → AllAnswered log
-    → IsAnswered (record { request = r; reply = reply })
+    → IsKeptResponse (record { request = r; reply = reply })
 found_answers r log reply is all =
     let h = (sentence_64.repeats r log reply).0 is in
-    let a : IsAnswered h.kept = answered_in h.newer h.kept h.older (subst (λ (l : List Entry). AllAnswered l) h.whole all) in
+    let a : IsKeptResponse h.kept = answered_in h.newer h.kept h.older (subst (λ (l : List Entry). AllAnswered l) h.whole all) in
     record {
       request = a.request;
       code = a.code;
@@ -38,7 +38,7 @@ found_answers r log reply is all =
     }
 
 -- from the request's own address, it is the response that repeats it
-pub repeats : (r : Request) (kept : List ℕ) → HasUnits r.header → IsAnswered (record { request = heard_in r; reply = kept })
+pub repeats : (r : Request) (kept : List ℕ) → HasUnits r.header → IsKeptResponse (record { request = heard_in r; reply = kept })
     → slice_index kept 3 ≡ r.header.responder.address
     → IsResponse (response r.header (slice_index (reading.reply kept) 3) (drop 4 (reading.reply kept))) kept
 repeats r kept units a at =
@@ -53,9 +53,9 @@ repeats r kept units a at =
     (λ i. response (same i) (slice_index (sym reply i) 3) (drop 4 (sym reply i))) a.frame
 
 -- so it is sent as that
-pub repeat_is : (r : Request) (kept : List ℕ) → HasUnits r.header → IsAnswered (record { request = heard_in r; reply = kept })
+pub repeat_is : (r : Request) (kept : List ℕ) → HasUnits r.header → IsKeptResponse (record { request = heard_in r; reply = kept })
     → slice_index kept 3 ≡ r.header.responder.address
-    → (kept ≡ written (response_after r (Some (reading.reply kept)))) × AreRead Ipmb (response_after r (Some (reading.reply kept)) ∷ [])
+    → (kept ≡ written (response_after r (Some (reading.reply kept)))) × ReadBack Ipmb (response_after r (Some (reading.reply kept)) ∷ [])
 repeat_is r kept units a at =
     let is = repeats r kept units a at in
     (is.spelled, response_read _ _ kept is refl)

@@ -11,10 +11,10 @@ use Rattle.model_bus.specs.Carried.{Outcome, Repeats, IsBusy, IsNew, Heard as Br
 use Rattle.bmc_board.specs.State.{State}
 use Rattle.bmc_board.specs.Answer.{answer_of}
 use Rattle.model_ports.specs.Values.{written, Part, parts_of}
-use Rattle.model_ports.specs.PortSteps.{PortState, Deed, left_by}
-use Rattle.bmc_core.specs.SmbusHeard.{InMessage, Heard, Ignored, Waiting, Control, Asks, taken, heard_in, asked_of, asks_of, found, asks, kept_with, asks_effect, effect}
+use Rattle.model_ports.specs.PortSteps.{PortState, StepResult, left_by}
+use Rattle.bmc_core.specs.SmbusHeard.{InMessage, HeardMessage, Ignored, Waiting, Control, Asks, taken, heard_in, asked_of, asks_of, found, asks, kept_with, asks_effect, effect}
 use Rattle.bmc_core.specs.Rule.{logs_with}
-use Rattle.bmc_core.specs.SmbusRuns.{with_board, IsHeardThenAnswered, Coming, Comes, Answers, IsIdle, once_heard, port_after, ports_after, brought, done_with_answered, reply_of, reply_saying, all_frames, settled_then, replied_then, replied, sent_once_heard, all_sent, KeepsTheRule, Happening, Hears, Idles, Others, Ends, ends_after, all_after, heard_then, heard_in_all, done_then, done_in_all, answered_then, answered_in_all, sent_in_all, CarriesTheRule}
+use Rattle.bmc_core.specs.SmbusRuns.{with_board, IsHeardThenAnswered, Arrival, Comes, Answers, IsIdle, once_heard, port_after, ports_after, brought, done_with_answered, reply_of, reply_saying, all_frames, settled_then, replied_then, replied, sent_once_heard, all_sent, KeepsTheRule, PortEvent, Hears, Idles, Others, PortAndBoard, ends_after, all_after, heard_then, heard_in_all, done_then, done_in_all, answered_then, answered_in_all, sent_in_all, CarriesTheRule}
 use Rattle.bmc_core.proofs.SmbusPorts.{deed_of, packet_deed}
 
 -- ---- one packet
@@ -25,7 +25,7 @@ new_one n m (Repeats reply) is = absurd cc
 new_one n m IsBusy is = absurd cc
 new_one n m IsNew is = (refl, cc)
 
-asked_deed : (setup : BoardFile) (before : State) (port : PortState) (h : Heard) (m : InMessage) → asks port h ≡ Some m
+asked_deed : (setup : BoardFile) (before : State) (port : PortState) (h : HeardMessage) (m : InMessage) → asks port h ≡ Some m
     → deed_of setup before port h ≡ with_board (answer_of setup before (asked_of m)).1 (effect port (Asks m) (answer_of setup before (asked_of m)).0)
 asked_deed setup before port (Ignored why) m is = absurd cc
 asked_deed setup before port Waiting m is = absurd cc
@@ -43,7 +43,7 @@ none_new before after port m (Repeats reply) j k is = refl
 none_new before after port m IsBusy j k is = refl
 none_new before after port m IsNew j k is = absurd cc
 
-settled_deed : (setup : BoardFile) (before : State) (port : PortState) (h : Heard) (a : Answered) → asks port h ≡ None
+settled_deed : (setup : BoardFile) (before : State) (port : PortState) (h : HeardMessage) (a : Answered) → asks port h ≡ None
     → deed_of setup before port h ≡ with_board before (effect port h a)
 settled_deed setup before port (Ignored why) a is = refl
 settled_deed setup before port Waiting a is = refl
@@ -65,7 +65,7 @@ log_stays m IsBusy k log is = refl
 log_stays m IsNew k log is = absurd cc
 
 -- a request that is heard and not answered changes no log
-heard_log : (port : PortState) (h : Heard) (o : Option InMessage) → asks port h ≡ o → (once_heard port h o).log ≡ port.log
+heard_log : (port : PortState) (h : HeardMessage) (o : Option InMessage) → asks port h ≡ o → (once_heard port h o).log ≡ port.log
 heard_log port h (Some m) is = refl
 heard_log port (Ignored why) None is = refl
 heard_log port Waiting None is = refl
@@ -75,13 +75,13 @@ heard_log port (Asks m) None is = log_stays m (found port m) (kept_with m (recor
 packet_log : (port : PortState) (p : Packet) → (port_after port (Comes p)).log ≡ port.log
 packet_log port p = heard_log (taken port p) (heard_in port p) (asks (taken port p) (heard_in port p)) refl
 
-answered_log : (port : PortState) (cs : List Coming) → (ports_after port cs).log ≡ logs_with (is_above 32) (brought cs) port.log
+answered_log : (port : PortState) (cs : List Arrival) → (ports_after port cs).log ≡ logs_with (is_above 32) (brought cs) port.log
 answered_log port [] = refl
 answered_log port (Comes p ∷ cs) = answered_log (port_after port (Comes p)) cs ∙ ap (logs_with (is_above 32) (brought cs)) (packet_log port p)
 answered_log port (Answers m a ∷ cs) = answered_log (port_after port (Answers m a)) cs
 answered_log port (IsIdle requester ∷ cs) = answered_log (port_after port (IsIdle requester)) cs
 
-answered_done : (port : PortState) (cs : List Coming) → done_with_answered port cs ≡ outcomes (is_above 32) port.log (brought cs)
+answered_done : (port : PortState) (cs : List Arrival) → done_with_answered port cs ≡ outcomes (is_above 32) port.log (brought cs)
 answered_done port [] = refl
 answered_done port (Comes p ∷ cs) =
     answered_done (port_after port (Comes p)) cs ∙ ap (λ (log : List Entry). outcomes (is_above 32) log (brought cs)) (packet_log port p)
@@ -98,7 +98,7 @@ settled_sent port m (Repeats reply) k frames ms is same = with_frames (reply_say
 settled_sent port m IsBusy k frames ms is same = with_frames (reply_saying port m None) frames ms same
 settled_sent port m IsNew k frames ms is same = absurd cc
 
-heard_sent : (port : PortState) (h : Heard) (o : Option InMessage) (frames : List (List ℕ)) (ms : List Message) → asks port h ≡ o → frames ≡ all_frames ms
+heard_sent : (port : PortState) (h : HeardMessage) (o : Option InMessage) (frames : List (List ℕ)) (ms : List Message) → asks port h ≡ o → frames ≡ all_frames ms
     → sent_once_heard port h o ++ frames ≡ all_frames (replied_then port h ms)
 heard_sent port (Ignored why) (Some m) frames ms is same = absurd cc
 heard_sent port Waiting (Some m) frames ms is same = absurd cc
@@ -110,7 +110,7 @@ heard_sent port (Control e r) None frames ms is same =
     with_frames (reply_of (record port { eid = eid_after port.eid r.command r.content }) e (control_reply_to port.eid r)) frames ms same
 heard_sent port (Asks m) None frames ms is same = settled_sent port m (found port m) (kept_with m (record { code = 0; body = [] })) frames ms is same
 
-answered_sent : (port : PortState) (cs : List Coming) → all_sent port cs ≡ all_frames (replied port cs)
+answered_sent : (port : PortState) (cs : List Arrival) → all_sent port cs ≡ all_frames (replied port cs)
 answered_sent port [] = refl
 answered_sent port (Comes p ∷ cs) =
     let next = port_after port (Comes p) in
@@ -120,26 +120,26 @@ answered_sent port (Answers m a ∷ cs) =
     with_frames (reply_saying port m (reply_after (found port m) (kept_with m a))) (all_sent next cs) (replied next cs) (answered_sent next cs)
 answered_sent port (IsIdle requester ∷ cs) = answered_sent (port_after port (IsIdle requester)) cs
 
-pub keeps_the_rule : (port : PortState) (cs : List Coming) → KeepsTheRule port cs
+pub keeps_the_rule : (port : PortState) (cs : List Arrival) → KeepsTheRule port cs
 keeps_the_rule port cs = record { log = answered_log port cs; done = answered_done port cs; sent = answered_sent port cs }
 
 -- ---- lists at a board
 
-one_log : (setup : BoardFile) (before : State) (port : PortState) (h : Heard) (rest : List Brought)
+one_log : (setup : BoardFile) (before : State) (port : PortState) (h : HeardMessage) (rest : List Brought)
     → logs_with (is_above 32) rest (deed_of setup before port h).port.log ≡ logs_with (is_above 32) (heard_then setup before h rest) port.log
 one_log setup before port (Ignored why) rest = refl
 one_log setup before port Waiting rest = refl
 one_log setup before port (Control e r) rest = refl
 one_log setup before port (Asks m) rest = refl
 
-one_done : (setup : BoardFile) (before : State) (port : PortState) (h : Heard) (rest : List Brought)
+one_done : (setup : BoardFile) (before : State) (port : PortState) (h : HeardMessage) (rest : List Brought)
     → done_then port h (outcomes (is_above 32) (deed_of setup before port h).port.log rest) ≡ outcomes (is_above 32) port.log (heard_then setup before h rest)
 one_done setup before port (Ignored why) rest = refl
 one_done setup before port Waiting rest = refl
 one_done setup before port (Control e r) rest = refl
 one_done setup before port (Asks m) rest = refl
 
-one_sent : (setup : BoardFile) (before : State) (port : PortState) (h : Heard) (frames : List (List ℕ)) (ms : List Message) → frames ≡ all_frames ms
+one_sent : (setup : BoardFile) (before : State) (port : PortState) (h : HeardMessage) (frames : List (List ℕ)) (ms : List Message) → frames ≡ all_frames ms
     → map written (deed_of setup before port h).sent ++ frames ≡ all_frames (answered_then setup before port h ms)
 one_sent setup before port (Ignored why) frames ms same = same
 one_sent setup before port Waiting frames ms same = same
@@ -149,34 +149,34 @@ one_sent setup before port (Asks m) frames ms same =
     with_frames (reply_saying port m (reply_after (found port m) (kept_with m (answer_of setup before (asked_of m)).0))) frames ms same
 
 module _ (setup : BoardFile) where
-  all_log : (x : Ends) (es : List Happening) → (all_after setup x es).port.log ≡ logs_with (is_above 32) (heard_in_all setup x es) x.port.log
+  all_log : (x : PortAndBoard) (es : List PortEvent) → (all_after setup x es).port.log ≡ logs_with (is_above 32) (heard_in_all setup x es) x.port.log
   all_log x [] = refl
   all_log x (Hears p ∷ es) =
       let next = ends_after setup x (Hears p) in
       all_log next es
-      ∙ ap (λ (d : Deed). logs_with (is_above 32) (heard_in_all setup next es) d.port.log) (packet_deed setup x.board x.port p)
+      ∙ ap (λ (d : StepResult). logs_with (is_above 32) (heard_in_all setup next es) d.port.log) (packet_deed setup x.board x.port p)
       ∙ one_log setup x.board (taken x.port p) (heard_in x.port p) (heard_in_all setup next es)
   all_log x (Idles requester ∷ es) = all_log (ends_after setup x (Idles requester)) es
   all_log x (Others board ∷ es) = all_log (ends_after setup x (Others board)) es
 
-  all_done : (x : Ends) (es : List Happening) → done_in_all setup x es ≡ outcomes (is_above 32) x.port.log (heard_in_all setup x es)
+  all_done : (x : PortAndBoard) (es : List PortEvent) → done_in_all setup x es ≡ outcomes (is_above 32) x.port.log (heard_in_all setup x es)
   all_done x [] = refl
   all_done x (Hears p ∷ es) =
       let next = ends_after setup x (Hears p) in
       ap (done_then (taken x.port p) (heard_in x.port p))
-      (all_done next es ∙ ap (λ (d : Deed). outcomes (is_above 32) d.port.log (heard_in_all setup next es)) (packet_deed setup x.board x.port p))
+      (all_done next es ∙ ap (λ (d : StepResult). outcomes (is_above 32) d.port.log (heard_in_all setup next es)) (packet_deed setup x.board x.port p))
       ∙ one_done setup x.board (taken x.port p) (heard_in x.port p) (heard_in_all setup next es)
   all_done x (Idles requester ∷ es) = all_done (ends_after setup x (Idles requester)) es
   all_done x (Others board ∷ es) = all_done (ends_after setup x (Others board)) es
 
-  frames_sent : (x : Ends) (es : List Happening) → sent_in_all setup x es ≡ all_frames (answered_in_all setup x es)
+  frames_sent : (x : PortAndBoard) (es : List PortEvent) → sent_in_all setup x es ≡ all_frames (answered_in_all setup x es)
   frames_sent x [] = refl
   frames_sent x (Hears p ∷ es) =
       let next = ends_after setup x (Hears p) in
-      ap (λ (d : Deed). map written d.sent ++ sent_in_all setup next es) (packet_deed setup x.board x.port p)
+      ap (λ (d : StepResult). map written d.sent ++ sent_in_all setup next es) (packet_deed setup x.board x.port p)
       ∙ one_sent setup x.board (taken x.port p) (heard_in x.port p) (sent_in_all setup next es) (answered_in_all setup next es) (frames_sent next es)
   frames_sent x (Idles requester ∷ es) = frames_sent (ends_after setup x (Idles requester)) es
   frames_sent x (Others board ∷ es) = frames_sent (ends_after setup x (Others board)) es
 
-  pub carries_the_rule : (x : Ends) (es : List Happening) → CarriesTheRule setup x es
+  pub carries_the_rule : (x : PortAndBoard) (es : List PortEvent) → CarriesTheRule setup x es
   carries_the_rule x es = record { log = all_log x es; done = all_done x es; sent = frames_sent x es }

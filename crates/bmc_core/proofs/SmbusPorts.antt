@@ -22,23 +22,23 @@ use Rattle.bmc_board.specs.State.{State}
 use Rattle.bmc_board.specs.Answer.{answer_of}
 use Rattle.model_ports.specs.Bytes.{said}
 use Rattle.model_ports.specs.Values.{Value, Part}
-use Rattle.model_ports.specs.PortSteps.{PortState, Deed, stays, left_by, turn, hears_control, hears_pldm, hears_typed, hears_message, hears_part, ends_message, hears}
+use Rattle.model_ports.specs.PortSteps.{PortState, StepResult, stays, left_by, turn, hears_control, hears_pldm, hears_typed, hears_message, hears_part, ends_message, hears}
 use Rattle.bmc_core.specs.declared.out.Out.{Out}
-use Rattle.bmc_core.specs.declared.out.Done.TheVariants as done
+use Rattle.bmc_core.specs.declared.out.Disposition.TheVariants as done
 use Rattle.bmc_core.specs.declared.out.Reason.TheVariants as reason
 use Rattle.bmc_core.specs.declared.smbus_port.SmbusPort.{SmbusPort}
-use Rattle.bmc_core.specs.Outs.{sends, done_by, AreRead}
-use Rattle.bmc_core.specs.SmbusHeard.{InMessage, Heard, Ignored, Waiting, Control, Asks, control_heard, pldm_heard, typed_heard, message_heard, part_heard, with_part, taken, heard_in, asking, asked_of, asks_of, found, asks, done_of, kept_with, asks_effect, effect}
-use Rattle.bmc_core.specs.SmbusShown.{Shows, Hearing, HasEffect, Ends, Does, HearsBytes, parts_from, frames_from, HasHeard, IsSettled}
+use Rattle.bmc_core.specs.Outs.{sends, done_by, ReadBack}
+use Rattle.bmc_core.specs.SmbusHeard.{InMessage, HeardMessage, Ignored, Waiting, Control, Asks, control_heard, pldm_heard, typed_heard, message_heard, part_heard, with_part, taken, heard_in, asking, asked_of, asks_of, found, asks, done_of, kept_with, asks_effect, effect}
+use Rattle.bmc_core.specs.SmbusShown.{Represents, HearingOf, HasEffect, HasMessageEffect, IsStepResult, HearsBytes, parts_from, frames_from, HasHeard, IsSettled}
 use Rattle.bmc_core.proofs.OwnBytes.{none_read}
 
 -- ---- the bytes
 
-pub hearing_fault : (port : PortState) (bytes : List ℕ) (fault : PacketFault) (Holds : PortState → Heard → Type 0)
+pub hearing_fault : (port : PortState) (bytes : List ℕ) (fault : PacketFault) (Holds : PortState → HeardMessage → Type 0)
     → Some fault ≡ find (has_fault bytes) faults
     → ((q : Packet) → IsPacket q bytes → (let r : Result Packet PacketFault = Err fault in r) ≡ Ok q)
     → Holds port (Ignored (reason.Packet fault))
-    → Hearing port bytes Holds
+    → HearingOf port bytes Holds
 hearing_fault port bytes fault Holds first whole heard = record {
   faulty = λ other is.
       let same : fault ≡ other = cc in
@@ -46,11 +46,11 @@ hearing_fault port bytes fault Holds first whole heard = record {
   packet = λ q is. let e : (let r : Result Packet PacketFault = Err fault in r) ≡ Ok q = whole q is in cc;
 }
 
-pub hearing_packet : (port : PortState) (bytes : List ℕ) (p : Packet) (Holds : PortState → Heard → Type 0)
+pub hearing_packet : (port : PortState) (bytes : List ℕ) (p : Packet) (Holds : PortState → HeardMessage → Type 0)
     → (let n : Option PacketFault = None in n) ≡ find (has_fault bytes) faults
     → ((q : Packet) → IsPacket q bytes → (let r : Result Packet PacketFault = Ok p in r) ≡ Ok q)
     → Holds (taken port p) (heard_in port p)
-    → Hearing port bytes Holds
+    → HearingOf port bytes Holds
 hearing_packet port bytes p Holds faultless whole heard = record {
   faulty = λ fault is. cc;
   packet = λ q is.
@@ -60,7 +60,7 @@ hearing_packet port bytes p Holds faultless whole heard = record {
 }
 
 -- of what holds of each, what follows
-pub hearing_map : (port : PortState) (bytes : List ℕ) (P Q : PortState → Heard → Type 0) → ((now : PortState) (h : Heard) → P now h → Q now h) → Hearing port bytes P → Hearing port bytes Q
+pub hearing_map : (port : PortState) (bytes : List ℕ) (P Q : PortState → HeardMessage → Type 0) → ((now : PortState) (h : HeardMessage) → P now h → Q now h) → HearingOf port bytes P → HearingOf port bytes Q
 hearing_map port bytes P Q follows is = record {
   faulty = λ fault first. follows port (Ignored (reason.Packet fault)) (is.faulty fault first);
   packet = λ p at. follows (taken port p) (heard_in port p) (is.packet p at);
@@ -73,23 +73,23 @@ abbrev pub with_eid : PortState → ℕ → PortState
 with_eid port eid = record port { eid = eid }
 
 -- of all but a request comes what is sent, whatever the board would answer
-pub ended : (next : SmbusPort) (out : Out) (port : PortState) (h : Heard) (eid : ℕ) → HasHeard port.wire port.eid h eid out None → Shows next (with_eid port eid)
-    → (asks port h ≡ None) × ((a : Answered) → Ends next out port h a)
-ended next out port (Ignored why) eid is shows = (refl, λ a. record { shows = subst (λ (n : ℕ). Shows next (with_eid port n)) is.0 shows; sent = is.1; read = none_read Smbus })
-ended next out port Waiting eid is shows = (refl, λ a. record { shows = subst (λ (n : ℕ). Shows next (with_eid port n)) is.0 shows; sent = is.1; read = none_read Smbus })
+pub ended : (next : SmbusPort) (out : Out) (port : PortState) (h : HeardMessage) (eid : ℕ) → HasHeard port.wire port.eid h eid out None → Represents next (with_eid port eid)
+    → (asks port h ≡ None) × ((a : Answered) → HasMessageEffect next out port h a)
+ended next out port (Ignored why) eid is shows = (refl, λ a. record { shows = subst (λ (n : ℕ). Represents next (with_eid port n)) is.0 shows; sent = is.1; read = none_read Smbus })
+ended next out port Waiting eid is shows = (refl, λ a. record { shows = subst (λ (n : ℕ). Represents next (with_eid port n)) is.0 shows; sent = is.1; read = none_read Smbus })
 ended next out port (Control e r) eid is shows = (
   refl,
   λ a. record {
-    shows = subst (λ (n : ℕ). Shows next (with_eid port n)) is.0 shows;
+    shows = subst (λ (n : ℕ). Represents next (with_eid port n)) is.0 shows;
     sent = is.1 ∙ ap (λ (n : ℕ). sends (frames_from port.wire n e (control_reply_to port.eid r)) done.Control) is.0;
-    read = subst (λ (n : ℕ). AreRead Smbus (parts_from port.wire n e (control_reply_to port.eid r))) is.0 is.3;
+    read = subst (λ (n : ℕ). ReadBack Smbus (parts_from port.wire n e (control_reply_to port.eid r))) is.0 is.3;
   },
 )
 ended next out port (Asks m) eid is shows = let no : (let n : Option InMessage = None in n) ≡ Some m = is.1 in absurd cc
 
 -- a reply of some bytes is sent in packets from this place, each read as itself
 abbrev pub IsSent : (wire eid : ℕ) → Envelope → List ℕ → Out → Type 0
-IsSent wire eid e reply out = 0 < length reply → (out ≡ sends (frames_from wire eid e reply) done.Control) × AreRead Smbus (parts_from wire eid e reply)
+IsSent wire eid e reply out = 0 < length reply → (out ≡ sends (frames_from wire eid e reply) done.Control) × ReadBack Smbus (parts_from wire eid e reply)
 
 -- a control message to which the endpoint replies
 pub replied : (wire own : ℕ) (e : Envelope) (o : Option ControlRequest) (reply : List ℕ) (eid : ℕ) (out : Out) → Some reply ≡ option_map (control_reply_to own) o
@@ -101,14 +101,14 @@ replied wire own e (Some r) reply eid out is after sent =
     (after, so.0, refl, so.1)
 
 -- a request is what was heard
-pub given_is_heard : (wire own : ℕ) (h : Heard) (eid : ℕ) (out : Out) (m : InMessage) → HasHeard wire own h eid out (Some m) → (eid ≡ own) × (h ≡ Asks m)
+pub given_is_heard : (wire own : ℕ) (h : HeardMessage) (eid : ℕ) (out : Out) (m : InMessage) → HasHeard wire own h eid out (Some m) → (eid ≡ own) × (h ≡ Asks m)
 given_is_heard wire own (Ignored why) eid out m is = let no : Some m ≡ None = is.2 in absurd cc
 given_is_heard wire own Waiting eid out m is = let no : Some m ≡ None = is.2 in absurd cc
 given_is_heard wire own (Control e r) eid out m is = let no : Some m ≡ None = is.2 in absurd cc
 given_is_heard wire own (Asks n) eid out m is = let yes : Some m ≡ Some n = is.1 in let same : n ≡ m = cc in (is.0, ap Asks same)
 
 -- what is heard at the place that the port has
-pub heard_at : (p : PortState) (h : Heard) (wire own eid : ℕ) (out : Out) (given is : Option InMessage) → p.wire ≡ wire → p.eid ≡ own → given ≡ is
+pub heard_at : (p : PortState) (h : HeardMessage) (wire own eid : ℕ) (out : Out) (given is : Option InMessage) → p.wire ≡ wire → p.eid ≡ own → given ≡ is
     → HasHeard wire own h eid out given → HasHeard p.wire p.eid h eid out is
 heard_at p h wire own eid out given is at_wire at_eid so heard =
     subst (λ (n : ℕ). HasHeard n p.eid h eid out is) (sym at_wire)
@@ -129,22 +129,22 @@ settled_as p m wire eid before out test is at_wire at_eid so settles =
     (subst (λ (t : Bool). IsSettled (found p m) (said Smbus (asking m) None) (parts_from wire eid m.envelope) before out t) so settles))
 
 -- the packets of a reply, from the place that the port has
-pub parts_at : (p : PortState) (e : Envelope) (body : List ℕ) (wire eid : ℕ) → p.wire ≡ wire → p.eid ≡ eid → AreRead Smbus (parts_from wire eid e body) → AreRead Smbus (parts_from p.wire p.eid e body)
+pub parts_at : (p : PortState) (e : Envelope) (body : List ℕ) (wire eid : ℕ) → p.wire ≡ wire → p.eid ≡ eid → ReadBack Smbus (parts_from wire eid e body) → ReadBack Smbus (parts_from p.wire p.eid e body)
 parts_at p e body wire eid at_wire at_eid read =
-    subst (λ (n : ℕ). AreRead Smbus (parts_from n p.eid e body)) (sym at_wire) (subst (λ (n : ℕ). AreRead Smbus (parts_from wire n e body)) (sym at_eid) read)
+    subst (λ (n : ℕ). ReadBack Smbus (parts_from n p.eid e body)) (sym at_wire) (subst (λ (n : ℕ). ReadBack Smbus (parts_from wire n e body)) (sym at_eid) read)
 
 -- ---- a request that isn't new
 
-settled_by : (next : SmbusPort) (out before : Out) (port : PortState) (m : InMessage) (o : Outcome) (k : Kept) → Shows next port
+settled_by : (next : SmbusPort) (out before : Out) (port : PortState) (m : InMessage) (o : Outcome) (k : Kept) → Represents next port
     → IsSettled o (said Smbus (asking m) None) (parts_from port.wire port.eid m.envelope) before out true
     → (asks_of m o ≡ None) × HasEffect next out (asks_effect port m o k) (done_by o)
 settled_by next out before port m (Repeats reply) k shows is = (refl, record { shows = shows; sent = is.1; read = is.2 })
 settled_by next out before port m IsBusy k shows is = (refl, record { shows = shows; sent = is.1; read = is.2 })
 settled_by next out before port m IsNew k shows is = let no : true ≡ false = is.0 in absurd cc
 
-pub settled : (next : SmbusPort) (out before : Out) (port : PortState) (m : InMessage) → Shows next port
+pub settled : (next : SmbusPort) (out before : Out) (port : PortState) (m : InMessage) → Represents next port
     → IsSettled (found port m) (said Smbus (asking m) None) (parts_from port.wire port.eid m.envelope) before out true
-    → (asks port (Asks m) ≡ None) × ((a : Answered) → Ends next out port (Asks m) a)
+    → (asks port (Asks m) ≡ None) × ((a : Answered) → HasMessageEffect next out port (Asks m) a)
 settled next out before port m shows is =
     ((settled_by next out before port m (found port m) (kept_with m (record { code = 0; body = [] })) shows is).0, λ a. (settled_by next out before port m (found port m) (kept_with m a) shows is).1)
 
@@ -156,10 +156,10 @@ new IsBusy busy parts before out is = let no : false ≡ true = is.0 in absurd c
 new IsNew busy parts before out is = refl
 
 pub answered : (next : SmbusPort) (out : Out) (port : PortState) (m : InMessage) (a : Answered) → found port m ≡ IsNew
-    → Shows next (record port { log = Carried (kept_with m a) ∷ port.log })
+    → Represents next (record port { log = Carried (kept_with m a) ∷ port.log })
     → out ≡ sends (frames_from port.wire port.eid m.envelope (kept_with m a).reply) done.Answered
-    → AreRead Smbus (parts_from port.wire port.eid m.envelope (kept_with m a).reply)
-    → Ends next out port (Asks m) a
+    → ReadBack Smbus (parts_from port.wire port.eid m.envelope (kept_with m a).reply)
+    → HasMessageEffect next out port (Asks m) a
 answered next out port m a is shows sent read =
     subst (λ (o : Outcome). HasEffect next out (asks_effect port m o (kept_with m a)) (done_by o)) (sym is) (record { shows = shows; sent = sent; read = read })
 
@@ -167,20 +167,20 @@ answered next out port m a is shows sent read =
 
 module _ (setup : BoardFile) (before : State) where
   -- what the board would answer, if it's given_is_heard
-  abbrev pub answer_for : Heard → Answered
+  abbrev pub answer_for : HeardMessage → Answered
   answer_for (Asks m) = (answer_of setup before (asked_of m)).0
   answer_for _ = record { code = 0; body = [] }
 
   -- the board after it
-  abbrev pub left_after : PortState → Heard → State
+  abbrev pub left_after : PortState → HeardMessage → State
   left_after port (Asks m) = left_by (found port m) (answer_of setup before (asked_of m)).1 before
   left_after port _ = before
 
-  -- what the lab's port does
-  abbrev pub deed_of : PortState → Heard → Deed
+  -- what the model port does
+  abbrev pub deed_of : PortState → HeardMessage → StepResult
   deed_of port h = let e = effect port h (answer_for h) in record { port = e.port; board = left_after port h; sent = e.sent }
 
-  by_test : (test : Bool) (port : PortState) (x y : Deed) (h k : Heard) → x ≡ deed_of port h → y ≡ deed_of port k → cond test x y ≡ deed_of port (cond test h k)
+  by_test : (test : Bool) (port : PortState) (x y : StepResult) (h k : HeardMessage) → x ≡ deed_of port h → y ≡ deed_of port k → cond test x y ≡ deed_of port (cond test h k)
   by_test true port x y h k one other = one
   by_test false port x y h k one other = other
 
@@ -218,21 +218,21 @@ module _ (setup : BoardFile) (before : State) where
   taken_deed port p true = part_deed (with_part port p) p (drop_cause port.eid port.kept p)
   taken_deed port p false = refl
 
-  -- a packet: what the lab's port does with it is what comes of what is heard
+  -- a packet: what the model port does with it is what comes of what is heard
   pub packet_deed : (port : PortState) (p : Packet) → hears setup port before (Part p) ≡ deed_of (taken port p) (heard_in port p)
   packet_deed port p = taken_deed port p (p.envelope.destination == port.wire)
 
   pub hears_bytes : (port : PortState) (bytes : List ℕ) (next : SmbusPort) (out : Out) (after : State)
-      → Hearing port bytes (λ t h. Does next out after (deed_of t h) (done_of t h)) → HearsBytes setup port before bytes next out after
+      → HearingOf port bytes (λ t h. IsStepResult next out after (deed_of t h) (done_of t h)) → HearsBytes setup port before bytes next out after
   hears_bytes port bytes next out after h = record {
     faulty = h.faulty;
-    packet = λ p is. subst (λ (d : Deed). Does next out after d (done_of (taken port p) (heard_in port p))) (sym (packet_deed port p)) (h.packet p is);
+    packet = λ p is. subst (λ (d : StepResult). IsStepResult next out after d (done_of (taken port p) (heard_in port p))) (sym (packet_deed port p)) (h.packet p is);
   }
 
   pub left_new : (port : PortState) (m : InMessage) → found port m ≡ IsNew → left_after port (Asks m) ≡ (answer_of setup before (asked_of m)).1
   left_new port m is = ap (λ (o : Outcome). left_by o (answer_of setup before (asked_of m)).1 before) is
 
   -- what comes of what was heard, with what it leaves of the board
-  pub does : (next : SmbusPort) (out : Out) (after : State) (port : PortState) (h : Heard) → Ends next out port h (answer_for h) → left_after port h ≡ after
-      → Does next out after (deed_of port h) (done_of port h)
+  pub does : (next : SmbusPort) (out : Out) (after : State) (port : PortState) (h : HeardMessage) → HasMessageEffect next out port h (answer_for h) → left_after port h ≡ after
+      → IsStepResult next out after (deed_of port h) (done_of port h)
   does next out after port h e left = record { shows = e.shows; sent = e.sent; read = e.read; left = sym left }

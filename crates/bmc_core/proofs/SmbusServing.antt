@@ -8,59 +8,59 @@ use Rattle.record_base.specs.declared.message.Answered.{Answered}
 use Rattle.model_bus.specs.Carried.{IsNew}
 use Rattle.bmc_board.specs.declared.board.Board.{Board}
 use Rattle.bmc_board.specs.State.{State, state_of}
-use Rattle.bmc_board.specs.Answer.{Given}
+use Rattle.bmc_board.specs.Answer.{AnswerAndState}
 use Rattle.bmc_board.specs.Serves.{given_by}
-use Rattle.bmc_board.specs.Carrying.{IsAnswered}
-use Rattle.bmc_windows.specs.Keeps.{Held}
+use Rattle.bmc_board.specs.Carrying.{IsOneAnswer}
+use Rattle.bmc_windows.specs.Keeps.{HeldWindows}
 use Rattle.model_ports.specs.PortSteps.{PortState}
 use Rattle.bmc_core.specs.declared.out.Out.{Out}
-use Rattle.bmc_core.specs.declared.out.Done.TheVariants as what
-use Rattle.bmc_core.specs.declared.step.Served.{Served}
-use Rattle.bmc_core.specs.declared.step.Served.TheVariants.{CarriedOut, NothingAsked}
+use Rattle.bmc_core.specs.declared.out.Disposition.TheVariants as what
+use Rattle.bmc_core.specs.declared.step.ServeOutcome.{ServeOutcome}
+use Rattle.bmc_core.specs.declared.step.ServeOutcome.TheVariants.{CarriedOut, NothingAsked}
 use Rattle.bmc_core.specs.declared.step.Step.TheVariants as step
 use Rattle.bmc_core.specs.declared.port.At.{At}
 use Rattle.bmc_core.specs.declared.smbus_port.SmbusPort.{SmbusPort}
 use Rattle.bmc_core.specs.Outs.{sends}
-use Rattle.bmc_core.specs.SmbusHeard.{InMessage, Heard, message_heard, asked_of, found, kept_with}
-use Rattle.bmc_core.specs.SmbusShown.{AreOf, Shows, ForPortsAt, Hearing, HearsBytes, IsGiven, IsStep, Answers, IsRead, IsKept, KeepsReply, Replies, RepliesWith, frames_from, request_in, pending_of}
+use Rattle.bmc_core.specs.SmbusHeard.{InMessage, HeardMessage, message_heard, asked_of, found, kept_with}
+use Rattle.bmc_core.specs.SmbusShown.{WindowsHold, Represents, ForPortsAt, HearingOf, HearsBytes, IsAskedRequest, IsStep, AnswerStep, MessageRead, KeepsNewReply, KeepsReply, ReplyPackets, RepliesWith, frames_from, request_in, pending_of}
 use Rattle.bmc_core.specs.Served.{HasCarried}
-use Rattle.bmc_core.specs.SmbusServed.{IsAnsweredBy, Serves}
+use Rattle.bmc_core.specs.SmbusServed.{IsAnsweredBy, ServesFrameBy}
 use Rattle.bmc_core.proofs.SmbusPorts.{hearing_map, ended, message_is, parts_at, answered}
 use Rattle.bmc_core.proofs.PortSteps.{is_asked, smbus_settled, smbus_asked}
 
 -- what the port `read` shows, where it has read bytes: all but what waits is as it was
 abbrev pub ReadBy : SmbusPort → SmbusPort → List ℕ → Out → Option Packet → Type 0
-ReadBy port now bytes out packet = ForPortsAt port.wire port.endpoint (seen port.assembler) (λ at. IsRead at bytes (seen now.assembler) out packet)
+ReadBy port now bytes out packet = ForPortsAt port.wire port.endpoint (seen port.assembler) (λ at. MessageRead at bytes (seen now.assembler) out packet)
 
 -- what was heard in a message, at a port that now is this one
 abbrev pub HeardBy : SmbusPort → SmbusPort → Packet → List ℕ → Out → Option InMessage → Type 0
 HeardBy port now packet body out request =
-    (p : PortState) (next : SmbusPort) → p.wire ≡ port.wire → p.eid ≡ port.endpoint → AreOf port.windows p.log → Shows next (record p { eid = now.endpoint })
-    → IsGiven next out request p (message_heard (record { envelope = packet.envelope; body = body }))
+    (p : PortState) (next : SmbusPort) → p.wire ≡ port.wire → p.eid ≡ port.endpoint → WindowsHold port.windows p.log → Represents next (record p { eid = now.endpoint })
+    → IsAskedRequest next out request p (message_heard (record { envelope = packet.envelope; body = body }))
 
 -- a new request was carried out and kept, and the port sends its reply from a place
-pub record IsCarriedOut {K : Type 0} (carries : Asked → Answered → K → Type 0) (at : At) (old : Held) (m : InMessage) (after : K)
-    (new : Held) (out : Out) : Type 0 where
+pub record IsCarriedOut {K : Type 0} (carries : Asked → Answered → K → Type 0) (at : At) (old : HeldWindows) (m : InMessage) (after : K)
+    (new : HeldWindows) (out : Out) : Type 0 where
   pub answered : Answered
   pub carried : carries (asked_of m) answered after
-  pub kept : IsKept old (kept_with m answered) new
+  pub kept : KeepsNewReply old (kept_with m answered) new
   pub sent : RepliesWith at m answered out
 
 -- the reply that was made, kept and sent is that of the answer
-pub carried_out : {K : Type 0} (carries : Asked → Answered → K → Type 0) (at : At) (old new : Held) (m : InMessage)
+pub carried_out : {K : Type 0} (carries : Asked → Answered → K → Type 0) (at : At) (old new : HeldWindows) (m : InMessage)
     (reply : List ℕ) (after : K) (out : Out) → IsAnsweredBy carries m reply after → KeepsReply old m reply new
-    → Replies at m.envelope reply what.Answered out → IsCarriedOut carries at old m after new out
+    → ReplyPackets at m.envelope reply what.Answered out → IsCarriedOut carries at old m after new out
 carried_out carries at old new m reply after out done kept sent = record {
   answered = done.answered;
   carried = done.carried;
   kept = subst (λ (xs : List ℕ). KeepsReply old m xs new) done.reply_is kept;
-  sent = subst (λ (xs : List ℕ). Replies at m.envelope xs what.Answered out) done.reply_is sent;
+  sent = subst (λ (xs : List ℕ). ReplyPackets at m.envelope xs what.Answered out) done.reply_is sent;
 }
 
 module _ (port now : SmbusPort) (bytes : List ℕ) where
   -- no packet ended a message
-  pub unread : (out : Out) → ReadBy port now bytes out None → (p : PortState) → Shows port p
-      → Hearing p bytes (IsStep (record port { assembler = now.assembler }) out step.Done)
+  pub unread : (out : Out) → ReadBy port now bytes out None → (p : PortState) → Represents port p
+      → HearingOf p bytes (IsStep (record port { assembler = now.assembler }) out step.Done)
   unread out read p shows =
       let left = seen now.assembler in
       let next : SmbusPort = record port { assembler = now.assembler } in
@@ -74,46 +74,46 @@ module _ (port now : SmbusPort) (bytes : List ℕ) (packet : Packet) (body : Lis
   heard_port = record port { assembler = now.assembler; endpoint = now.endpoint }
 
   -- a message was heard, and this given
-  given_so : (out : Out) (request : Option InMessage) → HeardBy port now packet body out request → (p : PortState) → Shows port p
-      → Hearing p bytes (λ at h. (at ≡ record p { kept = seen now.assembler }) × IsGiven heard_port out request at h)
+  given_so : (out : Out) (request : Option InMessage) → HeardBy port now packet body out request → (p : PortState) → Represents port p
+      → HearingOf p bytes (λ at h. (at ≡ record p { kept = seen now.assembler }) × IsAskedRequest heard_port out request at h)
   given_so out request heard p shows =
       let left = seen now.assembler in
       let at : PortState = record p { kept = left } in
       let given = heard at heard_port shows.wire shows.eid shows.log (record { wire = shows.wire; eid = refl; kept = refl; log = shows.log }) in
-      hearing_map p bytes _ (λ now h. (now ≡ at) × IsGiven heard_port out request now h)
+      hearing_map p bytes _ (λ now h. (now ≡ at) × IsAskedRequest heard_port out request now h)
       (λ x h is. (
         is.0,
-        subst (λ (x : PortState). IsGiven heard_port out request x h) (sym is.0)
-            (subst (λ (k : Heard). IsGiven heard_port out request at k) (message_is left packet body body_is ∙ sym is.1) given),
+        subst (λ (x : PortState). IsAskedRequest heard_port out request x h) (sym is.0)
+            (subst (λ (k : HeardMessage). IsAskedRequest heard_port out request at k) (message_is left packet body body_is ∙ sym is.1) given),
       )) (read p shows.wire shows.eid shows.kept)
 
   -- nothing was asked
-  pub unasked : (out : Out) → HeardBy port now packet body out None → (p : PortState) → Shows port p → Hearing p bytes (IsStep heard_port out step.Done)
+  pub unasked : (out : Out) → HeardBy port now packet body out None → (p : PortState) → Represents port p → HearingOf p bytes (IsStep heard_port out step.Done)
   unasked out heard p shows = hearing_map p bytes _ (IsStep heard_port out step.Done) (λ x h is. is.1) (given_so out None heard p shows)
 
   -- a request was asked
-  pub asked_so : (out : Out) (m : InMessage) → HeardBy port now packet body out (Some m) → (p : PortState) → Shows port p
-      → Hearing p bytes (IsStep heard_port out (step.Ask (pending_of m)))
+  pub asked_so : (out : Out) (m : InMessage) → HeardBy port now packet body out (Some m) → (p : PortState) → Represents port p
+      → HearingOf p bytes (IsStep heard_port out (step.Ask (pending_of m)))
   asked_so out m heard p shows = hearing_map p bytes _ (IsStep heard_port out (step.Ask (pending_of m))) (λ x h is. is.1) (given_so out (Some m) heard p shows)
 
   -- a new request that wasn't carried out was heard
-  pub refused_so : (first out : Out) (m : InMessage) (next : SmbusPort) → HeardBy port now packet body first (Some m) → next.windows ≡ port.windows → (p : PortState) → Shows port p
-      → Hearing p bytes (IsStep (record heard_port { windows = next.windows; made = next.made }) out (step.Ask (pending_of m)))
+  pub refused_so : (first out : Out) (m : InMessage) (next : SmbusPort) → HeardBy port now packet body first (Some m) → next.windows ≡ port.windows → (p : PortState) → Represents port p
+      → HearingOf p bytes (IsStep (record heard_port { windows = next.windows; made = next.made }) out (step.Ask (pending_of m)))
   refused_so first out m next heard same p shows =
       hearing_map p bytes _ (IsStep (record heard_port { windows = next.windows; made = next.made }) out (step.Ask (pending_of m)))
-      (λ x h is. (is.1.0, record { wire = is.1.1.wire; eid = is.1.1.eid; kept = is.1.1.kept; log = subst (λ (w : Held). AreOf w x.log) (sym same) is.1.1.log }))
+      (λ x h is. (is.1.0, record { wire = is.1.1.wire; eid = is.1.1.eid; kept = is.1.1.kept; log = subst (λ (w : HeldWindows). WindowsHold w x.log) (sym same) is.1.1.log }))
       (given_so first (Some m) heard p shows)
 
   -- a new request that was carried out was heard, and then answered
   pub carried_so : {K : Type 0} (carries : Asked → Answered → K → Type 0) (heard : Out) (m : InMessage) (next : SmbusPort) (eid : ℕ) (out : Out) (after : K)
       → HeardBy port now packet body heard (Some m) → now.endpoint ≡ eid
       → IsCarriedOut carries (record { wire = port.wire; eid = eid }) port.windows m after next.windows out
-      → HasCarried (λ between heard step. (p : PortState) → Shows port p → Hearing p bytes (IsStep between heard step)) Answers (λ q. asked_of (request_in q)) carries
+      → HasCarried (λ between heard step. (p : PortState) → Represents port p → HearingOf p bytes (IsStep between heard step)) AnswerStep (λ q. asked_of (request_in q)) carries
       (record heard_port { windows = next.windows; made = next.made }) out after
   carried_so carries heard m next eid out after hears own done =
       let a : Answered = done.answered in
       let last : SmbusPort = record heard_port { windows = next.windows; made = next.made } in
-      let is_new : (p : PortState) → Shows heard_port p → found p m ≡ IsNew =
+      let is_new : (p : PortState) → Represents heard_port p → found p m ≡ IsNew =
       λ p shows. (is_asked (record p { eid = port.endpoint }) _ m
       (hears (record p { eid = port.endpoint }) heard_port shows.wire refl shows.log (record { wire = shows.wire; eid = refl; kept = shows.kept; log = shows.log })).0).1 in
       record {
@@ -132,14 +132,14 @@ module _ (port now : SmbusPort) (bytes : List ℕ) (packet : Packet) (body : Lis
       }
 
 -- a port that has a board alone carry requests out hears as one of that board
-pub alone_hears : {S E : Type 0} {g h : _} (port next : SmbusPort) (bytes : List ℕ) (before after : Board S g h) (out : Out) (result : Result Served E)
-    → Serves (λ asked answered now. IsAnswered before asked answered now) (λ (why : E) (now : Board S g h). ⊥) port bytes before result next out after
-    → ((p : PortState) → Shows port p → HearsBytes before.setup p (state_of before) bytes next out (state_of after)) × (after.setup ≡ before.setup)
+pub alone_hears : {S E : Type 0} {g h : _} (port next : SmbusPort) (bytes : List ℕ) (before after : Board S g h) (out : Out) (result : Result ServeOutcome E)
+    → ServesFrameBy (λ asked answered now. IsOneAnswer before asked answered now) (λ (why : E) (now : Board S g h). ⊥) port bytes before result next out after
+    → ((p : PortState) → Represents port p → HearsBytes before.setup p (state_of before) bytes next out (state_of after)) × (after.setup ≡ before.setup)
 alone_hears port next bytes before after out (Ok CarriedOut) done =
-    let given : Given = given_by before (asked_of (request_in done.pending)) in
-    let reply : done.answered ≡ given.0 = ap (λ (g : Given). g.0) done.carried.answer in
-    let left : state_of after ≡ given.1 = ap (λ (g : Given). g.1) done.carried.answer in
-    let answers : Answers done.between done.pending given.0 next out = subst (λ (a : Answered). Answers done.between done.pending a next out) reply done.replied in (
+    let given : AnswerAndState = given_by before (asked_of (request_in done.pending)) in
+    let reply : done.answered ≡ given.0 = ap (λ (g : AnswerAndState). g.0) done.carried.answer in
+    let left : state_of after ≡ given.1 = ap (λ (g : AnswerAndState). g.1) done.carried.answer in
+    let answers : AnswerStep done.between done.pending given.0 next out = subst (λ (a : Answered). AnswerStep done.between done.pending a next out) reply done.replied in (
       λ p shows. subst (λ (now : State). HearsBytes before.setup p (state_of before) bytes next out now) (sym left)
           (smbus_asked before.setup (state_of before) port done.between next bytes done.heard out done.pending done.asks answers p shows),
       done.carried.setup,

@@ -1,4 +1,4 @@
--- The lab's port that a port on IPMB shows, and what each call makes of it.
+-- The model port that a port on IPMB represents, and what each call makes of it.
 use Rattle.std.specs.Prelude.{◌≡◌, ℕ, ◌-◌, ◌<◌, List, [], ◌∷◌, Bool, true, false, length, take, drop, slice_index, map, Option, Some, None, Result, Ok, Err, refl}
 use Rattle.ipmb_frame.specs.declared.message.Header.{Header}
 use Rattle.ipmb_frame.specs.declared.message.Request.{Request}
@@ -13,18 +13,18 @@ use Rattle.two_wire.specs.Circles.{sequence_numbers}
 use Rattle.two_wire.specs.declared.Bus.TheVariants.{Ipmb}
 use Rattle.bmc_board.specs.declared.board.Board.{Board}
 use Rattle.bmc_board.specs.State.{State, state_of}
-use Rattle.bmc_windows.specs.Keeps.{Reading, Held, Keeps}
+use Rattle.bmc_windows.specs.Keeps.{Reading, HeldWindows, WindowsKeep}
 use Rattle.model_ports.specs.Bytes.{heard_in}
 use Rattle.model_ports.specs.Values.{Value, Tells, written}
-use Rattle.model_ports.specs.PortSteps.{PortState, Deed, stays, spelled, response_after, hears_request}
+use Rattle.model_ports.specs.PortSteps.{PortState, StepResult, stays, spelled, response_after, hears_request}
 use Rattle.bmc_core.specs.declared.out.Out.{Out}
 use Rattle.bmc_core.specs.declared.out.Reason.{Reason}
-use Rattle.bmc_core.specs.declared.out.Done.{Done}
-use Rattle.bmc_core.specs.declared.out.Done.TheVariants as done
+use Rattle.bmc_core.specs.declared.out.Disposition.{Disposition}
+use Rattle.bmc_core.specs.declared.out.Disposition.TheVariants as done
 use Rattle.bmc_core.specs.declared.step.Step.{Step}
 use Rattle.bmc_core.specs.declared.step.Step.TheVariants as step
 use Rattle.bmc_core.specs.declared.ipmb_port.IpmbPort.{IpmbPort}
-use Rattle.bmc_core.specs.Outs.{sends, done_by, AreRead}
+use Rattle.bmc_core.specs.Outs.{sends, done_by, ReadBack}
 use Rattle.bmc_core.specs.IpmbHeard.{IsHeard}
 
 -- The windows keep a request as it is, and a reply as its frame: the reply is the frame's bytes without the addresses and the check bytes.
@@ -36,7 +36,7 @@ abbrev pub whole : Reading
 whole = record { request = λ bytes. bytes; reply = λ kept. kept; same = λ one other. refl }
 
 -- the windows keep, for the request, the frame of a response to it, whichever address the request came to
-pub record IsAnswered (kept : Kept) : Type 0 where
+pub record IsKeptResponse (kept : Kept) : Type 0 where
   pub request : Request
   pub code : ℕ
   pub body : List ℕ
@@ -51,24 +51,24 @@ pub record HasUnits (header : Header) : Type 0 where
 -- the windows keep the frame of a response for each request that was carried out
 abbrev pub AllAnswered : List Entry → Type 0
 AllAnswered [] = Unit {0}
-AllAnswered (Carried kept ∷ log) = IsAnswered kept × AllAnswered log
+AllAnswered (Carried kept ∷ log) = IsKeptResponse kept × AllAnswered log
 AllAnswered (Idled requester ∷ log) = AllAnswered log
 
 -- the windows keep frames, each for the request that it answers
-pub record KeepsFrames (windows : Held) : Type 0 where
+pub record KeepsFrames (windows : HeldWindows) : Type 0 where
   pub log : List Entry
-  pub keeps : Keeps sequence_numbers whole windows log
+  pub keeps : WindowsKeep sequence_numbers whole windows log
   pub answered : AllAnswered log
 
 -- the windows keep what this log leaves, and frames of responses alone
-pub record AreOf (windows : Held) (log : List Entry) : Type 0 where
-  pub keeps : Keeps sequence_numbers reading windows log
+pub record WindowsHold (windows : HeldWindows) (log : List Entry) : Type 0 where
+  pub keeps : WindowsKeep sequence_numbers reading windows log
   pub frames : KeepsFrames windows
 
--- the port has the lab's address, and keeps what the lab's log leaves
-pub record Shows (port : IpmbPort) (at : PortState) : Type 0 where
+-- the port has the model port's address, and keeps what the model port's log leaves
+pub record Represents (port : IpmbPort) (at : PortState) : Type 0 where
   pub wire : port.wire ≡ at.wire
-  pub log : AreOf port.windows at.log
+  pub log : WindowsHold port.windows at.log
 
 -- ---- responses
 
@@ -89,51 +89,51 @@ ResponseIsRead header code body = IsResponse (response header code body) (respon
 
 -- ---- what comes of what is heard
 
--- the lab's port and the board after it, and what is sent
-abbrev pub deed_of : BoardFile → PortState → State → Result Request Reason → Deed
-deed_of setup port before (Ok request) = hears_request setup port before request
-deed_of setup port before (Err why) = stays port before
+-- the model port and the board after it, and what is sent
+abbrev pub step_result_of : BoardFile → PortState → State → Result Request Reason → StepResult
+step_result_of setup port before (Ok request) = hears_request setup port before request
+step_result_of setup port before (Err why) = stays port before
 
--- what the rule does with a request at the lab's port
+-- what the rule does with a request at the model port
 abbrev pub outcome_at : PortState → Request → Outcome
 outcome_at port request = outcome (is_above sequence_numbers) (heard_in request) port.log
 
 -- what was done
-abbrev pub done_of : PortState → Result Request Reason → Done
+abbrev pub done_of : PortState → Result Request Reason → Disposition
 done_of port (Ok request) = done_by (outcome_at port request)
 done_of port (Err why) = done.Ignored why
 
--- The port and the board are those of the deed, and the port sends the frames of the deed. A reader of each frame's bytes gives the frame's value.
-pub record Does (deed : Deed) (what : Done) (next : IpmbPort) (after : State) (out : Out) : Type 0 where
-  pub shows : Shows next deed.port
+-- The port and the board are those of the result, and the port sends its frames. A reader of each frame's bytes gives the frame's value.
+pub record IsStepResult (deed : StepResult) (what : Disposition) (next : IpmbPort) (after : State) (out : Out) : Type 0 where
+  pub shows : Represents next deed.port
   pub left : after ≡ deed.board
   pub sent : out ≡ sends (map written deed.sent) what
-  pub read : AreRead Ipmb deed.sent
+  pub read : ReadBack Ipmb deed.sent
 
--- A port of a board with this setup hears the bytes. For each port of the lab that it shows, the port and the board become those of the deed of
--- the lab's port.
-abbrev pub Hears : BoardFile → IpmbPort → State → List ℕ → Out → IpmbPort → State → Type 0
-Hears setup port before bytes out next after = (at : PortState) → Shows port at → (heard : Result Request Reason) → IsHeard at.wire bytes heard
-    → Does (deed_of setup at before heard) (done_of at heard) next after out
+-- A port of a board with this setup hears the bytes. For each model port that it represents, the port and the board become those of
+-- the model port's step.
+abbrev pub PortStep : BoardFile → IpmbPort → State → List ℕ → Out → IpmbPort → State → Type 0
+PortStep setup port before bytes out next after = (at : PortState) → Represents port at → (heard : Result Request Reason) → IsHeard at.wire bytes heard
+    → IsStepResult (step_result_of setup at before heard) (done_of at heard) next after out
 
 -- so it is with this board before and that board after
-abbrev pub HearsOn : {S : Type 0} {g h : _} → Board S g h → IpmbPort → List ℕ → Out → IpmbPort → Board S g h → Type 0
-HearsOn board port bytes out next left = Hears board.setup port (state_of board) bytes out next (state_of left)
+abbrev pub PortStepOf : {S : Type 0} {g h : _} → Board S g h → IpmbPort → List ℕ → Out → IpmbPort → Board S g h → Type 0
+PortStepOf board port bytes out next left = PortStep board.setup port (state_of board) bytes out next (state_of left)
 
 -- the port sends the frame of this value alone, and a reader of the frame's bytes gives the value
-abbrev pub IsSent : Value → Done → Out → Type 0
-IsSent value what out = (out ≡ sends (written value ∷ []) what) × AreRead Ipmb (value ∷ [])
+abbrev pub IsSent : Value → Disposition → Out → Type 0
+IsSent value what out = (out ≡ sends (written value ∷ []) what) × ReadBack Ipmb (value ∷ [])
 
 -- the port sends the kept response once more, to any request of this header that the kept frame answers
-abbrev pub RepeatsTo : Header → List ℕ → Done → Out → Type 0
-RepeatsTo header frame what out = (request : Request) → request.header ≡ header → IsAnswered (record { request = heard_in request; reply = frame })
+abbrev pub RepeatsTo : Header → List ℕ → Disposition → Out → Type 0
+RepeatsTo header frame what out = (request : Request) → request.header ≡ header → IsKeptResponse (record { request = heard_in request; reply = frame })
     → IsSent (response_after request (Some (reading.reply frame))) what out
 
 -- ---- before the board is asked
 
 -- the request is new at each log that leaves the frames of the windows
-abbrev pub IsFresh : Held → Request → Type 0
-IsFresh windows request = (log : List Entry) → Keeps sequence_numbers whole windows log → outcome (is_above sequence_numbers) (heard_in request) log ≡ IsNew
+abbrev pub IsNewRequest : HeldWindows → Request → Type 0
+IsNewRequest windows request = (log : List Entry) → WindowsKeep sequence_numbers whole windows log → outcome (is_above sequence_numbers) (heard_in request) log ≡ IsNew
 
 -- the port has answered a request that isn't new by its response, and hasn't answered a new one
 abbrev pub IsSettled : Request → Outcome → Out → Bool → Type 0
@@ -142,22 +142,22 @@ IsSettled request IsBusy out settled = (settled ≡ true) × IsSent (response_af
 IsSettled request IsNew out settled = settled ≡ false
 
 -- the port has settled the request so, whatever log the windows keep
-abbrev pub Settles : Held → Request → Out → Bool → Type 0
-Settles windows request out settled = (port : PortState) → AreOf windows port.log → IsSettled request (outcome_at port request) out settled
+abbrev pub SettlesRequest : HeldWindows → Request → Out → Bool → Type 0
+SettlesRequest windows request out settled = (port : PortState) → WindowsHold windows port.log → IsSettled request (outcome_at port request) out settled
 
 -- the request is new, whatever log the windows keep
-abbrev pub IsNewTo : Held → Request → Type 0
-IsNewTo windows request = (port : PortState) → AreOf windows port.log → outcome_at port request ≡ IsNew
+abbrev pub IsNewTo : HeldWindows → Request → Type 0
+IsNewTo windows request = (port : PortState) → WindowsHold windows port.log → outcome_at port request ≡ IsNew
 
 -- what the caller does next: it has a new request carried out
 abbrev pub next_of : Bool → Request → Step Request
 next_of false request = step.Ask request
 next_of true request = step.Done
 
--- the port settles what the lab's port hears, or the caller has it carried out
-abbrev pub Steps : PortState → Result Request Reason → Step Request → Out → Type 0
-Steps port (Ok request) next out = (settled : Bool) × IsSettled request (outcome_at port request) out settled × (next ≡ next_of settled request)
-Steps port (Err why) next out = (next ≡ step.Done) × (out ≡ sends [] (done.Ignored why))
+-- the port settles what the model port hears, or the caller has it carried out
+abbrev pub AskingStep : PortState → Result Request Reason → Step Request → Out → Type 0
+AskingStep port (Ok request) next out = (settled : Bool) × IsSettled request (outcome_at port request) out settled × (next ≡ next_of settled request)
+AskingStep port (Err why) next out = (next ≡ step.Done) × (out ≡ sends [] (done.Ignored why))
 
 -- the caller's next step by a request that is new, if there is one
 abbrev pub step_of : Option Request → Step Request
@@ -166,14 +166,14 @@ step_of None = step.Done
 
 -- A port at this address with these windows hears the bytes. Whatever log the windows keep, the port settles what it hears, or the caller has it
 -- carried out.
-abbrev pub IsHeardAt : ℕ → Held → List ℕ → Option Request → Out → Type 0
-IsHeardAt wire windows bytes given out = (port : PortState) → AreOf windows port.log → (heard : Result Request Reason) → IsHeard wire bytes heard
-    → Steps port heard (step_of given) out
+abbrev pub IsHeardAt : ℕ → HeldWindows → List ℕ → Option Request → Out → Type 0
+IsHeardAt wire windows bytes given out = (port : PortState) → WindowsHold windows port.log → (heard : Result Request Reason) → IsHeard wire bytes heard
+    → AskingStep port heard (step_of given) out
 
--- A port hears the bytes up to where the caller asks the board, and stays as it was. For each port of the lab that it shows, it settles what the
--- lab's port hears, or the caller has it carried out.
+-- A port hears the bytes up to where the caller asks the board, and stays as it was. For each model port that it represents, it settles what the
+-- model port hears, or the caller has it carried out.
 pub record IsStep (port : IpmbPort) (bytes : List ℕ) (next : IpmbPort) (out : Out) (given : Step Request) : Type 0 where
-  pub steps : (at : PortState) → Shows port at → (heard : Result Request Reason) → IsHeard at.wire bytes heard → Steps at heard given out
+  pub steps : (at : PortState) → Represents port at → (heard : Result Request Reason) → IsHeard at.wire bytes heard → AskingStep at heard given out
   pub stays : next ≡ port
 
 -- ---- once the board answered
@@ -182,7 +182,7 @@ pub record IsStep (port : IpmbPort) (bytes : List ℕ) (next : IpmbPort) (out : 
 abbrev pub kept_of : Request → Answered → Kept
 kept_of request answered = record { request = heard_in request; reply = spelled Ipmb (heard_in request) answered }
 
--- the lab's port once it got this answer to the request: by the rule it keeps a new request alone
+-- the model port once it got this answer to the request: by the rule it keeps a new request alone
 abbrev pub after : PortState → Request → Answered → PortState
 after port request answered = record port { log = log_after (outcome_at port request) (kept_of request answered) port.log }
 
@@ -204,12 +204,12 @@ abbrev pub first_answer : Request → Answered → Out
 first_answer request answered = sends (written (first_response request answered) ∷ []) done.Answered
 
 -- the windows keep a new request with this answer to it
-abbrev pub IsKept : Held → Request → Answered → Held → Type 0
-IsKept old request answered new = (port : PortState) → AreOf old port.log → outcome_at port request ≡ IsNew → IsFresh old request → AreOf new (carries port request answered).log
+abbrev pub KeepsAnswer : HeldWindows → Request → Answered → HeldWindows → Type 0
+KeepsAnswer old request answered new = (port : PortState) → WindowsHold old port.log → outcome_at port request ≡ IsNew → IsNewRequest old request → WindowsHold new (carries port request answered).log
 
--- A port answers the request with this answer. For each port of the lab that it shows, it then shows the port that the rule leaves. It sends the
+-- A port answers the request with this answer. For each model port that it represents, it then represents the port that the rule leaves. It sends the
 -- rule's response, and a reader of the response's bytes gives that response.
-pub record Answers (port : IpmbPort) (request : Request) (answered : Answered) (next : IpmbPort) (out : Out) : Type 0 where
-  pub shows : (at : PortState) → Shows port at → Shows next (after at request answered)
-  pub sent : (at : PortState) → Shows port at → out ≡ out_after at request answered
-  pub read : (at : PortState) → Shows port at → AreRead Ipmb (response_at at request answered ∷ [])
+pub record AnswerStep (port : IpmbPort) (request : Request) (answered : Answered) (next : IpmbPort) (out : Out) : Type 0 where
+  pub shows : (at : PortState) → Represents port at → Represents next (after at request answered)
+  pub sent : (at : PortState) → Represents port at → out ≡ out_after at request answered
+  pub read : (at : PortState) → Represents port at → ReadBack Ipmb (response_at at request answered ∷ [])

@@ -3,8 +3,8 @@ use Rattle.std.specs.Prelude.{◌≡◌, Result, Ok, Err}
 use Rattle.record_base.specs.declared.message.Asked.{Asked}
 use Rattle.record_base.specs.declared.message.Answered.{Answered}
 use Rattle.bmc_core.specs.declared.out.Out.{Out}
-use Rattle.bmc_core.specs.declared.step.Served.{Served}
-use Rattle.bmc_core.specs.declared.step.Served.TheVariants.{CarriedOut, NothingAsked}
+use Rattle.bmc_core.specs.declared.step.ServeOutcome.{ServeOutcome}
+use Rattle.bmc_core.specs.declared.step.ServeOutcome.TheVariants.{CarriedOut, NothingAsked}
 use Rattle.bmc_core.specs.declared.step.Step.{Step}
 use Rattle.bmc_core.specs.declared.step.Step.TheVariants.{Ask, Done}
 
@@ -22,7 +22,7 @@ pub record HasCarried {Port Pending K : Type 0} (hears : Port → Out → Step P
 -- By what the port gives: the carrier carried the request out; or the bytes asked nothing, and the carrier's state is as it was; or the carrier
 -- refused the request, which the port has heard, and the port got no answer.
 abbrev pub ServesBy : {Port Pending K Error : Type 0} → (Port → Out → Step Pending → Type 0) → (Port → Pending → Answered → Port → Out → Type 0) → (Pending → Asked) → (Asked → Answered → K → Type 0)
-    → (Error → K → Type 0) → K → Result Served Error → Port → Out → K → Type 0
+    → (Error → K → Type 0) → K → Result ServeOutcome Error → Port → Out → K → Type 0
 ServesBy hears answers asked_of carries refuses before (Ok CarriedOut) next out after = HasCarried hears answers asked_of carries next out after
 ServesBy hears answers asked_of carries refuses before (Ok NothingAsked) next out after = hears next out Done × (after ≡ before)
 ServesBy {Pending = Pending} hears answers asked_of carries refuses before (Err why) next out after = ((pending : Pending) × hears next out (Ask pending)) × refuses why after

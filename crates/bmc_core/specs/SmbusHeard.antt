@@ -20,8 +20,8 @@ use Rattle.model_bus.specs.Carried.{Outcome, Repeats, IsBusy, IsNew, outcome, lo
 use Rattle.model_ports.specs.Bytes.{pldm_heard_in, said}
 use Rattle.model_ports.specs.Values.{Value, Part, parts_of}
 use Rattle.model_ports.specs.PortSteps.{PortState, reply_envelope, spelled, pldm_asked}
-use Rattle.bmc_core.specs.declared.out.Done.{Done}
-use Rattle.bmc_core.specs.declared.out.Done.TheVariants as done
+use Rattle.bmc_core.specs.declared.out.Disposition.{Disposition}
+use Rattle.bmc_core.specs.declared.out.Disposition.TheVariants as done
 use Rattle.bmc_core.specs.declared.out.Reason.{Reason}
 use Rattle.bmc_core.specs.declared.out.Reason.TheVariants as reason
 use Rattle.bmc_core.specs.Outs.{done_by}
@@ -38,33 +38,33 @@ abbrev pub behind_first : PldmRequest → List ℕ
 behind_first request = request.header.pldm_type ∷ request.header.command ∷ request.body
 
 -- what a port hears: nothing, for a reason; a packet whose message isn't whole yet; a control request; or a request of PLDM
-pub data Heard : Type 0 where
-  Ignored : Reason → Heard
-  Waiting : Heard
-  Control : Envelope → ControlRequest → Heard
-  Asks : InMessage → Heard
+pub data HeardMessage : Type 0 where
+  Ignored : Reason → HeardMessage
+  Waiting : HeardMessage
+  Control : Envelope → ControlRequest → HeardMessage
+  Asks : InMessage → HeardMessage
 
 -- what a port hears in a control message, by the request that it is read as, if any
-abbrev pub control_heard : Envelope → Option ControlRequest → Heard
+abbrev pub control_heard : Envelope → Option ControlRequest → HeardMessage
 control_heard envelope (Some request) = Control envelope request
 control_heard envelope None = Ignored reason.NotRequest
 
 -- What a port hears in a PLDM message: the request that it is read as, or its first fault. Each message of at most 256 bytes has one of the two.
-abbrev pub pldm_heard : Envelope → Option PldmRequest → Option PldmFault → Heard
+abbrev pub pldm_heard : Envelope → Option PldmRequest → Option PldmFault → HeardMessage
 pldm_heard envelope (Some request) fault = Asks (record { envelope = envelope; request = request })
 pldm_heard envelope None (Some fault) = Ignored (reason.Pldm fault)
 pldm_heard envelope None None = Ignored reason.NotRequest
 
 -- what a port hears in the body of a control message
-abbrev pub control_in : Envelope → List ℕ → Heard
+abbrev pub control_in : Envelope → List ℕ → HeardMessage
 control_in envelope body = control_heard envelope (control_request_of body)
 
 -- and in the bytes of a PLDM message, behind their type
-abbrev pub pldm_in : Envelope → List ℕ → Heard
+abbrev pub pldm_in : Envelope → List ℕ → HeardMessage
 pldm_in envelope bytes = pldm_heard envelope (pldm_request_in bytes) (find (has_pldm_fault bytes) pldm_faults)
 
 -- what a port hears in a message whose sender owns its tag, by the message's type: control, or PLDM
-abbrev pub typed_heard : Message → List ℕ → Heard
+abbrev pub typed_heard : Message → List ℕ → HeardMessage
 typed_heard message [] = Ignored reason.MessageType
 typed_heard message (kind ∷ rest) =
     if kind == control_message_type then control_in message.envelope message.body
@@ -72,15 +72,15 @@ typed_heard message (kind ∷ rest) =
     else Ignored reason.MessageType
 
 -- what a port hears in a whole message
-abbrev pub message_heard : Message → Heard
+abbrev pub message_heard : Message → HeardMessage
 message_heard message = if message.envelope.tag_owner then typed_heard message message.body else Ignored reason.NotRequest
 
 -- and in a message of this envelope and body
-abbrev pub message_in : Envelope → List ℕ → Heard
+abbrev pub message_in : Envelope → List ℕ → HeardMessage
 message_in envelope body = message_heard (record { envelope = envelope; body = body })
 
 -- what a port that has taken a packet hears in it, by the cause for which it dropped the packet, if any
-abbrev pub part_heard : PortState → Packet → Option DropCause → Heard
+abbrev pub part_heard : PortState → Packet → Option DropCause → HeardMessage
 part_heard port packet (Some cause) = Ignored (reason.Dropped cause)
 part_heard port packet None = if packet.end then message_heard (message_of port.kept packet) else Waiting
 
@@ -93,7 +93,7 @@ abbrev pub taken : PortState → Packet → PortState
 taken port packet = record port { kept = if packet.envelope.destination == port.wire then kept_after port.eid port.kept packet else port.kept }
 
 -- what a port hears in the packet
-abbrev pub heard_in : PortState → Packet → Heard
+abbrev pub heard_in : PortState → Packet → HeardMessage
 heard_in port packet = if packet.envelope.destination == port.wire then part_heard (with_part port packet) packet (drop_cause port.eid port.kept packet) else Ignored reason.NotOurs
 
 -- ---- what comes of it
@@ -120,14 +120,14 @@ asks_of asking IsBusy = None
 asks_of asking (Repeats reply) = None
 
 -- what the board is asked: the request, if it is new
-abbrev pub asks : PortState → Heard → Option InMessage
+abbrev pub asks : PortState → HeardMessage → Option InMessage
 asks port (Asks request) = asks_of request (found port request)
 asks port (Ignored why) = None
 asks port Waiting = None
 asks port (Control envelope request) = None
 
 -- what the port does with what it heard
-abbrev pub done_of : PortState → Heard → Done
+abbrev pub done_of : PortState → HeardMessage → Disposition
 done_of port (Ignored why) = done.Ignored why
 done_of port Waiting = done.Waiting
 done_of port (Control envelope request) = done.Control
@@ -154,7 +154,7 @@ abbrev pub asks_effect : PortState → InMessage → Outcome → Kept → Effect
 asks_effect port message outcome kept = record { port = record port { log = log_after outcome kept port.log }; sent = reply_parts port message.envelope (said Smbus (asking message) (reply_after outcome kept)) }
 
 -- the effect of what the port heard, where the board would give this answer
-abbrev pub effect : PortState → Heard → Answered → Effect
+abbrev pub effect : PortState → HeardMessage → Answered → Effect
 effect port (Ignored why) answered = record { port = port; sent = [] }
 effect port Waiting answered = record { port = port; sent = [] }
 effect port (Control envelope request) answered =

@@ -5,16 +5,16 @@ ghost use Rattle.ipmb_frame.specs.Grammar.{IsRequest};
 ghost use Rattle.model_ports.specs.PortSteps.{PortState, quiet_port, idles};
 ghost use Rattle.bmc_core.specs.Rule.{has_window};
 ghost use Rattle.bmc_core.specs.IpmbHeard.{IsHeard};
-ghost use Rattle.bmc_core.specs.IpmbShown.{Shows, HearsOn, IsHeardAt, IsFresh, IsNewTo, IsStep, Answers};
-ghost use Rattle.bmc_core.specs.IpmbServed.{Takes};
+ghost use Rattle.bmc_core.specs.IpmbShown.{Represents, PortStepOf, IsHeardAt, IsNewRequest, IsNewTo, IsStep, AnswerStep};
+ghost use Rattle.bmc_core.specs.IpmbServed.{ServesFrame};
 
 pub mod laws;
 mod pending;
 mod replying;
 
 use crate::out::{Out, Reason};
-use crate::step::{Served, Step};
-use bmc_board::{Alone, Board, Carrier};
+use crate::step::{ServeOutcome, Step};
+use bmc_board::{Board, Carrier, DirectCarrier};
 use cfg_records::{Answered, Store};
 use ipmb_frame::{Msg, Request, read_frame};
 pub use pending::IpmbPending;
@@ -71,7 +71,7 @@ fn heard<'a>(
     out: &mut Out,
 ) -> Option<RequestInFrame<'a>>
     ensures heard { IsHeardAt wire windows.now bytes.now result out.new }
-    ensures fresh { IfSome result (λ request. IsFresh windows.now request) }
+    ensures fresh { IfSome result (λ request. IsNewRequest windows.now request) }
     ensures new { IfSome result (λ request. IsNewTo windows.now request) }
 {
     let request = match read(wire, bytes) {
@@ -90,7 +90,7 @@ fn heard<'a>(
 impl IpmbPort {
     /// A port at this address. All of its memory is taken here.
     pub fn new(alloc: Global, wire: Address) -> Result<IpmbPort, AllocError>
-        ensures { IfOk result (λ port. (eid : ℕ) → Shows port (quiet_port wire eid)) }
+        ensures { IfOk result (λ port. (eid : ℕ) → Represents port (quiet_port wire eid)) }
     {
         Ok(IpmbPort {
             wire,
@@ -107,25 +107,25 @@ impl IpmbPort {
         kept: &mut C::Kept,
         bytes: &[u8],
         out: &mut Out,
-    ) -> Result<Served, C::Refusal>
-        ensures { Takes C.Carrier carrier.now self.old bytes.now kept.old result
+    ) -> Result<ServeOutcome, C::Refusal>
+        ensures { ServesFrame C.Carrier carrier.now self.old bytes.now kept.old result
             self.new out.new kept.new }
     {
         let Some(request) = heard(self.wire, &self.windows, bytes, out) else {
-            return Ok(Served::NothingAsked);
+            return Ok(ServeOutcome::NothingAsked);
         };
         match carry_out(&mut self.windows, carrier, kept, &request, out) {
-            Ok(()) => Ok(Served::CarriedOut),
+            Ok(()) => Ok(ServeOutcome::CarriedOut),
             Err(why) => Err(why),
         }
     }
 
     /// Takes what is heard on the bus, has the board carry a new request out, and fills in what is to be sent. It takes no memory.
     pub fn on_frame<S: Store>(&mut self, board: &mut Board<S>, bytes: &[u8], out: &mut Out)
-        ensures heard { HearsOn board.old self.old bytes.now out.new self.new board.new }
+        ensures heard { PortStepOf board.old self.old bytes.now out.new self.new board.new }
         ensures setup { board.new.setup ≡ board.old.setup }
     {
-        let _ = self.serve(&Alone::new(), board, bytes, out);
+        let _ = self.serve(&DirectCarrier::new(), board, bytes, out);
     }
 
     /// Takes what is heard on the bus: asks what a new request asks of the board, or fills in what is to be sent. It takes no memory.
@@ -143,7 +143,7 @@ impl IpmbPort {
     /// data fit a response, as those of a board's answer to this request do.
     pub fn answer(&mut self, pending: IpmbPending, answered: &Answered, out: &mut Out)
         requires { length answered.now.body ≤ most_ipmi_reply_data }
-        ensures { Answers self.old pending answered.now self.new out.new }
+        ensures { AnswerStep self.old pending answered.now self.new out.new }
     {
         let rest = pending.rest();
         let request = pending.request(&rest);
@@ -155,9 +155,9 @@ impl IpmbPort {
 
     /// Forgets a requester's window, and says whether there was one.
     pub fn idle(&mut self, requester: u8) -> bool
-        ensures keeps { (p : PortState) → Shows self.old p
-            → Shows self.new (idles requester p) }
-        ensures had { (p : PortState) → Shows self.old p
+        ensures keeps { (p : PortState) → Represents self.old p
+            → Represents self.new (idles requester p) }
+        ensures had { (p : PortState) → Represents self.old p
             → result ≡ has_window requester p.log }
     {
         self.windows.idle(requester)

@@ -9,7 +9,7 @@ pub mod step;
 
 pub use bmc_board::{Board, Command, Lengths, Line, is_changing, read_request};
 pub use ipmb_port::{IpmbPending, IpmbPort};
-pub use out::{Done, Frames, Out, Reason};
+pub use out::{Disposition, Frames, Out, Reason};
 pub use port::{At, Pending, Port};
 pub use smbus_port::{SmbusPending, SmbusPort};
-pub use step::{Served, Step};
+pub use step::{ServeOutcome, Step};

@@ -19,7 +19,7 @@ pub enum Reason {
     NotOurs,
     /// The packet was dropped.
     Dropped(DropCause),
-    /// It is no request: an IPMB response, a message under a tag that its sender doesn't own, or a control message without reply.
+    /// What came is no request: an IPMB response, a message under a tag that its sender doesn't own, or a control message without reply.
     NotRequest,
     /// The message is neither a control message nor PLDM's.
     MessageType,
@@ -49,18 +49,18 @@ impl fmt::Display for Reason {
 
 /// What a port did with what it heard.
 #[derive(Clone, Copy, Debug, PartialEq, Eq)]
-pub enum Done {
+pub enum Disposition {
     /// Nothing.
     Ignored(Reason),
-    /// It took a packet, and others of its message are to come.
+    /// The port took a packet, and others of its message are to come.
     Waiting,
     /// The board answered the request.
     Answered,
-    /// It gave the reply that it keeps for the request that this one repeats.
+    /// The port gave the reply that it keeps for the request that this one repeats.
     Repeated,
-    /// It answered that it's busy: it has a window for eight other requesters.
+    /// The port answered that it's busy: it has a window for eight other requesters.
     Busy,
-    /// Its endpoint answered a control message.
+    /// The port's endpoint answered a control message.
     Control,
 }
 
@@ -110,7 +110,7 @@ impl Frames {
 #[derive(Drop)]
 pub struct Out {
     pub frames: Frames,
-    pub done: Done,
+    pub done: Disposition,
 }
 
 impl Out {
@@ -122,7 +122,7 @@ impl Out {
     {
         Out {
             frames: Frames::none(),
-            done: Done::Waiting,
+            done: Disposition::Waiting,
         }
     }
 
@@ -131,7 +131,7 @@ impl Out {
         ensures { self.new ≡ ignored reason }
     {
         self.frames.list.clear();
-        self.done = Done::Ignored(reason);
+        self.done = Disposition::Ignored(reason);
     }
 
     /// Nothing is sent yet.
@@ -139,6 +139,6 @@ impl Out {
         ensures { self.new ≡ waiting }
     {
         self.frames.list.clear();
-        self.done = Done::Waiting;
+        self.done = Disposition::Waiting;
     }
 }

@@ -3,14 +3,14 @@ ghost use Rattle.std.specs.Prelude.{◌≡◌, ◌≤◌, IfOk, length};
 ghost use Rattle.record_base.specs.Meaning.{room_for};
 ghost use Rattle.model_ports.specs.PortSteps.{PortState, quiet_port, idles};
 ghost use Rattle.bmc_core.specs.Rule.{has_window};
-ghost use Rattle.bmc_core.specs.Port.{bus_of, bus_asked, asked_of, Shows, HearsOn, IsStep, IsOn, Answers, Takes};
+ghost use Rattle.bmc_core.specs.Port.{bus_of, bus_asked, asked_of, Represents, PortStepOf, IsStep, IsOn, AnswerStep, ServesFrame};
 
 pub mod laws;
 
 use crate::ipmb_port::{IpmbPending, IpmbPort};
 use crate::out::Out;
 use crate::smbus_port::{SmbusPending, SmbusPort};
-use crate::step::{Served, Step};
+use crate::step::{ServeOutcome, Step};
 use bmc_board::{Board, Carrier};
 use cfg_records::{Answered, Asked, Store};
 use mctp_net::EndpointId;
@@ -63,7 +63,7 @@ impl Port {
     /// A port of the bus. All of its memory is taken here.
     pub fn new(alloc: Global, bus: Bus, at: At) -> Result<Port, AllocError>
         ensures bus { IfOk result (λ port. bus_of port ≡ bus) }
-        ensures quiet { IfOk result (λ port. Shows port (quiet_port at.wire at.eid)) }
+        ensures quiet { IfOk result (λ port. Represents port (quiet_port at.wire at.eid)) }
     {
         match bus {
             Bus::Ipmb => Ok(Port::Ipmb(IpmbPort::new(alloc, at.wire)?)),
@@ -80,8 +80,8 @@ impl Port {
         kept: &mut C::Kept,
         bytes: &[u8],
         out: &mut Out,
-    ) -> Result<Served, C::Refusal>
-        ensures served { Takes C.Carrier carrier.now self.old bytes.now kept.old result
+    ) -> Result<ServeOutcome, C::Refusal>
+        ensures served { ServesFrame C.Carrier carrier.now self.old bytes.now kept.old result
             self.new out.new kept.new }
         ensures bus { bus_of self.new ≡ bus_of self.old }
     {
@@ -93,7 +93,7 @@ impl Port {
 
     /// Takes what is heard on the bus, and fills in what is to be sent. It takes no memory.
     pub fn on_frame<S: Store>(&mut self, board: &mut Board<S>, bytes: &[u8], out: &mut Out)
-        ensures heard { HearsOn board.old self.old bytes.now out.new self.new board.new }
+        ensures heard { PortStepOf board.old self.old bytes.now out.new self.new board.new }
         ensures setup { board.new.setup ≡ board.old.setup }
         ensures bus { bus_of self.new ≡ bus_of self.old }
     {
@@ -127,7 +127,7 @@ impl Port {
     pub fn answer(&mut self, pending: Pending, answered: &Answered, out: &mut Out)
         requires bus { bus_asked pending ≡ bus_of self.old }
         requires fits { length answered.now.body ≤ room_for (asked_of pending) }
-        ensures answers { Answers self.old pending answered.now self.new out.new }
+        ensures answers { AnswerStep self.old pending answered.now self.new out.new }
         ensures bus { bus_of self.new ≡ bus_of self.old }
     {
         match self {
@@ -144,9 +144,9 @@ impl Port {
 
     /// Forgets a requester's window, and says whether there was one.
     pub fn idle(&mut self, requester: u8) -> bool
-        ensures keeps { (p : PortState) → Shows self.old p
-            → Shows self.new (idles requester p) }
-        ensures had { (p : PortState) → Shows self.old p
+        ensures keeps { (p : PortState) → Represents self.old p
+            → Represents self.new (idles requester p) }
+        ensures had { (p : PortState) → Represents self.old p
             → result ≡ has_window requester p.log }
         ensures bus { bus_of self.new ≡ bus_of self.old }
     {

@@ -3,8 +3,8 @@ ghost use Rattle.std.specs.Prelude.{◌≡◌, ◌≤◌, length, IfOk};
 ghost use Rattle.two_wire.specs.Sizes.{most_message_bytes};
 ghost use Rattle.model_ports.specs.PortSteps.{PortState, quiet_port, idles};
 ghost use Rattle.bmc_core.specs.Rule.{has_window};
-ghost use Rattle.bmc_core.specs.SmbusShown.{Shows, ReadsAt, GivesHeard, Steps, Answers, HearsOn};
-ghost use Rattle.bmc_core.specs.SmbusServed.{Takes};
+ghost use Rattle.bmc_core.specs.SmbusShown.{Represents, ReadsAt, GivesHeard, AskingStep, AnswerStep, PortStepOf};
+ghost use Rattle.bmc_core.specs.SmbusServed.{ServesFrame};
 
 mod hearing;
 pub mod laws;
@@ -13,8 +13,8 @@ mod replying;
 
 use crate::out::{Out, Reason};
 use crate::port::At;
-use crate::step::{Served, Step};
-use bmc_board::{Alone, Board, Carrier};
+use crate::step::{ServeOutcome, Step};
+use bmc_board::{Board, Carrier, DirectCarrier};
 use cfg_records::{Answered, Store};
 use hearing::{hear, take};
 use mctp_net::{Assembler, Endpoint, Envelope, Packet, read_packet};
@@ -26,7 +26,7 @@ use two_wire::Address;
 
 /// A port of the controller on the System Management Bus.
 pub struct SmbusPort {
-    /// Its two-wire address.
+    /// The port's two-wire address.
     wire: Address,
     /// The endpoint behind it, whose EID a requester can set.
     endpoint: Endpoint,
@@ -105,7 +105,7 @@ fn heard<'a>(
 impl SmbusPort {
     /// A port that has heard nothing yet. All of its memory is taken here.
     pub fn new(alloc: Global, at: At) -> Result<SmbusPort, AllocError>
-        ensures { IfOk result (λ port. Shows port (quiet_port at.wire at.eid)) }
+        ensures { IfOk result (λ port. Represents port (quiet_port at.wire at.eid)) }
     {
         Ok(SmbusPort {
             wire: at.wire,
@@ -129,7 +129,7 @@ impl SmbusPort {
 
     /// Takes what is heard on the bus: asks what a new request asks of the board, or fills in what is to be sent. It takes no memory.
     pub fn hear(&mut self, bytes: &[u8], out: &mut Out) -> Step<SmbusPending>
-        ensures { Steps self.old bytes.now self.new out.new result }
+        ensures { AskingStep self.old bytes.now self.new out.new result }
     {
         let Some(packet) = read(self.wire, &self.endpoint, &mut self.assembler, bytes, out) else {
             return Step::Done;
@@ -150,7 +150,7 @@ impl SmbusPort {
     /// Takes the answer to what was asked, and fills in what is to be sent. It takes no memory. Where the request
     /// repeats another by now, it gets the kept reply; where no window is free any more, the port answers that it's busy.
     pub fn answer(&mut self, pending: SmbusPending, answered: &Answered, out: &mut Out)
-        ensures { Answers self.old pending answered.now self.new out.new }
+        ensures { AnswerStep self.old pending answered.now self.new out.new }
     {
         let at = self.at();
         let bytes = pending.bytes();
@@ -177,12 +177,12 @@ impl SmbusPort {
         kept: &mut C::Kept,
         bytes: &[u8],
         out: &mut Out,
-    ) -> Result<Served, C::Refusal>
-        ensures { Takes C.Carrier carrier.now self.old bytes.now kept.old result
+    ) -> Result<ServeOutcome, C::Refusal>
+        ensures { ServesFrame C.Carrier carrier.now self.old bytes.now kept.old result
             self.new out.new kept.new }
     {
         let Some(packet) = read(self.wire, &self.endpoint, &mut self.assembler, bytes, out) else {
-            return Ok(Served::NothingAsked);
+            return Ok(ServeOutcome::NothingAsked);
         };
         let Some(request) = heard(
             self.wire,
@@ -192,7 +192,7 @@ impl SmbusPort {
             self.assembler.body(&packet),
             out,
         ) else {
-            return Ok(Served::NothingAsked);
+            return Ok(ServeOutcome::NothingAsked);
         };
         let at = At {
             wire: self.wire,
@@ -207,24 +207,24 @@ impl SmbusPort {
             &request,
             out,
         ) {
-            Ok(()) => Ok(Served::CarriedOut),
+            Ok(()) => Ok(ServeOutcome::CarriedOut),
             Err(why) => Err(why),
         }
     }
 
     /// Takes what is heard on the bus, has the board carry a new request out, and fills in what is to be sent. It takes no memory.
     pub fn on_frame<S: Store>(&mut self, board: &mut Board<S>, bytes: &[u8], out: &mut Out)
-        ensures heard { HearsOn board.old self.old bytes.now out.new self.new board.new }
+        ensures heard { PortStepOf board.old self.old bytes.now out.new self.new board.new }
         ensures setup { board.new.setup ≡ board.old.setup }
     {
-        let _ = self.serve(&Alone::new(), board, bytes, out);
+        let _ = self.serve(&DirectCarrier::new(), board, bytes, out);
     }
 
     /// Forgets a requester's window, and says whether there was one.
     pub fn idle(&mut self, requester: u8) -> bool
-        ensures keeps { (p : PortState) → Shows self.old p
-            → Shows self.new (idles requester p) }
-        ensures had { (p : PortState) → Shows self.old p
+        ensures keeps { (p : PortState) → Represents self.old p
+            → Represents self.new (idles requester p) }
+        ensures had { (p : PortState) → Represents self.old p
             → result ≡ has_window requester p.log }
     {
         self.windows.idle(requester)

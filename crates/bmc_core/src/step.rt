@@ -12,7 +12,7 @@ pub enum Step<P> {
 
 /// What came of bytes that a port heard with a carrier beside it. The caller's `Out` says what the port did.
 #[derive(Clone, Copy, PartialEq, Eq)]
-pub enum Served {
+pub enum ServeOutcome {
     /// The bytes were a new request, and the carrier carried it out.
     CarriedOut,
     /// The bytes asked nothing of the carrier.

@@ -1,7 +1,7 @@
 -- A Get shows what was set.
 use Rattle.std.proofs.Common.{◌≡◌, ◌<◌, ◌++◌, ℕ, List, [], ◌∷◌, Option, Some, None, Result, Ok, Err, Bool, true, false, if◌then◌else◌, inl, inr, refl, sym, ap, ◌∙◌, subst, arith}
 use Rattle.two_wire.specs.Codes.{success}
-use Rattle.record_base.specs.Meaning.{Decides}
+use Rattle.record_base.specs.Meaning.{DecidesValue}
 use Rattle.record_base.specs.Keys.{same_key}
 use Rattle.record_base.specs.KeyLaws.{exact_key}
 use Rattle.record_base.specs.declared.key.Key.{Key}
@@ -23,15 +23,15 @@ use Rattle.bmc_board.specs.Request.{Live, Get, Set, SetStores, PartOfSet, LaterP
 use Rattle.bmc_board.specs.Request.{asked_by}
 use Rattle.bmc_board.specs.State.{State}
 use Rattle.bmc_board.specs.Replies.{unknown_code}
-use Rattle.bmc_board.specs.Answer.{Given, get_answer, set_result, set_answer, outcome_at, both_given, set_at, end_staging, ended, reply}
+use Rattle.bmc_board.specs.Answer.{AnswerAndState, get_answer, set_result, set_answer, outcome_at, both_given, set_at, end_staging, ended, reply}
 use Rattle.bmc_board.specs.AttributeParts.{named_in, limits_named, later_answer}
 use Rattle.bmc_board.proofs.LiveFacts.{unknown_is_refused}
 use Rattle.bmc_board.proofs.PartFacts.{staged_records, unstaged_records}
 use Rattle.bmc_history.specs.declared.event.Call.{Call}
 use Rattle.bmc_history.specs.declared.event.Call.TheVariants.{Exchanged, Benched}
 use Rattle.bmc_history.specs.declared.event.Event.{Event}
-use Rattle.bmc_history.specs.Replay.{Replays, IsAnswered, after_call}
-use Rattle.bmc_history.specs.Gets.{state_after, IsSetBy, Writes, MayWrite, NoneWrites, IsGetOf, shown_by, GetsWhatWasSet}
+use Rattle.bmc_history.specs.Replay.{IsReplay, IsAnsweredCall, after_call}
+use Rattle.bmc_history.specs.Gets.{state_after, IsSetBy, WritesRecord, MayWrite, NoneWrites, IsGetOf, shown_by, GetsWhatWasSet}
 
 -- ---- calls that don't write a record keep it
 
@@ -63,12 +63,12 @@ ended_keeps : (setup : BoardFile) (from : ℕ) (before : State) (r : Result SetB
     → (ended setup from before r).1.records key ≡ before.records key
 ended_keeps setup from before (Ok change) key not =
     let op : Op = of_kind.BiosAttribute change in
-    let given : Given = set_at setup before op in
+    let given : AnswerAndState = set_at setup before op in
     ap (λ (r : Records). r key) (unstaged_records from given.0.code given.1)
     ∙ set_keeps (limits_at setup (key_of op)) (before.records (key_of op)) (unknown_code setup (key_of op)) op before key (not change refl)
 ended_keeps setup from before (Err code) key not = refl
 
-reply_keeps : (setup : BoardFile) (before : State) (r : Result Request ℕ) (key : Key) → (Writes before r key → ⊥) → (reply setup before r).1.records key ≡ before.records key
+reply_keeps : (setup : BoardFile) (before : State) (r : Result Request ℕ) (key : Key) → (WritesRecord before r key → ⊥) → (reply setup before r).1.records key ≡ before.records key
 reply_keeps setup before (Ok (Live command body)) key not = refl
 reply_keeps setup before (Ok (Get other)) key not = refl
 reply_keeps setup before (Ok (Set op)) key not = set_keeps (limits_at setup (key_of op)) (before.records (key_of op)) (unknown_code setup (key_of op)) op before key (λ is. not (op, refl, is))
@@ -91,7 +91,7 @@ calls_keep setup before (event ∷ later) key none = calls_keep setup (after_cal
 
 -- ---- a Set that was carried out
 
-record Written (limits : Option Limits) (value : Option (List ℕ)) (op : Op) (before : State) (given : Given) : Type 0 where
+record Written (limits : Option Limits) (value : Option (List ℕ)) (op : Op) (before : State) (given : AnswerAndState) : Type 0 where
   of : Limits
   old : List ℕ
   new : List ℕ
@@ -100,7 +100,7 @@ record Written (limits : Option Limits) (value : Option (List ℕ)) (op : Op) (b
   was_set : sets of op old new
   has : given.1.records (key_of op) ≡ Some new
 
-result_written : (of : Limits) (old : List ℕ) (op : Op) (before : State) (r : Result (List ℕ) ℕ) → outcome of op old ≡ r → Decides r (sets of op old) → (set_result r op before).0.code ≡ success → Written (Some of) (Some old) op before (set_result r op before)
+result_written : (of : Limits) (old : List ℕ) (op : Op) (before : State) (r : Result (List ℕ) ℕ) → outcome of op old ≡ r → DecidesValue r (sets of op old) → (set_result r op before).0.code ≡ success → Written (Some of) (Some old) op before (set_result r op before)
 result_written of old op before (Ok new) e d carried = record {
   of = of;
   old = old;
@@ -124,7 +124,7 @@ ended_written : (setup : BoardFile) (from : ℕ) (before : State) (r : Result Se
 ended_written setup from before (Ok other) change e carried =
     let same : other ≡ change = cc in
     let op : Op = of_kind.BiosAttribute other in
-    let given : Given = set_at setup before op in
+    let given : AnswerAndState = set_at setup before op in
     let unknown : 0 < unknown_code setup (key_of op) = (unknown_is_refused setup (key_of op)).is_fault in
     let w : Written (limits_at setup (key_of op)) (before.records (key_of op)) op before given = set_written (limits_at setup (key_of op)) (before.records (key_of op)) (unknown_code setup (key_of op)) op before unknown carried in
     let whole : Written (limits_at setup (key_of op)) (before.records (key_of op)) op before (end_staging from given) =
@@ -140,7 +140,7 @@ written_by setup before (Ok (Set other)) op is carried =
     subst (λ (o : Op). Written (limits_at setup (key_of o)) (before.records (key_of o)) o before (reply setup before (Ok (Set other)))) is
     (set_written (limits_at setup (key_of other)) (before.records (key_of other)) (unknown_code setup (key_of other)) other before unknown carried)
 written_by setup before (Ok (PartOfSet from (End handle bytes))) op is carried =
-    let given : Given = ended setup from before (end_outcome before.activity.stagings from handle bytes) in
+    let given : AnswerAndState = ended setup from before (end_outcome before.activity.stagings from handle bytes) in
     subst (λ (o : Op). Written (limits_at setup (key_of o)) (before.records (key_of o)) o before given) is.2
     (ended_written setup from before (end_outcome before.activity.stagings from handle bytes) is.0 is.1 carried)
 written_by setup before (Ok (PartOfSet from (Start entry))) op is carried = absurd is
@@ -153,7 +153,7 @@ written_by setup before (Err code) op is carried = absurd is
 
 -- ---- a history, from a place on
 
-rest_replays : (setup : BoardFile) (first : State) (events later : List Event) (last : State) → Replays setup first (events ++ later) last → Replays setup (state_after setup first events) later last
+rest_replays : (setup : BoardFile) (first : State) (events later : List Event) (last : State) → IsReplay setup first (events ++ later) last → IsReplay setup (state_after setup first events) later last
 rest_replays setup first [] later last run = run
 rest_replays setup first (event ∷ events) later last run = rest_replays setup (after_call setup first event.call) events later last run.1
 
@@ -178,15 +178,15 @@ pub gets_what_was_set : GetsWhatWasSet
 gets_what_was_set setup first last op before between later set get shown h =
     let key : Key = key_of op in
     let s : State = state_after setup first before in
-    let from_set : Replays setup s (set ∷ (between ++ (get ∷ later))) last = rest_replays setup first before (set ∷ (between ++ (get ∷ later))) last h.replays in
+    let from_set : IsReplay setup s (set ∷ (between ++ (get ∷ later))) last = rest_replays setup first before (set ∷ (between ++ (get ∷ later))) last h.replays in
     let mid : State = after_call setup s set.call in
     let t : State = state_after setup mid between in
-    let from_get : Replays setup t (get ∷ later) last = rest_replays setup mid between (get ∷ later) last from_set.1 in
-    let carried : (reply setup s (asked_by h.setter)).0.code ≡ success = ap (λ (a : Answered). a.code) (subst (IsAnswered setup s) h.set_is from_set.0) ∙ h.carried_out in
+    let from_get : IsReplay setup t (get ∷ later) last = rest_replays setup mid between (get ∷ later) last from_set.1 in
+    let carried : (reply setup s (asked_by h.setter)).0.code ≡ success = ap (λ (a : Answered). a.code) (subst (IsAnsweredCall setup s) h.set_is from_set.0) ∙ h.carried_out in
     let w : Written (limits_at setup key) (s.records key) op s (reply setup s (asked_by h.setter)) = written_by setup s (asked_by h.setter) op h.is_set carried in
     let mid_is : mid ≡ (reply setup s (asked_by h.setter)).1 = ap (after_call setup s) h.set_is in
     let has : t.records key ≡ Some w.new = calls_keep setup mid between key h.unwritten ∙ ap (λ (m : State). m.records key) mid_is ∙ w.has in
-    let answered : (reply setup t (asked_by h.getter)).0 ≡ shown = subst (IsAnswered setup t) h.get_is from_get.0 in
+    let answered : (reply setup t (asked_by h.getter)).0 ≡ shown = subst (IsAnsweredCall setup t) h.get_is from_get.0 in
     let is : shown ≡ shown_by (asked_by h.getter) w.of (view w.of w.new t.activity.live) =
     sym answered ∙ answered_by setup t (asked_by h.getter) key w.of w.new h.is_get w.limits_are has in
     record {

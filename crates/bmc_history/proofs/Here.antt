@@ -10,12 +10,12 @@ use Rattle.record_base.specs.Meaning.{room_for}
 use Rattle.cfg_records.specs.declared.board_file.BoardFile.{BoardFile}
 use Rattle.bmc_board.specs.declared.board.Board.{Board}
 use Rattle.bmc_board.specs.State.{state_of}
-use Rattle.bmc_board.specs.Gives.{Gives}
-use Rattle.bmc_board.specs.Answer.{Given}
+use Rattle.bmc_board.specs.Gives.{GivesReply}
+use Rattle.bmc_board.specs.Answer.{AnswerAndState}
 use Rattle.bmc_board.specs.Row.{Row}
 use Rattle.bmc_board.proofs.OneAnswer.{has_answer}
-use Rattle.bmc_board.specs.declared.asked.AskedHere.{AskedHere}
-use Rattle.bmc_board.specs.Asking.{meant}
+use Rattle.bmc_board.specs.declared.asked_ref.AskedRef.{AskedRef}
+use Rattle.bmc_board.specs.Asking.{as_asked}
 use Rattle.bmc_board.specs.Carrying.{code_given}
 use Rattle.bmc_history.specs.declared.event.Call.TheVariants.{Exchanged}
 use Rattle.bmc_history.specs.Entries.{exchanged}
@@ -23,7 +23,7 @@ use Rattle.bmc_history.specs.declared.event.Event.{Event}
 use Rattle.bmc_history.specs.Calls.{IsRow, IsReply, GainsEvent, ExchangesHere}
 
 -- the bytes that were appended are the answer's data
-data_are : (given : Result (Unit {0}) ℕ) (old new : List ℕ) (a : Answered) → Gives given old new a → drop (length old) new ≡ a.body
+data_are : (given : Result (Unit {0}) ℕ) (old new : List ℕ) (a : Answered) → GivesReply given old new a → drop (length old) new ≡ a.body
 data_are (Ok done) old new a gives = ap (λ (xs : List ℕ). drop (length old) xs) gives.1 ∙ drop-append_seam old a.body
 data_are (Err code) old new a gives =
     ap (λ (xs : List ℕ). drop (length old) xs) gives.1 ∙ drop-length old ∙ sym (ap (λ (b : Answered). b.body) gives.0)
@@ -36,17 +36,17 @@ pub rest_given : (xs start old new : List ℕ) → xs ≡ new → start ≡ old 
 rest_given xs start old new whole first = rest_of xs (length start) ∙ (λ i. drop (length (first i)) (whole i))
 
 -- its code is the answer's
-code_is : (given : Result (Unit {0}) ℕ) (old new : List ℕ) (a : Answered) → Gives given old new a → code_given given ≡ a.code
+code_is : (given : Result (Unit {0}) ℕ) (old new : List ℕ) (a : Answered) → GivesReply given old new a → code_given given ≡ a.code
 code_is (Ok done) old new a gives = sym gives.0
 code_is (Err code) old new a gives = sym (ap (λ (b : Answered). b.code) gives.0)
 
 -- the call of what was given is the answer's
-pub call_is : (asked : AskedHere) (given : Result (Unit {0}) ℕ) (old new shown : List ℕ) (code : ℕ) (a : Answered) → Gives given old new a
-    → code ≡ code_given given → shown ≡ drop (length old) new → exchanged asked code shown ≡ Exchanged (meant asked) a
+pub call_is : (asked : AskedRef) (given : Result (Unit {0}) ℕ) (old new shown : List ℕ) (code : ℕ) (a : Answered) → GivesReply given old new a
+    → code ≡ code_given given → shown ≡ drop (length old) new → exchanged asked code shown ≡ Exchanged (as_asked asked) a
 call_is asked given old new shown code a gives coded taken =
     let same : (let b : Answered = record { code = code; body = shown } in b) ≡ a =
     λ i. record { code = (coded ∙ code_is given old new a gives) i; body = (taken ∙ data_are given old new a gives) i } in
-    ap (λ (b : Answered). Exchanged (meant asked) b) same
+    ap (λ (b : Answered). Exchanged (as_asked asked) b) same
 
 -- so many are room for any reply
 pub room_is : (asked : Asked) → room_for asked ≤ 251
@@ -57,7 +57,7 @@ room_is (Pldm from kind command body) = lit≤ tt
 pub row_of : {S : Type 0} {g h : _} (setup : BoardFile) (before after : Board S g h) (asked : Asked) (a : Answered)
     → IsReply setup before after asked a → IsRow setup before after asked a
 row_of setup before after asked a is =
-    subst (λ (p : Given). Row setup (state_of before) asked p.0 p.1) (sym is) (has_answer setup (state_of before) asked)
+    subst (λ (p : AnswerAndState). Row setup (state_of before) asked p.0 p.1) (sym is) (has_answer setup (state_of before) asked)
 
 -- an answer in a value of its own is the one that was given
 pub exchanged_as : {S : Type 0} {g h : _} (setup : BoardFile) (before after : Board S g h) (events later : List Event) (seat : ℕ) (asked question : Asked)

@@ -6,7 +6,7 @@ use Rattle.std.proofs.lemmas.List.Elements.{All-head, All-tail}
 use Rattle.std.proofs.Math.Seq.{take-append_seam, drop-append_seam}
 use Rattle.bmc_history.specs.declared.entry.Head.{Head}
 use Rattle.bmc_history.specs.declared.entry.Mark.{Mark}
-use Rattle.bmc_history.specs.Entries.{call_of, between, event_of, Lies}
+use Rattle.bmc_history.specs.Entries.{call_of, between, event_of, EntryLies}
 
 -- what lies among the first bytes stays there
 between_stays : (from to : ℕ) (xs ys : List ℕ) → from ≤ to → to ≤ length xs → between from to (xs ++ ys) ≡ between from to xs
@@ -24,22 +24,22 @@ pub whole : (old new : List ℕ) (n : ℕ) → n ≡ length old → length new �
 whole old new n all same = ap (λ (m : ℕ). take m (new ++ drop (length new) old)) (all ∙ sym same) ∙ take-append_seam new (drop (length new) old)
 
 -- the event of a mark stays
-event_stays : (xs ys : List ℕ) (mark : Mark) → Lies (length xs) mark → event_of (xs ++ ys) mark ≡ event_of xs mark
+event_stays : (xs ys : List ℕ) (mark : Mark) → EntryLies (length xs) mark → event_of (xs ++ ys) mark ≡ event_of xs mark
 event_stays xs ys mark lies =
     let request : between mark.request mark.reply (xs ++ ys) ≡ between mark.request mark.reply xs =
     between_stays mark.request mark.reply xs ys lies.request (omega (arith, lies.reply, lies.within)) in
     let reply : between mark.reply mark.end (xs ++ ys) ≡ between mark.reply mark.end xs = between_stays mark.reply mark.end xs ys lies.reply lies.within in
     λ i. record { seat = mark.seat; call = call_of mark.head (request i) (reply i) }
 
-events_stay : (xs ys : List ℕ) (marks : List Mark) → All (Lies (length xs)) marks → map (event_of (xs ++ ys)) marks ≡ map (event_of xs) marks
+events_stay : (xs ys : List ℕ) (marks : List Mark) → All (EntryLies (length xs)) marks → map (event_of (xs ++ ys)) marks ≡ map (event_of xs) marks
 events_stay xs ys [] all = refl
 events_stay xs ys (mark ∷ marks) all =
-    let first : event_of (xs ++ ys) mark ≡ event_of xs mark = event_stays xs ys mark (All-head (Lies (length xs)) mark marks all) in
-    let rest : map (event_of (xs ++ ys)) marks ≡ map (event_of xs) marks = events_stay xs ys marks (All-tail (Lies (length xs)) mark marks all) in
+    let first : event_of (xs ++ ys) mark ≡ event_of xs mark = event_stays xs ys mark (All-head (EntryLies (length xs)) mark marks all) in
+    let rest : map (event_of (xs ++ ys)) marks ≡ map (event_of xs) marks = events_stay xs ys marks (All-tail (EntryLies (length xs)) mark marks all) in
     λ i. first i ∷ rest i
 
 -- a mark lies among more bytes
-lies_more : (n m : ℕ) (mark : Mark) → n ≤ m → Lies n mark → Lies m mark
+lies_more : (n m : ℕ) (mark : Mark) → n ≤ m → EntryLies n mark → EntryLies m mark
 lies_more n m mark more lies = record {
   request = lies.request;
   reply = lies.reply;
@@ -48,7 +48,7 @@ lies_more n m mark more lies = record {
   short_reply = lies.short_reply;
 }
 
-all_lie : (xs ys : List ℕ) (marks : List Mark) → All (Lies (length xs)) marks → All (Lies (length (xs ++ ys))) marks
+all_lie : (xs ys : List ℕ) (marks : List Mark) → All (EntryLies (length xs)) marks → All (EntryLies (length (xs ++ ys))) marks
 all_lie xs ys marks all k d below =
     let longer : length (xs ++ ys) ≡ length xs + length ys = length-append xs ys in
     lies_more (length xs) (length (xs ++ ys)) _ (omega (arith, longer)) (all k d below)
@@ -64,7 +64,7 @@ mark_behind seat head bytes request reply = record {
 }
 
 -- the event that is added is the last
-pub events_gained : (seat : ℕ) (head : Head) (marks : List Mark) (bytes request reply : List ℕ) → All (Lies (length bytes)) marks
+pub events_gained : (seat : ℕ) (head : Head) (marks : List Mark) (bytes request reply : List ℕ) → All (EntryLies (length bytes)) marks
     → map (event_of ((bytes ++ request) ++ reply)) (marks ++ mark_behind seat head bytes request reply ∷ [])
     ≡ map (event_of bytes) marks ++ record { seat = seat; call = call_of head request reply } ∷ []
 events_gained seat head marks bytes request reply all =

@@ -6,7 +6,7 @@ use Rattle.record_base.specs.declared.sensor.Sensor.{Sensor}
 use Rattle.record_base.specs.declared.numeric_effecter.NumericEffecter.{NumericEffecter}
 use Rattle.record_base.specs.declared.state_effecter.StateEffecter.{StateEffecter}
 use Rattle.record_base.specs.declared.user.UserAccess.{UserAccess}
-use Rattle.record_base.specs.declared.lan_item.Lan.{Lan}
+use Rattle.record_base.specs.declared.lan.Lan.{Lan}
 use Rattle.record_base.specs.declared.channel.Channel.{Channel}
 use Rattle.record_base.specs.Numbers.{ChannelNumber, number_on}
 use Rattle.record_base.specs.Sdr.{sdr_id}

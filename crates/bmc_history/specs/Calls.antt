@@ -8,14 +8,14 @@ use Rattle.bmc_board.specs.declared.bench.Bench.{Bench}
 use Rattle.bmc_board.specs.declared.bench.NoSensor.{NoSensor}
 use Rattle.bmc_board.specs.declared.board.Board.{Board}
 use Rattle.bmc_board.specs.State.{state_of}
-use Rattle.bmc_board.specs.Gives.{Gives}
+use Rattle.bmc_board.specs.Gives.{GivesReply}
 use Rattle.bmc_board.specs.Answer.{answer_of}
-use Rattle.bmc_board.specs.Row.{Row, Is}
+use Rattle.bmc_board.specs.Row.{Row, IsAnswerGiven}
 use Rattle.bmc_board.specs.Sensing.{bench_of}
 use Rattle.bmc_history.specs.declared.event.Call.{Call}
 use Rattle.bmc_history.specs.declared.event.Call.TheVariants.{Exchanged}
 use Rattle.bmc_history.specs.declared.event.Event.{Event}
-use Rattle.bmc_history.specs.Follows.{Happens}
+use Rattle.bmc_history.specs.Follows.{BenchStep}
 
 -- the board answers the request so, and goes from one state to the other, by the command relation
 abbrev pub IsRow : {S : Type 0} {g h : _} → BoardFile → Board S g h → Board S g h
@@ -27,13 +27,13 @@ IsRow setup before after asked answered =
 abbrev pub IsReply : {S : Type 0} {g h : _} → BoardFile → Board S g h → Board S g h
     → Asked → Answered → Type 0
 IsReply setup before after asked answered =
-    Is answered (state_of after) (answer_of setup (state_of before) asked)
+    IsAnswerGiven answered (state_of after) (answer_of setup (state_of before) asked)
 
 -- the board's one answer to what happened is this, and it leaves the board so
 abbrev pub IsHappening : {S : Type 0} {g h : _} → BoardFile → Board S g h
     → Board S g h → Bench → Result (Unit {0}) NoSensor → Type 0
 IsHappening setup before after bench answered =
-    Happens setup (state_of before) answered (state_of after)
+    BenchStep setup (state_of before) answered (state_of after)
     (bench_of setup (state_of before) bench)
 
 -- the history has one event more, its last: the seat's call
@@ -48,7 +48,7 @@ GainsCall before after call = after ≡ before ++ call ∷ []
 pub record ExchangesHere {S : Type 0} {g h : _} (setup : BoardFile) (before after : Board S g h) (events later : List Event) (seat : ℕ)
     (asked : Asked) (given : Result (Unit {0}) ℕ) (old new : List ℕ) : Type 0 where
   pub answered : Answered
-  pub gives : Gives given old new answered
+  pub gives : GivesReply given old new answered
   pub fits : length answered.body ≤ room_for asked
   pub row : IsRow setup before after asked answered
   pub reply : IsReply setup before after asked answered
@@ -57,6 +57,6 @@ pub record ExchangesHere {S : Type 0} {g h : _} (setup : BoardFile) (before afte
 -- the answer is given behind the bytes that were there, and the seat's list gained the request with it
 pub record KeepsHere (calls kept : List Call) (asked : Asked) (given : Result (Unit {0}) ℕ) (old new : List ℕ) : Type 0 where
   pub answered : Answered
-  pub gives : Gives given old new answered
+  pub gives : GivesReply given old new answered
   pub fits : length answered.body ≤ room_for asked
   pub gained : GainsCall calls kept (Exchanged asked answered)

@@ -2,8 +2,8 @@
 use Rattle.std.specs.Prelude.{◌≡◌, ◌+◌, ◌-◌, ◌*◌, ◌≤◌, ℕ, List, [], map, take, drop}
 use Rattle.two_wire.specs.Sizes.{most_ipmi_request_data, most_pldm_request_data, most_pldm_reply_data}
 use Rattle.record_base.specs.declared.message.Asked.TheVariants.{Ipmi, Pldm}
-use Rattle.bmc_board.specs.declared.asked.AskedHere.{AskedHere}
-use Rattle.bmc_board.specs.Asking.{meant}
+use Rattle.bmc_board.specs.declared.asked_ref.AskedRef.{AskedRef}
+use Rattle.bmc_board.specs.Asking.{as_asked}
 use Rattle.bmc_history.specs.declared.event.Call.{Call}
 use Rattle.bmc_history.specs.declared.event.Call.TheVariants.{Exchanged, Benched}
 use Rattle.bmc_history.specs.declared.event.Event.{Event}
@@ -18,8 +18,8 @@ call_of (PldmAsked from kind command code) request reply = Exchanged (Pldm from 
 call_of (Happened bench answered) request reply = Benched bench answered
 
 -- the call of a request, and of the reply of this code and data
-abbrev pub exchanged : AskedHere → ℕ → List ℕ → Call
-exchanged asked code body = Exchanged (meant asked) (record { code = code; body = body })
+abbrev pub exchanged : AskedRef → ℕ → List ℕ → Call
+exchanged asked code body = Exchanged (as_asked asked) (record { code = code; body = body })
 
 -- how many bytes a request has at most, by its head
 abbrev pub most_request : Head → ℕ
@@ -53,7 +53,7 @@ event_of bytes mark = record {
 }
 
 -- a mark's request and its reply lie among so many bytes, and neither is longer than a message of its kind
-pub record Lies (bytes : ℕ) (mark : Mark) : Type 0 where
+pub record EntryLies (bytes : ℕ) (mark : Mark) : Type 0 where
   pub request : mark.request ≤ mark.reply
   pub reply : mark.reply ≤ mark.end
   pub within : mark.end ≤ bytes

@@ -24,7 +24,7 @@ use Rattle.bmc_board.specs.State.{State}
 use Rattle.bmc_history.specs.declared.event.Call.{Call}
 use Rattle.bmc_history.specs.declared.event.Call.TheVariants.{Exchanged, Benched}
 use Rattle.bmc_history.specs.declared.event.Event.{Event}
-use Rattle.bmc_history.specs.Replay.{after_call, Replays}
+use Rattle.bmc_history.specs.Replay.{after_call, IsReplay}
 
 -- the state that events leave
 abbrev pub state_after : BoardFile → State → List Event → State
@@ -38,12 +38,12 @@ IsSetBy at (Ok (PartOfSet from (End handle bytes))) op =
 IsSetBy at _ op = ⊥
 
 -- the request may write the record: it sets it, or it sets the access of a channel in two stores, of which one has it
-abbrev pub Writes : (at : State) → Result Request ℕ → Key → Type 0
-Writes at (Ok (SetStores first second)) key = (key_of (of_kind.ChannelAccess first) ≡ key) ⊎ (key_of (of_kind.ChannelAccess second) ≡ key)
-Writes at asked key = (op : Op) × IsSetBy at asked op × (key_of op ≡ key)
+abbrev pub WritesRecord : (at : State) → Result Request ℕ → Key → Type 0
+WritesRecord at (Ok (SetStores first second)) key = (key_of (of_kind.ChannelAccess first) ≡ key) ⊎ (key_of (of_kind.ChannelAccess second) ≡ key)
+WritesRecord at asked key = (op : Op) × IsSetBy at asked op × (key_of op ≡ key)
 
 abbrev pub MayWrite : (at : State) → Key → Call → Type 0
-MayWrite at key (Exchanged asked answered) = Writes at (asked_by asked) key
+MayWrite at key (Exchanged asked answered) = WritesRecord at (asked_by asked) key
 MayWrite at key (Benched bench answered) = ⊥
 
 -- no call of these events, which begin at the state, may write the record
@@ -64,7 +64,7 @@ shown_by _ limits whole = done (first_shown limits whole)
 
 -- In a history, a Set of a record is carried out, and a Get of it is answered later. No call between the two may write the record.
 pub record SetsThenGets (setup : BoardFile) (first last : State) (op : Op) (before between later : List Event) (set get : Event) (shown : Answered) : Type 0 where
-  pub replays : Replays setup first (before ++ (set ∷ (between ++ (get ∷ later)))) last
+  pub replays : IsReplay setup first (before ++ (set ∷ (between ++ (get ∷ later)))) last
   pub setter : Asked
   pub replied : Answered
   pub set_is : set.call ≡ Exchanged setter replied

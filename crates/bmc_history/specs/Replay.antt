@@ -9,9 +9,9 @@ use Rattle.bmc_history.specs.declared.event.Call.TheVariants.{Exchanged, Benched
 use Rattle.bmc_history.specs.declared.event.Event.{Event}
 
 -- the call was answered as the board answers it in this state
-abbrev pub IsAnswered : BoardFile → State → Call → Type 0
-IsAnswered setup before (Exchanged asked answered) = (answer_of setup before asked).0 ≡ answered
-IsAnswered setup before (Benched bench answered) = (bench_of setup before bench).0 ≡ answered
+abbrev pub IsAnsweredCall : BoardFile → State → Call → Type 0
+IsAnsweredCall setup before (Exchanged asked answered) = (answer_of setup before asked).0 ≡ answered
+IsAnsweredCall setup before (Benched bench answered) = (bench_of setup before bench).0 ≡ answered
 
 -- the state that a call leaves
 abbrev pub after_call : BoardFile → State → Call → State
@@ -19,9 +19,9 @@ after_call setup before (Exchanged asked answered) = (answer_of setup before ask
 after_call setup before (Benched bench answered) = (bench_of setup before bench).1
 
 -- the events lead in order from the first state to the last, each answered as the board answers it there
-abbrev pub Replays : BoardFile → State → List Event → State → Type 0
-Replays setup first [] last = first ≡ last
-Replays setup first (event ∷ later) last = IsAnswered setup first event.call × Replays setup (after_call setup first event.call) later last
+abbrev pub IsReplay : BoardFile → State → List Event → State → Type 0
+IsReplay setup first [] last = first ≡ last
+IsReplay setup first (event ∷ later) last = IsAnsweredCall setup first event.call × IsReplay setup (after_call setup first event.call) later last
 
 -- what a seat called, in order
 abbrev pub calls_of : ℕ → List Event → List Call

@@ -1,10 +1,10 @@
 //! What was asked and answered, without its bytes, and where these lie.
 ghost use Rattle.std.specs.Prelude.{◌≡◌, ◌≤◌, List, ℕ, length};
 ghost use Rattle.two_wire.specs.Sizes.{most_pldm_reply_data};
-ghost use Rattle.bmc_history.specs.Entries.{call_of, event_of, exchanged, most_request, Lies};
+ghost use Rattle.bmc_history.specs.Entries.{call_of, event_of, exchanged, most_request, EntryLies};
 
 use crate::event::{Call, Event};
-use bmc_board::{AskedHere, Bench, NoSensor};
+use bmc_board::{AskedRef, Bench, NoSensor};
 use record_base::{Answered, Asked};
 use two_wire::{Below, Bytes, Lun, NetFn};
 
@@ -34,14 +34,14 @@ pub(crate) enum Head {
 }
 
 impl Head {
-    /// That of the call of this request, and of a reply of this code; and the request's data.
-    pub(crate) fn of<'a>(asked: &AskedHere<'a>, code: u8) -> (Head, &'a [u8])
+    /// The head of the call of this request with a reply of this code, and the request's data.
+    pub(crate) fn of<'a>(asked: &AskedRef<'a>, code: u8) -> (Head, &'a [u8])
         ensures call { (body : List ℕ) →
             call_of result.0 result.1.now body ≡ exchanged asked.now code body }
         ensures fits { length result.1.now ≤ most_request result.0 }
     {
         match asked {
-            AskedHere::Ipmi {
+            AskedRef::Ipmi {
                 from,
                 net_fn,
                 lun,
@@ -57,7 +57,7 @@ impl Head {
                 };
                 (head, body.as_slice())
             }
-            AskedHere::Pldm {
+            AskedRef::Pldm {
                 from,
                 kind,
                 command,
@@ -151,7 +151,7 @@ impl Mark {
 
     /// The event, whose bytes lie among these.
     pub(crate) fn event(&self, bytes: &[u8]) -> Event
-        requires { Lies (length bytes.now) self.now }
+        requires { EntryLies (length bytes.now) self.now }
         ensures { result ≡ event_of bytes.now self.now }
     {
         Event {

@@ -2,18 +2,18 @@
 ghost use Rattle.std.specs.Prelude.{◌≡◌, ◌+◌, ◌≤◌, ◌<◌, ◌↔◌, [], IfOk, IfErr, OnOk, OnErr, IsErr, IsTrue, length};
 ghost use Rattle.record_base.specs.Meaning.{room_for};
 ghost use Rattle.bmc_board.specs.State.{state_of};
-ghost use Rattle.bmc_board.specs.Asking.{meant};
-ghost use Rattle.bmc_history.specs.Replay.{Replays, IsRoom};
-ghost use Rattle.bmc_history.specs.Matching.{Matches};
+ghost use Rattle.bmc_board.specs.Asking.{as_asked};
+ghost use Rattle.bmc_history.specs.Replay.{IsReplay, IsRoom};
+ghost use Rattle.bmc_history.specs.Matching.{MatchesHistory};
 ghost use Rattle.bmc_history.specs.Calls.{IsRow, IsReply, IsHappening, GainsEvent, ExchangesHere};
 ghost use Rattle.bmc_history.specs.ReplayLaws.{Replays-prop, same_file-prop};
 ghost use Rattle.bmc_history.specs.declared.event.Call.TheVariants.{Exchanged, Benched};
 ghost use Rattle.bmc_history.specs.declared.held.OpenFault.TheVariants.{Room};
 
-use crate::entries::{Calls, Events};
+use crate::events::{Calls, Events};
 use crate::history::{History, are_calls};
 use crate::opening::Opening;
-use bmc_board::{AskedHere, Bench, Board, NoSensor, Reply, answer_here, answered, code_of};
+use bmc_board::{AskedRef, Bench, Board, NoSensor, Reply, answer_into, answered, code_of};
 use cfg_records::{Answered, Asked, Store};
 use std::alloc::Global;
 use std::marker::PhantomData;
@@ -45,7 +45,7 @@ pub struct Held<J: Opening, S: Store> {
     ghost room_is: { room ≡ J.room },
     ghost within: { length history.items ≤ room },
     ghost roomy: { history.room ≡ room },
-    ghost replays: { Replays J.setup J.opening history.items
+    ghost replays: { IsReplay J.setup J.opening history.items
         (state_of board) } by { Replays-prop J.setup J.opening history.items
             (state_of board) },
 }
@@ -115,7 +115,7 @@ impl<J: Opening, S: Store> Held<J, S> {
     /// was refused.
     pub fn matches(&self, seat: u8, calls: &Calls, refused: bool) -> bool
         ensures { IsTrue result ↔
-            Matches J.room self.now.history.items seat calls.now.items refused }
+            MatchesHistory J.room self.now.history.items seat calls.now.items refused }
     {
         (!refused || self.is_full()) && are_calls(&self.history, seat, calls)
     }
@@ -125,7 +125,7 @@ impl<J: Opening, S: Store> Held<J, S> {
         ensures board { result.0 ≡ self.board }
         ensures history { result.1 ≡ self.history.items }
         ensures setup { result.0.setup ≡ J.setup }
-        ensures replays { Replays J.setup J.opening result.1 (state_of result.0) }
+        ensures replays { IsReplay J.setup J.opening result.1 (state_of result.0) }
         ensures within { length result.1 ≤ J.room }
     {
         let Held {
@@ -142,13 +142,13 @@ impl<J: Opening, S: Store> Held<J, S> {
     fn answer<B: Reply>(
         &mut self,
         port: u8,
-        asked: &AskedHere<'_>,
+        asked: &AskedRef<'_>,
         reply: &mut B,
     ) -> Result<(), Code>
-        requires room { length (B.bytes reply.old) + room_for (meant asked.now) ≤ B.capacity }
+        requires room { length (B.bytes reply.old) + room_for (as_asked asked.now) ≤ B.capacity }
         requires place { length self.old.history.items < self.old.room }
         ensures { ExchangesHere J.setup self.old.board self.new.board
-            self.old.history.items self.new.history.items port (meant asked.now)
+            self.old.history.items self.new.history.items port (as_asked asked.now)
             result (B.bytes reply.old) (B.bytes reply.new) }
     {
         let Held {
@@ -158,7 +158,7 @@ impl<J: Opening, S: Store> Held<J, S> {
             of: _,
         } = self;
         let start = reply.as_slice().len();
-        let given = answer_here(board, asked, reply);
+        let given = answer_into(board, asked, reply);
         history.gain_exchange(port, asked, code_of(&given), &reply.as_slice()[start..]);
         given
     }
@@ -167,16 +167,16 @@ impl<J: Opening, S: Store> Held<J, S> {
     /// appended, and the history gains the request and them. It takes no memory. Where the
     /// history has no room, nothing changes.
     #[inline(always)]
-    pub fn exchange_here<B: Reply>(
+    pub fn exchange_into<B: Reply>(
         &mut self,
         port: u8,
-        asked: &AskedHere<'_>,
+        asked: &AskedRef<'_>,
         reply: &mut B,
     ) -> Result<Result<(), Code>, PeriodFull>
-        requires room { length (B.bytes reply.old) + room_for (meant asked.now) ≤ B.capacity }
+        requires room { length (B.bytes reply.old) + room_for (as_asked asked.now) ≤ B.capacity }
         ensures exchanged { IfOk result (λ given.
             ExchangesHere J.setup self.old.board self.new.board
-            self.old.history.items self.new.history.items port (meant asked.now)
+            self.old.history.items self.new.history.items port (as_asked asked.now)
             given (B.bytes reply.old) (B.bytes reply.new)) }
         ensures full { IsErr result ↔ (length self.old.history.items ≡ J.room) }
         ensures same { OnErr result (self.new ≡ self.old) }
@@ -204,7 +204,7 @@ impl<J: Opening, S: Store> Held<J, S> {
         ensures same { OnErr result (self.new ≡ self.old) }
     {
         let mut body = Bytes::new();
-        match self.exchange_here(port, &AskedHere::of(asked), &mut body) {
+        match self.exchange_into(port, &AskedRef::of(asked), &mut body) {
             Ok(given) => Ok(answered(given, body)),
             Err(full) => Err(full),
         }

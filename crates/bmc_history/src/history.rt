@@ -2,8 +2,8 @@
 ghost use Rattle.std.specs.Prelude.{◌≡◌, ◌↔◌, IsTrue, Some, slice_get};
 ghost use Rattle.bmc_history.specs.Replay.{calls_of};
 
-use crate::entries::{Calls, Events};
 use crate::event::{Call, Event};
+use crate::events::{Calls, Events};
 use std::marker::Model;
 
 /// What was asked of a board and answered, in order.

@@ -6,12 +6,12 @@ use Rattle.two_wire.specs.declared.Bus.TheVariants.{Ipmb}
 use Rattle.two_wire.specs.Buses.{bus_name}
 
 -- the word means the bus: it is the bus's name, or it is left out and the bus is IPMB
-abbrev pub Means : Option (List ℕ) → Bus → Type 0
-Means None bus = bus ≡ Ipmb
-Means (Some word) bus = word ≡ bus_name bus
+abbrev pub MeansBus : Option (List ℕ) → Bus → Type 0
+MeansBus None bus = bus ≡ Ipmb
+MeansBus (Some word) bus = word ≡ bus_name bus
 
 -- the words name the bus and the bytes: the digits are two hexadecimal ones for each byte, and there is a byte
-pub record Asks (word : Option (List ℕ)) (digits : List ℕ) (bus : Bus) (bytes : List ℕ) : Type 0 where
-  pub means : Means word bus
+pub record AsksForBytes (word : Option (List ℕ)) (digits : List ℕ) (bus : Bus) (bytes : List ℕ) : Type 0 where
+  pub means : MeansBus word bus
   pub spelt : decode_of digits ≡ Ok bytes
   pub some : bytes ≢ []

@@ -3,8 +3,8 @@ use Rattle.std.specs.Prelude.{ℕ, List, [], ◌∷◌, ◌++◌, codes}
 use Rattle.std.specs.List.{flat_map}
 use Rattle.hex.specs.Hex.{encode_upper}
 use Rattle.bmc_core.specs.declared.out.Out.{Out}
-use Rattle.bmc_core.specs.declared.out.Done.{Done}
-use Rattle.bmc_core.specs.declared.out.Done.TheVariants.{Ignored, Waiting, Answered, Repeated, Busy, Control}
+use Rattle.bmc_core.specs.declared.out.Disposition.{Disposition}
+use Rattle.bmc_core.specs.declared.out.Disposition.TheVariants.{Ignored, Waiting, Answered, Repeated, Busy, Control}
 use Rattle.bmc_core.specs.Names.{reason_name}
 use Rattle.bmc_core.specs.Outs.{sent}
 use Rattle.app_base.specs.declared.status.Status.{Status}
@@ -15,7 +15,7 @@ abbrev pub frame_line : List ℕ → List ℕ
 frame_line frame = encode_upper frame ++ 10 ∷ []
 
 -- why nothing was sent
-abbrev pub done_line : Done → List ℕ
+abbrev pub done_line : Disposition → List ℕ
 done_line (Ignored reason) = codes "ignored " ++ reason_name reason ++ 10 ∷ []
 done_line Waiting = codes "waiting\n"
 done_line Answered = []

@@ -10,9 +10,9 @@ use Rattle.bmc_board.specs.State.{State, opened}
 use Rattle.bmc_core.specs.Outs.{sent}
 use Rattle.two_wire.specs.Places.{controller_wire, controller_eid}
 use Rattle.model_ports.specs.PortSteps.{quiet_port}
-use Rattle.bmc_core.specs.Port.{bus_of, Shows, Hears}
+use Rattle.bmc_core.specs.Port.{bus_of, Represents, PortStep}
 use Rattle.text_board.specs.declared.fault.FileFault.{FileFault}
-use Rattle.text_board.specs.Holds.{Reads}
+use Rattle.text_board.specs.Holds.{ReadsText}
 use Rattle.app_base.specs.declared.console.Stream.{Stream}
 use Rattle.app_base.specs.declared.console.Stream.TheVariants.{Output, Error}
 use Rattle.app_base.specs.declared.status.Status.{Status}
@@ -25,34 +25,34 @@ abbrev pub controller : At
 controller = record { wire = controller_wire; eid = controller_eid }
 
 -- a controller's port on a bus, which has heard nothing yet
-pub record IsFresh (bus : Bus) (port : Port) : Type 0 where
+pub record IsFreshPort (bus : Bus) (port : Port) : Type 0 where
   pub stands_on : bus_of port ≡ bus
-  pub quiet : Shows port (quiet_port controller.wire controller.eid)
+  pub quiet : Represents port (quiet_port controller.wire controller.eid)
 
 -- the board is the one that the file's text holds, or the sample board where no file is given
 abbrev pub IsBoardOf : Option (List ℕ) → BoardFile → Type 0
 IsBoardOf None file = IsSampleBoard file
-IsBoardOf (Some text) file = Reads text (Ok file)
+IsBoardOf (Some text) file = ReadsText text (Ok file)
 
 -- the file's text holds no board, for this fault
 abbrev pub IsFaultOf : Option (List ℕ) → FileFault → Type 0
 IsFaultOf None why = ⊥
-IsFaultOf (Some text) why = Reads text (Err why)
+IsFaultOf (Some text) why = ReadsText text (Err why)
 
 -- what is said of the bytes: what a fresh controller with the board does with them where it hears them on the bus
-pub record Tells (board : Option (List ℕ)) (bus : Bus) (bytes text : List ℕ) (status : Status) : Type 0 where
+pub record FramePrints (board : Option (List ℕ)) (bus : Bus) (bytes text : List ℕ) (status : Status) : Type 0 where
   pub file : BoardFile
   pub opens : IsBoardOf board file
   pub port : Port
-  pub fresh : IsFresh bus port
+  pub fresh : IsFreshPort bus port
   pub out : Out
   pub next : Port
   pub after : State
-  pub heard : Hears file port (opened file) bytes out next after
+  pub heard : PortStep file port (opened file) bytes out next after
   pub said : text ≡ text_of out
   pub ended : status ≡ status_of (sent out)
 
 -- what a run says, and where: on standard output what the controller did, or on standard error why the file holds no board
-abbrev pub Says : Option (List ℕ) → Bus → List ℕ → Stream → List ℕ → Status → Type 0
-Says board bus bytes Output text status = Tells board bus bytes text status
-Says board bus bytes Error text status = (why : FileFault) × IsFaultOf board why × (text ≡ board_line why) × (status ≡ RefusedFile)
+abbrev pub PrintsFrame : Option (List ℕ) → Bus → List ℕ → Stream → List ℕ → Status → Type 0
+PrintsFrame board bus bytes Output text status = FramePrints board bus bytes text status
+PrintsFrame board bus bytes Error text status = (why : FileFault) × IsFaultOf board why × (text ≡ board_line why) × (status ≡ RefusedFile)

@@ -2,7 +2,7 @@
 ghost use Rattle.std.specs.Prelude.{◌≡◌, ◌⊎◌, ◌↔◌, ℕ, List, IfOk, IfErr, Ok, Err};
 ghost use Rattle.std.specs.Option.{option_copied};
 ghost use Rattle.two_wire.specs.declared.Bus.{Bus as AnyBus};
-ghost use Rattle.bmc_lab.specs.Asked.{Means, Asks};
+ghost use Rattle.bmc_lab.specs.Asked.{MeansBus, AsksForBytes};
 
 use app_base::Status;
 use hex::FromHexError;
@@ -18,7 +18,7 @@ pub struct AskedFrame {
 
 /// The bus that the word names.
 fn bus_of(word: Option<&str>) -> Result<Bus, Status>
-    ensures bus { (bus : AnyBus) → (result ≡ Ok bus) ↔ Means (option_copied word.entry) bus }
+    ensures bus { (bus : AnyBus) → (result ≡ Ok bus) ↔ MeansBus (option_copied word.entry) bus }
     ensures refused { IfErr result (λ status. status ≡ Status.RefusedWords) }
 {
     match word {
@@ -30,9 +30,9 @@ fn bus_of(word: Option<&str>) -> Result<Bus, Status>
 /// The frame that the words BUS and HEX name, or `RefusedWords` where they name none. `word` is `None` where BUS is left out.
 pub fn asked_frame(alloc: Global, word: Option<&str>, digits: &str) -> Result<AskedFrame, Status>
     ensures asked { IfOk result
-        (λ frame. Asks (option_copied word.entry) digits.now frame.bus frame.bytes.items) }
+        (λ frame. AsksForBytes (option_copied word.entry) digits.now frame.bus frame.bytes.items) }
     ensures refused { result ≡ Err Status.RefusedWords → (b : AnyBus) (bytes : List ℕ)
-        → ¬ Asks (option_copied word.entry) digits.now b bytes }
+        → ¬ AsksForBytes (option_copied word.entry) digits.now b bytes }
     ensures faults { IfErr result
         (λ status. (status ≡ Status.RefusedWords) ⊎ (status ≡ Status.Memory)) }
 {

@@ -3,7 +3,7 @@ ghost use Rattle.std.specs.Prelude.{◌≡◌, ◌⊎◌, ℕ, List, Option, IfO
 ghost use Rattle.std.specs.Option.{option_copied};
 ghost use Rattle.app_base.specs.declared.console.Stream.TheVariants.{Output};
 ghost use Rattle.app_base.specs.Ending.{RunEnds};
-ghost use Rattle.bmc_lab.specs.Run.{controller, IsBoardOf, IsFaultOf, Tells, Says};
+ghost use Rattle.bmc_lab.specs.Run.{controller, IsBoardOf, IsFaultOf, FramePrints, PrintsFrame};
 
 use crate::report::port_report;
 use app_base::{Console, Ending, Report};
@@ -51,7 +51,7 @@ fn heard_report(
     ensures stream { IfOk result (λ report. report.stream ≡ Output) }
     ensures told { (board : Option (List ℕ)) → IsBoardOf board file
         → IfOk result
-        (λ report. Tells board bus bytes.now (string_bytes report.text) report.status) }
+        (λ report. FramePrints board bus bytes.now (string_bytes report.text) report.status) }
 {
     let mut board = Board::of_file(alloc, file)?;
     let mut port = Port::new(alloc, bus, controller_place())?;
@@ -68,7 +68,7 @@ fn frame_report(
     bytes: &[u8],
 ) -> Result<Report, AllocError>
     ensures { IfOk result
-        (λ report. Says (option_copied board.entry) bus bytes.now
+        (λ report. PrintsFrame (option_copied board.entry) bus bytes.now
         report.stream (string_bytes report.text) report.status) }
 {
     match board_or_sample(alloc, board) {
@@ -89,7 +89,7 @@ pub fn frame_run<W: io::Write, E: io::Write>(
     bytes: &[u8],
     console: &mut Console<W, E>,
 ) -> u8
-    ensures { RunEnds W.contents E.contents (Says (option_copied board.entry) bus bytes.now)
+    ensures { RunEnds W.contents E.contents (PrintsFrame (option_copied board.entry) bus bytes.now)
         console.old console.new result }
 {
     let report = frame_report(alloc, bus, board, bytes);

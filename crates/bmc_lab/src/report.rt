@@ -4,7 +4,7 @@ ghost use Rattle.bmc_core.specs.Outs.{sent};
 ghost use Rattle.bmc_lab.specs.Report.{status_of, frame_line, text_of};
 
 use app_base::{Report, Status, Stream};
-use bmc_core::{Done, Out};
+use bmc_core::{Disposition, Out};
 use std::alloc::{AllocError, Global};
 use two_wire::Frame;
 
@@ -39,9 +39,10 @@ pub fn port_report(alloc: Global, out: &Out) -> Result<Report, AllocError>
         push_line(alloc, &mut text, frame)?;
     }
     match out.done {
-        Done::Ignored(reason) => writeln!(text, "ignored {reason}")?,
-        Done::Waiting => text.push_str("waiting\n")?,
-        Done::Answered | Done::Repeated | Done::Busy | Done::Control => {}
+        Disposition::Ignored(reason) => writeln!(text, "ignored {reason}")?,
+        Disposition::Waiting => text.push_str("waiting\n")?,
+        Disposition::Answered | Disposition::Repeated | Disposition::Busy | Disposition::Control =>
+            {}
     }
     Ok(Report {
         stream: Stream::Output,

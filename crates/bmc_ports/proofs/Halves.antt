@@ -12,7 +12,7 @@ use Rattle.wire_links.specs.Counted.{counted_on}
 use Rattle.wire_links.proofs.Counting.{counted_twice}
 use Rattle.undo_plans.specs.declared.names.Names.{Names}
 use Rattle.std.specs.Prelude.{Result}
-use Rattle.bmc_ports.specs.Driving.{Turnout, Answers, FailsToSend, calls_on, heard_on, failures_on, HasCounted, HaveCounted, Links, turns_in, State, open_at, Reaches, Leads, Driven, DrivenTwice, DrivesOn}
+use Rattle.bmc_ports.specs.Driving.{Turnout, Answers, FailsToSend, calls_on, heard_on, failures_on, HasCounted, HaveCounted, Links, turns_in, DrivenState, open_at, ReachesBy, LeadsThrough, DrivenTurns, DrivenTwice, DrivesOn}
 use Rattle.bmc_ports.proofs.Turns.{summed, leads_nowhere, drives_both}
 
 -- ---- where so many turns end
@@ -83,22 +83,22 @@ later_counted on first later a c counted = record {
 }
 
 module _ (names : Names) where
-  reaches_first : (first later : List Turnout) (s u : State names) → Reaches names (first ++ later) s u → (t : State names) × Reaches names first s t × Reaches names later t u
+  reaches_first : (first later : List Turnout) (s u : DrivenState names) → ReachesBy names (first ++ later) s u → (t : DrivenState names) × ReachesBy names first s t × ReachesBy names later t u
   reaches_first [] later s u reaches = (s, refl, reaches)
   reaches_first (came ∷ first) later s u (deed, is_open, is, rest) =
       let found = reaches_first first later deed.manager u rest in
       (found.0, (deed, is_open, is, found.1), found.2)
 
   -- turns of which so many come first
-  record Halves (turns more : ℕ) (s u : State names) (a c : Links) : Type 0 where
-    pub between : State names
+  record Halves (turns more : ℕ) (s u : DrivenState names) (a c : Links) : Type 0 where
+    pub between : DrivenState names
     pub met : Links
-    pub begins : Leads names turns s between a met
-    pub ends : Leads names more between u met c
+    pub begins : LeadsThrough names turns s between a met
+    pub ends : LeadsThrough names more between u met c
 
-  halves : (turns more : ℕ) (s u : State names) (a c : Links) (leads : Leads names (turns + more) s u a c) (parts : Split turns leads.came) → Halves turns more s u a c
+  halves : (turns more : ℕ) (s u : DrivenState names) (a c : Links) (leads : LeadsThrough names (turns + more) s u a c) (parts : Split turns leads.came) → Halves turns more s u a c
   halves turns more s u a c leads parts =
-      let reaches = reaches_first parts.first parts.later s u (subst (λ (came : List Turnout). Reaches names came s u) parts.all leads.reaches) in
+      let reaches = reaches_first parts.first parts.later s u (subst (λ (came : List Turnout). ReachesBy names came s u) parts.all leads.reaches) in
       let counted = subst (λ (came : List Turnout). HaveCounted came a c) parts.all leads.counted in
       let all : turns_in (parts.first ++ parts.later) ≡ turns + more = subst (λ (came : List Turnout). turns_in came ≡ turns + more) parts.all leads.turns_made in record {
         between = reaches.0;
@@ -123,7 +123,7 @@ module _ (names : Names) where
   -- ---- a drive
 
   -- it made no more turns than come first, so nothing is left to do
-  all_first : (turns more made : ℕ) (s u : State names) (a c : Links) → made ≤ turns → Leads names made s u a c → (made ≡ turns + more) ⊎ (open_at names u ≡ None)
+  all_first : (turns more made : ℕ) (s u : DrivenState names) (a c : Links) → made ≤ turns → LeadsThrough names made s u a c → (made ≡ turns + more) ⊎ (open_at names u ≡ None)
       → DrivenTwice names turns more s u a c
   all_first turns more made s u a c few leads (inr none) = record {
     between = u;
@@ -140,12 +140,12 @@ module _ (names : Names) where
         ends = record { made = 0; few = omega arith; leads = leads_nowhere names u c; ended = inl none };
       }
 
-  ended_later : (turns more others : ℕ) (u : State names) → (turns + others ≡ turns + more) ⊎ (open_at names u ≡ None) → (others ≡ more) ⊎ (open_at names u ≡ None)
+  ended_later : (turns more others : ℕ) (u : DrivenState names) → (turns + others ≡ turns + more) ⊎ (open_at names u ≡ None) → (others ≡ more) ⊎ (open_at names u ≡ None)
   ended_later turns more others u (inl all) = inl (omega (arith, all))
   ended_later turns more others u (inr none) = inr none
 
   -- it made others behind them
-  some_later : (turns more others : ℕ) (s u : State names) (a c : Links) → others ≤ more → (turns + others ≡ turns + more) ⊎ (open_at names u ≡ None) → Halves turns others s u a c
+  some_later : (turns more others : ℕ) (s u : DrivenState names) (a c : Links) → others ≤ more → (turns + others ≡ turns + more) ⊎ (open_at names u ≡ None) → Halves turns others s u a c
       → DrivenTwice names turns more s u a c
   some_later turns more others s u a c few ended parts = record {
     between = parts.between;
@@ -154,16 +154,16 @@ module _ (names : Names) where
     ends = record { made = others; few = few; leads = parts.ends; ended = ended_later turns more others u ended };
   }
 
-  more_made : (turns more made : ℕ) (s u : State names) (a c : Links) → turns ≤ made → made ≤ turns + more → Leads names made s u a c
+  more_made : (turns more made : ℕ) (s u : DrivenState names) (a c : Links) → turns ≤ made → made ≤ turns + more → LeadsThrough names made s u a c
       → (made ≡ turns + more) ⊎ (open_at names u ≡ None) → DrivenTwice names turns more s u a c
   more_made turns more made s u a c least few leads ended =
       let others = made - turns in
       let same : made ≡ turns + others = omega (arith, least) in
-      let all : Leads names (turns + others) s u a c = subst (λ (n : ℕ). Leads names n s u a c) same leads in
+      let all : LeadsThrough names (turns + others) s u a c = subst (λ (n : ℕ). LeadsThrough names n s u a c) same leads in
       some_later turns more others s u a c (omega (arith, few, least)) (subst (λ (n : ℕ). (n ≡ turns + more) ⊎ (open_at names u ≡ None)) same ended)
       (halves turns others s u a c all (split turns all.came (omega (arith, all.turns_made))))
 
-  twice : (turns more : ℕ) (s u : State names) (a c : Links) (driven : Driven names (turns + more) s u a c) → (driven.made < turns) ⊎ (turns ≤ driven.made) → DrivenTwice names turns more s u a c
+  twice : (turns more : ℕ) (s u : DrivenState names) (a c : Links) (driven : DrivenTurns names (turns + more) s u a c) → (driven.made < turns) ⊎ (turns ≤ driven.made) → DrivenTwice names turns more s u a c
   twice turns more s u a c driven (inl less) = all_first turns more driven.made s u a c (omega (arith, less)) driven.leads driven.ended
   twice turns more s u a c driven (inr least) = more_made turns more driven.made s u a c least driven.few driven.leads driven.ended
 

@@ -5,9 +5,9 @@ use Rattle.bmc_history.specs.declared.event.Call.{Call}
 use Rattle.bmc_shared.specs.declared.worker.End.{End}
 use Rattle.bmc_shared.specs.declared.worker.End.TheVariants.{Turns, Full}
 use Rattle.bmc_ports.specs.declared.lane.Lanes.{Lanes}
-use Rattle.bmc_ports.specs.declared.timed.TimedEnd.{TimedEnd}
-use Rattle.bmc_ports.specs.declared.timed.TimedEnd.TheVariants as timed
-use Rattle.bmc_ports.specs.Slices.{GoesOn, IsDone}
+use Rattle.bmc_ports.specs.declared.timetable.TimedEnd.{TimedEnd}
+use Rattle.bmc_ports.specs.declared.timetable.TimedEnd.TheVariants as timed
+use Rattle.bmc_ports.specs.Slices.{WorkerEnd, IsDone}
 
 -- the turns that both workers have left
 abbrev pub turns_left : {A B : Type 0} → Lanes A B → ℕ
@@ -50,8 +50,8 @@ found_room Full none = absurd (none refl)
 module _ {A B : Type 0} (first_counts : A → Counts) (second_counts : B → Counts) where
   -- workers that go on with turns left make one at least
   pub takes_turns : (one two : End) (held kept listed calls : List Call) (before after : Lanes A B)
-      → GoesOn first_counts one held kept before.first after.first
-      → GoesOn second_counts two listed calls before.second after.second
+      → WorkerEnd first_counts one held kept before.first after.first
+      → WorkerEnd second_counts two listed calls before.second after.second
       → 1 ≤ turns_left before → turns_left after + 1 ≤ turns_left before
   takes_turns one two held kept listed calls before after first second some =
       let made : ℕ = length first.heard in

@@ -15,7 +15,7 @@ use Rattle.bmc_ports.specs.declared.silence.Silence.{Silence}
 use Rattle.bmc_ports.specs.Since.{Hearing}
 use Rattle.bmc_ports.specs.Senders.{IsFrom}
 use Rattle.bmc_ports.specs.Silence.{AreCounted, silent_turns}
-use Rattle.bmc_ports.specs.Slices.{AreTurns, FindRoom, GoesOn, IsBack, IsTurn, Makes}
+use Rattle.bmc_ports.specs.Slices.{AreTurns, FindRoom, WorkerEnd, IsBack, IsTurn, TurnsMade}
 use Rattle.bmc_ports.proofs.Since.{counts_both, counts_still}
 
 -- no turn was made
@@ -66,7 +66,7 @@ module _ {L : Type 0} (counts_of : L → Counts) where
       record { first = []; last = heard; list = held; mid = before; all = refl; found = (refl, refl); full = turn }
 
   -- none was made
-  pub makes_still : (held : List Call) (lane : Lane L) → Makes counts_of Turns [] held held lane lane
+  pub makes_still : (held : List Call) (lane : Lane L) → TurnsMade counts_of Turns [] held held lane lane
   makes_still held lane = record {
     turns = omega arith;
     calls = refl;
@@ -79,7 +79,7 @@ module _ {L : Type 0} (counts_of : L → Counts) where
 
   -- one was made
   makes_one : (end : End) (heard : Hearing) (held kept : List Call) (before after : Lane L)
-      → IsTurn counts_of end heard held kept before after → Makes counts_of end (heard ∷ []) held kept before after
+      → IsTurn counts_of end heard held kept before after → TurnsMade counts_of end (heard ∷ []) held kept before after
   makes_one end heard held kept before after turn = record {
     turns = omega (arith, turn.turns);
     calls = turn.made.next.calls;
@@ -92,7 +92,7 @@ module _ {L : Type 0} (counts_of : L → Counts) where
 
   -- some were made, and then others
   makes_both : (end : End) (first later : List Hearing) (held list kept : List Call) (before mid after : Lane L)
-      → Makes counts_of Turns first held list before mid → Makes counts_of end later list kept mid after → Makes counts_of end (first ++ later) held kept before after
+      → TurnsMade counts_of Turns first held list before mid → TurnsMade counts_of end later list kept mid after → TurnsMade counts_of end (first ++ later) held kept before after
   makes_both end first later held list kept before mid after begins then =
       let count : ℕ = (counts_of before.link).calls in
       let both : length later + length first ≡ length (first ++ later) = omega (arith, length-append first later) in record {
@@ -108,13 +108,13 @@ module _ {L : Type 0} (counts_of : L → Counts) where
 
   -- some were made, and then one
   pub makes_more : (end : End) (first : List Hearing) (heard : Hearing) (held list kept : List Call) (before mid after : Lane L)
-      → Makes counts_of Turns first held list before mid → IsTurn counts_of end heard list kept mid after → Makes counts_of end (first ++ heard ∷ []) held kept before after
+      → TurnsMade counts_of Turns first held list before mid → IsTurn counts_of end heard list kept mid after → TurnsMade counts_of end (first ++ heard ∷ []) held kept before after
   makes_more end first heard held list kept before mid after begins turn =
       makes_both end first (heard ∷ []) held list kept before mid after begins (makes_one end heard list kept mid after turn)
 
   -- the last one was made
   pub ends_so : (end : End) (first : List Hearing) (heard : Hearing) (held list kept : List Call) (before mid after : Lane L)
-      → Makes counts_of Turns first held list before mid → IsTurn counts_of end heard list kept mid after → GoesOn counts_of end held kept before after
+      → TurnsMade counts_of Turns first held list before mid → IsTurn counts_of end heard list kept mid after → WorkerEnd counts_of end held kept before after
   ends_so end first heard held list kept before mid after begins turn = record {
     heard = first ++ heard ∷ [];
     least = λ some. omega (arith, length-append first (heard ∷ []));
@@ -123,12 +123,12 @@ module _ {L : Type 0} (counts_of : L → Counts) where
 
   -- all were made
   pub ends_with_all : (heard : List Hearing) (held kept : List Call) (before after : Lane L) → length heard ≡ before.turns
-      → Makes counts_of Turns heard held kept before after → GoesOn counts_of Turns held kept before after
+      → TurnsMade counts_of Turns heard held kept before after → WorkerEnd counts_of Turns held kept before after
   ends_with_all heard held kept before after all makes = record { heard = heard; least = λ some. omega (arith, all, some); makes = makes }
 
   -- a worker that went on goes on once more
   goes_both : (end : End) (held list kept : List Call) (before mid after : Lane L)
-      → GoesOn counts_of Turns held list before mid → GoesOn counts_of end list kept mid after → GoesOn counts_of end held kept before after
+      → WorkerEnd counts_of Turns held list before mid → WorkerEnd counts_of end list kept mid after → WorkerEnd counts_of end held kept before after
   goes_both end held list kept before mid after begins then = record {
     heard = begins.heard ++ then.heard;
     least = λ some. omega (arith, length-append begins.heard then.heard, begins.least some);
@@ -143,5 +143,5 @@ module _ {L : Type 0} (counts_of : L → Counts) where
     marked = then.marked;
     mark = λ same. then.mark same ∙ begins.mark room;
     goes = goes_both end seat.calls.items next.calls.items after.calls.items lane mid left
-        (subst (λ (e : End). GoesOn counts_of e seat.calls.items next.calls.items lane mid) room begins.goes) then.goes;
+        (subst (λ (e : End). WorkerEnd counts_of e seat.calls.items next.calls.items lane mid) room begins.goes) then.goes;
   }

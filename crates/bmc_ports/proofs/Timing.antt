@@ -6,15 +6,15 @@ use Rattle.std.proofs.lemmas.Slice.Zip.{all_zipped_more}
 use Rattle.std.specs.List.{AllZip}
 use Rattle.bmc_history.specs.declared.event.Call.{Call}
 use Rattle.bmc_shared.specs.declared.seat.Seat.{Seat}
-use Rattle.bmc_ports.specs.declared.timed.Timed.{Timed}
-use Rattle.bmc_ports.specs.declared.timed.TimedEnd.{TimedEnd}
-use Rattle.bmc_ports.specs.declared.timed.TimedEnd.TheVariants.{Full}
-use Rattle.bmc_ports.specs.Scanning.{Happens}
-use Rattle.bmc_ports.specs.Timing.{Gains, IsPlayed}
+use Rattle.bmc_ports.specs.declared.timetable.Timed.{Timed}
+use Rattle.bmc_ports.specs.declared.timetable.TimedEnd.{TimedEnd}
+use Rattle.bmc_ports.specs.declared.timetable.TimedEnd.TheVariants.{Full}
+use Rattle.bmc_ports.specs.Scanning.{BenchCall}
+use Rattle.bmc_ports.specs.Timing.{GainsCalls, IsPlayed}
 
 -- the next of the list happens
-pub gains_more : (list : List Timed) (from to : ℕ) (held kept more : List Call) (call : Call) (d : Timed) → Gains list from to held kept → to < length list
-    → more ≡ kept ++ call ∷ [] → Happens (get_or list to d).event call → Gains list from (to + 1) held more
+pub gains_more : (list : List Timed) (from to : ℕ) (held kept more : List Call) (call : Call) (d : Timed) → GainsCalls list from to held kept → to < length list
+    → more ≡ kept ++ call ∷ [] → BenchCall (get_or list to d).event call → GainsCalls list from (to + 1) held more
 gains_more list from to held kept more call d gains within put happens =
     let n = length gains.gained in
     let rest : List Timed = drop from list in
@@ -25,11 +25,11 @@ gains_more list from to held kept more call d gains within put happens =
       gained = gains.gained ++ call ∷ [];
       calls = put ∙ ap (λ (calls : List Call). calls ++ call ∷ []) gains.calls ∙ append_assoc held gains.gained (call ∷ []);
       far = omega (arith, gains.far, longer);
-      happened = rw one_more (all_zipped_more (λ timed. Happens timed.event) (take n rest) gains.gained (get_or rest n d) call gains.happened (subst (λ t. Happens t.event call) (sym is) happens));
+      happened = rw one_more (all_zipped_more (λ timed. BenchCall timed.event) (take n rest) gains.gained (get_or rest n d) call gains.happened (subst (λ t. BenchCall t.event call) (sym is) happens));
     }
 
 -- nothing of the list happened
-pub gains_none : (list : List Timed) (from : ℕ) (held : List Call) → Gains list from from held held
+pub gains_none : (list : List Timed) (from : ℕ) (held : List Call) → GainsCalls list from from held held
 gains_none list from held = record { gained = []; calls = sym (append-nil held); far = omega arith; happened = tt }
 
 -- events side by side with calls, and then others
@@ -40,9 +40,9 @@ all_both R (x ∷ xs) us [] vs all then = absurd all
 all_both R (x ∷ xs) us (y ∷ ys) vs (one, all) then = (one, all_both R xs us ys vs all then)
 
 -- some of the list happened, and then what stands behind it
-pub gains_both : (list : List Timed) (from mid to : ℕ) (held between kept : List Call) → Gains list from mid held between → Gains list mid to between kept → Gains list from to held kept
+pub gains_both : (list : List Timed) (from mid to : ℕ) (held between kept : List Call) → GainsCalls list from mid held between → GainsCalls list mid to between kept → GainsCalls list from to held kept
 gains_both list from mid to held between kept begins then =
-    let R : Timed → Call → Type 0 = λ timed. Happens timed.event in
+    let R : Timed → Call → Type 0 = λ timed. BenchCall timed.event in
     let first : List Call = begins.gained in
     let later : List Call = then.gained in
     let rest : List Timed = drop from list in

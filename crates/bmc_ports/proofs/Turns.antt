@@ -13,12 +13,12 @@ use Rattle.wire_links.proofs.Counting.{counted_twice}
 use Rattle.undo_plans.specs.declared.names.Names.{Names}
 use Rattle.model_undo.specs.Machine.{Stage, AtStart, Opened, AtEnd, AtHalt, AtUndone, AtRefused, Machine, open_bus_at, quiets}
 use Rattle.model_undo.specs.declared.call.Call.TheVariants as call
-use Rattle.model_lab.specs.ManagerSteps.{ManagerDeed, board_plans, called, goes_on}
+use Rattle.model_lab.specs.ManagerSteps.{ManagerStepResult, board_plans, called, goes_on}
 use Rattle.undo_core.specs.Shown.{words_of}
-use Rattle.undo_core.specs.Course.{Calls, Comes, or_rests}
+use Rattle.undo_core.specs.Course.{Calls, InputResult, or_rests}
 use Rattle.undo_core.specs.declared.manager.Manager.{Manager}
 use Rattle.undo_core.specs.declared.sending.Sent.{Sent}
-use Rattle.bmc_ports.specs.Driving.{Turnout, Answers, FailsToSend, call_for, calls_on, heard_on, failures_on, HasCounted, HaveCounted, Fails, Links, both, turns_in, State, open_at, Reaches, Leads, LeadsTo, Driven}
+use Rattle.bmc_ports.specs.Driving.{Turnout, Answers, FailsToSend, call_for, calls_on, heard_on, failures_on, HasCounted, HaveCounted, LinkFails, Links, both, turns_in, DrivenState, open_at, ReachesBy, LeadsThrough, LeadsTo, DrivenTurns}
 
 -- ---- counts
 
@@ -68,16 +68,16 @@ turns_of Smbus answer = refl
 -- ---- what is led to
 
 module _ (names : Names) where
-  reaches_both : (first later : List Turnout) (s t u : State names) → Reaches names first s t → Reaches names later t u → Reaches names (first ++ later) s u
-  reaches_both [] later s t u same then = subst (λ (x : State names). Reaches names later x u) (sym same) then
+  reaches_both : (first later : List Turnout) (s t u : DrivenState names) → ReachesBy names first s t → ReachesBy names later t u → ReachesBy names (first ++ later) s u
+  reaches_both [] later s t u same then = subst (λ (x : DrivenState names). ReachesBy names later x u) (sym same) then
   reaches_both (came ∷ first) later s t u (deed, is_open, is, rest) then = (deed, is_open, is, reaches_both first later deed.manager t u rest then)
 
   -- nothing came
-  pub leads_nowhere : (s : State names) (a : Links) → Leads names 0 s s a a
+  pub leads_nowhere : (s : DrivenState names) (a : Links) → LeadsThrough names 0 s s a a
   leads_nowhere s a = record { came = []; turns_made = refl; reaches = refl; counted = (none_counted Ipmb a.ipmb, none_counted Smbus a.smbus) }
 
   -- turns, and then others
-  pub leads_on : (turns more : ℕ) (s t u : State names) (a b c : Links) → Leads names turns s t a b → Leads names more t u b c → Leads names (turns + more) s u a c
+  pub leads_on : (turns more : ℕ) (s t u : DrivenState names) (a b c : Links) → LeadsThrough names turns s t a b → LeadsThrough names more t u b c → LeadsThrough names (turns + more) s u a c
   leads_on turns more s t u a b c begins then = record {
     came = begins.came ++ then.came;
     turns_made = omega (arith, sum_by-append (calls_on Ipmb) begins.came then.came, sum_by-append (calls_on Smbus) begins.came then.came, begins.turns_made, then.turns_made);
@@ -89,8 +89,8 @@ module _ (names : Names) where
   }
 
   -- one turn
-  pub turn_leads : (on : Bus) (answer : Result Heard LinkFault) (s : State names) (m : Manager) (sent : Option Sent) → open_at names s ≡ Some on
-      → Comes names (call_for (Answers on answer)) s m sent → (a b : Links) → HaveCounted (Answers on answer ∷ []) a b → LeadsTo names 1 s m a b
+  pub turn_leads : (on : Bus) (answer : Result Heard LinkFault) (s : DrivenState names) (m : Manager) (sent : Option Sent) → open_at names s ≡ Some on
+      → InputResult names (call_for (Answers on answer)) s m sent → (a b : Links) → HaveCounted (Answers on answer ∷ []) a b → LeadsTo names 1 s m a b
   turn_leads on answer s m sent at comes a b counted = record {
     after = comes.deed.manager;
     shown = comes.does.0;
@@ -103,7 +103,7 @@ module _ (names : Names) where
   }
 
   -- a frame that wasn't sent
-  pub failure_leads : (s : State names) (m : Manager) (sent : Option Sent) → Comes names (Calls call.Quiet) s m sent → (a b : Links) → Fails a b → LeadsTo names 0 s m a b
+  pub failure_leads : (s : DrivenState names) (m : Manager) (sent : Option Sent) → InputResult names (Calls call.Quiet) s m sent → (a b : Links) → LinkFails a b → LeadsTo names 0 s m a b
   failure_leads s m sent comes a b fails = record {
     after = comes.deed.manager;
     shown = comes.does.0;
@@ -116,7 +116,7 @@ module _ (names : Names) where
   }
 
   -- turns led to a manager, and others lead on from what it shows
-  pub goes_on_to : (turns more : ℕ) (s t : State names) (m : Manager) (a b c : Links) → Leads names turns s t a b → LeadsTo names more t m b c → LeadsTo names (turns + more) s m a c
+  pub goes_on_to : (turns more : ℕ) (s t : DrivenState names) (m : Manager) (a b c : Links) → LeadsThrough names turns s t a b → LeadsTo names more t m b c → LeadsTo names (turns + more) s m a c
   goes_on_to turns more s t m a b c begins then = record {
     after = then.after;
     shown = then.shown;
@@ -133,37 +133,37 @@ module _ (names : Names) where
   quiets_none AtUndone m none = refl
   quiets_none (AtRefused k code) m none = refl
 
-  not_called : (s : State names) → open_at names s ≡ None → called (board_plans names) call.Quiet s ≡ None
+  not_called : (s : DrivenState names) → open_at names s ≡ None → called (board_plans names) call.Quiet s ≡ None
   unfolding called
   not_called s none = ap (option_map (goes_on (board_plans names) s)) (quiets_none s.machine.stage s.machine none)
 
   -- nothing that comes then is a turn, and opens a request
-  stays_closed : (came : List Turnout) (s t : State names) → Reaches names came s t → open_at names s ≡ None → open_at names t ≡ None
+  stays_closed : (came : List Turnout) (s t : DrivenState names) → ReachesBy names came s t → open_at names s ≡ None → open_at names t ≡ None
   stays_closed [] s t same none = ap (open_at names) (sym same) ∙ none
   stays_closed (Answers on answer ∷ later) s t (_, is_open, _, _) none = let both : None ≡ Some on = sym none ∙ is_open in cc both
   stays_closed (FailsToSend on ∷ later) s t (deed, _, is, rest) none =
-      let same : deed.manager ≡ s = ap (λ (d : ManagerDeed (board_plans names)). d.manager) is ∙ ap (λ (d : Option (ManagerDeed (board_plans names))). (or_rests names d s).manager) (not_called s none) in
+      let same : deed.manager ≡ s = ap (λ (d : ManagerStepResult (board_plans names)). d.manager) is ∙ ap (λ (d : Option (ManagerStepResult (board_plans names))). (or_rests names d s).manager) (not_called s none) in
       stays_closed later deed.manager t rest (ap (open_at names) same ∙ none)
 
   -- ---- a drive
 
   -- no turn was made, and then a manager was driven
-  pub driven_from : (turns : ℕ) (s t u : State names) (a b c : Links) → Leads names 0 s t a b → Driven names turns t u b c → Driven names turns s u a c
+  pub driven_from : (turns : ℕ) (s t u : DrivenState names) (a b c : Links) → LeadsThrough names 0 s t a b → DrivenTurns names turns t u b c → DrivenTurns names turns s u a c
   driven_from turns s t u a b c begins driven =
       let same : 0 + driven.made ≡ driven.made = omega arith in record {
         made = driven.made;
         few = driven.few;
-        leads = subst (λ (n : ℕ). Leads names n s u a c) same (leads_on 0 driven.made s t u a b c begins driven.leads);
+        leads = subst (λ (n : ℕ). LeadsThrough names n s u a c) same (leads_on 0 driven.made s t u a b c begins driven.leads);
         ended = driven.ended;
       }
 
-  ends : (turns more made others : ℕ) (t u : State names) (came : List Turnout) → Reaches names came t u
+  ends : (turns more made others : ℕ) (t u : DrivenState names) (came : List Turnout) → ReachesBy names came t u
       → (made ≡ turns) ⊎ (open_at names t ≡ None) → (others ≡ more) ⊎ (open_at names u ≡ None) → (made + others ≡ turns + more) ⊎ (open_at names u ≡ None)
   ends turns more made others t u came reaches (inl all) (inl rest) = inl (omega (arith, all, rest))
   ends turns more made others t u came reaches (inl all) (inr none) = inr none
   ends turns more made others t u came reaches (inr none) _ = inr (stays_closed came t u reaches none)
 
-  pub drives_both : (turns more : ℕ) (s t u : State names) (a b c : Links) → Driven names turns s t a b → Driven names more t u b c → Driven names (turns + more) s u a c
+  pub drives_both : (turns more : ℕ) (s t u : DrivenState names) (a b c : Links) → DrivenTurns names turns s t a b → DrivenTurns names more t u b c → DrivenTurns names (turns + more) s u a c
   drives_both turns more s t u a b c begins then = record {
     made = begins.made + then.made;
     few = omega (arith, begins.few, then.few);

@@ -11,9 +11,9 @@ use Rattle.undo_plans.specs.declared.names.Names.{Names}
 use Rattle.model_undo.specs.declared.phase.Phase.{Phase}
 use Rattle.model_undo.specs.Machine.{phase_of, open_bus, same_bus}
 use Rattle.model_undo.specs.declared.call.Call.TheVariants as call
-use Rattle.model_lab.specs.ManagerSteps.{ManagerState, ManagerDeed, board_plans}
+use Rattle.model_lab.specs.ManagerSteps.{ManagerState, ManagerStepResult, board_plans}
 use Rattle.undo_core.specs.declared.manager.Manager.{Manager}
-use Rattle.undo_core.specs.Shown.{words_of, Shows}
+use Rattle.undo_core.specs.Shown.{words_of, Represents}
 use Rattle.undo_core.specs.Course.{Input, Calls, Hears, IsDeed}
 
 -- ---- what a link comes to
@@ -81,8 +81,8 @@ abbrev pub HaveCounted : List Turnout → Links → Links → Type 0
 HaveCounted came before after = HasCounted Ipmb came before.ipmb after.ipmb × HasCounted Smbus came before.smbus after.smbus
 
 -- a frame wasn't sent over one of the links
-abbrev pub Fails : Links → Links → Type 0
-Fails before after = (on : Bus) × HaveCounted (FailsToSend on ∷ []) before after
+abbrev pub LinkFails : Links → Links → Type 0
+LinkFails before after = (on : Bus) × HaveCounted (FailsToSend on ∷ []) before after
 
 -- the turns among these: the calls of `next` of both links
 abbrev pub turns_in : List Turnout → ℕ
@@ -91,59 +91,59 @@ turns_in came = sum_by (calls_on Ipmb) came + sum_by (calls_on Smbus) came
 -- ---- what that makes of the manager
 
 module _ (names : Names) where
-  abbrev pub State : Type 0
-  State = ManagerState (board_plans names)
+  abbrev pub DrivenState : Type 0
+  DrivenState = ManagerState (board_plans names)
 
   -- the bus on which its request is open
-  abbrev pub open_at : State → Option Bus
+  abbrev pub open_at : DrivenState → Option Bus
   open_at s = open_bus (words_of names) s.machine
 
   -- `next` is called of the link on which the request is open
-  abbrev pub IsOpenFor : Turnout → State → Type 0
+  abbrev pub IsOpenFor : Turnout → DrivenState → Type 0
   IsOpenFor (Answers on answer) s = open_at s ≡ Some on
   IsOpenFor (FailsToSend on) s = Unit {0}
 
   -- the calls for the turnouts, one after another, make the second manager of the first
-  abbrev pub Reaches : List Turnout → State → State → Type 0
-  Reaches [] before after = before ≡ after
-  Reaches (came ∷ later) before after =
-      (d : ManagerDeed (board_plans names)) × IsOpenFor came before × IsDeed names (call_for came) before d × Reaches later d.manager after
+  abbrev pub ReachesBy : List Turnout → DrivenState → DrivenState → Type 0
+  ReachesBy [] before after = before ≡ after
+  ReachesBy (came ∷ later) before after =
+      (d : ManagerStepResult (board_plans names)) × IsOpenFor came before × IsDeed names (call_for came) before d × ReachesBy later d.manager after
 
   -- so many turns lead from the manager and the counts before to the manager and the counts after
-  pub record Leads (turns : ℕ) (before after : State) (had has : Links) : Type 0 where
+  pub record LeadsThrough (turns : ℕ) (before after : DrivenState) (had has : Links) : Type 0 where
     pub came : List Turnout
     pub turns_made : turns_in came ≡ turns
-    pub reaches : Reaches came before after
+    pub reaches : ReachesBy came before after
     pub counted : HaveCounted came had has
 
   -- A manager was driven for as many turns, or for fewer, and then no request is open.
-  pub record Driven (turns : ℕ) (before after : State) (had has : Links) : Type 0 where
+  pub record DrivenTurns (turns : ℕ) (before after : DrivenState) (had has : Links) : Type 0 where
     pub made : ℕ
     pub few : made ≤ turns
-    pub leads : Leads made before after had has
+    pub leads : LeadsThrough made before after had has
     pub ended : (made ≡ turns) ⊎ (open_at after ≡ None)
 
   -- so many turns leave this manager
-  pub record LeadsTo (turns : ℕ) (before : State) (m : Manager) (had has : Links) : Type 0 where
-    pub after : State
-    pub shown : Shows names m after
-    pub leads : Leads turns before after had has
+  pub record LeadsTo (turns : ℕ) (before : DrivenState) (m : Manager) (had has : Links) : Type 0 where
+    pub after : DrivenState
+    pub shown : Represents names m after
+    pub leads : LeadsThrough turns before after had has
 
   -- what drives a manager for so many turns leaves this manager, in this phase
-  pub record Drives (turns : ℕ) (before : State) (m : Manager) (phase : Phase) (had has : Links) : Type 0 where
-    pub after : State
-    pub shown : Shows names m after
+  pub record DriveResult (turns : ℕ) (before : DrivenState) (m : Manager) (phase : Phase) (had has : Links) : Type 0 where
+    pub after : DrivenState
+    pub shown : Represents names m after
     pub is_phase : phase ≡ phase_of (words_of names) after.machine
-    pub driven : Driven turns before after had has
+    pub driven : DrivenTurns turns before after had has
 
 -- A manager was driven for some turns, and from where that ended for others.
-pub record DrivenTwice (names : Names) (turns more : ℕ) (before after : State names) (had has : Links) : Type 0 where
-  pub between : State names
+pub record DrivenTwice (names : Names) (turns more : ℕ) (before after : DrivenState names) (had has : Links) : Type 0 where
+  pub between : DrivenState names
   pub met : Links
-  pub begins : Driven names turns before between had met
-  pub ends : Driven names more between after met has
+  pub begins : DrivenTurns names turns before between had met
+  pub ends : DrivenTurns names more between after met has
 
 -- That is being driven for all of them.
 abbrev pub DrivesOn : Type 0
-DrivesOn = (names : Names) (turns more : ℕ) (before after : State names) (had has : Links)
-    → DrivenTwice names turns more before after had has ↔ Driven names (turns + more) before after had has
+DrivesOn = (names : Names) (turns more : ℕ) (before after : DrivenState names) (had has : Links)
+    → DrivenTwice names turns more before after had has ↔ DrivenTurns names (turns + more) before after had has

@@ -5,7 +5,7 @@ use Rattle.two_wire.specs.declared.Bus.{Bus}
 use Rattle.model_bus.specs.Request.{requester_bytes}
 use Rattle.model_ports.specs.PortSteps.{PortState, idles}
 use Rattle.bmc_core.specs.declared.port.Port.{Port}
-use Rattle.bmc_core.specs.Port.{Shows}
+use Rattle.bmc_core.specs.Port.{Represents}
 use Rattle.bmc_ports.specs.declared.silence.Silence.{Silence}
 use Rattle.bmc_ports.specs.Since.{Hearing, CountsOn}
 use Rattle.bmc_ports.specs.Senders.{IsFrom}
@@ -37,6 +37,6 @@ idles_all [] port = port
 idles_all (who ∷ later) port = idles_all later (idles who port)
 
 -- The port forgot those that were silent for just the least number of turns, where there is one, and nothing else changed.
-abbrev pub Forgets : (least : Option ℕ) → Silence → (before after : Port) → Type 0
-Forgets None silence before after = after ≡ before
-Forgets (Some least) silence before after = (at : PortState) → Shows before at → Shows after (idles_all (silent_among requester_bytes least silence) at)
+abbrev pub ForgetsRequesters : (least : Option ℕ) → Silence → (before after : Port) → Type 0
+ForgetsRequesters None silence before after = after ≡ before
+ForgetsRequesters (Some least) silence before after = (at : PortState) → Represents before at → Represents after (idles_all (silent_among requester_bytes least silence) at)

@@ -11,11 +11,11 @@ use Rattle.bmc_shared.specs.declared.worker.End.TheVariants.{Turns, Full}
 use Rattle.bmc_shared.specs.Serving.{MakesTurn}
 use Rattle.bmc_ports.specs.declared.lane.Lane.{Lane}
 use Rattle.bmc_ports.specs.declared.lane.Lanes.{Lanes}
-use Rattle.bmc_ports.specs.declared.slices.Lent.{Lent}
-use Rattle.bmc_ports.specs.declared.timed.TimedEnd.{TimedEnd}
-use Rattle.bmc_ports.specs.declared.timed.TimedEnd.TheVariants as timed
+use Rattle.bmc_ports.specs.declared.slices.WorkerLoan.{WorkerLoan}
+use Rattle.bmc_ports.specs.declared.timetable.TimedEnd.{TimedEnd}
+use Rattle.bmc_ports.specs.declared.timetable.TimedEnd.TheVariants as timed
 use Rattle.bmc_ports.specs.Since.{CountsOn, Hearing}
-use Rattle.bmc_ports.specs.Silence.{AreCounted, Forgets}
+use Rattle.bmc_ports.specs.Silence.{AreCounted, ForgetsRequesters}
 
 -- ---- quiet
 
@@ -55,7 +55,7 @@ IsDone least one two scanner lanes = NoRoom one two scanner ⊎ EndsAt least lan
 pub record IsTurn {L : Type 0} (counts_of : L → Counts) (end : End) (heard : Hearing) (held kept : List Call) (before after : Lane L) : Type 0 where
   pub between : Port
   pub made : MakesTurn end heard before.port between held kept (counts_of before.link) (counts_of after.link)
-  pub forgets : Forgets before.forget after.silence between after.port
+  pub forgets : ForgetsRequesters before.forget after.silence between after.port
   pub silence : AreCounted before.forget (bus_of before.port) before.silence (heard ∷ []) after.silence
   pub forget : after.forget ≡ before.forget
   pub turns : after.turns + 1 ≡ before.turns
@@ -89,7 +89,7 @@ AreTurns counts_of Full = FindRoomButLast counts_of
 
 -- A worker made these turns of a lane, each one call of the link's `next`, and ended so; the others are left. In each turn the port took what
 -- the link heard, and got the replies that the seat's list gained. Where the port forgets requesters, the silence of each requester is counted.
-pub record Makes {L : Type 0} (counts_of : L → Counts) (end : End) (heard : List Hearing) (held kept : List Call) (before after : Lane L) : Type 0 where
+pub record TurnsMade {L : Type 0} (counts_of : L → Counts) (end : End) (heard : List Hearing) (held kept : List Call) (before after : Lane L) : Type 0 where
   pub turns : length heard + after.turns ≡ before.turns
   pub calls : (counts_of after.link).calls ≡ counted_on (counts_of before.link).calls (length heard)
   pub quiet : IsQuiet before.quiet heard after.quiet
@@ -99,18 +99,18 @@ pub record Makes {L : Type 0} (counts_of : L → Counts) (end : End) (heard : Li
   pub made : AreTurns counts_of end heard held kept before after
 
 -- A worker of a port ended so. It made some of the turns that it had, and at least one where it had any.
-pub record GoesOn {L : Type 0} (counts_of : L → Counts) (end : End) (held kept : List Call) (before after : Lane L) : Type 0 where
+pub record WorkerEnd {L : Type 0} (counts_of : L → Counts) (end : End) (held kept : List Call) (before after : Lane L) : Type 0 where
   pub heard : List Hearing
   pub least : 1 ≤ before.turns → 1 ≤ length heard
-  pub makes : Makes counts_of end heard held kept before after
+  pub makes : TurnsMade counts_of end heard held kept before after
 
 -- The seat comes back from its worker, marked where that found no room and else as it was, and so do the port and its link.
 pub record IsBack {J : Type 0} {g h : _} {L : Type 0} (counts_of : L → Counts) (seat : Seat J g) (lane : Lane L) (after : Seat J h) (left : Lane L) (end : End) : Type 0 where
   pub number : after.number ≡ seat.number
   pub marked : end ≡ Full → after.refused ≡ true
   pub mark : end ≡ Turns → after.refused ≡ seat.refused
-  pub goes : GoesOn counts_of end seat.calls.items after.calls.items lane left
+  pub goes : WorkerEnd counts_of end seat.calls.items after.calls.items lane left
 
 -- so does all that a worker was lent
-abbrev pub GivesBack : {J L : Type 0} {g h : _} → (counts_of : L → Counts) → (lent : Lent J L g) → (after : Lent J L h) → End → Type 0
+abbrev pub GivesBack : {J L : Type 0} {g h : _} → (counts_of : L → Counts) → (lent : WorkerLoan J L g) → (after : WorkerLoan J L h) → End → Type 0
 GivesBack counts_of lent after end = IsBack counts_of lent.seat lent.lane after.seat after.lane end

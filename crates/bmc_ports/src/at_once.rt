@@ -17,7 +17,7 @@ pub(crate) trait Work {
     /// What it gives back.
     type Given;
 
-    /// It may give this back.
+    /// What a work may give back.
     ghost gives: { Self → Self.Given → Type 0 };
 
     /// Does it.

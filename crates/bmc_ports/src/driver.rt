@@ -5,9 +5,9 @@ ghost use Rattle.wire_links.specs.declared.link.LinkFault.{LinkFault as AnyFault
 ghost use Rattle.wire_links.specs.Counted.{after_next, after_send};
 ghost use Rattle.undo_plans.specs.declared.names.Names.{Names};
 ghost use Rattle.model_undo.specs.declared.call.Call.TheVariants as call;
-ghost use Rattle.undo_core.specs.Shown.{Shows};
-ghost use Rattle.undo_core.specs.Course.{Calls, Comes};
-ghost use Rattle.bmc_ports.specs.Driving.{State, Answers, call_for, both, Fails, open_at, LeadsTo, Drives};
+ghost use Rattle.undo_core.specs.Shown.{Represents};
+ghost use Rattle.undo_core.specs.Course.{Calls, InputResult};
+ghost use Rattle.bmc_ports.specs.Driving.{DrivenState, Answers, call_for, both, LinkFails, open_at, LeadsTo, DriveResult};
 
 use two_wire::{Bus, Frame, MOST_RETRIES};
 use undo_core::{Manager, Phase, Sent};
@@ -27,7 +27,7 @@ fn send_frames<L: Link>(link: &mut L, frames: &[Frame]) -> Result<(), LinkFault>
 fn send_over<A: Link, B: Link>(ipmb: &mut A, smbus: &mut B, sent: &Sent) -> Result<(), LinkFault>
     ensures ipmb { OnOk result (A.counts_of ipmb.new ≡ A.counts_of ipmb.old) }
     ensures smbus { OnOk result (B.counts_of smbus.new ≡ B.counts_of smbus.old) }
-    ensures fails { OnErr result (Fails (both (A.counts_of ipmb.old) (B.counts_of smbus.old))
+    ensures fails { OnErr result (LinkFails (both (A.counts_of ipmb.old) (B.counts_of smbus.old))
         (both (A.counts_of ipmb.new) (B.counts_of smbus.new))) }
 {
     match sent.bus {
@@ -38,8 +38,8 @@ fn send_over<A: Link, B: Link>(ipmb: &mut A, smbus: &mut B, sent: &Sent) -> Resu
 
 /// Tells the manager that no reply came. Where it awaits none, nothing changes.
 fn be_quiet(manager: &mut Manager) -> Option<Sent>
-    ensures { (names : Names) (s : State names) → Shows names manager.old s
-        → Comes names (Calls call.Quiet) s manager.new result }
+    ensures { (names : Names) (s : DrivenState names) → Represents names manager.old s
+        → InputResult names (Calls call.Quiet) s manager.new result }
 {
     match manager.quiet() {
         Ok(sent) => sent,
@@ -55,7 +55,7 @@ fn send_all<A: Link, B: Link>(
     ipmb: &mut A,
     smbus: &mut B,
 )
-    ensures { (names : Names) (s : State names) → Shows names manager.old s
+    ensures { (names : Names) (s : DrivenState names) → Represents names manager.old s
         → LeadsTo names 0 s manager.new (both (A.counts_of ipmb.old) (B.counts_of smbus.old))
         (both (A.counts_of ipmb.new) (B.counts_of smbus.new)) }
 {
@@ -75,8 +75,8 @@ fn send_all<A: Link, B: Link>(
 fn hear<L: Link>(manager: &mut Manager, bus: Bus, link: &mut L) -> Option<Sent>
     ensures { (answer : Result AnyHeard AnyFault)
         × (L.counts_of link.new ≡ after_next answer (L.counts_of link.old))
-        × ((names : Names) (s : State names) → Shows names manager.old s
-        → Comes names (call_for (Answers bus answer)) s manager.new result) }
+        × ((names : Names) (s : DrivenState names) → Represents names manager.old s
+        → InputResult names (call_for (Answers bus answer)) s manager.new result) }
 {
     match link.next() {
         Ok(Heard::Frame(frame)) => manager.on_frame(bus, frame.as_slice()),
@@ -86,7 +86,7 @@ fn hear<L: Link>(manager: &mut Manager, bus: Bus, link: &mut L) -> Option<Sent>
 
 /// One turn, while the manager's request is open on this bus: it hears the link of that bus, and all that the manager gives is sent.
 fn turn<A: Link, B: Link>(manager: &mut Manager, bus: Bus, ipmb: &mut A, smbus: &mut B)
-    ensures { (names : Names) (s : State names) → Shows names manager.old s
+    ensures { (names : Names) (s : DrivenState names) → Represents names manager.old s
         → open_at names s ≡ Some bus
         → LeadsTo names 1 s manager.new (both (A.counts_of ipmb.old) (B.counts_of smbus.old))
         (both (A.counts_of ipmb.new) (B.counts_of smbus.new)) }
@@ -103,15 +103,15 @@ fn turn<A: Link, B: Link>(manager: &mut Manager, bus: Bus, ipmb: &mut A, smbus: 
     }
 }
 
-/// So many turns, or those until no request is open, and the phase then.
+/// Makes so many turns, or those until no request is open, and gives the phase then.
 fn make_turns<A: Link, B: Link>(
     manager: &mut Manager,
     ipmb: &mut A,
     smbus: &mut B,
     turns: u32,
 ) -> Phase
-    ensures { (names : Names) (s : State names) → Shows names manager.old s
-        → Drives names turns s manager.new result
+    ensures { (names : Names) (s : DrivenState names) → Represents names manager.old s
+        → DriveResult names turns s manager.new result
         (both (A.counts_of ipmb.old) (B.counts_of smbus.old))
         (both (A.counts_of ipmb.new) (B.counts_of smbus.new)) }
 {
@@ -136,8 +136,8 @@ pub fn drive<A: Link, B: Link>(
     smbus: &mut B,
     turns: u32,
 ) -> Phase
-    ensures { (names : Names) (s : State names) → Shows names manager.old s
-        → Drives names turns s manager.new result
+    ensures { (names : Names) (s : DrivenState names) → Represents names manager.old s
+        → DriveResult names turns s manager.new result
         (both (A.counts_of ipmb.old) (B.counts_of smbus.old))
         (both (A.counts_of ipmb.new) (B.counts_of smbus.new)) }
 {

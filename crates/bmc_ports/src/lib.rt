@@ -2,18 +2,18 @@
 #![tactic(auto)]
 
 mod at_once;
-mod bell;
 mod driver;
 pub mod lane;
 mod laws;
-pub mod lending;
 pub mod run;
-pub mod scanned;
+pub mod runner;
 pub mod scanner;
+pub mod scanner_play;
 mod sender;
 pub mod silence;
 pub mod slices;
-pub mod timed;
+mod stop_signal;
+pub mod timetable;
 
 pub use at_once::NoThread;
 pub use bmc_shared::{
@@ -23,8 +23,8 @@ pub use bmc_shared::{
 pub use driver::drive;
 pub use lane::{Lane, Lanes};
 pub use laws::drives_on;
-pub use lending::{Sliced, run_slices};
 pub use run::run_two;
+pub use runner::{RunResult, run_slices};
 pub use silence::Silence;
-pub use timed::{Stops, Timed, TimedEnd, Timetable, happen_in_time};
+pub use timetable::{Stops, Timed, TimedEnd, Timetable, happen_in_time};
 pub use wire_links::{Counts, Heard, Link, LinkFault, MOST_KEPT, MemFault, MemLink, UdpLink};

@@ -1,7 +1,7 @@
 //! The scanner: what happens on a board beside requests.
 ghost use Rattle.std.specs.Prelude.{◌≡◌, true};
 ghost use Rattle.bmc_shared.specs.declared.worker.End.TheVariants.{Turns, Full};
-ghost use Rattle.bmc_ports.specs.Scanning.{Scanned};
+ghost use Rattle.bmc_ports.specs.Scanning.{ScannerTurns};
 
 use bmc_board::Bench;
 use bmc_shared::{End, Opening, PeriodFull, Seat, Shared};
@@ -16,7 +16,7 @@ pub(crate) fn scan<J: Opening, S: Store + Drop, R: Wait>(
     bench: &[Bench],
     turns: u32,
 ) -> End
-    ensures scanned { Scanned result turns bench.now seat.old.calls.items seat.new.calls.items }
+    ensures scanned { ScannerTurns result turns bench.now seat.old.calls.items seat.new.calls.items }
     ensures marked { result ≡ Full → seat.new.refused ≡ true }
     ensures mark { result ≡ Turns → seat.new.refused ≡ seat.old.refused }
     ensures number { seat.new.number ≡ seat.old.number }

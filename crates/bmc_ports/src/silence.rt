@@ -1,10 +1,10 @@
 //! How long each requester of a port was silent, and which ones the port forgets by it.
 ghost use Rattle.std.specs.Prelude.{◌≡◌, ◌≢◌, ◌<◌, ◌==◌, ◌+◌, ℕ, [], ◌∷◌, min, if◌then◌else◌};
 ghost use Rattle.model_ports.specs.PortSteps.{PortState, idles};
-ghost use Rattle.bmc_core.specs.Port.{Shows, bus_of};
+ghost use Rattle.bmc_core.specs.Port.{Represents, bus_of};
 ghost use Rattle.bmc_ports.specs.Since.{most_turns};
 ghost use Rattle.model_bus.specs.Request.{requester_bytes};
-ghost use Rattle.bmc_ports.specs.Silence.{AreCounted, CountsAll, Forgets, NobodySilent, idles_all, silent_among, silent_turns};
+ghost use Rattle.bmc_ports.specs.Silence.{AreCounted, CountsAll, ForgetsRequesters, NobodySilent, idles_all, silent_among, silent_turns};
 
 use crate::sender::heard_from;
 use bmc_core::Port;
@@ -18,7 +18,7 @@ pub struct Silence {
 }
 
 impl Silence {
-    /// That of a port that made no turn yet.
+    /// The silence of a port that made no turn yet.
     pub(crate) fn new() -> Self
         ensures { NobodySilent result }
     {
@@ -70,8 +70,8 @@ fn port_bus(port: &Port) -> Bus
 
 /// Has a port forget a requester, where it was silent for just so many turns.
 fn forget_one(port: &mut Port, silence: &Silence, turns: u32, who: u8)
-    ensures forgets { (p : PortState) → Shows port.old p
-        → Shows port.new (if silent_turns silence.now who == turns then idles who p else p) }
+    ensures forgets { (p : PortState) → Represents port.old p
+        → Represents port.new (if silent_turns silence.now who == turns then idles who p else p) }
     ensures bus { bus_of port.new ≡ bus_of port.old }
 {
     if silence.turns[usize::from(who)] == turns {
@@ -81,8 +81,8 @@ fn forget_one(port: &mut Port, silence: &Silence, turns: u32, who: u8)
 
 /// Has a port forget all that were silent for just so many turns.
 fn forget_all(port: &mut Port, silence: &Silence, turns: u32)
-    ensures forgets { (p : PortState) → Shows port.old p
-        → Shows port.new (idles_all (silent_among requester_bytes turns silence.now) p) }
+    ensures forgets { (p : PortState) → Represents port.old p
+        → Represents port.new (idles_all (silent_among requester_bytes turns silence.now) p) }
     ensures bus { bus_of port.new ≡ bus_of port.old }
 {
     for who in 0..REQUESTERS {
@@ -100,7 +100,7 @@ pub(crate) fn forget_silent(
 )
     ensures counted { AreCounted least (bus_of port.old)
         silence.old (heard.now ∷ []) silence.new }
-    ensures forgets { Forgets least silence.new port.old port.new }
+    ensures forgets { ForgetsRequesters least silence.new port.old port.new }
     ensures bus { bus_of port.new ≡ bus_of port.old }
 {
     match least {

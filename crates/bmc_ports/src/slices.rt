@@ -1,14 +1,14 @@
 //! Two port workers that are lent ports and links, and give them back after some of their turns.
 ghost use Rattle.std.specs.Prelude.{◌≡◌, ◌≤◌, true, [], ◌∷◌};
 ghost use Rattle.bmc_shared.specs.declared.worker.End.TheVariants.{Turns, Full};
-ghost use Rattle.bmc_ports.specs.Slices.{IsQuiet, SomeTurn, GoesOn};
+ghost use Rattle.bmc_ports.specs.Slices.{IsQuiet, SomeTurn, WorkerEnd};
 
 use crate::at_once::Work;
-use crate::bell::Rope;
 use crate::lane::Lane;
 use crate::silence::forget_silent;
+use crate::stop_signal::StopHandle;
 use bmc_board::Records;
-use bmc_shared::{Desk, End, Gate, Opening, Seat, Shared, turn};
+use bmc_shared::{End, Gate, Opening, Seat, Shared, WorkerState, turn};
 use cfg_records::Store;
 use std::sync::Wait;
 use two_wire::Frame;
@@ -16,15 +16,15 @@ use wire_links::Link;
 
 /// What a worker is lent.
 #[derive(Drop)]
-pub(crate) struct Lent<J: Opening, L> {
+pub(crate) struct WorkerLoan<J: Opening, L> {
     pub seat: Seat<J>,
     pub lane: Lane<L>,
 }
 
 /// What a worker gives back: what it was lent, once it worked with it, and why it ended.
 #[derive(Drop)]
-pub(crate) struct Returned<J: Opening, L> {
-    pub lent: Lent<J, L>,
+pub(crate) struct WorkerReturn<J: Opening, L> {
+    pub lent: WorkerLoan<J, L>,
     pub end: End,
 }
 
@@ -44,7 +44,7 @@ fn make_turn<J: Opening, S: Store + Drop, L: Link, G: Gate, R: Wait>(
     shared: &Shared<J, S>,
     seat: &mut Seat<J>,
     lane: &mut Lane<L>,
-    desk: &mut Desk<'_, G>,
+    desk: &mut WorkerState<'_, G>,
 ) -> End
     requires { 1 ≤ lane.old.turns }
     ensures turn { SomeTurn L.counts_of result
@@ -76,15 +76,15 @@ fn serve_slices<J: Opening, S: Store + Drop, L: Link, G: Gate, R: Wait>(
     seat: &mut Seat<J>,
     lane: &mut Lane<L>,
     gate: &G,
-    rope: &Rope<'_>,
+    rope: &StopHandle<'_>,
 ) -> End
-    ensures goes { GoesOn L.counts_of result
+    ensures goes { WorkerEnd L.counts_of result
         seat.old.calls.items seat.new.calls.items lane.old lane.new }
     ensures marked { result ≡ Full → seat.new.refused ≡ true }
     ensures mark { result ≡ Turns → seat.new.refused ≡ seat.old.refused }
     ensures number { seat.new.number ≡ seat.old.number }
 {
-    let mut desk = Desk::new(gate);
+    let mut desk = WorkerState::new(gate);
     for _ in 0..lane.turns {
         match make_turn(rt, shared, seat, lane, &mut desk) {
             End::Full => {
@@ -105,19 +105,19 @@ fn serve_slices<J: Opening, S: Store + Drop, L: Link, G: Gate, R: Wait>(
 pub(crate) struct Serving<'a, 'b, J: Opening, L, G: Gate, R: Wait> {
     pub rt: &'a R,
     pub shared: &'a Shared<J, Records>,
-    pub lent: Lent<J, L>,
+    pub lent: WorkerLoan<J, L>,
     pub gate: &'a G,
-    pub rope: Rope<'b>,
+    pub rope: StopHandle<'b>,
 }
 
 impl<'a, 'b, J: Opening, L: Link + Drop, G: Gate, R: Wait> Work for Serving<'a, 'b, J, L, G, R> {
     ghost use Rattle.bmc_ports.specs.Slices.{GivesBack};
 
-    type Given = Returned<J, L>;
+    type Given = WorkerReturn<J, L>;
 
     ghost gives = { λ work back. GivesBack L.counts_of work.lent back.lent back.end };
 
-    fn run(self) -> Returned<J, L> {
+    fn run(self) -> WorkerReturn<J, L> {
         let Serving {
             rt,
             shared,
@@ -125,8 +125,8 @@ impl<'a, 'b, J: Opening, L: Link + Drop, G: Gate, R: Wait> Work for Serving<'a, 
             gate,
             rope,
         } = self;
-        let Lent { seat, lane } = &mut lent;
+        let WorkerLoan { seat, lane } = &mut lent;
         let end = serve_slices(rt, shared, seat, lane, gate, &rope);
-        Returned { lent, end }
+        WorkerReturn { lent, end }
     }
 }

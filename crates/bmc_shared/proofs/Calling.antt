@@ -2,54 +2,54 @@
 use Rattle.std.specs.Prelude.{Result, Ok, Err, IfOk, IfErr, OnOk, OnErr}
 use Rattle.std.proofs.Common.{◌≡◌, ℕ, List, [], ◌∷◌, true, refl, sym, ap, subst}
 use Rattle.record_base.specs.declared.message.Asked.{Asked}
-use Rattle.bmc_board.specs.Carrying.{IsCarried}
+use Rattle.bmc_board.specs.Carrying.{IsCarriedRequest}
 use Rattle.bmc_core.specs.declared.out.Out.{Out}
 use Rattle.bmc_core.specs.declared.port.Port.{Port}
-use Rattle.bmc_core.specs.declared.step.Served.{Served}
-use Rattle.bmc_core.specs.declared.step.Served.TheVariants.{CarriedOut, NothingAsked}
-use Rattle.bmc_core.specs.Port.{asked_of, Serves}
+use Rattle.bmc_core.specs.declared.step.ServeOutcome.{ServeOutcome}
+use Rattle.bmc_core.specs.declared.step.ServeOutcome.TheVariants.{CarriedOut, NothingAsked}
+use Rattle.bmc_core.specs.Port.{asked_of, ServesFrameBy}
 use Rattle.bmc_history.specs.declared.event.Call.{Call}
 use Rattle.bmc_history.specs.declared.event.Call.TheVariants.{Exchanged}
 use Rattle.bmc_history.specs.declared.held.PeriodFull.{PeriodFull}
 use Rattle.bmc_history.specs.Calls.{KeepsHere}
 use Rattle.bmc_shared.specs.declared.seat.Seat.{Seat}
 use Rattle.bmc_shared.specs.Calling.{HasCalled, HasFoundNoRoom}
-use Rattle.bmc_shared.specs.Serving.{Takes}
+use Rattle.bmc_shared.specs.Serving.{WorkerStep}
 use Rattle.bmc_shared.specs.declared.worker.End.TheVariants.{Turns, Full}
 use Rattle.bmc_shared.proofs.Turning.{settled, answered_or_refused}
 
 module _ {J : Type 0} {g : _} (port next : Port) (frame : List ℕ) (seat now : Seat J g) (out : Out) where
   -- the port served the frame by a call of the shared board, if it made one
-  abbrev pub ServesBy : Result Served PeriodFull → Type 0
+  abbrev pub ServesBy : Result ServeOutcome PeriodFull → Type 0
   ServesBy result =
-      Serves (λ asked answered later. HasCalled seat asked answered later) (λ (why : PeriodFull) (later : Seat J g). HasFoundNoRoom seat later) port frame seat result next out now
+      ServesFrameBy (λ asked answered later. HasCalled seat asked answered later) (λ (why : PeriodFull) (later : Seat J g). HasFoundNoRoom seat later) port frame seat result next out now
 
   -- it takes the frame
-  pub takes : (served : Served) → ServesBy (Ok served) → Takes Turns (frame ∷ []) port next seat.calls.items now.calls.items
+  pub takes : (served : ServeOutcome) → ServesBy (Ok served) → WorkerStep Turns (frame ∷ []) port next seat.calls.items now.calls.items
   takes CarriedOut done =
       let call : Call = Exchanged (asked_of done.pending) done.answered in
       answered_or_refused port frame done.between next done.heard done.pending seat.calls.items now.calls.items (Ok tt) done.asks
       (call ∷ [], done.carried.gained, (done.answered, out, refl, done.replied)) tt tt
-  takes NothingAsked done = subst (λ (calls : List Call). Takes Turns (frame ∷ []) port next seat.calls.items calls) (sym (ap (λ (s : Seat J g). s.calls.items) done.1)) (settled port frame next out seat.calls.items done.0)
+  takes NothingAsked done = subst (λ (calls : List Call). WorkerStep Turns (frame ∷ []) port next seat.calls.items calls) (sym (ap (λ (s : Seat J g). s.calls.items) done.1)) (settled port frame next out seat.calls.items done.0)
 
   -- the seat is marked as it was, and has its number
-  pub mark_left : (served : Served) → ServesBy (Ok served) → now.refused ≡ seat.refused
+  pub mark_left : (served : ServeOutcome) → ServesBy (Ok served) → now.refused ≡ seat.refused
   mark_left CarriedOut done = done.carried.mark
   mark_left NothingAsked done = ap (λ (s : Seat J g). s.refused) done.1
 
-  pub number_left : (served : Served) → ServesBy (Ok served) → now.number ≡ seat.number
+  pub number_left : (served : ServeOutcome) → ServesBy (Ok served) → now.number ≡ seat.number
   number_left CarriedOut done = done.carried.number
   number_left NothingAsked done = ap (λ (s : Seat J g). s.number) done.1
 
   -- or it drops the request
-  pub drops : (why : PeriodFull) → ServesBy (Err why) → Takes Full (frame ∷ []) port next seat.calls.items now.calls.items
+  pub drops : (why : PeriodFull) → ServesBy (Err why) → WorkerStep Full (frame ∷ []) port next seat.calls.items now.calls.items
   drops why done = answered_or_refused port frame next next out done.0.0 seat.calls.items now.calls.items (Err why) done.0.1 tt done.1.list refl
 
 -- ---- the call itself
 module _ {J : Type 0} {g : _} (seat now : Seat J g) where
   pub called : (asking : Asked) (old new : List ℕ) (result : Result (Result (Unit {0}) ℕ) PeriodFull)
       → IfOk result (λ given. KeepsHere seat.calls.items now.calls.items asking given old new) → OnOk result (now.refused ≡ seat.refused) → now.number ≡ seat.number
-      → IfOk result (λ given. IsCarried (λ question answered later. HasCalled seat question answered later) asking given old new now)
+      → IfOk result (λ given. IsCarriedRequest (λ question answered later. HasCalled seat question answered later) asking given old new now)
   called asking old new (Ok given) keeps mark number = record {
     answered = keeps.answered;
     gives = keeps.gives;

@@ -8,9 +8,9 @@ use Rattle.record_base.specs.declared.message.Answered.{Answered}
 use Rattle.record_base.specs.Meaning.{room_for}
 use Rattle.cfg_records.specs.declared.board_file.BoardFile.{BoardFile}
 use Rattle.bmc_board.specs.declared.board.Board.{Board}
-use Rattle.bmc_board.specs.Gives.{Gives}
-use Rattle.bmc_board.specs.declared.asked.AskedHere.{AskedHere}
-use Rattle.bmc_board.specs.Asking.{meant}
+use Rattle.bmc_board.specs.Gives.{GivesReply}
+use Rattle.bmc_board.specs.declared.asked_ref.AskedRef.{AskedRef}
+use Rattle.bmc_board.specs.Asking.{as_asked}
 use Rattle.bmc_board.specs.Carrying.{code_given}
 use Rattle.bmc_history.specs.declared.event.Call.{Call}
 use Rattle.bmc_history.specs.declared.event.Call.TheVariants.{Exchanged}
@@ -30,10 +30,10 @@ kept_as calls kept asked question given old new a same done said =
 
 -- the list gained the call of the answer that the board gave
 kept_by : {S : Type 0} {E : Type 0} {g h : _} (setup : BoardFile) (before after : Board S g h) (events later : List Event) (seat : ℕ)
-    (calls kept : List Call) (asked : AskedHere) (result : Result (Result (Unit {0}) ℕ) E) (old new shown : List ℕ)
-    → IfOk result (λ given. ExchangesHere setup before after events later seat (meant asked) given old new)
+    (calls kept : List Call) (asked : AskedRef) (result : Result (Result (Unit {0}) ℕ) E) (old new shown : List ℕ)
+    → IfOk result (λ given. ExchangesHere setup before after events later seat (as_asked asked) given old new)
     → IfOk result (λ given. GainsCall calls kept (exchanged asked (code_given given) shown))
-    → shown ≡ drop (length old) new → IfOk result (λ given. KeepsHere calls kept (meant asked) given old new)
+    → shown ≡ drop (length old) new → IfOk result (λ given. KeepsHere calls kept (as_asked asked) given old new)
 kept_by setup before after events later seat calls kept asked (Ok given) old new shown done gained taken = record {
   answered = done.answered;
   gives = done.gives;
@@ -44,16 +44,16 @@ kept_by setup before after events later seat calls kept asked (Err why) old new 
 
 -- the seat's list keeps the answer that the board gave
 pub keeps_here : {S : Type 0} {E : Type 0} {g h : _} (setup : BoardFile) (before after : Board S g h) (events later : List Event) (seat : ℕ)
-    (calls kept : List Call) (asked : AskedHere) (told result : Result (Result (Unit {0}) ℕ) E) (old new shown : List ℕ) → told ≡ result
-    → IfOk result (λ given. ExchangesHere setup before after events later seat (meant asked) given old new)
+    (calls kept : List Call) (asked : AskedRef) (told result : Result (Result (Unit {0}) ℕ) E) (old new shown : List ℕ) → told ≡ result
+    → IfOk result (λ given. ExchangesHere setup before after events later seat (as_asked asked) given old new)
     → IfOk result (λ given. GainsCall calls kept (exchanged asked (code_given given) shown))
-    → shown ≡ drop (length old) new → IfOk told (λ given. KeepsHere calls kept (meant asked) given old new)
+    → shown ≡ drop (length old) new → IfOk told (λ given. KeepsHere calls kept (as_asked asked) given old new)
 keeps_here setup before after events later seat calls kept asked told result old new shown same done gained taken =
-    subst (λ r. IfOk r (λ given. KeepsHere calls kept (meant asked) given old new)) (sym same)
+    subst (λ r. IfOk r (λ given. KeepsHere calls kept (as_asked asked) given old new)) (sym same)
     (kept_by setup before after events later seat calls kept asked result old new shown done gained taken)
 
 -- what is given stands behind the bytes that were there, and is no longer than the answer's data
-behind : (given : Result (Unit {0}) ℕ) (old new : List ℕ) (a : Answered) → Gives given old new a
+behind : (given : Result (Unit {0}) ℕ) (old new : List ℕ) (a : Answered) → GivesReply given old new a
     → (length old ≤ length new) × (length new ≤ length old + length a.body)
 behind (Ok done) old new a gives =
     let all : length new ≡ length old + length a.body = ap (λ (xs : List ℕ). length xs) gives.1 ∙ length-append old a.body in (omega (arith, all), omega (arith, all))

@@ -14,16 +14,16 @@ use Rattle.wire_links.specs.Counted.{one_more, counted_on, after_next}
 use Rattle.wire_links.proofs.Counting.{counted_twice}
 use Rattle.bmc_history.specs.declared.event.Call.{Call}
 use Rattle.bmc_history.specs.declared.held.PeriodFull.{PeriodFull}
-use Rattle.bmc_shared.specs.Serving.{CallsNext, Carries, MakesTurn, Serves, ServesTo, MadeAll, Takes, Worked, end_of, frames_in}
+use Rattle.bmc_shared.specs.Serving.{CallsNext, CarriesRequest, MakesTurn, ServesFrames, ServesTo, MadeAll, WorkerStep, WorkerRun, end_of, frames_in}
 use Rattle.bmc_shared.specs.declared.worker.End.{End}
 use Rattle.bmc_shared.specs.declared.worker.End.TheVariants.{Turns, Full}
 
 -- frames that are heard, and then others
 pub serves_both : (first later : List (List ℕ)) (before mid after : Port) (calls rest : List Call)
-    → Serves first before calls mid → Serves later mid rest after → Serves (first ++ later) before (calls ++ rest) after
+    → ServesFrames first before calls mid → ServesFrames later mid rest after → ServesFrames (first ++ later) before (calls ++ rest) after
 serves_both [] later before mid after calls rest (none, same) then =
-    subst (λ (xs : List Call). Serves later before (xs ++ rest) after) (sym none)
-    (subst (λ (port : Port). Serves later port rest after) (sym same) then)
+    subst (λ (xs : List Call). ServesFrames later before (xs ++ rest) after) (sym none)
+    (subst (λ (port : Port). ServesFrames later port rest after) (sym same) then)
 serves_both (frame ∷ first) later before mid after calls rest (at, one, others, split, hears, serves) then = (
   at,
   one,
@@ -35,7 +35,7 @@ serves_both (frame ∷ first) later before mid after calls rest (at, one, others
 
 -- the same, where the last request was dropped or not
 pub serves_on : (end : End) (first later : List (List ℕ)) (before mid after : Port) (calls rest : List Call)
-    → Serves first before calls mid → ServesTo end later mid rest after → ServesTo end (first ++ later) before (calls ++ rest) after
+    → ServesFrames first before calls mid → ServesTo end later mid rest after → ServesTo end (first ++ later) before (calls ++ rest) after
 serves_on Turns first later before mid after calls rest begins then = serves_both first later before mid after calls rest begins then
 serves_on Full first later before mid after calls rest begins then = record {
   served = first ++ then.served;
@@ -47,7 +47,7 @@ serves_on Full first later before mid after calls rest begins then = record {
 }
 
 -- a worker that made no turn
-pub idle : (port : Port) (held : List Call) (counts : Counts) → Worked Turns 0 port port held held counts counts
+pub idle : (port : Port) (held : List Call) (counts : Counts) → WorkerRun Turns 0 port port held held counts counts
 idle port held counts = record {
   frames = [];
   gained = [];
@@ -71,9 +71,9 @@ made_on Full turns first counted counts begins (made, least, most, then) = (
 
 -- a worker that made turns makes one more
 pub works_on : (end : End) (turns : ℕ) (before mid after : Port) (held kept more : List Call) (first counted counts : Counts)
-    → Worked Turns turns before mid held kept first counted
-    → Worked end 1 mid after kept more counted counts
-    → Worked end (turns + 1) before after held more first counts
+    → WorkerRun Turns turns before mid held kept first counted
+    → WorkerRun end 1 mid after kept more counted counts
+    → WorkerRun end (turns + 1) before after held more first counts
 works_on end turns before mid after held kept more first counted counts begins then =
     let both : length then.frames + length begins.frames ≡ length (begins.frames ++ then.frames) = omega (arith, length-append begins.frames then.frames) in record {
       frames = begins.frames ++ then.frames;
@@ -88,7 +88,7 @@ works_on end turns before mid after held kept more first counted counts begins t
 
 -- a worker that found no room needn't have made all its turns
 pub full_early : (made turns : ℕ) (before after : Port) (held kept : List Call) (counted counts : Counts) → made ≤ turns
-    → Worked Full made before after held kept counted counts → Worked Full turns before after held kept counted counts
+    → WorkerRun Full made before after held kept counted counts → WorkerRun Full turns before after held kept counted counts
 full_early made turns before after held kept counted counts within worked = record {
   frames = worked.frames;
   gained = worked.gained;
@@ -100,9 +100,9 @@ full_early made turns before after held kept counted counts within worked = reco
 
 -- a worker that made as many turns as it was to make has made them all
 pub all_made : (made turns : ℕ) (before after : Port) (held kept : List Call) (counted counts : Counts) → made ≤ turns → turns ≤ made
-    → Worked Turns made before after held kept counted counts → Worked Turns turns before after held kept counted counts
+    → WorkerRun Turns made before after held kept counted counts → WorkerRun Turns turns before after held kept counted counts
 all_made made turns before after held kept counted counts within ended worked =
-    let all : made ≡ turns = omega (arith, within, ended) in subst (λ (n : ℕ). Worked Turns n before after held kept counted counts) all worked
+    let all : made ≡ turns = omega (arith, within, ended) in subst (λ (n : ℕ). WorkerRun Turns n before after held kept counted counts) all worked
 
 -- one more turn is within those that are to be made
 pub one_more_turn : (made turns : ℕ) → made < turns → made + 1 ≤ turns
@@ -111,7 +111,7 @@ one_more_turn made turns more = omega (arith, more)
 -- ---- one frame that a port took
 module _ (before : Port) (frame : List ℕ) where
   -- nothing was asked
-  pub settled : (after : Port) (out : Out) (held : List Call) → IsStep before frame after out Done → Takes Turns (frame ∷ []) before after held held
+  pub settled : (after : Port) (out : Out) (held : List Call) → IsStep before frame after out Done → WorkerStep Turns (frame ∷ []) before after held held
   settled after out held step = record {
     gained = [];
     list = sym (append-nil held);
@@ -121,10 +121,10 @@ module _ (before : Port) (frame : List ℕ) where
   -- a request was asked, and answered or refused
   pub answered_or_refused : (between after : Port) (out : Out) (pending : Pending) (held kept : List Call) (result : Result (Unit {0}) PeriodFull)
       → IsStep before frame between out (Ask pending)
-      → OnOk result (Carries pending between held kept after)
+      → OnOk result (CarriesRequest pending between held kept after)
       → OnErr result (kept ≡ held)
       → OnErr result (after ≡ between)
-      → Takes (end_of result) (frame ∷ []) before after held kept
+      → WorkerStep (end_of result) (frame ∷ []) before after held kept
   answered_or_refused between after out pending held kept (Ok done) step carries list port = record {
     gained = carries.0;
     list = carries.1;
@@ -155,7 +155,7 @@ heard_frame heard frame counted counts counts_so is =
 -- a frame was heard and taken, and what came of it left the link's counts alone
 pub taken : (end : End) (frame : List ℕ) (before after : Port) (held kept : List Call) (counted mid counts : Counts)
     → CallsNext (frame ∷ []) counted mid → counts.calls ≡ mid.calls → counts.heard ≡ mid.heard
-    → Takes end (frame ∷ []) before after held kept → MakesTurn end (Some frame) before after held kept counted counts
+    → WorkerStep end (frame ∷ []) before after held kept → MakesTurn end (Some frame) before after held kept counted counts
 taken end frame before after held kept counted mid counts next calls heard takes =
     record { next = record { calls = calls ∙ next.calls; heard = heard ∙ next.heard }; takes = takes }
 
@@ -166,7 +166,7 @@ one_call Full before after counted = (1, lit≤ tt, lit≤ tt, counted)
 
 -- a turn is a worker's whole work, where it's to make one
 pub works : (end : End) (heard : Option (List ℕ)) (before after : Port) (held kept : List Call) (counted counts : Counts)
-    → MakesTurn end heard before after held kept counted counts → Worked end 1 before after held kept counted counts
+    → MakesTurn end heard before after held kept counted counts → WorkerRun end 1 before after held kept counted counts
 works end heard before after held kept counted counts made = record {
   frames = frames_in heard;
   gained = made.takes.gained;

@@ -6,7 +6,7 @@ use Rattle.bmc_core.specs.declared.step.Step.{Step}
 use Rattle.bmc_core.specs.declared.step.Step.TheVariants.{Ask, Done}
 use Rattle.bmc_core.specs.declared.port.Port.{Port}
 use Rattle.bmc_core.specs.declared.port.Pending.{Pending}
-use Rattle.bmc_core.specs.Port.{asked_of, IsStep, Answers}
+use Rattle.bmc_core.specs.Port.{asked_of, IsStep, AnswerStep}
 use Rattle.wire_links.specs.declared.link.Counts.{Counts}
 use Rattle.wire_links.specs.Counted.{counted_on}
 use Rattle.bmc_history.specs.declared.event.Call.{Call}
@@ -28,33 +28,33 @@ frames_in (Some frame) = frame ∷ []
 -- ---- the port
 
 -- After the first step of a port, nothing is left to do, or the board was asked what the request asks, and the port got the reply.
-abbrev pub Settles : Step Pending → Port → List Call → Port → Type 0
-Settles Done between calls after = (calls ≡ []) × (between ≡ after)
-Settles (Ask pending) between calls after =
+abbrev pub SettlesStep : Step Pending → Port → List Call → Port → Type 0
+SettlesStep Done between calls after = (calls ≡ []) × (between ≡ after)
+SettlesStep (Ask pending) between calls after =
     (answered : Answered) × (out : Out) × (calls ≡ Exchanged (asked_of pending) answered ∷ [])
-    × Answers between pending answered after out
+    × AnswerStep between pending answered after out
 
 -- a port heard the frame, and the board was called so for it
-pub record Hears (before : Port) (frame : List ℕ) (calls : List Call) (after : Port) : Type 0 where
+pub record HearsFrame (before : Port) (frame : List ℕ) (calls : List Call) (after : Port) : Type 0 where
   pub between : Port
   pub out : Out
   pub step : Step Pending
   pub heard : IsStep before frame between out step
-  pub settles : Settles step between calls after
+  pub settles : SettlesStep step between calls after
 
 -- the board was asked so, and the seat's list gained the request with the reply that the port got
-abbrev pub Carries : Pending → Port → List Call → List Call → Port → Type 0
-Carries pending before held kept after = (calls : List Call) × (kept ≡ held ++ calls) × Settles (Ask pending) before calls after
+abbrev pub CarriesRequest : Pending → Port → List Call → List Call → Port → Type 0
+CarriesRequest pending before held kept after = (calls : List Call) × (kept ≡ held ++ calls) × SettlesStep (Ask pending) before calls after
 
 -- it heard frames, one after another
-abbrev pub Serves : List (List ℕ) → Port → List Call → Port → Type 0
-Serves [] before calls after = (calls ≡ []) × (before ≡ after)
-Serves (frame ∷ later) before calls after =
+abbrev pub ServesFrames : List (List ℕ) → Port → List Call → Port → Type 0
+ServesFrames [] before calls after = (calls ≡ []) × (before ≡ after)
+ServesFrames (frame ∷ later) before calls after =
     (mid : Port) × (first : List Call) × (rest : List Call) × (calls ≡ first ++ rest)
-    × Hears before frame first mid × Serves later mid rest after
+    × HearsFrame before frame first mid × ServesFrames later mid rest after
 
 -- it heard a frame whose request was dropped
-pub record Drops (before : Port) (frame : List ℕ) (after : Port) : Type 0 where
+pub record DropsFrame (before : Port) (frame : List ℕ) (after : Port) : Type 0 where
   pub out : Out
   pub pending : Pending
   pub asks : IsStep before frame after out (Ask pending)
@@ -65,12 +65,12 @@ pub record ServesAllButLast (frames : List (List ℕ)) (before : Port) (calls : 
   pub last : List ℕ
   pub mid : Port
   pub all : frames ≡ served ++ last ∷ []
-  pub serves : Serves served before calls mid
-  pub drops : Drops mid last after
+  pub serves : ServesFrames served before calls mid
+  pub drops : DropsFrame mid last after
 
 -- a worker that found no room dropped the request for which it looked
 abbrev pub ServesTo : End → List (List ℕ) → Port → List Call → Port → Type 0
-ServesTo Turns = Serves
+ServesTo Turns = ServesFrames
 ServesTo Full = ServesAllButLast
 
 -- ---- the worker
@@ -86,7 +86,7 @@ MadeAll Turns turns before after = after.calls ≡ counted_on before.calls turns
 MadeAll Full turns before after = (made : ℕ) × (1 ≤ made) × (made ≤ turns) × (after.calls ≡ counted_on before.calls made)
 
 -- A port took frames, and its worker ends so by the last of them, or would. The seat's list gained the replies that the port got.
-pub record Takes (end : End) (frames : List (List ℕ)) (before after : Port) (held kept : List Call) : Type 0 where
+pub record WorkerStep (end : End) (frames : List (List ℕ)) (before after : Port) (held kept : List Call) : Type 0 where
   pub gained : List Call
   pub list : kept ≡ held ++ gained
   pub serves : ServesTo end frames before gained after
@@ -94,11 +94,11 @@ pub record Takes (end : End) (frames : List (List ℕ)) (before after : Port) (h
 -- A worker made one turn and heard this in it, and the port took the frame, if one was heard.
 pub record MakesTurn (end : End) (heard : Option (List ℕ)) (before after : Port) (held kept : List Call) (counted counts : Counts) : Type 0 where
   pub next : CallsNext (frames_in heard) counted counts
-  pub takes : Takes end (frames_in heard) before after held kept
+  pub takes : WorkerStep end (frames_in heard) before after held kept
 
 -- A worker made turns and ended so. Its port heard as many frames as its link counted, and got the replies that its seat's list
 -- gained, in their order.
-pub record Worked (end : End) (turns : ℕ) (before after : Port) (held kept : List Call) (counted counts : Counts) : Type 0 where
+pub record WorkerRun (end : End) (turns : ℕ) (before after : Port) (held kept : List Call) (counted counts : Counts) : Type 0 where
   pub frames : List (List ℕ)
   pub gained : List Call
   pub calls : MadeAll end turns counted counts

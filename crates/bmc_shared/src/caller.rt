@@ -2,7 +2,7 @@
 use crate::gate::Gate;
 use crate::seat::Seat;
 use crate::shared::Shared;
-use bmc_board::{AskedHere, Carrier, Reply};
+use bmc_board::{AskedRef, Carrier, Reply};
 use bmc_history::{Opening, PeriodFull};
 use cfg_records::Store;
 use std::sync::Wait;
@@ -45,10 +45,10 @@ impl<'a, J: Opening, S: Store + Drop, G: Gate, R: Wait> Carrier for Caller<'a, J
     fn carry<B: Reply>(
         &self,
         seat: &mut Seat<J>,
-        asked: &AskedHere<'_>,
+        asked: &AskedRef<'_>,
         reply: &mut B,
     ) -> Result<Result<(), Code>, PeriodFull> {
         self.gate.pass(seat.number(), self.passed);
-        self.shared.exchange_here(self.rt, seat, asked, reply)
+        self.shared.exchange_into(self.rt, seat, asked, reply)
     }
 }

@@ -14,4 +14,4 @@ pub use bmc_history::{
 pub use gate::Gate;
 pub use seat::{Seat, Seats};
 pub use shared::{CloseFault, Locked, Shared};
-pub use worker::{Desk, End, Turned, serve_port, turn};
+pub use worker::{End, TurnResult, WorkerState, serve_port, turn};

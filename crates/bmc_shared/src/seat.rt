@@ -45,7 +45,7 @@ impl<J: Opening> Seat<J> {
         }
     }
 
-    /// Its number.
+    /// The seat's number.
     pub fn number(&self) -> u8
         ensures { result ≡ self.now.number }
     {

@@ -3,17 +3,17 @@ ghost use Rattle.std.specs.Prelude.{◌≡◌, ◌+◌, ◌≤◌, ◌<◌, ◌^
 ghost use Rattle.two_wire.specs.Sizes.{most_pldm_reply_data};
 ghost use Rattle.record_base.specs.Meaning.{room_for};
 ghost use Rattle.bmc_board.specs.State.{state_of};
-ghost use Rattle.bmc_board.specs.Asking.{meant};
+ghost use Rattle.bmc_board.specs.Asking.{as_asked};
 ghost use Rattle.bmc_history.specs.Entries.{IsBlank};
-ghost use Rattle.bmc_history.specs.Replay.{Replays, IsRoom};
+ghost use Rattle.bmc_history.specs.Replay.{IsReplay, IsRoom};
 ghost use Rattle.bmc_history.specs.Calls.{IsRow, IsReply, IsHappening, GainsEvent, GainsCall, ExchangesHere, KeepsHere};
 ghost use Rattle.bmc_history.specs.declared.event.Call.TheVariants.{Exchanged, Benched};
 ghost use Rattle.bmc_history.specs.declared.held.OpenFault.TheVariants.{Room};
-ghost use Rattle.bmc_shared.specs.Seated.{IsFresh, KeepsGiven, LeavesSeat, SeatMatches, AllMatch, calls_made};
+ghost use Rattle.bmc_shared.specs.Seated.{IsFreshSeat, KeepsGiven, LeavesSeat, SeatMatches, AllMatch, calls_made};
 ghost use Rattle.bmc_shared.specs.declared.shared.CloseFault.TheVariants.{Mismatch};
 
 use crate::seat::{Seat, Seats};
-use bmc_board::{AskedHere, Bench, Board, NoSensor, Reply, answered, code_of};
+use bmc_board::{AskedRef, Bench, Board, NoSensor, Reply, answered, code_of};
 use bmc_history::{Calls, Held, History, OpenFault, Opening, PeriodFull};
 use cfg_records::{Answered, Asked, Store};
 use std::alloc::Global;
@@ -64,7 +64,7 @@ pub enum CloseFault {
 fn keep<B: Reply>(
     calls: &mut Calls,
     refused: &mut bool,
-    asked: &AskedHere<'_>,
+    asked: &AskedRef<'_>,
     given: Result<Result<(), Code>, PeriodFull>,
     reply: &B,
     start: usize,
@@ -101,15 +101,15 @@ impl<J: Opening, S: Store> Locked<J, S> {
         &mut self,
         number: u8,
         share: &mut Share<J>,
-        asked: &AskedHere<'_>,
+        asked: &AskedRef<'_>,
         reply: &mut B,
     ) -> Result<Result<(), Code>, PeriodFull>
-        requires room { length (B.bytes reply.old) + room_for (meant asked.now) ≤ B.capacity }
+        requires room { length (B.bytes reply.old) + room_for (as_asked asked.now) ≤ B.capacity }
         requires part { share.old.parts ≡ 1 }
         ensures exchanged { IfOk result (λ given.
             ExchangesHere J.setup self.old.held.board self.new.held.board
             self.old.held.history.items self.new.held.history.items number
-            (meant asked.now) given (B.bytes reply.old) (B.bytes reply.new)) }
+            (as_asked asked.now) given (B.bytes reply.old) (B.bytes reply.new)) }
         ensures full { IsErr result ↔ (length self.old.held.history.items ≡ J.room) }
         ensures same { OnErr result (self.new.held ≡ self.old.held) }
         ensures nothing { OnErr result (B.bytes reply.new ≡ B.bytes reply.old) }
@@ -120,7 +120,7 @@ impl<J: Opening, S: Store> Locked<J, S> {
     {
         let Locked { held, book } = self;
         book.audit(share);
-        match held.exchange_here(number, asked, reply) {
+        match held.exchange_into(number, asked, reply) {
             Ok(given) => {
                 book.add(share, 1);
                 Ok(given)
@@ -132,22 +132,22 @@ impl<J: Opening, S: Store> Locked<J, S> {
     /// The board's answer to a request that is looked at where it lies: the reply's data are
     /// appended, and the history and the seat's list gain the request and them. Where the history
     /// has no room, the seat is marked as refused, and nothing else changes.
-    pub fn exchange_here<B: Reply>(
+    pub fn exchange_into<B: Reply>(
         &mut self,
         seat: &mut Seat<J>,
-        asked: &AskedHere<'_>,
+        asked: &AskedRef<'_>,
         reply: &mut B,
     ) -> Result<Result<(), Code>, PeriodFull>
-        requires room { length (B.bytes reply.old) + room_for (meant asked.now) ≤ B.capacity }
+        requires room { length (B.bytes reply.old) + room_for (as_asked asked.now) ≤ B.capacity }
         ensures exchanged { IfOk result (λ given.
             ExchangesHere J.setup self.old.held.board self.new.held.board
             self.old.held.history.items self.new.held.history.items seat.old.number
-            (meant asked.now) given (B.bytes reply.old) (B.bytes reply.new)) }
+            (as_asked asked.now) given (B.bytes reply.old) (B.bytes reply.new)) }
         ensures full { IsErr result ↔ (length self.old.held.history.items ≡ J.room) }
         ensures same { OnErr result (self.new.held ≡ self.old.held) }
         ensures nothing { OnErr result (B.bytes reply.new ≡ B.bytes reply.old) }
         ensures kept { IfOk result (λ given.
-            KeepsHere seat.old.calls.items seat.new.calls.items (meant asked.now)
+            KeepsHere seat.old.calls.items seat.new.calls.items (as_asked asked.now)
             given (B.bytes reply.old) (B.bytes reply.new)) }
         ensures seat { LeavesSeat result seat.old seat.new }
     {
@@ -180,7 +180,7 @@ impl<J: Opening, S: Store> Locked<J, S> {
         ensures seat { LeavesSeat result seat.old seat.new }
     {
         let mut body = Bytes::new();
-        match self.exchange_here(seat, &AskedHere::of(asked), &mut body) {
+        match self.exchange_into(seat, &AskedRef::of(asked), &mut body) {
             Ok(given) => Ok(answered(given, body)),
             Err(full) => Err(full),
         }
@@ -253,9 +253,9 @@ fn seated<J: Opening>(blank: Blank, lists: (Calls, Calls, Calls)) -> (Book<J>, S
     requires second { IsBlank J.room lists.1 }
     requires scanner { IsBlank J.room lists.2 }
     ensures total { result.0.total ≡ 0 }
-    ensures first { IsFresh result.1.first }
-    ensures second { IsFresh result.1.second }
-    ensures scanner { IsFresh result.1.scanner }
+    ensures first { IsFreshSeat result.1.first }
+    ensures second { IsFreshSeat result.1.second }
+    ensures scanner { IsFreshSeat result.1.scanner }
 {
     let (first, second, scanner) = lists;
     let (book, mut whole) = blank.open::<J>();
@@ -281,9 +281,9 @@ impl<J: Opening, S: Store + Drop> Shared<J, S> {
         requires setup { board.setup ≡ J.setup }
         requires opening { state_of board ≡ J.opening }
         requires room { room ≡ J.room }
-        ensures first { IfOk result (λ opened. IsFresh opened.1.first) }
-        ensures second { IfOk result (λ opened. IsFresh opened.1.second) }
-        ensures scanner { IfOk result (λ opened. IsFresh opened.1.scanner) }
+        ensures first { IfOk result (λ opened. IsFreshSeat opened.1.first) }
+        ensures second { IfOk result (λ opened. IsFreshSeat opened.1.second) }
+        ensures scanner { IfOk result (λ opened. IsFreshSeat opened.1.scanner) }
         ensures within { OnOk result (IsRoom room) }
         ensures room { IfErr result (λ e. (e.0 ≡ Room) ↔ ¬ IsRoom room) }
         ensures back { IfErr result (λ e. (e.1 ≡ blank) × (e.2 ≡ board)) }
@@ -318,19 +318,19 @@ impl<J: Opening, S: Store + Drop> Shared<J, S> {
     }
 
     /// Waits for the lock, and has the board answer a request that is looked at where it lies. What
-    /// it answers is `Locked::exchange_here`'s. The lock is held while the board answers and its
+    /// it answers is `Locked::exchange_into`'s. The lock is held while the board answers and its
     /// history gains that; the seat's list is written behind it.
-    pub fn exchange_here<B: Reply, R: Wait>(
+    pub fn exchange_into<B: Reply, R: Wait>(
         &self,
         rt: &R,
         seat: &mut Seat<J>,
-        asked: &AskedHere<'_>,
+        asked: &AskedRef<'_>,
         reply: &mut B,
     ) -> Result<Result<(), Code>, PeriodFull>
-        requires room { length (B.bytes reply.old) + room_for (meant asked.now) ≤ B.capacity }
+        requires room { length (B.bytes reply.old) + room_for (as_asked asked.now) ≤ B.capacity }
         ensures nothing { OnErr result (B.bytes reply.new ≡ B.bytes reply.old) }
         ensures kept { IfOk result (λ given.
-            KeepsHere seat.old.calls.items seat.new.calls.items (meant asked.now)
+            KeepsHere seat.old.calls.items seat.new.calls.items (as_asked asked.now)
             given (B.bytes reply.old) (B.bytes reply.new)) }
         ensures seat { LeavesSeat result seat.old seat.new }
     {
@@ -366,7 +366,7 @@ impl<J: Opening, S: Store + Drop> Shared<J, S> {
         requires three { J.parts ≡ 3 }
         ensures setup { IfOk result (λ closed. closed.0.setup ≡ J.setup) }
         ensures replays { IfOk result (λ closed.
-            Replays J.setup J.opening closed.1 (state_of closed.0)) }
+            IsReplay J.setup J.opening closed.1 (state_of closed.0)) }
         ensures within { IfOk result (λ closed. length closed.1 ≤ J.room) }
         ensures first { IfOk result (λ closed. SeatMatches J.room closed.1 0 seats.first) }
         ensures second { IfOk result (λ closed. SeatMatches J.room closed.1 1 seats.second) }
@@ -390,7 +390,7 @@ impl<J: Opening, S: Store + Drop> Locked<J, S> {
         ensures history { IfOk result (λ closed. closed.1 ≡ self.held.history.items) }
         ensures setup { IfOk result (λ closed. closed.0.setup ≡ J.setup) }
         ensures replays { IfOk result (λ closed.
-            Replays J.setup J.opening closed.1 (state_of closed.0)) }
+            IsReplay J.setup J.opening closed.1 (state_of closed.0)) }
         ensures within { IfOk result (λ closed. length closed.1 ≤ J.room) }
         ensures counted { length self.held.history.items ≡ calls_made seats }
     {

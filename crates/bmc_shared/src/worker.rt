@@ -1,14 +1,14 @@
 //! A worker of one port: it hears frames over a link, has the board answer what they ask, and sends the replies.
 ghost use Rattle.std.specs.Prelude.{◌≡◌, true, [], ◌∷◌, OnOk, OnErr};
 ghost use Rattle.bmc_core.specs.Port.{bus_of};
-ghost use Rattle.bmc_shared.specs.Serving.{CallsNext, frames_in, Takes, MakesTurn, Worked, end_of};
+ghost use Rattle.bmc_shared.specs.Serving.{CallsNext, frames_in, WorkerStep, MakesTurn, WorkerRun, end_of};
 ghost use Rattle.bmc_shared.specs.declared.worker.End.TheVariants.{Turns, Full};
 
 use crate::caller::Caller;
 use crate::gate::Gate;
 use crate::seat::Seat;
 use crate::shared::Shared;
-use bmc_core::{Out, Port, Served};
+use bmc_core::{Out, Port, ServeOutcome};
 use bmc_history::{Opening, PeriodFull};
 use cfg_records::Store;
 use std::sync::Wait;
@@ -18,7 +18,7 @@ use wire_links::{Heard, Link};
 /// Why a worker ended.
 #[derive(Clone, Copy, Debug, PartialEq, Eq)]
 pub enum End {
-    /// It made all of its turns, or, as the scanner, came to the end of its list.
+    /// The worker made all of its turns, or the scanner came to the end of its list.
     Turns,
     /// The board's history had no room for its call.
     Full,
@@ -46,16 +46,16 @@ fn send_all<L: Link>(link: &mut L, frames: &[Frame])
 
 /// What a worker keeps from turn to turn: the gate, how often it passed it, and the place for what its port sends.
 #[derive(Drop)]
-pub struct Desk<'a, G: Gate> {
+pub struct WorkerState<'a, G: Gate> {
     gate: &'a G,
     passed: u64,
     out: Out,
 }
 
-impl<'a, G: Gate> Desk<'a, G> {
+impl<'a, G: Gate> WorkerState<'a, G> {
     /// A worker's, that passed no gate yet.
     pub fn new(gate: &'a G) -> Self {
-        Desk {
+        WorkerState {
             gate,
             passed: 0,
             out: Out::new(),
@@ -63,8 +63,8 @@ impl<'a, G: Gate> Desk<'a, G> {
     }
 
     /// Passes the gate behind an exchange, if there was one, which passed it before.
-    fn pass_behind(&mut self, served: Served, port: u8) {
-        if served == Served::CarriedOut {
+    fn pass_behind(&mut self, served: ServeOutcome, port: u8) {
+        if served == ServeOutcome::CarriedOut {
             self.gate.pass(port, self.passed.wrapping_add(1));
             self.passed = self.passed.wrapping_add(2);
         }
@@ -78,10 +78,10 @@ fn take_frame<J: Opening, S: Store + Drop, L: Link, G: Gate, R: Wait>(
     seat: &mut Seat<J>,
     port: &mut Port,
     link: &mut L,
-    desk: &mut Desk<'_, G>,
+    desk: &mut WorkerState<'_, G>,
     frame: &[u8],
 ) -> Result<(), PeriodFull>
-    ensures takes { Takes (end_of result) (frame.now ∷ []) port.old port.new
+    ensures takes { WorkerStep (end_of result) (frame.now ∷ []) port.old port.new
         seat.old.calls.items seat.new.calls.items }
     ensures marked { OnErr result (seat.new.refused ≡ true) }
     ensures mark { OnOk result (seat.new.refused ≡ seat.old.refused) }
@@ -103,7 +103,7 @@ fn take_frame<J: Opening, S: Store + Drop, L: Link, G: Gate, R: Wait>(
 
 /// What one turn came to: the frame that the link's `next` heard, if one, and how its worker ends by it, or would.
 #[derive(Drop)]
-pub struct Turned {
+pub struct TurnResult {
     pub heard: Option<Frame>,
     pub end: End,
 }
@@ -115,8 +115,8 @@ pub fn turn<J: Opening, S: Store + Drop, L: Link, G: Gate, R: Wait>(
     seat: &mut Seat<J>,
     port: &mut Port,
     link: &mut L,
-    desk: &mut Desk<'_, G>,
-) -> Turned
+    desk: &mut WorkerState<'_, G>,
+) -> TurnResult
     ensures made { MakesTurn result.end result.heard port.old port.new seat.old.calls.items
         seat.new.calls.items (L.counts_of link.old) (L.counts_of link.new) }
     ensures marked { result.end ≡ Full → seat.new.refused ≡ true }
@@ -125,17 +125,17 @@ pub fn turn<J: Opening, S: Store + Drop, L: Link, G: Gate, R: Wait>(
     ensures bus { bus_of port.new ≡ bus_of port.old }
 {
     let Some(frame) = hear_next(link) else {
-        return Turned {
+        return TurnResult {
             heard: None,
             end: End::Turns,
         };
     };
     match take_frame(rt, shared, seat, port, link, desk, frame.as_slice()) {
-        Ok(()) => Turned {
+        Ok(()) => TurnResult {
             heard: Some(frame),
             end: End::Turns,
         },
-        Err(PeriodFull) => Turned {
+        Err(PeriodFull) => TurnResult {
             heard: Some(frame),
             end: End::Full,
         },
@@ -149,9 +149,9 @@ fn work_once<J: Opening, S: Store + Drop, L: Link, G: Gate, R: Wait>(
     seat: &mut Seat<J>,
     port: &mut Port,
     link: &mut L,
-    desk: &mut Desk<'_, G>,
+    desk: &mut WorkerState<'_, G>,
 ) -> End
-    ensures worked { Worked result 1 port.old port.new seat.old.calls.items
+    ensures worked { WorkerRun result 1 port.old port.new seat.old.calls.items
         seat.new.calls.items (L.counts_of link.old) (L.counts_of link.new) }
     ensures marked { result ≡ Full → seat.new.refused ≡ true }
     ensures mark { result ≡ Turns → seat.new.refused ≡ seat.old.refused }
@@ -173,14 +173,14 @@ pub fn serve_port<J: Opening, S: Store + Drop, L: Link, G: Gate, R: Wait>(
     gate: &G,
     turns: u32,
 ) -> End
-    ensures worked { Worked result turns port.old port.new seat.old.calls.items
+    ensures worked { WorkerRun result turns port.old port.new seat.old.calls.items
         seat.new.calls.items (L.counts_of link.old) (L.counts_of link.new) }
     ensures marked { result ≡ Full → seat.new.refused ≡ true }
     ensures mark { result ≡ Turns → seat.new.refused ≡ seat.old.refused }
     ensures number { seat.new.number ≡ seat.old.number }
     ensures bus { bus_of port.new ≡ bus_of port.old }
 {
-    let mut desk = Desk::new(gate);
+    let mut desk = WorkerState::new(gate);
     for _ in 0..turns {
         match work_once(rt, shared, seat, port, link, &mut desk) {
             End::Turns => {}

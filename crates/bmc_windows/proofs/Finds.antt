@@ -14,8 +14,8 @@ use Rattle.model_bus.proofs.Requesters.{has, in_has, has_in}
 use Rattle.model_bus.proofs.Slots.{slots_decide}
 use Rattle.model_bus.proofs.WindowRows.{rows_64, rows_32}
 use Rattle.bmc_windows.specs.Circle.{is_circle}
-use Rattle.bmc_windows.specs.Window.{Pair, Room, pair_at, reply_to}
-use Rattle.bmc_windows.specs.Keeps.{Held, Reading, slot_of, pair_in, kept_from, somes, Keeps}
+use Rattle.bmc_windows.specs.Window.{WindowEntry, Room, pair_at, reply_to}
+use Rattle.bmc_windows.specs.Keeps.{HeldWindows, Reading, slot_of, pair_in, kept_from, somes, WindowsKeep}
 use Rattle.bmc_windows.proofs.Circles.{circles}
 use Rattle.bmc_windows.proofs.Tables.{room_pair}
 use Rattle.bmc_windows.proofs.Tied.{in_somes, from_somes, full, room as with_room}
@@ -28,7 +28,7 @@ abbrev pub said : Reading → ℕ → ℕ → List ℕ → Heard
 said reading q n bytes = record { requester = q; number = n; bytes = reading.request bytes }
 
 -- a row tells by the bytes that are kept
-by_bytes : (reading : Reading) (q n : ℕ) (bytes : List ℕ) (o : Option Pair)
+by_bytes : (reading : Reading) (q n : ℕ) (bytes : List ℕ) (o : Option WindowEntry)
     → reply_in (said reading q n bytes) (option_map (kept_from reading q n) o) ≡ option_map reading.reply (reply_to bytes o)
 by_bytes reading q n bytes None = refl
 by_bytes reading q n bytes (Some p) =
@@ -67,7 +67,7 @@ never_busy : (o : Option (List ℕ)) → outcome_of o false ≡ IsBusy → ⊥
 never_busy None e = cc
 never_busy (Some reply) e = cc
 
-module _ (numbers : ℕ) (circle : is_circle numbers ≡ true) (reading : Reading) (held : Held) (log : List Entry) (keeps : Keeps numbers reading held log) (q : ℕ) where
+module _ (numbers : ℕ) (circle : is_circle numbers ≡ true) (reading : Reading) (held : HeldWindows) (log : List Entry) (keeps : WindowsKeep numbers reading held log) (q : ℕ) where
   -- what the rule says, by what the window has
   pub by_row : (n : ℕ) (bytes : List ℕ) → n < numbers
       → outcome (is_above numbers) (said reading q n bytes) log ≡ outcome_of (option_map reading.reply (reply_to bytes (pair_in held (slot_of held q) n))) (is_busy q log)
@@ -104,7 +104,7 @@ module _ (numbers : ℕ) (circle : is_circle numbers ≡ true) (reading : Readin
       sym (by_row n bytes on
       ∙ ap (outcome_of (option_map reading.reply (reply_to bytes (pair_in held (slot_of held q) n)))) (not_busy s mine)
       ∙ ap (λ (o : Option ℕ). outcome_of (option_map reading.reply (reply_to bytes (pair_in held o n))) false) mine
-      ∙ ap (λ (o : Option Pair). outcome_of (option_map reading.reply (reply_to bytes o)) false) (room_pair held s n room is)
+      ∙ ap (λ (o : Option WindowEntry). outcome_of (option_map reading.reply (reply_to bytes o)) false) (room_pair held s n room is)
       ∙ ap (λ (o : Option (List ℕ)). outcome_of (option_map reading.reply o) false) (sym tells))
 
   -- and where it has none
@@ -138,7 +138,7 @@ module _ (numbers : ℕ) (circle : is_circle numbers ≡ true) (reading : Readin
       → outcome (is_above numbers) (said reading q n bytes) log ≡ IsBusy → ⊥
   not_busy_there n bytes i on none eight is busy = never_busy None (finds_free n bytes i on none eight is ∙ busy)
 
-module _ (numbers : ℕ) (reading : Reading) (held : Held) (log : List Entry) (keeps : Keeps numbers reading held log) (q : ℕ) where
+module _ (numbers : ℕ) (reading : Reading) (held : HeldWindows) (log : List Entry) (keeps : WindowsKeep numbers reading held log) (q : ℕ) where
   -- the requesters of the log are those that have a window
   pub had : (s : ℕ) → slot_of held q ≡ Some s → has q (requesters log) ≡ true
   had s mine = in_has q (requesters log) ((keeps.requesters.exact q).0 (in_somes held.owners s q ((keeps.own q s).0 mine)))

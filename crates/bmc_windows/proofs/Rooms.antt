@@ -9,7 +9,7 @@ use Rattle.std.proofs.lemmas.Nat.Bits.{bit_at_set_same, bit_at_set_other, bit_at
 use Rattle.std.proofs.lemmas.Option.{slice_get_read}
 use Rattle.model_bus.specs.Numbering.{is_next}
 use Rattle.bmc_windows.specs.Circle.{next_bit}
-use Rattle.bmc_windows.specs.Window.{Pair, Room, pair_at, reply_to, IsKept}
+use Rattle.bmc_windows.specs.Window.{WindowEntry, Room, pair_at, reply_to, KeepsAtNumber}
 
 pub get_set : {X : Type 0} (xs : List X) (n : ℕ) (x : X) → n < length xs → slice_get (set xs n x) n ≡ Some x
 get_set [] n x within = absurd (omega arith)
@@ -24,25 +24,25 @@ get_set_other (y ∷ xs) (suc n) zero x other = refl
 get_set_other (y ∷ xs) (suc n) (suc m) x other = get_set_other xs n m x (λ e. other (ap suc e))
 
 -- the pair that is looked at tells
-pub found : (room : Room) (n : ℕ) (bytes : List ℕ) (p : Pair) (b : Bool) → bit_at room.used n ≡ 1 → slice_get room.places n ≡ Some p → b ≡ bytes_eq bytes p.request
+pub found : (room : Room) (n : ℕ) (bytes : List ℕ) (p : WindowEntry) (b : Bool) → bit_at room.used n ≡ 1 → slice_get room.places n ≡ Some p → b ≡ bytes_eq bytes p.request
     → reply_to bytes (pair_at room n) ≡ cond b (Some p.reply) None
 found room n bytes p b bit at is =
     ap (λ (t : Bool). reply_to bytes (cond t (slice_get room.places n) None)) (eq-eqb (bit_at room.used n) 1 bit)
     ∙ ap (reply_to bytes) at ∙ ap (λ (t : Bool). cond t (Some p.reply) None) (sym is)
 
 -- a room with the request in it
-abbrev pub with_pair : Room → ℕ → ℕ → Pair → Room
+abbrev pub with_pair : Room → ℕ → ℕ → WindowEntry → Room
 with_pair room f n p =
     record { used = bit_or (bit_and room.used (18446744073709551615 - f)) (1 * 2 ^ n % 18446744073709551616); places = set room.places n p }
 
 -- what is left of a number's bit
-least : (old bit : ℕ) (next : Bool) (x : Option Pair) → bit ≡ cond next 1 0 → old < 2 → cond (eqb (min old (1 - bit)) 1) x None ≡ cond next None (cond (eqb old 1) x None)
+least : (old bit : ℕ) (next : Bool) (x : Option WindowEntry) → bit ≡ cond next 1 0 → old < 2 → cond (eqb (min old (1 - bit)) 1) x None ≡ cond next None (cond (eqb old 1) x None)
 least old bit true x e small =
     ap (λ (b : ℕ). cond (eqb b 1) x None) (let zero : min old (1 - bit) ≡ 0 = omega arith in zero)
 least old bit false x e small =
     ap (λ (b : ℕ). cond (eqb b 1) x None) (let same : min old (1 - bit) ≡ old = omega arith in same)
 
-module _ (room : Room) (f n : ℕ) (p : Pair) where
+module _ (room : Room) (f n : ℕ) (p : WindowEntry) where
   here : n < 64 → n < length room.places → pair_at (with_pair room f n p) n ≡ Some p
   here small within =
       ap (λ (b : ℕ). cond (eqb b 1) (slice_get (set room.places n p) n) None) (bit_at_set_same w64 (bit_and room.used (18446744073709551615 - f)) n small)
@@ -52,10 +52,10 @@ module _ (room : Room) (f n : ℕ) (p : Pair) where
   there m word small on other =
       ap (λ (b : ℕ). cond (eqb b 1) (slice_get (set room.places n p) m) None)
       (bit_at_set_other w64 (bit_and room.used (18446744073709551615 - f)) n small m other ∙ bit_at_and room.used (18446744073709551615 - f) m ∙ ap (min (bit_at room.used m)) (bit_at_not w64 f m word on))
-      ∙ ap (λ (x : Option Pair). cond (eqb (min (bit_at room.used m) (1 - bit_at f m)) 1) x None) (get_set_other room.places n m p other)
+      ∙ ap (λ (x : Option WindowEntry). cond (eqb (min (bit_at room.used m) (1 - bit_at f m)) 1) x None) (get_set_other room.places n m p other)
 
   pub kept : (numbers : ℕ) → numbers ≤ 64 → length room.places ≡ numbers → n < numbers → f < 2 ^ 64 → ((m : ℕ) → m < numbers → bit_at f m ≡ next_bit numbers n m)
-      → IsKept numbers n p room (with_pair room f n p)
+      → KeepsAtNumber numbers n p room (with_pair room f n p)
   kept numbers small many on word next m m_on =
       elim (cases_eq m n) [
         | inl same ↦
@@ -67,14 +67,14 @@ module _ (room : Room) (f n : ℕ) (p : Pair) where
             ∙ sym (cond-false (eqb m n) (Some p) (cond (is_next numbers n m) None (pair_at room m)) (ne_eqb m n other))
       ]
 
-pub kept_here : (numbers number place bit f : ℕ) (p q : Pair) (room old : Room) → room ≡ old → q ≡ p → place ≡ number → bit ≡ number
+pub kept_here : (numbers number place bit f : ℕ) (p q : WindowEntry) (room old : Room) → room ≡ old → q ≡ p → place ≡ number → bit ≡ number
     → numbers ≤ 64 → length room.places ≡ numbers → number < numbers → f < 2 ^ 64 → ((m : ℕ) → m < numbers → bit_at f m ≡ next_bit numbers number m)
-    → IsKept numbers number p old (record { used = bit_or (bit_and room.used (18446744073709551615 - f)) (1 * 2 ^ bit % 18446744073709551616); places = set room.places place q })
+    → KeepsAtNumber numbers number p old (record { used = bit_or (bit_and room.used (18446744073709551615 - f)) (1 * 2 ^ bit % 18446744073709551616); places = set room.places place q })
 kept_here numbers number place bit f p q room old is same at shift small many on word next m m_on =
     let used = bit_and room.used (18446744073709551615 - f) in
     ap (λ (b : ℕ). pair_at (record { used = bit_or used (1 * 2 ^ b % 18446744073709551616); places = set room.places place q }) m) shift
     ∙ ap (λ (i : ℕ). pair_at (record { used = bit_or used (1 * 2 ^ number % 18446744073709551616); places = set room.places i q }) m) at
-    ∙ ap (λ (x : Pair). pair_at (with_pair room f number x) m) same
+    ∙ ap (λ (x : WindowEntry). pair_at (with_pair room f number x) m) same
     ∙ kept room f number p numbers small many on word next m m_on
     ∙ ap (λ (r : Room). cond (eqb m number) (Some p) (cond (is_next numbers number m) None (pair_at r m))) is
 
@@ -84,7 +84,7 @@ bit_set used n not =
     let set : bit_at used n ≢ 0 = λ e. not (shr_and_one used n ∙ e) in
     omega arith
 
-pub found_here : (numbers number shift place : ℕ) (bytes : List ℕ) (p : Pair) (b : Bool) (room old : Room) → room ≡ old → shift ≡ number → place ≡ shift
+pub found_here : (numbers number shift place : ℕ) (bytes : List ℕ) (p : WindowEntry) (b : Bool) (room old : Room) → room ≡ old → shift ≡ number → place ≡ shift
     → (bit_and (room.used / 2 ^ shift) 1 ≡ 0 → ⊥) → length room.places ≡ numbers → number < numbers → p ≡ get_or room.places place p → b ≡ bytes_eq bytes p.request
     → reply_to bytes (pair_at old number) ≡ cond b (Some p.reply) None
 found_here numbers number shift place bytes p b room old is same at bit many on read tells =

@@ -14,35 +14,35 @@ use Rattle.model_bus.specs.Slots.{AreSlots}
 use Rattle.model_bus.specs.Window.{windows_of}
 use Rattle.model_bus.proofs.Requesters.{requesters_of}
 use Rattle.model_bus.proofs.WindowSteps.{window_here, window_next, window_far, window_other, window_idle, window_idle_other}
-use Rattle.bmc_windows.specs.Window.{Pair, Room, pair_at, IsKept, IsEmpty}
-use Rattle.bmc_windows.specs.Keeps.{Held, Reading, slot_of, owner_of, pair_in, kept_from, row, somes, Keeps}
+use Rattle.bmc_windows.specs.Window.{WindowEntry, Room, pair_at, KeepsAtNumber, IsEmpty}
+use Rattle.bmc_windows.specs.Keeps.{HeldWindows, Reading, slot_of, owner_of, pair_in, kept_from, row, somes, WindowsKeep}
 use Rattle.bmc_windows.proofs.Rooms.{get_set, get_set_other}
 use Rattle.bmc_windows.proofs.Tied.{at, tie, untie, in_somes, from_somes, different}
 
 -- the requester has a window
-abbrev pub IsHere : Held → ℕ → Type 0
+abbrev pub IsHere : HeldWindows → ℕ → Type 0
 IsHere held q = (s : ℕ) × (slot_of held q ≡ Some s)
 
-abbrev pub Own : Held → Type 0
+abbrev pub Own : HeldWindows → Type 0
 Own held = (q s : ℕ) → (slot_of held q ≡ Some s) ↔ (owner_of held s ≡ Some q)
 
-members : (held : Held) → Own held → (q : ℕ) → In q (somes held.owners) ↔ IsHere held q
+members : (held : HeldWindows) → Own held → (q : ℕ) → In q (somes held.owners) ↔ IsHere held q
 members held own q = (
   (λ is. let found = from_somes held.owners q is in (found.0, (own q found.0).1 found.1)),
   (λ is. in_somes held.owners is.0 q ((own q is.0).0 is.1)),
 )
 
-apart : (held : Held) → Own held → (s t q : ℕ) → owner_of held s ≡ Some q → owner_of held t ≡ Some q → s ≡ t
+apart : (held : HeldWindows) → Own held → (s t q : ℕ) → owner_of held s ≡ Some q → owner_of held t ≡ Some q → s ≡ t
 apart held own s t q one other = same_Some s t (sym ((own q s).1 one) ∙ (own q t).1 other)
 
 -- exactly a log's requesters have windows
-slots_are : (held : Held) (log : List Entry) → Own held → ((q : ℕ) → IsHere held q ↔ In q (requesters log)) → AreSlots (somes held.owners) log
+slots_are : (held : HeldWindows) (log : List Entry) → Own held → ((q : ℕ) → IsHere held q ↔ In q (requesters log)) → AreSlots (somes held.owners) log
 slots_are held log own exact = record {
   different = different held.owners (apart held own);
   exact = λ q. ((λ is. (exact q).0 ((members held own q).0 is)), (λ is. (members held own q).1 ((exact q).1 is)));
 }
 
-pub is_here : (numbers : ℕ) (reading : Reading) (held : Held) (log : List Entry) → Keeps numbers reading held log → (q : ℕ) → IsHere held q ↔ In q (requesters log)
+pub is_here : (numbers : ℕ) (reading : Reading) (held : HeldWindows) (log : List Entry) → WindowsKeep numbers reading held log → (q : ℕ) → IsHere held q ↔ In q (requesters log)
 is_here numbers reading held log keeps q = (
   (λ is. (keeps.requesters.exact q).0 ((members held keeps.own q).1 is)),
   (λ is. (members held keeps.own q).0 ((keeps.requesters.exact q).1 is)),
@@ -92,9 +92,9 @@ in_idled p log q =
 
 -- ---- what a window has after its step
 
-module _ (numbers : ℕ) (reading : Reading) (log : List Entry) (q n : ℕ) (p : Pair) where
+module _ (numbers : ℕ) (reading : Reading) (log : List Entry) (q n : ℕ) (p : WindowEntry) where
   -- the requester's own rows, where they were the log's
-  own_row : (old new : Room) → IsKept numbers n p old new → ((m : ℕ) → m < numbers → option_map (kept_from reading q m) (pair_at old m) ≡ windows_of numbers log q m)
+  own_row : (old new : Room) → KeepsAtNumber numbers n p old new → ((m : ℕ) → m < numbers → option_map (kept_from reading q m) (pair_at old m) ≡ windows_of numbers log q m)
       → (m : ℕ) → m < numbers → option_map (kept_from reading q m) (pair_at new m) ≡ windows_of numbers (Carried (kept_from reading q n p) ∷ log) q m
   own_row old new kept rows m on =
       let k = kept_from reading q n p in
@@ -117,16 +117,16 @@ module _ (numbers : ℕ) (reading : Reading) (log : List Entry) (q n : ℕ) (p :
             ]
       ]
 
-pub room_pair : (held : Held) (s m : ℕ) (room : Room) → slice_get held.rooms s ≡ Some room → pair_in held (Some s) m ≡ pair_at room m
+pub room_pair : (held : HeldWindows) (s m : ℕ) (room : Room) → slice_get held.rooms s ≡ Some room → pair_in held (Some s) m ≡ pair_at room m
 room_pair held s m room is = ap (option_and_then (λ (r : Room). pair_at r m)) is
 
 -- another window than that which is written
-pair_other : (held : Held) (s : ℕ) (new : Room) (o : Option ℕ) → ((t : ℕ) → o ≡ Some t → t ≡ s → ⊥) → (m : ℕ)
+pair_other : (held : HeldWindows) (s : ℕ) (new : Room) (o : Option ℕ) → ((t : ℕ) → o ≡ Some t → t ≡ s → ⊥) → (m : ℕ)
     → pair_in (record { slots = held.slots; owners = held.owners; rooms = set held.rooms s new }) o m ≡ pair_in held o m
 pair_other held s new None differs m = refl
 pair_other held s new (Some t) differs m = ap (option_and_then (λ (r : Room). pair_at r m)) (get_set_other held.rooms s t new (differs t refl))
 
-module _ (numbers : ℕ) (reading : Reading) (held : Held) (log : List Entry) (keeps : Keeps numbers reading held log) (q n : ℕ) (p : Pair) (on : n < numbers) where
+module _ (numbers : ℕ) (reading : Reading) (held : HeldWindows) (log : List Entry) (keeps : WindowsKeep numbers reading held log) (q n : ℕ) (p : WindowEntry) (on : n < numbers) where
   -- what a requester that has a window has there
   rows_here : (s : ℕ) (old : Room) → slot_of held q ≡ Some s → slice_get held.rooms s ≡ Some old
       → (m : ℕ) → m < numbers → option_map (kept_from reading q m) (pair_at old m) ≡ windows_of numbers log q m
@@ -136,10 +136,10 @@ module _ (numbers : ℕ) (reading : Reading) (held : Held) (log : List Entry) (k
       ∙ keeps.rows q m m_on
 
   -- a requester that has a window has its request kept there
-  pub carried_here : (s : ℕ) (old new : Room) → slot_of held q ≡ Some s → slice_get held.rooms s ≡ Some old → s < length held.rooms → IsKept numbers n p old new
-      → Keeps numbers reading (record { slots = held.slots; owners = held.owners; rooms = set held.rooms s new }) (Carried (kept_from reading q n p) ∷ log)
+  pub carried_here : (s : ℕ) (old new : Room) → slot_of held q ≡ Some s → slice_get held.rooms s ≡ Some old → s < length held.rooms → KeepsAtNumber numbers n p old new
+      → WindowsKeep numbers reading (record { slots = held.slots; owners = held.owners; rooms = set held.rooms s new }) (Carried (kept_from reading q n p) ∷ log)
   carried_here s old new mine is within kept =
-      let after : Held = record { slots = held.slots; owners = held.owners; rooms = set held.rooms s new } in
+      let after : HeldWindows = record { slots = held.slots; owners = held.owners; rooms = set held.rooms s new } in
       let k : Kept = kept_from reading q n p in
       record {
         rows = λ r m m_on.
@@ -168,10 +168,10 @@ module _ (numbers : ℕ) (reading : Reading) (held : Held) (log : List Entry) (k
 
   -- a requester that has none is given a free one
   pub carried_there : (s : ℕ) (empty new : Room) → slot_of held q ≡ None → owner_of held s ≡ None → q < length held.slots → s < length held.owners → s < length held.rooms
-      → IsEmpty numbers empty → IsKept numbers n p empty new
-      → Keeps numbers reading (record { slots = set held.slots q (Some s); owners = set held.owners s (Some q); rooms = set held.rooms s new }) (Carried (kept_from reading q n p) ∷ log)
+      → IsEmpty numbers empty → KeepsAtNumber numbers n p empty new
+      → WindowsKeep numbers reading (record { slots = set held.slots q (Some s); owners = set held.owners s (Some q); rooms = set held.rooms s new }) (Carried (kept_from reading q n p) ∷ log)
   carried_there s empty new mine free within_q within_s within none kept =
-      let after : Held = record { slots = set held.slots q (Some s); owners = set held.owners s (Some q); rooms = set held.rooms s new } in
+      let after : HeldWindows = record { slots = set held.slots q (Some s); owners = set held.owners s (Some q); rooms = set held.rooms s new } in
       let k : Kept = kept_from reading q n p in
       let own : Own after = (λ a b. (
         tie held.slots held.owners q s within_q within_s free (λ x y. (keeps.own x y).0) a b,
@@ -214,12 +214,12 @@ module _ (numbers : ℕ) (reading : Reading) (held : Held) (log : List Entry) (k
         on_circle = (on, keeps.on_circle);
       }
 
-module _ (numbers : ℕ) (reading : Reading) (held : Held) (log : List Entry) (keeps : Keeps numbers reading held log) (q : ℕ) where
+module _ (numbers : ℕ) (reading : Reading) (held : HeldWindows) (log : List Entry) (keeps : WindowsKeep numbers reading held log) (q : ℕ) where
   -- a requester's window is forgotten
   pub idle_here : (s : ℕ) → slot_of held q ≡ Some s → q < length held.slots → s < length held.owners
-      → Keeps numbers reading (record { slots = set held.slots q None; owners = set held.owners s None; rooms = held.rooms }) (Idled q ∷ log)
+      → WindowsKeep numbers reading (record { slots = set held.slots q None; owners = set held.owners s None; rooms = held.rooms }) (Idled q ∷ log)
   idle_here s mine within_q within_s =
-      let after : Held = record { slots = set held.slots q None; owners = set held.owners s None; rooms = held.rooms } in
+      let after : HeldWindows = record { slots = set held.slots q None; owners = set held.owners s None; rooms = held.rooms } in
       let own : Own after = (λ a b. (
         untie held.slots held.owners q s within_q ((keeps.own q s).0 mine) (λ x y. (keeps.own x y).0) a b,
         untie held.owners held.slots s q within_s mine (λ x y. (keeps.own y x).1) b a,
@@ -252,7 +252,7 @@ module _ (numbers : ℕ) (reading : Reading) (held : Held) (log : List Entry) (k
       }
 
   -- one that has none stays without
-  pub idle_there : slot_of held q ≡ None → Keeps numbers reading held (Idled q ∷ log)
+  pub idle_there : slot_of held q ≡ None → WindowsKeep numbers reading held (Idled q ∷ log)
   idle_there mine =
       let other : (r s : ℕ) → slot_of held r ≡ Some s → q ≡ r → ⊥ = (λ r s is same. none-some s (sym mine ∙ ap (slot_of held) same ∙ is)) in
       record {
@@ -272,35 +272,35 @@ module _ (numbers : ℕ) (reading : Reading) (held : Held) (log : List Entry) (k
       }
 
 -- the same where the code writes it
-pub given_there : (numbers : ℕ) (reading : Reading) (held : Held) (log : List Entry) → Keeps numbers reading held log → (q n : ℕ) (p : Pair) → n < numbers
+pub given_there : (numbers : ℕ) (reading : Reading) (held : HeldWindows) (log : List Entry) → WindowsKeep numbers reading held log → (q n : ℕ) (p : WindowEntry) → n < numbers
     → (s at_byte slot : ℕ) (empty new : Room) → at_byte ≡ q → slot ≡ s → slot_of held q ≡ None → owner_of held s ≡ None → q < length held.slots → s < length held.owners → s < length held.rooms
-    → IsEmpty numbers empty → IsKept numbers n p empty new
-    → Keeps numbers reading (record { slots = set held.slots at_byte (Some slot); owners = set held.owners s (Some q); rooms = set held.rooms s new }) (Carried (kept_from reading q n p) ∷ log)
+    → IsEmpty numbers empty → KeepsAtNumber numbers n p empty new
+    → WindowsKeep numbers reading (record { slots = set held.slots at_byte (Some slot); owners = set held.owners s (Some q); rooms = set held.rooms s new }) (Carried (kept_from reading q n p) ∷ log)
 given_there numbers reading held log keeps q n p on s at_byte slot empty new here same mine free within_q within_s within none kept =
-    subst (λ (slots : List (Option ℕ)). Keeps numbers reading (record { slots = slots; owners = set held.owners s (Some q); rooms = set held.rooms s new }) (Carried (kept_from reading q n p) ∷ log))
+    subst (λ (slots : List (Option ℕ)). WindowsKeep numbers reading (record { slots = slots; owners = set held.owners s (Some q); rooms = set held.rooms s new }) (Carried (kept_from reading q n p) ∷ log))
     (sym (ap (λ (i : ℕ). set held.slots i (Some slot)) here ∙ ap (λ (x : ℕ). set held.slots q (Some x)) same))
     (carried_there numbers reading held log keeps q n p on s empty new mine free within_q within_s within none kept)
 
-pub kept_there : (numbers : ℕ) (reading : Reading) (held : Held) (log : List Entry) → Keeps numbers reading held log → (q n : ℕ) (p : Pair) → n < numbers
-    → (s place : ℕ) (old new : Room) → place ≡ s → slot_of held q ≡ Some s → old ≡ get_or held.rooms place old → s < length held.rooms → IsKept numbers n p old new
-    → Keeps numbers reading (record { slots = held.slots; owners = held.owners; rooms = set held.rooms place new }) (Carried (kept_from reading q n p) ∷ log)
+pub kept_there : (numbers : ℕ) (reading : Reading) (held : HeldWindows) (log : List Entry) → WindowsKeep numbers reading held log → (q n : ℕ) (p : WindowEntry) → n < numbers
+    → (s place : ℕ) (old new : Room) → place ≡ s → slot_of held q ≡ Some s → old ≡ get_or held.rooms place old → s < length held.rooms → KeepsAtNumber numbers n p old new
+    → WindowsKeep numbers reading (record { slots = held.slots; owners = held.owners; rooms = set held.rooms place new }) (Carried (kept_from reading q n p) ∷ log)
 kept_there numbers reading held log keeps q n p on s place old new here mine read within kept =
-    subst (λ (i : ℕ). Keeps numbers reading (record { slots = held.slots; owners = held.owners; rooms = set held.rooms i new }) (Carried (kept_from reading q n p) ∷ log)) (sym here)
+    subst (λ (i : ℕ). WindowsKeep numbers reading (record { slots = held.slots; owners = held.owners; rooms = set held.rooms i new }) (Carried (kept_from reading q n p) ∷ log)) (sym here)
     (carried_here numbers reading held log keeps q n p on s old new mine (ap (slice_get held.rooms) (sym here) ∙ slice_get_read held.rooms (length held.rooms) place old refl (omega arith) read) within kept)
 
-pub idled_there : (numbers : ℕ) (reading : Reading) (held : Held) (log : List Entry) → Keeps numbers reading held log → (q : ℕ)
+pub idled_there : (numbers : ℕ) (reading : Reading) (held : HeldWindows) (log : List Entry) → WindowsKeep numbers reading held log → (q : ℕ)
     → (s at_byte place : ℕ) → at_byte ≡ q → place ≡ s → slot_of held q ≡ Some s → q < length held.slots → s < length held.owners
-    → Keeps numbers reading (record { slots = set held.slots at_byte None; owners = set held.owners place None; rooms = held.rooms }) (Idled q ∷ log)
+    → WindowsKeep numbers reading (record { slots = set held.slots at_byte None; owners = set held.owners place None; rooms = held.rooms }) (Idled q ∷ log)
 idled_there numbers reading held log keeps q s at_byte place here same mine within_q within_s =
-    subst (λ (i : ℕ). Keeps numbers reading (record { slots = set held.slots i None; owners = set held.owners place None; rooms = held.rooms }) (Idled q ∷ log)) (sym here)
-    (subst (λ (i : ℕ). Keeps numbers reading (record { slots = set held.slots q None; owners = set held.owners i None; rooms = held.rooms }) (Idled q ∷ log)) (sym same)
+    subst (λ (i : ℕ). WindowsKeep numbers reading (record { slots = set held.slots i None; owners = set held.owners place None; rooms = held.rooms }) (Idled q ∷ log)) (sym here)
+    (subst (λ (i : ℕ). WindowsKeep numbers reading (record { slots = set held.slots q None; owners = set held.owners i None; rooms = held.rooms }) (Idled q ∷ log)) (sym same)
     (idle_here numbers reading held log keeps q s mine within_q within_s))
 
 -- nobody has a window at first
 pub none_kept : (numbers : ℕ) (reading : Reading) (slots owners : List (Option ℕ)) (rooms : List Room) → ((q : ℕ) → at slots q ≡ None) → ((s : ℕ) → at owners s ≡ None)
-    → Keeps numbers reading (record { slots = slots; owners = owners; rooms = rooms }) []
+    → WindowsKeep numbers reading (record { slots = slots; owners = owners; rooms = rooms }) []
 none_kept numbers reading slots owners rooms no_slot no_owner =
-    let held : Held = record { slots = slots; owners = owners; rooms = rooms } in
+    let held : HeldWindows = record { slots = slots; owners = owners; rooms = rooms } in
     let own : Own held = (λ q s. (
       (λ is. absurd (none-some s (sym (no_slot q) ∙ is))),
       (λ is. absurd (none-some q (sym (no_owner s) ∙ is))),

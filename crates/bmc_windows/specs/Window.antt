@@ -5,27 +5,27 @@ use Rattle.std.specs.Str.{bytes_eq}
 use Rattle.model_bus.specs.Numbering.{is_next}
 
 -- a request that was carried out and its reply, as the bytes that are kept
-pub record Pair : Type 0 where
+pub record WindowEntry : Type 0 where
   pub request : List ℕ
   pub reply : List ℕ
 
 -- the places of a window, one for each number, and which of them are in use, a bit for each number
 pub record Room : Type 0 where
   pub used : ℕ
-  pub places : List Pair
+  pub places : List WindowEntry
 
 -- what the window has under a number
-abbrev pub pair_at : Room → ℕ → Option Pair
+abbrev pub pair_at : Room → ℕ → Option WindowEntry
 pair_at room number = if bit_at room.used number == 1 then slice_get room.places number else None
 
 -- the reply, if the request is of these bytes
-abbrev pub reply_to : List ℕ → Option Pair → Option (List ℕ)
+abbrev pub reply_to : List ℕ → Option WindowEntry → Option (List ℕ)
 reply_to bytes None = None
 reply_to bytes (Some pair) = if bytes_eq bytes pair.request then Some pair.reply else None
 
 -- a request that is carried out is kept at its number, in place of what was there, and the next half of the circle is forgotten
-abbrev pub IsKept : (numbers number : ℕ) → Pair → Room → Room → Type 0
-IsKept numbers number pair old new =
+abbrev pub KeepsAtNumber : (numbers number : ℕ) → WindowEntry → Room → Room → Type 0
+KeepsAtNumber numbers number pair old new =
     (place : ℕ) → place < numbers → pair_at new place ≡ (if place == number then Some pair else if is_next numbers number place then None else pair_at old place)
 
 -- nothing is kept

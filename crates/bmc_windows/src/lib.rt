@@ -3,8 +3,8 @@
 
 mod circle;
 mod request;
-mod table;
 mod window;
+mod windows;
 
 pub use request::{Found, Request};
-pub use table::Windows;
+pub use windows::Windows;

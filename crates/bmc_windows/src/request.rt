@@ -17,10 +17,10 @@ pub struct Request<'a, const NUMBERS: u8> {
 /// What is to be done with a request.
 #[derive(Drop)]
 pub enum Found<'a, const CAP: usize> {
-    /// It is answered by the reply of the request that it repeats.
+    /// The request is answered by the reply of the one that it repeats.
     Repeats(Data<'a, CAP>),
-    /// It is answered that the port is busy.
+    /// The request is answered that the port is busy.
     Busy,
-    /// It is carried out, and then kept.
+    /// The request is carried out, and then kept.
     New,
 }

@@ -2,7 +2,7 @@
 ghost use Rattle.std.specs.Prelude.{◌≡◌, ◌<◌, ◌≤◌, ◌∷◌, length, IsTrue, IfOk};
 ghost use Rattle.std.specs.Str.{bytes_eq};
 ghost use Rattle.bmc_windows.specs.Circle.{is_circle};
-ghost use Rattle.bmc_windows.specs.Window.{pair_at, reply_to, IsKept, IsEmpty};
+ghost use Rattle.bmc_windows.specs.Window.{pair_at, reply_to, KeepsAtNumber, IsEmpty};
 
 use crate::circle::next_half;
 use std::alloc::{AllocError, Global};
@@ -21,9 +21,9 @@ struct Place<const CAP: usize> {
 
 impl<const CAP: usize> Model for Place<CAP> {
     ghost use Rattle.std.specs.Prelude.{◌∷◌};
-    ghost use Rattle.bmc_windows.specs.Window.{Pair};
+    ghost use Rattle.bmc_windows.specs.Window.{WindowEntry};
 
-    ghost Value = { Pair };
+    ghost Value = { WindowEntry };
 
     ghost view = { λ p. record { request = p.first ∷ p.rest; reply = p.reply } };
 }
@@ -120,7 +120,7 @@ impl<const NUMBERS: u8, const CAP: usize> Window<NUMBERS, CAP> {
         requires on { number < NUMBERS }
         requires room { length rest.now ≤ CAP }
         requires fits { length reply.now ≤ CAP }
-        ensures { IsKept NUMBERS number
+        ensures { KeepsAtNumber NUMBERS number
             (record { request = first ∷ rest.now; reply = reply.now }) self.old self.new }
     {
         let used = self.used;

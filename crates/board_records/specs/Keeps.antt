@@ -8,10 +8,10 @@ use Rattle.record_base.specs.declared.live.Live.{Live as LivePart}
 use Rattle.record_base.specs.declared.message.Answered.{Answered}
 use Rattle.cfg_records.specs.Records.{Records}
 use Rattle.cfg_records.specs.declared.board_file.BoardFile.{BoardFile}
-use Rattle.attribute_parts.specs.Stagings.{Staged}
+use Rattle.attribute_parts.specs.Stagings.{StagedParts}
 use Rattle.record_kinds.specs.Limits.{key_of}
 use Rattle.board_records.specs.Sets.{outcome_among, set_given, records_set, live_set, both_answered, both_set}
-use Rattle.board_records.specs.SetParts.{Settable, SetGiven, whole_given}
+use Rattle.board_records.specs.SetParts.{SettableEntry, SetGiven, whole_given}
 
 -- the operation's answer, and the records and the live part after it
 abbrev pub answer_to : BoardFile → Records → Op → Answered
@@ -32,9 +32,9 @@ records_after_both setup records first second =
     both_set (outcome_among setup records (of_kind.ChannelAccess first)) (outcome_among setup records (of_kind.ChannelAccess second)) (key_of (of_kind.ChannelAccess first)) (key_of (of_kind.ChannelAccess second)) records
 
 -- what a Set may change
-abbrev pub settable : Records → LivePart → Staged → Settable
+abbrev pub settable : Records → LivePart → StagedParts → SettableEntry
 settable records live stagings = record { records = records; live = live; staged = stagings }
 
 -- what comes of the Set of a whole entry which came in parts
-abbrev pub whole_set_given : BoardFile → (from : ℕ) → Settable → SetBiosAttribute → SetGiven
+abbrev pub whole_set_given : BoardFile → (from : ℕ) → SettableEntry → SetBiosAttribute → SetGiven
 whole_set_given setup from before change = whole_given setup from before (Ok change)

@@ -21,8 +21,8 @@ abbrev pub outcome_among : BoardFile → Records → Op → Result (List ℕ) �
 outcome_among setup records op = set_outcome (limits_at setup (key_of op)) (records (key_of op)) (unknown_code setup (key_of op)) op
 
 -- the operation's value was made, or the code that refuses the operation is given
-abbrev pub Makes : {A : Type 0} → BoardFile → Records → Op → Result A ℕ → List ℕ → Type 0
-Makes setup records op result made = value_or_code result made ≡ outcome_among setup records op
+abbrev pub MakesValue : {A : Type 0} → BoardFile → Records → Op → Result A ℕ → List ℕ → Type 0
+MakesValue setup records op result made = value_or_code result made ≡ outcome_among setup records op
 
 -- ---- one operation, by what it makes
 

@@ -2,9 +2,9 @@
 ghost use Rattle.std.specs.Prelude.{◌≡◌, ◌+◌, ◌≤◌, IfOk, OnErr, Some, length};
 ghost use Rattle.record_base.specs.Meaning.{room_for};
 ghost use Rattle.record_kinds.specs.Limits.{key_of, set_asked};
-ghost use Rattle.record_kinds.specs.Sound.{IsSound};
-ghost use Rattle.board_records.specs.Gives.{Appends, Says};
-ghost use Rattle.board_records.specs.Sets.{Makes};
+ghost use Rattle.record_kinds.specs.Sound.{AreSoundRecords};
+ghost use Rattle.board_records.specs.Gives.{AppendsReply, AnswersCode};
+ghost use Rattle.board_records.specs.Sets.{MakesValue};
 
 use crate::unknown::unknown_code;
 use cfg_records::{Live, Op, RecordKind, Store, Value};
@@ -54,8 +54,8 @@ fn try_set<S: Store>(
     op: &Op<'_>,
     made: &mut Value,
 ) -> Result<S::Place, Code>
-    requires { IsSound setup.now (S.records store.now) }
-    ensures made { Makes setup.now (S.records store.now) op.now result made.new }
+    requires { AreSoundRecords setup.now (S.records store.now) }
+    ensures made { MakesValue setup.now (S.records store.now) op.now result made.new }
     ensures place { IfOk result (λ at. S.places store.now (key_of op.now) ≡ Some at) }
 {
     let key = Limits::key(op);
@@ -91,15 +91,15 @@ impl<S: Store> KeptRecords<S> {
         live: &mut Live,
         to: &mut B,
     ) -> Result<(), Code>
-        requires sound { IsSound setup.now (S.records self.old.store) }
+        requires sound { AreSoundRecords setup.now (S.records self.old.store) }
         requires room { length (B.bytes to.old) + room_for (set_asked op.now) ≤ B.capacity }
-        ensures answer { Appends B.bytes result to.old to.new
+        ensures answer { AppendsReply B.bytes result to.old to.new
             (answer_to setup.now (S.records self.old.store) op.now) }
         ensures records { S.records self.new.store
             ≡ records_after setup.now (S.records self.old.store) op.now }
         ensures live { live.new
             ≡ live_after setup.now (S.records self.old.store) op.now live.old }
-        ensures still { IsSound setup.now (S.records self.new.store) }
+        ensures still { AreSoundRecords setup.now (S.records self.new.store) }
         // A refusal changes nothing.
         ensures refused { OnErr result (S.records self.new.store ≡ S.records self.old.store) }
     {
@@ -118,12 +118,12 @@ impl<S: Store> KeptRecords<S> {
         first: &SetChannelAccess,
         second: &SetChannelAccess,
     ) -> Result<(), Code>
-        requires sound { IsSound setup.now (S.records self.old.store) }
-        ensures answer { Says result
+        requires sound { AreSoundRecords setup.now (S.records self.old.store) }
+        ensures answer { AnswersCode result
             (answer_to_both setup.now (S.records self.old.store) first.now second.now) }
         ensures records { S.records self.new.store
             ≡ records_after_both setup.now (S.records self.old.store) first.now second.now }
-        ensures still { IsSound setup.now (S.records self.new.store) }
+        ensures still { AreSoundRecords setup.now (S.records self.new.store) }
         // A refusal changes nothing.
         ensures refused { OnErr result (S.records self.new.store ≡ S.records self.old.store) }
     {

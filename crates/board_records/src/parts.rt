@@ -3,8 +3,8 @@ ghost use Rattle.std.specs.Prelude.{◌≡◌, ◌+◌, ◌≤◌, ◌++◌, len
 ghost use Rattle.std.specs.Int.{w32, to_le_bytes};
 ghost use Rattle.two_wire.specs.Sizes.{most_pldm_reply_data};
 ghost use Rattle.attribute_parts.specs.Stagings.{after_part, add_outcome};
-ghost use Rattle.record_kinds.specs.Sound.{IsSound};
-ghost use Rattle.board_records.specs.Gives.{Appends};
+ghost use Rattle.record_kinds.specs.Sound.{AreSoundRecords};
+ghost use Rattle.board_records.specs.Gives.{AppendsReply};
 ghost use Rattle.board_records.specs.SetParts.{named_in, limits_named, started, staged_answer, is_last};
 
 use crate::kept::KeptRecords;
@@ -54,7 +54,7 @@ fn start_set<B: Buffer>(
     to: &mut B,
 ) -> Result<(), Code>
     requires room { length (B.bytes to.old) + most_pldm_reply_data ≤ B.capacity }
-    ensures answer { Appends B.bytes result to.old to.new
+    ensures answer { AppendsReply B.bytes result to.old to.new
         (staged_answer (started setup.now stagings.old from entry.now)) }
     ensures staged { stagings.new
         ≡ after_part from (started setup.now stagings.old from entry.now) stagings.old }
@@ -74,7 +74,7 @@ fn add_to_set<B: Buffer>(
     to: &mut B,
 ) -> Result<(), Code>
     requires room { length (B.bytes to.old) + most_pldm_reply_data ≤ B.capacity }
-    ensures answer { Appends B.bytes result to.old to.new
+    ensures answer { AppendsReply B.bytes result to.old to.new
         (staged_answer (add_outcome stagings.old from handle bytes.now)) }
     ensures staged { stagings.new
         ≡ after_part from (add_outcome stagings.old from handle bytes.now) stagings.old }
@@ -99,15 +99,15 @@ impl<S: Store> KeptRecords<S> {
         from: u8,
         to: &mut B,
     ) -> Result<(), Code>
-        requires sound { IsSound setup.now (S.records self.old.store) }
+        requires sound { AreSoundRecords setup.now (S.records self.old.store) }
         requires room { length (B.bytes to.old) + most_pldm_reply_data ≤ B.capacity }
-        ensures answer { Appends B.bytes result to.old to.new
+        ensures answer { AppendsReply B.bytes result to.old to.new
             (whole_set_given setup.now from
             (settable (S.records self.old.store) live.old stagings.old) change.entry).0 }
         ensures left { settable (S.records self.new.store) live.new stagings.new
             ≡ (whole_set_given setup.now from
             (settable (S.records self.old.store) live.old stagings.old) change.entry).1 }
-        ensures still { IsSound setup.now (S.records self.new.store) }
+        ensures still { AreSoundRecords setup.now (S.records self.new.store) }
         ensures refused { OnErr result (S.records self.new.store ≡ S.records self.old.store) }
     {
         self.set(setup, &Op::BiosAttribute(change), live, to)?;
@@ -126,15 +126,15 @@ impl<S: Store> KeptRecords<S> {
         from: u8,
         to: &mut B,
     ) -> Result<(), Code>
-        requires sound { IsSound setup.now (S.records self.old.store) }
+        requires sound { AreSoundRecords setup.now (S.records self.old.store) }
         requires room { length (B.bytes to.old) + most_pldm_reply_data ≤ B.capacity }
-        ensures answer { Appends B.bytes result to.old to.new
+        ensures answer { AppendsReply B.bytes result to.old to.new
             (part_given_at setup.now from
             (settable (S.records self.old.store) live.old stagings.old) part.entry).0 }
         ensures left { settable (S.records self.new.store) live.new stagings.new
             ≡ (part_given_at setup.now from
             (settable (S.records self.old.store) live.old stagings.old) part.entry).1 }
-        ensures still { IsSound setup.now (S.records self.new.store) }
+        ensures still { AreSoundRecords setup.now (S.records self.new.store) }
         // A refusal changes no record, and neither does a part with others behind it.
         ensures refused { OnErr result (S.records self.new.store ≡ S.records self.old.store) }
         ensures earlier { is_last part.entry ≡ false

@@ -9,7 +9,7 @@ use two_wire::{Code, code};
 /// The code of a channel that has no sessions (IPMI 2.0, Set and Get Channel Access).
 const SESSIONLESS_CHANNEL: u8 = 0x82;
 
-/// That code.
+/// The code of a channel without sessions.
 pub fn sessionless_channel() -> Code
     ensures { result ≡ sessionless_channel }
 {

@@ -26,9 +26,9 @@ use Rattle.record_base.specs.KeyLaws.{exact_key}
 use Rattle.record_base.specs.Distinct.{NamesDiffer}
 use Rattle.record_base.specs.InOrderLaws.{numbered_differ}
 use Rattle.record_base.specs.LanItems.{lan_key, lan_value}
-use Rattle.record_base.specs.declared.lan.LanAddress.TheVariants.{Ip, SubnetMask, DefaultGateway}
-use Rattle.record_base.specs.declared.lan.LanParameter.{LanParameter}
-use Rattle.record_base.specs.declared.lan.LanParameter.TheVariants.{Address, AddressSource, Vlan}
+use Rattle.record_base.specs.declared.lan_parameter.LanAddress.TheVariants.{Ip, SubnetMask, DefaultGateway}
+use Rattle.record_base.specs.declared.lan_parameter.LanParameter.{LanParameter}
+use Rattle.record_base.specs.declared.lan_parameter.LanParameter.TheVariants.{Address, AddressSource, Vlan}
 use Rattle.cfg_records.specs.Records.{Pair, key_in, value_of, records_of, KeysDiffer, LengthsFit}
 use Rattle.record_base.specs.declared.channel.AccessStore.{AccessStore}
 use Rattle.record_base.specs.declared.channel.AccessStore.TheVariants.{NonVolatile, Volatile, Neither}

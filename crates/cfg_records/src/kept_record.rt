@@ -34,7 +34,7 @@ impl Model for KeptRecord {
 }
 
 impl KeptRecord {
-    /// This key with this value, and room for any other value of its kind.
+    /// A record of this key with this value, and room for any other value of its kind.
     pub fn new(alloc: Global, key: Key, value: &[u8]) -> Result<Self, AllocError>
         ensures { IfOk result (λ kept. kept ≡ (key, value.now)) }
     {

@@ -111,7 +111,7 @@ fn device() -> Device
     }
 }
 
-/// Its only sensor data record: under id 1, of a maker's own type, with a byte behind its header.
+/// The sample board's only sensor data record: under id 1, of a maker's own type, with a byte behind its header.
 fn sdr(alloc: Global) -> Result<SdrRecords, AllocError>
     ensures { IfOk result (λ sdr. sdr.items ≡ sample_record ∷ []) }
 {
@@ -120,7 +120,7 @@ fn sdr(alloc: Global) -> Result<SdrRecords, AllocError>
     Ok(Distinct::new(records).unwrap())
 }
 
-/// Its two sensors.
+/// The sample board's two sensors.
 fn sensors(alloc: Global) -> Result<Sensors, AllocError>
     ensures { IfOk result (λ sensors. AreSampleSensors sensors.items) }
 {
@@ -179,7 +179,7 @@ fn user_accesses(alloc: Global) -> Result<UserAccesses, AllocError>
     Ok(Distinct::new(accesses).unwrap())
 }
 
-/// Its users, its channel, and what the users may do there.
+/// The sample board's users, its channel, and what the users may do there.
 #[derive(Drop)]
 struct Accounts {
     users: Users,
@@ -251,7 +251,7 @@ fn attribute(handle: u16, name: &[u8; 5], kind: AttributeKind) -> Attribute
     }
 }
 
-/// Its three attributes.
+/// The sample board's three attributes.
 fn attributes(alloc: Global) -> Result<Attributes, AllocError>
     ensures { IfOk result (λ attributes. AreSampleAttributes attributes.items) }
 {

@@ -8,7 +8,7 @@ use Rattle.record_base.specs.declared.numeric_size.NumericSize.TheVariants.{U8, 
 use Rattle.record_base.specs.declared.numeric_range.NumericRange.{NumericRange}
 use Rattle.record_base.specs.declared.numeric_effecter.SetNumericEffecter.{SetNumericEffecter}
 use Rattle.record_base.specs.MaskLaws.{both_true, both}
-use Rattle.record_base.specs.Meaning.{Decides, IsRefusal}
+use Rattle.record_base.specs.Meaning.{DecidesValue, IsRefusal}
 use Rattle.record_base.specs.InverseLaws.{some_where, made_where, tested_same, same_tested}
 use Rattle.record_base.specs.Kind.{KindLaws, RecordLaws}
 use Rattle.record_base.specs.NumericSize.{code_of, width_of}
@@ -90,7 +90,7 @@ length_refused = record { is_fault = lit< tt; is_byte = lit< tt; not_busy = λ s
 
 decided : (limits : NumericLimits) (op : SetNumericEffecter) (a b c : Bool)
     → (op.size == code_of limits.range.size) ≡ a → (length (value_bytes op.value) == width_of limits.range.size) ≡ b → is_accepted limits (value_bytes op.value) ≡ c
-    → Decides (if a then (if b then (if c then Ok (value_bytes op.value) else Err pldm_invalid_data) else Err pldm_invalid_length) else Err pldm_invalid_data) (SetsNumeric limits op)
+    → DecidesValue (if a then (if b then (if c then Ok (value_bytes op.value) else Err pldm_invalid_data) else Err pldm_invalid_length) else Err pldm_invalid_data) (SetsNumeric limits op)
 decided limits op true true true size length is =
     let tests = both_true _ _ is in
     record { enabled = tests.0; of_size = tested_same _ _ size; is_new = refl; is_value = numeric_true _ _ tests.1 }

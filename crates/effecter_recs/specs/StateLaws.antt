@@ -6,7 +6,7 @@ use Rattle.two_wire.specs.Codes.{pldm_invalid_data, pldm_invalid_state}
 use Rattle.record_base.specs.declared.state_effecter.StateEffecter.{StateEffecter}
 use Rattle.record_base.specs.declared.state_effecter.SetStateEffecter.{SetStateEffecter}
 use Rattle.record_base.specs.MaskLaws.{both_true, both}
-use Rattle.record_base.specs.Meaning.{Decides, IsRefusal}
+use Rattle.record_base.specs.Meaning.{DecidesValue, IsRefusal}
 use Rattle.record_base.specs.InverseLaws.{some_where, made_where, tested_same, same_tested}
 use Rattle.record_base.specs.Kind.{KindLaws, RecordLaws}
 use Rattle.record_base.specs.BoardSizes.{most_state_fields}
@@ -47,7 +47,7 @@ true_fits : (effecter : StateEffecter) (op : SetStateEffecter) (old new : List �
 true_fits effecter op old new s = both _ _ (same_tested _ _ s.many) (both _ _ s.choices s.enabled)
 
 decided : (effecter : StateEffecter) (op : SetStateEffecter) (old : List ℕ) (a b : Bool) → fits_effecter effecter op.changes ≡ a → are_states effecter.fields (changed_states op.changes old) ≡ b
-    → Decides (if a then (if b then Ok (changed_states op.changes old) else Err pldm_invalid_state) else Err pldm_invalid_data) (SetsStates effecter op old)
+    → DecidesValue (if a then (if b then Ok (changed_states op.changes old) else Err pldm_invalid_state) else Err pldm_invalid_data) (SetsStates effecter op old)
 decided effecter op old true true fits is = fits_true effecter op old fits is
 decided effecter op old true false fits is = λ new s.
     let takes : are_states effecter.fields (changed_states op.changes old) ≡ true = subst (λ (v : List ℕ). are_states effecter.fields v ≡ true) s.is_new s.allowed in cc

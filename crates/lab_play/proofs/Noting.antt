@@ -16,14 +16,14 @@ use Rattle.lab_play.specs.declared.played.Played.{Played}
 use Rattle.lab_play.specs.declared.run.Stopped.{Stopped}
 use Rattle.lab_run.specs.declared.step.Refused.{Refused}
 use Rattle.lab_run.specs.declared.step.Refused.TheVariants as refused
-use Rattle.lab_run.specs.Shown.{Shows}
+use Rattle.lab_run.specs.Shown.{Represents}
 use Rattle.model_undo.specs.Machine.{phase_of}
 use Rattle.model_lab.specs.Played.{fault_at}
-use Rattle.lab_run.specs.Hearing.{Did}
+use Rattle.lab_run.specs.Hearing.{EventResult}
 use Rattle.lab_run.specs.Coming.{comes_at, done_in}
-use Rattle.lab_play.specs.Noted.{IsNote, noted_at, noted_from, AreNotes, NotesStep, Notes, NotesRun, NotesPlay}
-use Rattle.lab_play.specs.Ends.{Begins, given}
-use Rattle.lab_play.specs.Runs.{Take, IsStop}
+use Rattle.lab_play.specs.Noted.{IsNote, noted_at, noted_from, AreNotes, NotesStep, NotesEvents, NotesRun, NotesPlay}
+use Rattle.lab_play.specs.Ends.{BeginsPlay, given}
+use Rattle.lab_play.specs.Runs.{TakesEvents, IsStop}
 use Rattle.lab_run.proofs.Sent.{all_append}
 use Rattle.lab_run.proofs.Coming.{done_is}
 
@@ -34,8 +34,8 @@ module _ (file : BoardFile) where
   noted_more (d ∷ es) e x = ap (λ ns. noted_at file x d ∷ ns) (noted_more es e (happens file d x))
 
 -- one event more was noted
-pub notes_one_more : (es : List Event) (e : Event) (old mid : Lab) (notes : List Note) (note : Note) → Take es old mid → Notes es old notes
-    → ((file : BoardFile) (x : LabModel plans) → Shows file mid x → IsNote note (noted_at file x e)) → Notes (es ++ e ∷ []) old (notes ++ note ∷ [])
+pub notes_one_more : (es : List Event) (e : Event) (old mid : Lab) (notes : List Note) (note : Note) → TakesEvents es old mid → NotesEvents es old notes
+    → ((file : BoardFile) (x : LabModel plans) → Represents file mid x → IsNote note (noted_at file x e)) → NotesEvents (es ++ e ∷ []) old (notes ++ note ∷ [])
 notes_one_more es e old mid notes note took noted one file x shows =
     let last = noted_at file (after file es x) e in
     subst (λ ns. AllZip IsNote (notes ++ note ∷ []) ns) (sym (noted_more file es e x))
@@ -44,12 +44,12 @@ notes_one_more es e old mid notes note took noted one file x shows =
 -- ---- the note of an event that happened
 
 -- what is noted is what there is to note
-pub is_noted : (e : Event) (old new : Lab) (note : Note) (file : BoardFile) (x : LabModel plans) → Shows file old x
-    → (fault_at file x e ≡ None) × Shows file new (happens file e x) → Did e old new
+pub is_noted : (e : Event) (old new : Lab) (note : Note) (file : BoardFile) (x : LabModel plans) → Represents file old x
+    → (fault_at file x e ≡ None) × Represents file new (happens file e x) → EventResult e old new
     → note.event.now ≡ e → note.came ≡ comes_at x e → note.done ≡ done_in e new
-    → ((y : LabModel plans) → Shows file new y → note.sends ≡ option_map (λ f. f.on) (slice_get y.frames note.before))
-    → note.before ≡ length x.frames → ((y : LabModel plans) → Shows file new y → note.after ≡ length y.frames)
-    → ((y : LabModel plans) → Shows file new y → note.phase ≡ phase_of plans.words y.manager.machine)
+    → ((y : LabModel plans) → Represents file new y → note.sends ≡ option_map (λ f. f.on) (slice_get y.frames note.before))
+    → note.before ≡ length x.frames → ((y : LabModel plans) → Represents file new y → note.after ≡ length y.frames)
+    → ((y : LabModel plans) → Represents file new y → note.phase ≡ phase_of plans.words y.manager.machine)
     → IsNote note (noted_at file x e)
 is_noted e old new note file x shows stepped did named came done sends before after phase =
     let y = happens file e x in
@@ -65,21 +65,21 @@ is_noted e old new note file x shows stepped did named came done sends before af
 
 -- ---- events, one after another
 
-pub noted_step : (es : List Event) (e : Event) (old mid : Lab) (before after : List Note) → Take es old mid → Notes es old before → NotesStep e mid (Ok tt) before after
-    → Notes (es ++ e ∷ []) old after
+pub noted_step : (es : List Event) (e : Event) (old mid : Lab) (before after : List Note) → TakesEvents es old mid → NotesEvents es old before → NotesStep e mid (Ok tt) before after
+    → NotesEvents (es ++ e ∷ []) old after
 noted_step es e old mid before after took noted (note, is, says) =
-    subst (λ (ns : List Note). Notes (es ++ e ∷ []) old ns) (sym is) (notes_one_more es e old mid before note took noted says)
+    subst (λ (ns : List Note). NotesEvents (es ++ e ∷ []) old ns) (sym is) (notes_one_more es e old mid before note took noted says)
 
 pub one_longer : (e : Event) (mid : Lab) (before after : List Note) → NotesStep e mid (Ok tt) before after → length after ≡ length before + 1
 one_longer e mid before after (note, is, says) = ap length is ∙ length-append before (note ∷ [])
 
 -- those before the one that isn't taken were noted
 pub noted_before : {E : Type 0} (events : List Event) (old mid : Lab) (e : Event) (place : ℕ) (why : Refused) (before after : List Note) (given : Result (Option Stopped) E)
-    → Notes (take place events) old before → length before ≡ place → NotesStep e mid (Err why) before after → IsStop (place + 1) why given → NotesRun events old given after
+    → NotesEvents (take place events) old before → length before ≡ place → NotesStep e mid (Err why) before after → IsStop (place + 1) why given → NotesRun events old given after
 noted_before events old mid e place (refused.Fault fault) before after given noted long same is =
     let back : place ≡ place + 1 - 1 = omega arith in
     subst (λ g. NotesRun events old g after) (sym is) (
-      subst (λ (ns : List Note). Notes (take (place + 1 - 1) events) old ns) (sym same) (subst (λ (n : ℕ). Notes (take n events) old before) back noted),
+      subst (λ (ns : List Note). NotesEvents (take (place + 1 - 1) events) old ns) (sym same) (subst (λ (n : ℕ). NotesEvents (take n events) old before) back noted),
       ap (λ (n : ℕ). n + 1) (sym long) ∙ ap (λ (ns : List Note). length ns + 1) (sym same),
     )
 noted_before events old mid e place refused.Memory before after (Ok stopped) noted long same is = absurd (true≢false is)
@@ -93,25 +93,25 @@ module _ (file : BoardFile) (steps : List Op) (retries : ℕ) (events : List Eve
   first = opening plans file lab_names steps retries
 
   -- all events of a play were noted
-  all_noted : (old : Lab) → Shows file old first → Notes events old notes → length notes ≡ length events → AreNotes file steps retries events notes
+  all_noted : (old : Lab) → Represents file old first → NotesEvents events old notes → length notes ≡ length events → AreNotes file steps retries events notes
   all_noted old shows noted long =
       let whole : take (length notes) events ≡ events = ap (λ (n : ℕ). take n events) long ∙ take-length events in
       record { each = subst (λ (es : List Event). AllZip IsNote notes (noted_from file es first)) (sym whole) (noted file first shows) }
 
   -- those before the one of this place were
-  some_noted : (old : Lab) → Shows file old first → (place : ℕ) → Notes (take (place - 1) events) old notes → place ≡ length notes + 1
+  some_noted : (old : Lab) → Represents file old first → (place : ℕ) → NotesEvents (take (place - 1) events) old notes → place ≡ length notes + 1
       → AreNotes file steps retries events notes
   some_noted old shows place noted at =
       let count : place - 1 ≡ length notes = omega (arith, at) in
       record { each = subst (λ (n : ℕ). AllZip IsNote notes (noted_from file (take n events) first)) count (noted file first shows) }
 
   -- what is noted of a play, as its events ended
-  pub notes_given : {E : Type 0} (played new : Played) (old : Lab) (ended : Result (Option Stopped) E) → Begins file steps retries played → old ≡ played.lab.value
+  pub notes_given : {E : Type 0} (played new : Played) (old : Lab) (ended : Result (Option Stopped) E) → BeginsPlay file steps retries played → old ≡ played.lab.value
       → NotesRun events old ended notes → NotesPlay file steps retries events (given new ended) notes
   notes_given played new old ended begins was = by ended
     where
-      shows : Shows file old first
-      shows = subst (λ (lab : Lab). Shows file lab first) (sym was) begins.shows
+      shows : Represents file old first
+      shows = subst (λ (lab : Lab). Represents file lab first) (sym was) begins.shows
 
       by : {E : Type 0} (ended : Result (Option Stopped) E) → NotesRun events old ended notes → NotesPlay file steps retries events (given new ended) notes
       by (Ok None) noted = (all_noted old shows noted.0 noted.1, noted.1)

@@ -9,7 +9,7 @@ use Rattle.mctp_net.specs.Assembly.{is_ours}
 use Rattle.cfg_records.specs.declared.board_file.BoardFile.{BoardFile}
 use Rattle.model_ports.specs.Values.{Value, Asks, Tells, Part}
 use Rattle.model_ports.specs.PortSteps.{PortState, hears, idles}
-use Rattle.model_lab.specs.ManagerSteps.{ManagerDeed, Sent, called, manager_hears}
+use Rattle.model_lab.specs.ManagerSteps.{ManagerStepResult, Sent, called, manager_hears}
 use Rattle.model_lab.specs.Lab.{LabFrame, Lab as LabModel, sends, call_does, with_port, port_on, opens, delivered, returned, step}
 use Rattle.model_lab.specs.Played.{plans, happens}
 use Rattle.text_schedule.specs.declared.event.Event.{Event}
@@ -26,7 +26,7 @@ sends_same : (o : Option Sent) (x : LabModel plans) → (sends plans o x).opened
 sends_same None x = refl
 sends_same (Some s) x = refl
 
-call_same : (d : Option (ManagerDeed plans)) (x : LabModel plans) → (call_does plans d x).opened ≡ x.opened
+call_same : (d : Option (ManagerStepResult plans)) (x : LabModel plans) → (call_does plans d x).opened ≡ x.opened
 call_same None x = refl
 call_same (Some d) x = sends_same d.sent (record x { manager = d.manager })
 

@@ -16,11 +16,11 @@ use Rattle.lab_run.specs.declared.lab_state.Lab.{Lab}
 use Rattle.lab_play.specs.declared.played.Played.{Played}
 use Rattle.lab_play.specs.declared.played.LabFault.TheVariants as fault
 use Rattle.lab_play.specs.declared.run.Stopped.{Stopped}
-use Rattle.lab_run.specs.Shown.{Shows}
-use Rattle.lab_play.specs.Runs.{Take, StopsAt, Runs}
+use Rattle.lab_run.specs.Shown.{Represents}
+use Rattle.lab_play.specs.Runs.{TakesEvents, StopsAt, RunsEvents}
 use Rattle.model_headline.specs.Plays.{TellsPremise}
 use Rattle.lab_play.specs.Watched.{WatchesRun}
-use Rattle.lab_play.specs.Ends.{Tells, Begins, Ends, Plays, given}
+use Rattle.lab_play.specs.Ends.{TellsPlay, BeginsPlay, PlayEnd, PlayResult, given}
 
 module _ (file : BoardFile) (steps : List Op) (retries : ℕ) where
   -- the lab as it begins
@@ -32,7 +32,7 @@ module _ (file : BoardFile) (steps : List Op) (retries : ℕ) where
   told_after events = told_of file first (after file events first)
 
   tells : (events : List Event) (played : Played) → played.start.items ≡ pairs_of file → KeysDiffer (pairs_of file)
-      → Shows file played.lab.value (after file events first) → Tells played (told_after events)
+      → Represents file played.lab.value (after file events first) → TellsPlay played (told_after events)
   tells events played start once shown = record {
     file = file;
     first = first;
@@ -45,8 +45,8 @@ module _ (file : BoardFile) (steps : List Op) (retries : ℕ) where
 
   -- all events were taken
   ends_whole : (events : List Event) (played : Played) (old : Lab) → played.start.items ≡ pairs_of file → KeysDiffer (pairs_of file)
-      → Shows file old first → length steps ≤ 256 → Take events old played.lab.value → TellsPremise file events first played.watch.broken
-      → Ends file steps retries events (Ok played)
+      → Represents file old first → length steps ≤ 256 → TakesEvents events old played.lab.value → TellsPremise file events first played.watch.broken
+      → PlayEnd file steps retries events (Ok played)
   ends_whole events played old start once shows few takes told =
       let at = takes file first shows in
       let is : IsPlayed file steps retries events (Whole (told_after events)) = (at.0, refl) in
@@ -63,8 +63,8 @@ module _ (file : BoardFile) (steps : List Op) (retries : ℕ) where
 
   -- the event of a place has a fault
   ends_at : (events : List Event) (played : Played) (old : Lab) (why : Fault) (place : ℕ) → played.start.items ≡ pairs_of file → KeysDiffer (pairs_of file)
-      → Shows file old first → length steps ≤ 256 → StopsAt events old played.lab.value (record { place = place; fault = why })
-      → TellsPremise file (take (place - 1) events) first played.watch.broken → Ends file steps retries events (Err (fault.Event why place played))
+      → Represents file old first → length steps ≤ 256 → StopsAt events old played.lab.value (record { place = place; fault = why })
+      → TellsPremise file (take (place - 1) events) first played.watch.broken → PlayEnd file steps retries events (Err (fault.Event why place played))
   ends_at events played old why place start once shows few stops premise =
       let at = stops.left file first shows in
       let told = told_after stops.before in
@@ -85,19 +85,19 @@ module _ (file : BoardFile) (steps : List Op) (retries : ℕ) where
 
   -- ---- what is given of a play, as its events ended
 
-  pub plays_given : {E : Type 0} (events : List Event) (played new : Played) (old : Lab) (ended : Result (Option Stopped) E) → Begins file steps retries played
-      → old ≡ played.lab.value → new.start.items ≡ played.start.items → Runs events old ended new.lab.value → WatchesRun events old played.watch ended new.watch
-      → Plays file steps retries events (given new ended)
+  pub plays_given : {E : Type 0} (events : List Event) (played new : Played) (old : Lab) (ended : Result (Option Stopped) E) → BeginsPlay file steps retries played
+      → old ≡ played.lab.value → new.start.items ≡ played.start.items → RunsEvents events old ended new.lab.value → WatchesRun events old played.watch ended new.watch
+      → PlayResult file steps retries events (given new ended)
   plays_given events played new old ended begins was same = by ended
     where
-      shows : Shows file old first
-      shows = subst (λ (lab : Lab). Shows file lab first) (sym was) begins.shows
+      shows : Represents file old first
+      shows = subst (λ (lab : Lab). Represents file lab first) (sym was) begins.shows
 
       start : new.start.items ≡ pairs_of file
       start = same ∙ begins.start
 
-      by : {E : Type 0} (ended : Result (Option Stopped) E) → Runs events old ended new.lab.value → WatchesRun events old played.watch ended new.watch
-          → Plays file steps retries events (given new ended)
+      by : {E : Type 0} (ended : Result (Option Stopped) E) → RunsEvents events old ended new.lab.value → WatchesRun events old played.watch ended new.watch
+          → PlayResult file steps retries events (given new ended)
       by (Ok None) takes watched = ends_whole events new old start begins.once shows begins.few takes (watched file first shows begins.watches).1
       by (Ok (Some stopped)) stops watched =
           ends_at events new old stopped.fault stopped.place start begins.once shows begins.few stops (watched file first shows begins.watches).1

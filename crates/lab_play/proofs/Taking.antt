@@ -22,7 +22,7 @@ use Rattle.model_lab.specs.Lab.{Lab as LabModel}
 use Rattle.model_lab.specs.Played.{plans}
 use Rattle.bmc_core.specs.declared.out.Reason.TheVariants as reason
 use Rattle.bmc_core.specs.Outs.{done_by}
-use Rattle.bmc_core.specs.SmbusHeard.{Heard, Ignored, Waiting, control_heard, pldm_heard, typed_heard, message_heard, part_heard, with_part, taken, done_of, found}
+use Rattle.bmc_core.specs.SmbusHeard.{HeardMessage, Ignored, Waiting, control_heard, pldm_heard, typed_heard, message_heard, part_heard, with_part, taken, done_of, found}
 use Rattle.lab_run.specs.Hearing.{done_with}
 use Rattle.lab_play.specs.Watched.{took}
 use Rattle.std.specs.Prelude.{find}
@@ -33,7 +33,7 @@ outcome_took IsBusy = refl
 outcome_took IsNew = refl
 
 module _ (port : PortState) where
-  abbrev Took : Heard → Type 0
+  abbrev Took : HeardMessage → Type 0
   Took h = took (done_of port h) ≡ true
 
   control_took : (e : Envelope) (o : Option ControlRequest) → Took (control_heard e o)

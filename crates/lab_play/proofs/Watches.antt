@@ -20,12 +20,12 @@ use Rattle.text_schedule.specs.declared.event.Event.TheVariants as event
 use Rattle.lab_run.specs.declared.frames.SentFrame.{SentFrame}
 use Rattle.lab_run.specs.declared.lab_state.Lab.{Lab}
 use Rattle.lab_run.specs.declared.part.ManagerPart.{ManagerPart}
-use Rattle.lab_run.specs.Shown.{Shows, IsSentFrame}
+use Rattle.lab_run.specs.Shown.{Represents, IsSentFrame}
 use Rattle.lab_run.specs.Hearing.{done_on, done_with}
 use Rattle.lab_run.specs.Coming.{done_at}
 use Rattle.lab_run.specs.Parts.{part_of, part_in, part_at}
 use Rattle.lab_play.specs.declared.watch.Watch.{Watch}
-use Rattle.lab_play.specs.Watched.{took, took_by, waits_long, opened_in, broken_at, Watches, TellsNext}
+use Rattle.lab_play.specs.Watched.{took, took_by, waits_long, opened_in, broken_at, WatchRepresents, TellsNext}
 use Rattle.lab_play.proofs.Opening.{opened_by, happens_by, set_one, index_at}
 use Rattle.lab_play.proofs.Taking.{breaks, kept_live, broke_live}
 
@@ -42,7 +42,7 @@ on_smbus : (on : Bus) (p : Packet) (bytes : List ℕ) → IsFrameOn on (Part p) 
 on_smbus Ipmb p bytes is = absurd is
 on_smbus Smbus p bytes is = refl
 
-module _ (file : BoardFile) (lab : Lab) (x : LabModel plans) (shows : Shows file lab x) (old : Watch) (opens : Watches old x) where
+module _ (file : BoardFile) (lab : Lab) (x : LabModel plans) (shows : Represents file lab x) (old : Watch) (opens : WatchRepresents old x) where
   -- ---- no packet comes
 
   value_keeps : (request : ℕ) (v : Value) → part_of x request v ≡ None → JoinsLive plans x v
@@ -62,7 +62,7 @@ module _ (file : BoardFile) (lab : Lab) (x : LabModel plans) (shows : Shows file
   same_still None place Keeps keeps = keeps
   same_still (Some first) place Keeps keeps = refl
 
-  pub no_packet : (e : Event) (place : ℕ) → part_at x e ≡ None → Watches old (happens file e x) × TellsNext old.broken old.broken place (KeepsPremise file x e)
+  pub no_packet : (e : Event) (place : ℕ) → part_at x e ≡ None → WatchRepresents old (happens file e x) × TellsNext old.broken old.broken place (KeepsPremise file x e)
   no_packet e place none = (
     λ tag below. opens tag below ∙ ap (λ (n : ℕ). Some n) (sym (happens_by file e x tag ∙ ap (λ (o : Option ManagerPart). opened_by o x.opened tag) none)),
     same_still old.broken place (KeepsPremise file x e) (event_keeps e none),
@@ -119,7 +119,7 @@ module _ (file : BoardFile) (lab : Lab) (x : LabModel plans) (shows : Shows file
 
   pub a_packet : (e : Event) (place : ℕ) (part : ManagerPart) (begun : ℕ) (taken : Bool) (new : Watch) → part.tag < 8 → part_at x e ≡ Some part → begun ≡ begun_on plans.words Smbus x.manager.machine
       → taken ≡ took_by (done_at x e) → new.opened ≡ opened_in part old.opened → new.broken ≡ broken_at old part begun taken place
-      → Watches new (happens file e x) × TellsNext old.broken new.broken place (KeepsPremise file x e)
+      → WatchRepresents new (happens file e x) × TellsNext old.broken new.broken place (KeepsPremise file x e)
   a_packet e place part begun taken new low there begun_is took_is opened_is broken_is = (
     λ tag below. ap (λ (l : List ℕ). slice_get l tag) opened_is ∙ still_watched part tag below
         ∙ ap (λ (n : ℕ). Some n) (sym (happens_by file e x tag ∙ ap (λ (o : Option ManagerPart). opened_by o x.opened tag) there)),

@@ -8,10 +8,10 @@ use Rattle.text_schedule.specs.declared.event.Event.{Event}
 use Rattle.lab_run.specs.declared.lab_state.Lab.{Lab}
 use Rattle.lab_play.specs.declared.run.Stopped.{Stopped}
 use Rattle.lab_play.specs.declared.watch.Watch.{Watch}
-use Rattle.lab_play.specs.Runs.{Take, IsStop}
+use Rattle.lab_play.specs.Runs.{TakesEvents, IsStop}
 use Rattle.lab_run.specs.declared.step.Refused.{Refused}
 use Rattle.lab_run.specs.declared.step.Refused.TheVariants as refused
-use Rattle.lab_play.specs.Watched.{Watches, TellsNext, WatchesStep, WatchesAll, WatchesRun}
+use Rattle.lab_play.specs.Watched.{WatchRepresents, TellsNext, WatchesStep, WatchesAll, WatchesRun}
 use Rattle.lab_play.proofs.Running.{after_more}
 
 module _ (file : BoardFile) where
@@ -33,13 +33,13 @@ module _ (file : BoardFile) where
   tells_more es e x None (Some first) told next = (es, [], e, refl, next.0, told, next.1)
 
 -- one event more
-pub watches_more : (es : List Event) (e : Event) (place : ℕ) (old mid : Lab) (first now new : Watch) → place ≡ length es + 1 → Take es old mid → WatchesAll es old first now → WatchesStep e place mid now (Ok tt) new
+pub watches_more : (es : List Event) (e : Event) (place : ℕ) (old mid : Lab) (first now new : Watch) → place ≡ length es + 1 → TakesEvents es old mid → WatchesAll es old first now → WatchesStep e place mid now (Ok tt) new
     → WatchesAll (es ++ e ∷ []) old first new
 watches_more es e place old mid first now new at took watched step file x shows opens =
     let y = after file es x in
     let before = watched file x shows opens in
     let next = step file y (took file x shows).1 before.0 in (
-      subst (Watches new) (sym (after_more file es e x)) next.0,
+      subst (WatchRepresents new) (sym (after_more file es e x)) next.0,
       tells_more file es e x now.broken new.broken before.1 (subst (λ (n : ℕ). TellsNext now.broken new.broken n (KeepsPremise file y e)) at next.1),
     )
 

@@ -12,35 +12,35 @@ use Rattle.model_lab.specs.Played.{plans, Told, Ending, Whole, Stops, told_of, I
 use Rattle.model_headline.specs.Plays.{taken_by, told_by, TellsPremise, ToldStands, StandsIfKept}
 use Rattle.model_headline.specs.CleanPlays.{EndsClean}
 use Rattle.model_headline.specs.Promise.{Promise}
-use Rattle.lab_run.specs.Shown.{Shows}
+use Rattle.lab_run.specs.Shown.{Represents}
 use Rattle.lab_play.specs.declared.run.Stopped.{Stopped}
 use Rattle.lab_play.specs.declared.played.Played.{Played}
 use Rattle.lab_play.specs.declared.played.LabFault.{LabFault}
 use Rattle.lab_play.specs.declared.played.LabFault.TheVariants as fault
-use Rattle.lab_play.specs.Watched.{Watches}
+use Rattle.lab_play.specs.Watched.{WatchRepresents}
 
 -- what a play tells of a lab that began with these records, each listed once, and of the lab as it is now
-pub record Tells (played : Played) (told : Told) : Type 0 where
+pub record TellsPlay (played : Played) (told : Told) : Type 0 where
   pub file : BoardFile
   pub first : LabModel plans
   pub now : LabModel plans
-  pub shown : Shows file played.lab.value now
+  pub shown : Represents file played.lab.value now
   pub once : KeysDiffer played.start.items
   pub start : first.board.records ≡ records_of played.start.items
   pub is : told ≡ told_of file first now
 
 -- a play of the plan that begins: its lab shows the one that the model begins with, its records are the board's, and its steps are few
-pub record Begins (file : BoardFile) (steps : List Op) (retries : ℕ) (played : Played) : Type 0 where
+pub record BeginsPlay (file : BoardFile) (steps : List Op) (retries : ℕ) (played : Played) : Type 0 where
   pub start : played.start.items ≡ pairs_of file
   pub once : KeysDiffer (pairs_of file)
-  pub shows : Shows file played.lab.value (opening plans file lab_names steps retries)
+  pub shows : Represents file played.lab.value (opening plans file lab_names steps retries)
   pub few : length steps ≤ most_steps
-  pub watches : Watches played.watch (opening plans file lab_names steps retries)
+  pub watches : WatchRepresents played.watch (opening plans file lab_names steps retries)
 
 -- what was given is this ending
 abbrev pub IsEnding : Result Played LabFault → Ending → Type 0
-IsEnding (Ok played) (Whole told) = Tells played told
-IsEnding (Err (fault.Event why place played)) (Stops cause at told) = (cause ≡ why) × (at ≡ place) × Tells played told
+IsEnding (Ok played) (Whole told) = TellsPlay played told
+IsEnding (Err (fault.Event why place played)) (Stops cause at told) = (cause ≡ why) × (at ≡ place) × TellsPlay played told
 IsEnding _ _ = ⊥
 
 -- the first event that broke the premise on packets, as what was given tells it
@@ -51,7 +51,7 @@ broken_in (Err fault.Memory) = None
 
 -- A play of the plan by the schedule ended so, and it tells which event that it took broke the premise on packets first, if one did. Where
 -- none did, what it tells stands, and keeps the promise.
-pub record Ends (file : BoardFile) (steps : List Op) (retries : ℕ) (events : List Event) (given : Result Played LabFault) : Type 0 where
+pub record PlayEnd (file : BoardFile) (steps : List Op) (retries : ℕ) (events : List Event) (given : Result Played LabFault) : Type 0 where
   pub ending : Ending
   pub is : IsEnding given ending
   pub played : IsPlayed file steps retries events ending
@@ -62,9 +62,9 @@ pub record Ends (file : BoardFile) (steps : List Op) (retries : ℕ) (events : L
   pub clean : EndsClean file steps retries events ending
 
 -- a play ends so, unless memory is refused
-abbrev pub Plays : BoardFile → List Op → (retries : ℕ) → List Event → Result Played LabFault → Type 0
-Plays file steps retries events (Err fault.Memory) = Unit {0}
-Plays file steps retries events given = Ends file steps retries events given
+abbrev pub PlayResult : BoardFile → List Op → (retries : ℕ) → List Event → Result Played LabFault → Type 0
+PlayResult file steps retries events (Err fault.Memory) = Unit {0}
+PlayResult file steps retries events given = PlayEnd file steps retries events given
 
 -- ---- what the calls give
 

@@ -5,8 +5,8 @@ use Rattle.two_wire.specs.Circles.{tags}
 use Rattle.two_wire.specs.declared.Bus.TheVariants.{Smbus}
 use Rattle.model_bus.specs.Circle.{span_of}
 use Rattle.cfg_records.specs.declared.board_file.BoardFile.{BoardFile}
-use Rattle.bmc_core.specs.declared.out.Done.{Done}
-use Rattle.bmc_core.specs.declared.out.Done.TheVariants as done
+use Rattle.bmc_core.specs.declared.out.Disposition.{Disposition}
+use Rattle.bmc_core.specs.declared.out.Disposition.TheVariants as done
 use Rattle.bmc_core.specs.declared.out.Reason.TheVariants as reason
 use Rattle.model_lab.specs.Lab.{Lab as LabModel}
 use Rattle.model_lab.specs.Played.{plans, happens, after}
@@ -16,17 +16,17 @@ use Rattle.lab_run.specs.declared.lab_state.Lab.{Lab}
 use Rattle.lab_run.specs.declared.part.ManagerPart.{ManagerPart}
 use Rattle.lab_run.specs.declared.step.Refused.{Refused}
 use Rattle.lab_run.specs.declared.step.Refused.TheVariants as refused
-use Rattle.lab_run.specs.Shown.{Shows}
+use Rattle.lab_run.specs.Shown.{Represents}
 use Rattle.lab_play.specs.declared.run.Stopped.{Stopped}
 use Rattle.lab_play.specs.declared.watch.Watch.{Watch}
 
 -- what the port did was to take a packet: one that went to it, and wasn't dropped
-abbrev pub took : Done → Bool
+abbrev pub took : Disposition → Bool
 took (done.Ignored reason.NotOurs) = false
 took (done.Ignored (reason.Dropped cause)) = false
 took _ = true
 
-abbrev pub took_by : Option Done → Bool
+abbrev pub took_by : Option Disposition → Bool
 took_by None = false
 took_by (Some done) = took done
 
@@ -45,8 +45,8 @@ broken_at watch part begun taken place = if is_none watch.broken && not part.sta
 -- ---- what the watch knows of a lab
 
 -- under each tag, the request whose start came last
-abbrev pub Watches : Watch → LabModel plans → Type 0
-Watches watch lab_model = (tag : ℕ) → tag < tags → slice_get watch.opened tag ≡ Some (lab_model.opened tag)
+abbrev pub WatchRepresents : Watch → LabModel plans → Type 0
+WatchRepresents watch lab_model = (tag : ℕ) → tag < tags → slice_get watch.opened tag ≡ Some (lab_model.opened tag)
 
 -- the first event to break the premise stays the first after one more event, unless that event, of this place, is the first
 abbrev pub TellsNext : Option ℕ → Option ℕ → (place : ℕ) → Type 0 → Type 0
@@ -56,15 +56,15 @@ TellsNext None (Some first) place Keeps = (first ≡ place) × (¬ Keeps)
 
 -- an event of this place is asked of a lab, and watched if it happens; where memory was refused, nothing is said
 abbrev pub WatchesStep : Event → (place : ℕ) → Lab → Watch → Result (Unit {0}) Refused → Watch → Type 0
-WatchesStep event place lab old (Ok did) new = (file : BoardFile) (lab_model : LabModel plans) → Shows file lab lab_model → Watches old lab_model
-    → Watches new (happens file event lab_model) × TellsNext old.broken new.broken place (KeepsPremise file lab_model event)
+WatchesStep event place lab old (Ok did) new = (file : BoardFile) (lab_model : LabModel plans) → Represents file lab lab_model → WatchRepresents old lab_model
+    → WatchRepresents new (happens file event lab_model) × TellsNext old.broken new.broken place (KeepsPremise file lab_model event)
 WatchesStep event place lab old (Err (refused.Fault why)) new = new ≡ old
 WatchesStep event place lab old (Err refused.Memory) new = Unit {0}
 
 -- events happened, and this is told of the premise
 abbrev pub WatchesAll : List Event → Lab → Watch → Watch → Type 0
-WatchesAll events lab old new = (file : BoardFile) (lab_model : LabModel plans) → Shows file lab lab_model → Watches old lab_model
-    → Watches new (after file events lab_model) × TellsPremise file events lab_model new.broken
+WatchesAll events lab old new = (file : BoardFile) (lab_model : LabModel plans) → Represents file lab lab_model → WatchRepresents old lab_model
+    → WatchRepresents new (after file events lab_model) × TellsPremise file events lab_model new.broken
 
 -- events are asked of a lab, up to the first that isn't taken; where memory was refused, nothing is said
 abbrev pub WatchesRun : {E : Type 0} → List Event → Lab → Watch → Result (Option Stopped) E → Watch → Type 0

@@ -1,8 +1,8 @@
 //! Schedules, with a note of each event.
 ghost use Rattle.std.specs.Prelude.{◌≡◌, ◌≤◌, suc, [], None};
 ghost use Rattle.two_wire.specs.declared.Bus.{Bus as AnyBus};
-ghost use Rattle.lab_run.specs.Shown.{Steps, CanCountOn, idles_in};
-ghost use Rattle.lab_play.specs.Runs.{Runs};
+ghost use Rattle.lab_run.specs.Shown.{EventStep, CanCountOn, idles_in};
+ghost use Rattle.lab_play.specs.Runs.{RunsEvents};
 ghost use Rattle.lab_play.specs.Noted.{NotesStep, NotesRun};
 ghost use Rattle.lab_play.specs.Watched.{WatchesStep, WatchesRun};
 
@@ -21,7 +21,7 @@ fn step_noted<'a>(
     notes: &mut Vec<Note<'a>>,
 ) -> Result<(), Refused>
     requires { CanCountOn lab.now.idles }
-    ensures steps { Steps event.now lab.old result lab.new }
+    ensures steps { EventStep event.now lab.old result lab.new }
     ensures few { (on : AnyBus) → idles_in on lab.new.idles ≤ suc (idles_in on lab.old.idles) }
     ensures noted { NotesStep event.now lab.old result notes.old.items notes.new.items }
     ensures watched { WatchesStep event.now place lab.old watch.old result watch.new }
@@ -54,7 +54,7 @@ pub(crate) fn run_noted<'a>(
     requires idles { (on : AnyBus) → idles_in on lab.now.idles ≡ 0 }
     requires empty { notes.now.items ≡ [] }
     requires unbroken { watch.now.broken ≡ None }
-    ensures runs { Runs events.now lab.old result lab.new }
+    ensures runs { RunsEvents events.now lab.old result lab.new }
     ensures watched { WatchesRun events.now lab.old watch.old result watch.new }
     ensures noted { NotesRun events.now lab.old result notes.new.items }
 {

@@ -8,7 +8,7 @@ ghost use Rattle.model_lab.specs.Played.{Told};
 ghost use Rattle.lab_run.specs.Shown.{IsSentFrame, idles_in};
 ghost use Rattle.lab_play.specs.Noted.{NotesPlay};
 ghost use Rattle.cfg_records.specs.Changed.{changed_in};
-ghost use Rattle.lab_play.specs.Ends.{Tells, Plays, Begins, given};
+ghost use Rattle.lab_play.specs.Ends.{TellsPlay, PlayResult, BeginsPlay, given};
 
 use crate::noted::run_noted;
 use crate::run::{Stopped, run};
@@ -44,14 +44,14 @@ impl Drop for Played {
 impl Played {
     /// Where the manager is.
     pub fn phase(&self) -> Phase
-        ensures { (told : Told) → Tells self.now told → result ≡ told.phase }
+        ensures { (told : Told) → TellsPlay self.now told → result ≡ told.phase }
     {
         self.lab.phase()
     }
 
     /// The frames that were sent, in the order of their numbers.
     pub fn frames(&self) -> &[SentFrame]
-        ensures { (told : Told) → Tells self.now told
+        ensures { (told : Told) → TellsPlay self.now told
             → AllZip IsSentFrame result.now told.frames }
     {
         self.lab.frames()
@@ -59,7 +59,7 @@ impl Played {
 
     /// The requests that undo what was done.
     pub fn undo(&self) -> &UndoList
-        ensures { (told : Told) → Tells self.now told
+        ensures { (told : Told) → TellsPlay self.now told
             → backs result.now.requests.members ≡ told.undo }
     {
         self.lab.undo_list()
@@ -67,7 +67,7 @@ impl Played {
 
     /// The records.
     pub fn records(&self) -> &Records
-        ensures { (told : Told) → Tells self.now told
+        ensures { (told : Told) → TellsPlay self.now told
             → ⟦<Records as Store>⟧.records result.now ≡ told.records }
     {
         self.lab.store()
@@ -75,7 +75,7 @@ impl Played {
 
     /// The records that the board began with.
     pub fn start(&self) -> &[(Key, StartValue)]
-        ensures { (told : Told) → Tells self.now told → records_of result.now ≡ told.start }
+        ensures { (told : Told) → TellsPlay self.now told → records_of result.now ≡ told.start }
     {
         self.start.as_slice()
     }
@@ -90,7 +90,7 @@ impl Played {
 
     /// How many records have another value than they began with.
     pub fn changed(&self) -> usize
-        ensures { (told : Told) → Tells self.now told
+        ensures { (told : Told) → TellsPlay self.now told
             → result ≡ changed_in told.records self.now.start.items }
     {
         changed_count(self.records(), self.start.as_slice())
@@ -113,7 +113,7 @@ pub enum LabFault {
 impl Played {
     /// A play that begins: a lab as it begins, and the records of its board.
     fn begin(alloc: Global, file: BoardFile, plan: Plan) -> Result<Played, AllocError>
-        ensures begins { IfOk result (λ played. Begins file plan.steps plan.retries played) }
+        ensures begins { IfOk result (λ played. BeginsPlay file plan.steps plan.retries played) }
         ensures unbroken { IfOk result (λ played. played.watch.broken ≡ None) }
         ensures never { IfOk result (λ played.
             (on : AnyBus) → idles_in on played.lab.value.idles ≡ 0) }
@@ -158,7 +158,7 @@ pub fn play(
     plan: Plan,
     events: &[Event],
 ) -> Result<Played, LabFault>
-    ensures { Plays file plan.steps plan.retries events.now result }
+    ensures { PlayResult file plan.steps plan.retries events.now result }
 {
     let Ok(mut played) = Played::begin(alloc, file, plan) else {
         return Err(LabFault::Memory);
@@ -176,7 +176,7 @@ pub fn play_noted<'a>(
     notes: &mut Vec<Note<'a>>,
 ) -> Result<Played, LabFault>
     requires { notes.now.items ≡ [] }
-    ensures plays { Plays file plan.steps plan.retries events.now result }
+    ensures plays { PlayResult file plan.steps plan.retries events.now result }
     ensures noted { NotesPlay file plan.steps plan.retries events.now result notes.new.items }
 {
     let Ok(mut played) = Played::begin(alloc, file, plan) else {

@@ -2,7 +2,7 @@
 ghost use Rattle.std.specs.Prelude.{◌≡◌, None};
 ghost use Rattle.two_wire.specs.declared.Bus.{Bus as AnyBus};
 ghost use Rattle.lab_run.specs.Shown.{idles_in};
-ghost use Rattle.lab_play.specs.Runs.{IsStop, Runs};
+ghost use Rattle.lab_play.specs.Runs.{IsStop, RunsEvents};
 ghost use Rattle.lab_play.specs.Watched.{WatchesRun};
 
 use crate::watch::{Watch, step_watched};
@@ -13,7 +13,7 @@ use text_schedule::Event;
 /// The event that a lab didn't take.
 #[derive(Clone, Copy)]
 pub struct Stopped {
-    /// Its place among the events, counted from 1.
+    /// The event's place among all events, counted from 1.
     pub place: usize,
     pub fault: Fault,
 }
@@ -36,7 +36,7 @@ pub(crate) fn run(
 ) -> Result<Option<Stopped>, AllocError>
     requires idles { (on : AnyBus) → idles_in on lab.now.idles ≡ 0 }
     requires unbroken { watch.now.broken ≡ None }
-    ensures runs { Runs events.now lab.old result lab.new }
+    ensures runs { RunsEvents events.now lab.old result lab.new }
     ensures watched { WatchesRun events.now lab.old watch.old result watch.new }
 {
     for (place, event) in events.iter().enumerate() {

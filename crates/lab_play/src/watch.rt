@@ -2,11 +2,11 @@
 ghost use Rattle.std.specs.Prelude.{◌≡◌, ◌<◌, ◌≤◌, ℕ, suc, slice_get, Some, None, OnOk};
 ghost use Rattle.two_wire.specs.Circles.{tags};
 ghost use Rattle.two_wire.specs.declared.Bus.{Bus as AnyBus};
-ghost use Rattle.lab_run.specs.Shown.{Steps, CanCountOn, idles_in};
-ghost use Rattle.lab_run.specs.Hearing.{Did};
+ghost use Rattle.lab_run.specs.Shown.{EventStep, CanCountOn, idles_in};
+ghost use Rattle.lab_run.specs.Hearing.{EventResult};
 ghost use Rattle.lab_play.specs.Watched.{took_by, waits_long, opened_in, broken_at, WatchesStep};
 
-use bmc_core::{Done, Reason};
+use bmc_core::{Disposition, Reason};
 use lab_run::{Lab, ManagerPart, Refused};
 use model_bus::span;
 use text_schedule::Event;
@@ -26,11 +26,11 @@ pub struct Watch {
 }
 
 /// Whether the port took the packet that came to it: it went to the port, and wasn't dropped.
-fn took(done: Option<Done>) -> bool
+fn took(done: Option<Disposition>) -> bool
     ensures { result ≡ took_by done }
 {
     match done {
-        None | Some(Done::Ignored(Reason::NotOurs | Reason::Dropped(_))) => false,
+        None | Some(Disposition::Ignored(Reason::NotOurs | Reason::Dropped(_))) => false,
         Some(_) => true,
     }
 }
@@ -90,8 +90,8 @@ pub fn step_watched(
     place: usize,
 ) -> Result<(), Refused>
     requires { CanCountOn lab.now.idles }
-    ensures steps { Steps event.now lab.old result lab.new }
-    ensures done { OnOk result (Did event.now lab.old lab.new) }
+    ensures steps { EventStep event.now lab.old result lab.new }
+    ensures done { OnOk result (EventResult event.now lab.old lab.new) }
     ensures few { (on : AnyBus) → idles_in on lab.new.idles ≤ suc (idles_in on lab.old.idles) }
     ensures watched { WatchesStep event.now place lab.old watch.old result watch.new }
 {

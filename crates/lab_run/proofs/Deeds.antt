@@ -24,19 +24,19 @@ use Rattle.model_bus.specs.Carried.{Outcome, Repeats, IsBusy, IsNew, outcome, lo
 use Rattle.model_bus.specs.Packet.{Packet as ModelPacket, packets_of}
 use Rattle.model_ports.specs.Bytes.{heard_in, pldm_heard_in}
 use Rattle.model_ports.specs.Values.{Value, Asks, Tells, Part, IsFrameOn, parts_of}
-use Rattle.model_ports.specs.PortSteps.{PortState, Deed, stays, turn, spelled, asked_in, pldm_asked, hears_request, hears_control, hears_pldm, hears_typed, hears_message, ends_message, hears_part, hears_parts, hears_all, hears}
+use Rattle.model_ports.specs.PortSteps.{PortState, StepResult, stays, turn, spelled, asked_in, pldm_asked, hears_request, hears_control, hears_pldm, hears_typed, hears_message, ends_message, hears_part, hears_parts, hears_all, hears}
 use Rattle.model_lab.specs.ManagerSteps.{own_on}
 use Rattle.model_lab.specs.declared.way.Way.TheVariants.{ToOthers}
 use Rattle.model_lab.specs.Lab.{LabFrame, Lab as LabModel, port_does}
 use Rattle.bmc_core.specs.declared.out.Reason.{Reason}
 use Rattle.bmc_core.specs.declared.out.Reason.TheVariants.{NotOurs, NotRequest}
 use Rattle.bmc_core.specs.IpmbHeard.{IsHeard}
-use Rattle.bmc_core.specs.IpmbShown.{deed_of}
+use Rattle.bmc_core.specs.IpmbShown.{step_result_of}
 use Rattle.model_lab.specs.Played.{plans}
 use Rattle.lab_run.specs.Hearing.{heard_at}
 
 -- no window was forgotten, and the port is where it was
-pub record Keeps (port : PortState) (d : Deed) : Type 0 where
+pub record Keeps (port : PortState) (d : StepResult) : Type 0 where
   pub idles : (q : ℕ) → idles_of q d.port.log ≡ idles_of q port.log
   pub wire : d.port.wire ≡ port.wire
 
@@ -119,7 +119,7 @@ module _ (setup : BoardFile) (p : PortState) (before : State) (bytes : List ℕ)
   pub record HeardAs (v : Value) : Type 0 where
     pub heard : Result Request Reason
     pub is : IsHeard p.wire bytes heard
-    pub same : deed_of setup p before heard ≡ hears setup p before v
+    pub same : step_result_of setup p before heard ≡ hears setup p before v
     pub says : heard ≡ heard_at p.wire v
 
   asks_as : (r : Request) (b : Bool) → (r.header.responder.address == p.wire) ≡ b → IsRequest r bytes → HeardAs (Asks r)
@@ -147,11 +147,11 @@ module _ (setup : BoardFile) (p : PortState) (before : State) (bytes : List ℕ)
 
 -- ---- deeds one after another
 
-abbrev pub then_deed : Deed → Deed → Deed
+abbrev pub then_deed : StepResult → StepResult → StepResult
 then_deed d e = record { port = e.port; board = e.board; sent = d.sent ++ e.sent }
 
 -- a port of the lab does both, or one after the other
-pub two_deeds : (x : LabModel plans) (d e : Deed) → ((q : ℕ) → idles_of q e.port.log ≡ idles_of q d.port.log)
+pub two_deeds : (x : LabModel plans) (d e : StepResult) → ((q : ℕ) → idles_of q e.port.log ≡ idles_of q d.port.log)
     → port_does plans bus.Smbus ToOthers 0 (then_deed d e) x ≡ port_does plans bus.Smbus ToOthers 0 e (port_does plans bus.Smbus ToOthers 0 d x)
 two_deeds x d e same =
     let q = own_on bus.Smbus x.manager.names in
@@ -169,7 +169,7 @@ no_deed x = ap (λ (fs : List LabFrame). let y : LabModel plans = record { board
 
 module _ (setup : BoardFile) where
   -- what comes, one after another
-  abbrev pub hears_each : PortState → State → List Value → Deed
+  abbrev pub hears_each : PortState → State → List Value → StepResult
   hears_each port before [] = stays port before
   hears_each port before (v ∷ vs) =
       let first = hears setup port before v in
@@ -179,13 +179,13 @@ module _ (setup : BoardFile) where
       → hears_each port before (vs ++ v ∷ []) ≡ (let d = hears_each port before vs in then_deed d (hears setup d.port d.board v))
   one_more_heard port before [] v =
       let e = hears setup port before v in
-      ap (λ (values : List Value). let d : Deed = record { port = e.port; board = e.board; sent = values } in d) (append-nil e.sent)
+      ap (λ (values : List Value). let d : StepResult = record { port = e.port; board = e.board; sent = values } in d) (append-nil e.sent)
   one_more_heard port before (u ∷ vs) v =
       let first = hears setup port before u in
       let d = hears_each first.port first.board vs in
       let e = hears setup d.port d.board v in
-      ap (λ (r : Deed). then_deed first r) (one_more_heard first.port first.board vs v)
-      ∙ ap (λ (values : List Value). let d : Deed = record { port = e.port; board = e.board; sent = values } in d) (sym (append_assoc first.sent d.sent e.sent))
+      ap (λ (r : StepResult). then_deed first r) (one_more_heard first.port first.board vs v)
+      ∙ ap (λ (values : List Value). let d : StepResult = record { port = e.port; board = e.board; sent = values } in d) (sym (append_assoc first.sent d.sent e.sent))
 
   -- of the packets of a message
   module _ (m : Message) where
@@ -204,8 +204,8 @@ module _ (setup : BoardFile) where
         let next = hears_part setup port before p in
         let first : hears setup port before (Part p) ≡ next = ap (λ (b : Bool). cond b (hears_part setup port before p) (stays port before)) ours in
         let there : (m.envelope.destination == next.port.wire) ≡ true = ap (λ (w : ℕ). m.envelope.destination == w) (part_keeps setup before port p).wire ∙ ours in
-        ap (λ (d : Deed). then_deed d (hears_each d.port d.board (parts qs))) first
-        ∙ ap (λ (r : Deed). then_deed next r) (each_ours qs next.port next.board there)
+        ap (λ (d : StepResult). then_deed d (hears_each d.port d.board (parts qs))) first
+        ∙ ap (λ (r : StepResult). then_deed next r) (each_ours qs next.port next.board there)
 
     each_others : (qs : List ModelPacket) (port : PortState) (before : State) → (m.envelope.destination == port.wire) ≡ false
         → hears_each port before (parts qs) ≡ stays port before
@@ -213,8 +213,8 @@ module _ (setup : BoardFile) where
     each_others (q ∷ qs) port before away =
         let p = in_envelope q in
         let first : hears setup port before (Part p) ≡ stays port before = ap (λ (b : Bool). cond b (hears_part setup port before p) (stays port before)) away in
-        ap (λ (d : Deed). then_deed d (hears_each d.port d.board (parts qs))) first
-        ∙ ap (λ (r : Deed). then_deed (stays port before) r) (each_others qs port before away)
+        ap (λ (d : StepResult). then_deed d (hears_each d.port d.board (parts qs))) first
+        ∙ ap (λ (r : StepResult). then_deed (stays port before) r) (each_others qs port before away)
 
     by_wire : (port : PortState) (before : State) (b : Bool) → (m.envelope.destination == port.wire) ≡ b
         → hears_each port before (parts (packets_of m.body)) ≡ cond b (hears_parts setup port before (parts_of m)) (stays port before)

@@ -9,7 +9,7 @@ use Rattle.model_lab.specs.Lab.{LabFrame, Lab}
 use Rattle.model_lab.specs.declared.fault.Fault.TheVariants.{NoFrame, WrongWay, Aged, Room}
 use Rattle.model_lab.specs.Faults.{most_frames, check, first_of, same_way, delivery, is_live, is_full}
 use Rattle.lab_run.specs.declared.frames.SentFrame.{SentFrame}
-use Rattle.lab_run.specs.declared.fault.Marks.{Marks}
+use Rattle.lab_run.specs.declared.fault.Ages.{Ages}
 use Rattle.lab_run.specs.FramesShown.{IsFrame, ShowsFrames}
 
 -- the frame of a number is the model's
@@ -28,7 +28,7 @@ no_frame_at (t ∷ sent) [] n zip is = absurd zip
 no_frame_at (t ∷ sent) (f ∷ frames) zero zip is = cc is
 no_frame_at (t ∷ sent) (f ∷ frames) (suc n) zip is = no_frame_at sent frames n zip.1 is
 
-module _ (names : Names) (sent : List SentFrame) (marks : Marks) (x : Lab (board_plans names)) (shows : ShowsFrames names sent marks x) where
+module _ (names : Names) (sent : List SentFrame) (marks : Ages) (x : Lab (board_plans names)) (shows : ShowsFrames names sent marks x) where
   full_is : is_full (board_plans names) x ≡ nat_le most_frames (length sent)
   full_is = ap (nat_le most_frames) (AllZip-long IsFrame sent x.frames shows.frames)
 

@@ -8,9 +8,9 @@ use Rattle.two_wire.specs.declared.Bus.{Bus}
 use Rattle.two_wire.specs.declared.Bus.TheVariants.{Ipmb, Smbus}
 use Rattle.mctp_net.specs.Assembly.{is_ours}
 use Rattle.cfg_records.specs.declared.board_file.BoardFile.{BoardFile}
-use Rattle.lab_run.specs.declared.marks.Mark.{Mark}
+use Rattle.lab_run.specs.declared.ages.FrameAge.{FrameAge}
 use Rattle.model_ports.specs.Values.{Value, Asks, Tells, Part}
-use Rattle.model_ports.specs.PortSteps.{PortState, Deed, hears}
+use Rattle.model_ports.specs.PortSteps.{PortState, StepResult, hears}
 use Rattle.model_lab.specs.ManagerSteps.{Plans}
 use Rattle.model_lab.specs.declared.way.Way.TheVariants.{ToManager}
 use Rattle.model_lab.specs.Lab.{LabFrame, ToBmc, Lab, port_on, with_port, idles_on, frame_now, opens, port_does, delivered, step}
@@ -33,10 +33,10 @@ module _ (P : Plans) where
   with-frames Ipmb port x = refl
   with-frames Smbus port x = refl
 
-  module _ (setup : BoardFile) (mark : Mark) (idles : ℕ) (x : Lab P) (number : ℕ) (f : LabFrame) (at : slice_get x.frames number ≡ Some f) (has : HasMark f mark)
+  module _ (setup : BoardFile) (mark : FrameAge) (idles : ℕ) (x : Lab P) (number : ℕ) (f : LabFrame) (at : slice_get x.frames number ≡ Some f) (has : HasMark f mark)
       (forgotten : idles_on P f.on (step P setup x (ToBmc number)) ≡ idles) (place : ℕ) (reply : LabFrame)
       (sent : slice_get (step P setup x (ToBmc number)).frames (length x.frames + place) ≡ Some reply) where
-    abbrev d : Deed
+    abbrev d : StepResult
     d = hears setup (port_on P f.on x) x.board f.value
 
     -- the lab, but for the frames that are sent
@@ -74,5 +74,5 @@ module _ (P : Plans) where
     marked : HasMark reply (record { on = mark.on; request = mark.request; idles = idles })
     marked = by_value (slice_get d.sent place) found
 
-  pub marks-replies : (setup : BoardFile) (mark : Mark) (idles : ℕ) → MarksReplies P setup mark idles (record { on = mark.on; request = mark.request; idles = idles })
+  pub marks-replies : (setup : BoardFile) (mark : FrameAge) (idles : ℕ) → MarksReplies P setup mark idles (record { on = mark.on; request = mark.request; idles = idles })
   marks-replies setup mark idles x number f at has forgotten place reply sent = marked setup mark idles x number f at has forgotten place reply sent

@@ -5,7 +5,7 @@ use Rattle.std.specs.List.{AllZip}
 use Rattle.two_wire.specs.declared.Bus.{Bus}
 use Rattle.two_wire.specs.declared.Bus.TheVariants as bus
 use Rattle.cfg_records.specs.declared.board_file.BoardFile.{BoardFile}
-use Rattle.lab_run.specs.declared.marks.Mark.{Mark}
+use Rattle.lab_run.specs.declared.ages.FrameAge.{FrameAge}
 use Rattle.model_ports.specs.Values.{Value, written, IsFrameOn}
 use Rattle.model_lab.specs.Lab.{LabFrame, Lab as LabModel, frame_now, idles_on, with_frames}
 use Rattle.lab_run.specs.Marks.{HasMark}
@@ -13,7 +13,7 @@ use Rattle.model_lab.specs.declared.way.Way.{Way}
 use Rattle.lab_run.specs.FramesShown.{sent_as}
 use Rattle.model_lab.specs.Played.{plans}
 use Rattle.lab_run.specs.declared.lab_state.Lab.{Lab}
-use Rattle.lab_run.specs.Shown.{Shows, IsSentFrame, idles_in}
+use Rattle.lab_run.specs.Shown.{Represents, IsSentFrame, idles_in}
 
 -- what follows where there is no error
 pub on_ok : {A E P Q : Type 0} (r : Result A E) → OnOk r P → (P → Q) → OnOk r Q
@@ -61,12 +61,12 @@ at_place {A} R (x ∷ xs) (z ∷ ys) (suc n) y all less is =
 
 -- ---- frames
 
-module _ (on : Bus) (way : Way) (request idles : ℕ) (mark : Mark) (marked : mark ≡ record { on = on; request = request; idles = idles }) where
+module _ (on : Bus) (way : Way) (request idles : ℕ) (mark : FrameAge) (marked : mark ≡ record { on = on; request = request; idles = idles }) where
   abbrev frame_of : Value → LabFrame
   frame_of v = record { on = on; way = way; request = request; idles = idles; value = v }
 
   has_mark : (v : Value) → HasMark (frame_of v) mark
-  has_mark v = record { on = ap (λ (m : Mark). m.on) (sym marked); request = ap (λ (m : Mark). m.request) (sym marked); idles = ap (λ (m : Mark). m.idles) (sym marked) }
+  has_mark v = record { on = ap (λ (m : FrameAge). m.on) (sym marked); request = ap (λ (m : FrameAge). m.request) (sym marked); idles = ap (λ (m : FrameAge). m.idles) (sym marked) }
 
   -- the values' frames are sent so
   pub frames_sent : (values : List Value) (frames : List (List ℕ)) → frames ≡ map written values → AllZip (IsFrameOn on) values frames
@@ -80,10 +80,10 @@ module _ (on : Bus) (way : Way) (request idles : ℕ) (mark : Mark) (marked : ma
       (record { is = record { way = refl; mark = has_mark v; bytes = first }; read = read.0 }, frames_sent values frames rest read.1)
 
 -- values are sent in a lab
-module _ (file : BoardFile) (lab : Lab) (x : LabModel plans) (on : Bus) (way : Way) (request : ℕ) (mark : Mark) (values : List Value) (frames : List (List ℕ)) where
-  pub frames_shown : mark ≡ record { on = on; request = request; idles = idles_in on lab.idles } → Shows file lab x → frames ≡ map written values
+module _ (file : BoardFile) (lab : Lab) (x : LabModel plans) (on : Bus) (way : Way) (request : ℕ) (mark : FrameAge) (values : List Value) (frames : List (List ℕ)) where
+  pub frames_shown : mark ≡ record { on = on; request = request; idles = idles_in on lab.idles } → Represents file lab x → frames ≡ map written values
       → AllZip (IsFrameOn on) values frames
-      → Shows file (record lab { frames = lab.frames ++ map (sent_as way mark) frames }) (with_frames plans on way request values x)
+      → Represents file (record lab { frames = lab.frames ++ map (sent_as way mark) frames }) (with_frames plans on way request values x)
   frames_shown marked shows is read =
       let now : mark ≡ record { on = on; request = request; idles = idles_on plans on x } = marked ∙ (λ i. record { on = on; request = request; idles = sym (shows.idles on) i }) in
       record {
@@ -98,6 +98,6 @@ module _ (file : BoardFile) (lab : Lab) (x : LabModel plans) (on : Bus) (way : W
         idles = idles shows;
       }
     where
-      idles : Shows file lab x → (b : Bus) → idles_on plans b (with_frames plans on way request values x) ≡ idles_in b lab.idles
+      idles : Represents file lab x → (b : Bus) → idles_on plans b (with_frames plans on way request values x) ≡ idles_in b lab.idles
       idles old bus.Ipmb = old.idles bus.Ipmb
       idles old bus.Smbus = old.idles bus.Smbus

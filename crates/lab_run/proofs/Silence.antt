@@ -27,15 +27,15 @@ use Rattle.model_lab.specs.Faults.{is_frame, fault_of}
 use Rattle.model_lab.specs.Played.{plans}
 use Rattle.bmc_core.specs.declared.out.Out.{Out}
 use Rattle.bmc_core.specs.declared.out.Reason.TheVariants as reason
-use Rattle.bmc_core.specs.declared.out.Done.TheVariants as done
+use Rattle.bmc_core.specs.declared.out.Disposition.TheVariants as done
 use Rattle.bmc_core.specs.Outs.{sent}
 use Rattle.bmc_core.specs.IpmbShown as ipmb
 use Rattle.bmc_core.specs.SmbusShown as smbus
 use Rattle.undo_core.specs.declared.manager.Manager.{Manager}
 use Rattle.undo_core.specs.declared.sending.Sent.{Sent}
 use Rattle.lab_run.specs.declared.lab_state.Lab.{Lab}
-use Rattle.lab_run.specs.Shown.{Shows}
-use Rattle.lab_run.specs.Hearing.{HasHeard, Ignores}
+use Rattle.lab_run.specs.Shown.{Represents}
+use Rattle.lab_run.specs.Hearing.{HasHeard, IgnoresFrame}
 use Rattle.lab_run.proofs.PortSide.{Stays, ipmb_here, ipmb_shown, smbus_here, smbus_shown}
 
 -- there is one
@@ -45,12 +45,12 @@ some_of None is = absurd (true≢false is)
 
 -- ---- the port
 
-module _ (file : BoardFile) (old new : Lab) (x : LabModel plans) (shows : Shows file old x) (bytes : List ℕ) where
+module _ (file : BoardFile) (old new : Lab) (x : LabModel plans) (shows : Represents file old x) (bytes : List ℕ) where
   abbrev HeardOnIpmb : Type 0
-  HeardOnIpmb = ipmb.Hears old.board.setup old.ipmb (state_of old.board) bytes new.out new.ipmb (state_of new.board)
+  HeardOnIpmb = ipmb.PortStep old.board.setup old.ipmb (state_of old.board) bytes new.out new.ipmb (state_of new.board)
 
   abbrev HeardOnSmbus : Type 0
-  HeardOnSmbus = (p : PortState) → smbus.Shows old.smbus p
+  HeardOnSmbus = (p : PortState) → smbus.Represents old.smbus p
       → smbus.HearsBytes old.board.setup p (state_of old.board) bytes new.smbus new.out (state_of new.board)
 
   pub ipmb_noise : Stays old new → new.smbus ≡ old.smbus → HeardOnIpmb → is_frame bus.Ipmb bytes ≡ false → HasHeard file bus.Ipmb x (stays x.ipmb x.board) new
@@ -62,7 +62,7 @@ module _ (file : BoardFile) (old new : Lab) (x : LabModel plans) (shows : Shows 
         out = record { frames = ap sent did.sent; read = subst (λ (frames : List (List ℕ)). AllZip (IsFrameOn bus.Ipmb) [] frames) (sym (ap sent did.sent)) tt };
       }
 
-  pub ipmb_ignores : HeardOnIpmb → is_frame bus.Ipmb bytes ≡ false → Ignores bus.Ipmb bytes new.out.done
+  pub ipmb_ignores : HeardOnIpmb → is_frame bus.Ipmb bytes ≡ false → IgnoresFrame bus.Ipmb bytes new.out.done
   ipmb_ignores hearing noise =
       let fault = some_of (find (has_frame_fault bytes) frame_faults) noise in
       let did = hearing x.ipmb shows.ipmb (Err (reason.Frame fault.0)) fault.1 in
@@ -77,7 +77,7 @@ module _ (file : BoardFile) (old new : Lab) (x : LabModel plans) (shows : Shows 
         out = record { frames = ap sent did.sent; read = subst (λ (frames : List (List ℕ)). AllZip (IsFrameOn bus.Smbus) [] frames) (sym (ap sent did.sent)) tt };
       }
 
-  pub smbus_ignores : HeardOnSmbus → is_frame bus.Smbus bytes ≡ false → Ignores bus.Smbus bytes new.out.done
+  pub smbus_ignores : HeardOnSmbus → is_frame bus.Smbus bytes ≡ false → IgnoresFrame bus.Smbus bytes new.out.done
   smbus_ignores hearing noise =
       let fault = some_of (find (has_packet_fault bytes) packet_faults) noise in
       let did = (hearing x.smbus shows.smbus).faulty fault.0 fault.1 in

@@ -16,17 +16,17 @@ use Rattle.model_lab.specs.Faults.{Check, fault_of, first_of, check, delivery, i
 use Rattle.text_schedule.specs.declared.event.OtherRequest.{OtherRequest}
 use Rattle.text_schedule.specs.declared.event.OtherMessage.{OtherMessage}
 use Rattle.lab_run.specs.declared.frames.SentFrame.{SentFrame}
-use Rattle.lab_run.specs.declared.fault.Marks.{Marks}
+use Rattle.lab_run.specs.declared.fault.Ages.{Ages}
 use Rattle.lab_run.specs.FramesShown.{ShowsFrames}
 
 -- this is the first fault of the delivery of the frame of this number to this end, in each lab that sent these frames
-abbrev pub TellsDelivery : List SentFrame → Marks → Way → (number : ℕ) → Option Fault → Type 0
+abbrev pub TellsDelivery : List SentFrame → Ages → Way → (number : ℕ) → Option Fault → Type 0
 TellsDelivery sent marks way number fault = (names : Names) (lab : Lab (board_plans names)) → ShowsFrames names sent marks lab
     → fault ≡ first_of (delivery (board_plans names) way lab (slice_get lab.frames number))
 
 -- this is the fault of a lab that sent these frames and has no room for more
 abbrev pub TellsRoom : List SentFrame → Option Fault → Type 0
-TellsRoom sent fault = (names : Names) (marks : Marks) (lab : Lab (board_plans names)) → ShowsFrames names sent marks lab
+TellsRoom sent fault = (names : Names) (marks : Ages) (lab : Lab (board_plans names)) → ShowsFrames names sent marks lab
     → fault ≡ first_of (check Room (is_full (board_plans names) lab) ∷ [])
 
 -- this is the fault of the noise, in each lab

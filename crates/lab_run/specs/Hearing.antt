@@ -8,14 +8,14 @@ use Rattle.ipmb_frame.specs.Fault.{has_fault as has_frame_fault, faults as frame
 use Rattle.mctp_net.specs.Grammar.{has_fault as has_packet_fault, faults as packet_faults}
 use Rattle.cfg_records.specs.declared.board_file.BoardFile.{BoardFile}
 use Rattle.model_ports.specs.Values.{Value, Asks, Tells, Part, written, IsFrameOn, parts_of}
-use Rattle.model_ports.specs.PortSteps.{PortState, Deed, hears, stays}
+use Rattle.model_ports.specs.PortSteps.{PortState, StepResult, hears, stays}
 use Rattle.model_lab.specs.declared.way.Way.{Way}
 use Rattle.model_lab.specs.declared.way.Way.TheVariants.{ToOthers}
 use Rattle.model_lab.specs.Faults.{is_frame}
 use Rattle.model_lab.specs.Lab.{LabFrame, Lab as LabModel, port_on, with_port, with_frames, port_does}
 use Rattle.bmc_core.specs.declared.out.Out.{Out}
-use Rattle.bmc_core.specs.declared.out.Done.{Done}
-use Rattle.bmc_core.specs.declared.out.Done.TheVariants as done
+use Rattle.bmc_core.specs.declared.out.Disposition.{Disposition}
+use Rattle.bmc_core.specs.declared.out.Disposition.TheVariants as done
 use Rattle.bmc_core.specs.declared.out.Reason.{Reason}
 use Rattle.bmc_core.specs.declared.out.Reason.TheVariants as reason
 use Rattle.bmc_core.specs.Outs.{sent}
@@ -28,8 +28,8 @@ use Rattle.model_lab.specs.Meaning.{message_of}
 use Rattle.model_lab.specs.Played.{plans}
 use Rattle.text_schedule.specs.declared.event.OtherMessage.{OtherMessage}
 use Rattle.lab_run.specs.declared.lab_state.Lab.{Lab}
-use Rattle.lab_run.specs.declared.marks.Mark.{Mark}
-use Rattle.lab_run.specs.Shown.{Shows, ForShown}
+use Rattle.lab_run.specs.declared.ages.FrameAge.{FrameAge}
+use Rattle.lab_run.specs.Shown.{Represents, ForRepresented}
 
 -- the port is to send the frames of these values, and a reader of each frame gives its value
 pub record HasFrames (on : Bus) (values : List Value) (out : Out) : Type 0 where
@@ -37,14 +37,14 @@ pub record HasFrames (on : Bus) (values : List Value) (out : Out) : Type 0 where
   pub read : AllZip (IsFrameOn on) values (sent out)
 
 -- the lab is as the deed of its port on this bus leaves it, before the deed's frames are sent
-pub record HasHeard (file : BoardFile) (on : Bus) (lab_model : LabModel plans) (deed : Deed) (lab : Lab) : Type 0 where
-  pub shows : Shows file lab (with_port plans on deed.port (record lab_model { board = deed.board }))
+pub record HasHeard (file : BoardFile) (on : Bus) (lab_model : LabModel plans) (deed : StepResult) (lab : Lab) : Type 0 where
+  pub shows : Represents file lab (with_port plans on deed.port (record lab_model { board = deed.board }))
   pub out : HasFrames on deed.sent lab.out
 
 -- the frames of these values are sent, if the port is to send them, this way and with this mark
-abbrev pub SendsOut : Way → Mark → Lab → Lab → Type 0
-SendsOut way mark old new = (file : BoardFile) (lab_model : LabModel plans) (values : List Value) → Shows file old lab_model → HasFrames mark.on values old.out
-    → Shows file new (with_frames plans mark.on way mark.request values lab_model)
+abbrev pub SendsOut : Way → FrameAge → Lab → Lab → Type 0
+SendsOut way mark old new = (file : BoardFile) (lab_model : LabModel plans) (values : List Value) → Represents file old lab_model → HasFrames mark.on values old.out
+    → Represents file new (with_frames plans mark.on way mark.request values lab_model)
 
 -- the packets of another requester's message to the controller of these names
 abbrev pub packets_of : Names → OtherMessage → List Value
@@ -59,12 +59,12 @@ heard_at wire (Tells response) = if response.header.requester.address == wire th
 heard_at wire (Part packet) = Err reason.NotOurs
 
 -- what a port on SMBus does with a frame
-abbrev pub done_with : PortState → Value → Done
+abbrev pub done_with : PortState → Value → Disposition
 done_with port (Part packet) = smbus.done_of (smbus.taken port packet) (smbus.heard_in port packet)
 done_with port _ = done.Ignored reason.NotOurs
 
 -- what the port on a bus does with a frame: it has a new request carried out, and gives a repeat the reply that it keeps
-abbrev pub done_on : Bus → PortState → Value → Done
+abbrev pub done_on : Bus → PortState → Value → Disposition
 done_on Ipmb port value = ipmb.done_of port (heard_at port.wire value)
 done_on Smbus port value = done_with port value
 
@@ -74,26 +74,26 @@ fault_in Ipmb bytes = option_map reason.Frame (find (has_frame_fault bytes) fram
 fault_in Smbus bytes = option_map reason.Packet (find (has_packet_fault bytes) packet_faults)
 
 -- the port on the bus ignored the bytes for their first fault
-abbrev pub Ignores : Bus → List ℕ → Done → Type 0
-Ignores on bytes what = option_map done.Ignored (fault_in on bytes) ≡ Some what
+abbrev pub IgnoresFrame : Bus → List ℕ → Disposition → Type 0
+IgnoresFrame on bytes what = option_map done.Ignored (fault_in on bytes) ≡ Some what
 
 -- ---- bytes on a bus
 
 -- this holds of each lab of the model that the lab shows, and of each value whose frame the bytes are
 abbrev pub ForFrame : Bus → (bytes : List ℕ) → Lab → (BoardFile → LabModel plans → Value → Type 0) → Type 0
-ForFrame on bytes lab Holds = (file : BoardFile) (lab_model : LabModel plans) (value : Value) → Shows file lab lab_model → IsFrameOn on value bytes → Holds file lab_model value
+ForFrame on bytes lab Holds = (file : BoardFile) (lab_model : LabModel plans) (value : Value) → Represents file lab lab_model → IsFrameOn on value bytes → Holds file lab_model value
 
 -- this holds of each lab of the model that the lab shows, where the bytes are no frame
 abbrev pub ForNoise : Bus → (bytes : List ℕ) → Lab → (BoardFile → LabModel plans → Type 0) → Type 0
-ForNoise on bytes lab Holds = ForShown lab (λ file lab_model. is_frame on bytes ≡ false → Holds file lab_model)
+ForNoise on bytes lab Holds = ForRepresented lab (λ file lab_model. is_frame on bytes ≡ false → Holds file lab_model)
 
 -- noise changes nothing
 abbrev pub StaysAtNoise : Bus → (bytes : List ℕ) → Lab → Lab → Type 0
-StaysAtNoise on bytes old new = ForNoise on bytes old (λ file lab_model. Shows file new lab_model)
+StaysAtNoise on bytes old new = ForNoise on bytes old (λ file lab_model. Represents file new lab_model)
 
 -- the port ignores noise for its first fault
 abbrev pub IgnoresNoise : Bus → (bytes : List ℕ) → Lab → Lab → Type 0
-IgnoresNoise on bytes old new = ForNoise on bytes old (λ _ _. Ignores on bytes new.out.done)
+IgnoresNoise on bytes old new = ForNoise on bytes old (λ _ _. IgnoresFrame on bytes new.out.done)
 
 -- The port on the bus hears the bytes: a frame as the port of the model hears it, and noise as none.
 pub record PortHears (on : Bus) (bytes : List ℕ) (old new : Lab) : Type 0 where
@@ -104,12 +104,12 @@ pub record PortHears (on : Bus) (bytes : List ℕ) (old new : Lab) : Type 0 wher
 
 -- the port on the bus hears somebody else's frame, and what it sends goes to others
 abbrev pub HearsOther : Bus → (bytes : List ℕ) → Lab → Lab → Type 0
-HearsOther on bytes old new = ForFrame on bytes old (λ file x value. Shows file new (port_does plans on ToOthers 0 (hears file (port_on plans on x) x.board value) x))
+HearsOther on bytes old new = ForFrame on bytes old (λ file x value. Represents file new (port_does plans on ToOthers 0 (hears file (port_on plans on x) x.board value) x))
 
 -- The port's `Out` says what the controller did with the frame that an event delivers, and why it ignored noise.
-abbrev pub Did : Event → Lab → Lab → Type 0
-Did (event.ToBmc number) old new =
-    (file : BoardFile) (lab_model : LabModel plans) (frame : LabFrame) → Shows file old lab_model → slice_get lab_model.frames number ≡ Some frame
+abbrev pub EventResult : Event → Lab → Lab → Type 0
+EventResult (event.ToBmc number) old new =
+    (file : BoardFile) (lab_model : LabModel plans) (frame : LabFrame) → Represents file old lab_model → slice_get lab_model.frames number ≡ Some frame
     → new.out.done ≡ done_on frame.on (port_on plans frame.on lab_model) frame.value
-Did (event.Noise on bytes) old new = ForShown old (λ _ _. Ignores on bytes new.out.done)
-Did _ old new = Unit {0}
+EventResult (event.Noise on bytes) old new = ForRepresented old (λ _ _. IgnoresFrame on bytes new.out.done)
+EventResult _ old new = Unit {0}

@@ -55,12 +55,12 @@ pub record IsSentFrame (sent : SentFrame) (frame : LabFrame) : Type 0 where
   pub read : IsFrameOn frame.on frame.value sent.bytes
 
 -- the lab is this lab of the model, on a board of this file
-pub record Shows (file : BoardFile) (lab : Lab) (lab_model : LabModel plans) : Type 0 where
+pub record Represents (file : BoardFile) (lab : Lab) (lab_model : LabModel plans) : Type 0 where
   pub setup : lab.board.setup ≡ file
   pub board : lab_model.board ≡ state_of lab.board
-  pub ipmb : ipmb.Shows lab.ipmb lab_model.ipmb
-  pub smbus : smbus.Shows lab.smbus lab_model.smbus
-  pub manager : manager.Shows lab_names lab.manager lab_model.manager
+  pub ipmb : ipmb.Represents lab.ipmb lab_model.ipmb
+  pub smbus : smbus.Represents lab.smbus lab_model.smbus
+  pub manager : manager.Represents lab_names lab.manager lab_model.manager
   pub named : lab.names ≡ lab_names
   pub frames : AllZip IsSentFrame lab.frames lab_model.frames
   pub idles : (on : Bus) → idles_on plans on lab_model ≡ idles_in on lab.idles
@@ -69,46 +69,46 @@ pub record Shows (file : BoardFile) (lab : Lab) (lab_model : LabModel plans) : T
 
 -- the controller's port on IPMB, and the one on SMBus
 abbrev pub BeginsOnIpmb : IpmbPort → Type 0
-BeginsOnIpmb port = ipmb.Shows port (quiet_port lab_names.peer_address lab_names.peer_eid)
+BeginsOnIpmb port = ipmb.Represents port (quiet_port lab_names.peer_address lab_names.peer_eid)
 
 abbrev pub BeginsOnSmbus : SmbusPort → Type 0
-BeginsOnSmbus port = smbus.Shows port (quiet_port lab_names.peer_wire lab_names.peer_eid)
+BeginsOnSmbus port = smbus.Represents port (quiet_port lab_names.peer_wire lab_names.peer_eid)
 
 -- a manager of a plan, with its retries
 abbrev pub HasPlan : Names → Plan → Manager → Type 0
-HasPlan names plan opened = manager.Shows names opened (manager.opened_with names plan.steps plan.retries)
+HasPlan names plan opened = manager.Represents names opened (manager.opened_with names plan.steps plan.retries)
 
 -- a lab with a plan, on a board of this file
-abbrev pub Begins : BoardFile → List plans.words.Op → (retries : ℕ) → Lab → Type 0
-Begins file plan retries lab = Shows file lab (opening plans file lab_names plan retries)
+abbrev pub BeginsLab : BoardFile → List plans.words.Op → (retries : ℕ) → Lab → Type 0
+BeginsLab file plan retries lab = Represents file lab (opening plans file lab_names plan retries)
 
 -- ---- what the calls make of a lab
 
 -- this holds of each lab of the model that it shows, on a board of each file
-abbrev pub ForShown : Lab → (BoardFile → LabModel plans → Type 0) → Type 0
-ForShown lab Holds = (file : BoardFile) (lab_model : LabModel plans) → Shows file lab lab_model → Holds file lab_model
+abbrev pub ForRepresented : Lab → (BoardFile → LabModel plans → Type 0) → Type 0
+ForRepresented lab Holds = (file : BoardFile) (lab_model : LabModel plans) → Represents file lab lab_model → Holds file lab_model
 
 -- this holds of each lab of the model that the lab shows, and of each frame of the model that this frame is
 abbrev pub ForSent : Lab → SentFrame → (LabModel plans → LabFrame → Type 0) → Type 0
-ForSent lab sent Holds = (file : BoardFile) (lab_model : LabModel plans) (frame : LabFrame) → Shows file lab lab_model → IsSentFrame sent frame → Holds lab_model frame
+ForSent lab sent Holds = (file : BoardFile) (lab_model : LabModel plans) (frame : LabFrame) → Represents file lab lab_model → IsSentFrame sent frame → Holds lab_model frame
 
 -- whatever lab of the model the lab showed, on a board of whatever file, it goes on to the lab that `makes` gives
-abbrev pub Becomes : Lab → Lab → (BoardFile → LabModel plans → LabModel plans) → Type 0
-Becomes old new makes = ForShown old (λ file x. Shows file new (makes file x))
+abbrev pub BecomesLab : Lab → Lab → (BoardFile → LabModel plans → LabModel plans) → Type 0
+BecomesLab old new makes = ForRepresented old (λ file x. Represents file new (makes file x))
 
 -- it goes on so, unless memory was refused
-abbrev pub GoesOn : {E : Type 0} → Result (Unit {0}) E → Lab → Lab → (BoardFile → LabModel plans → LabModel plans) → Type 0
-GoesOn result old new makes = OnOk result (Becomes old new makes)
+abbrev pub StepUnlessMemory : {E : Type 0} → Result (Unit {0}) E → Lab → Lab → (BoardFile → LabModel plans → LabModel plans) → Type 0
+StepUnlessMemory result old new makes = OnOk result (BecomesLab old new makes)
 
 -- the frames that the manager sends, if it sends some, are sent in each lab of the model that it showed
-abbrev pub Sends : Option Sent → Lab → Lab → Type 0
-Sends sent old new = (file : BoardFile) (lab_model : LabModel plans) (all_sent : Option AllSent) → Shows file old lab_model → manager.IsSent sent all_sent
-    → Shows file new (sends plans all_sent lab_model)
+abbrev pub SendsFrame : Option Sent → Lab → Lab → Type 0
+SendsFrame sent old new = (file : BoardFile) (lab_model : LabModel plans) (all_sent : Option AllSent) → Represents file old lab_model → manager.IsSent sent all_sent
+    → Represents file new (sends plans all_sent lab_model)
 
 -- An event is asked of a lab. It happens where it has no fault, and else nothing changes. Where memory is refused, nothing is said.
-abbrev pub Steps : Event → Lab → Result (Unit {0}) Refused → Lab → Type 0
-Steps event old (Ok done) new =
-    ForShown old (λ file x. (fault_at file x event ≡ None) × Shows file new (happens file event x))
-Steps event old (Err (refused.Fault fault)) new =
-    (new ≡ old) × ForShown old (λ file x. fault_at file x event ≡ Some fault)
-Steps event old (Err refused.Memory) new = Unit {0}
+abbrev pub EventStep : Event → Lab → Result (Unit {0}) Refused → Lab → Type 0
+EventStep event old (Ok done) new =
+    ForRepresented old (λ file x. (fault_at file x event ≡ None) × Represents file new (happens file event x))
+EventStep event old (Err (refused.Fault fault)) new =
+    (new ≡ old) × ForRepresented old (λ file x. fault_at file x event ≡ Some fault)
+EventStep event old (Err refused.Memory) new = Unit {0}

@@ -1,11 +1,11 @@
 //! What the manager is called to do, and what it hears.
 ghost use Rattle.std.specs.Prelude.{◌≡◌, OnOk};
-ghost use Rattle.undo_core.specs.Shown.{Calls};
+ghost use Rattle.undo_core.specs.Shown.{CallStep};
 ghost use Rattle.lab_run.specs.Makes.{calls, returns};
-ghost use Rattle.lab_run.specs.Shown.{GoesOn, Sends};
+ghost use Rattle.lab_run.specs.Shown.{StepUnlessMemory, SendsFrame};
 
+use crate::ages::FrameAge;
 use crate::lab_state::Lab;
-use crate::marks::Mark;
 use model_lab::Way;
 use model_undo::Call;
 use std::alloc::AllocError;
@@ -13,7 +13,7 @@ use undo_core::{Manager, Sent, WrongPhase};
 
 /// Calls the manager.
 fn made(manager: &mut Manager, call: Call) -> Result<Option<Sent>, WrongPhase>
-    ensures { Calls call manager.old manager.new result }
+    ensures { CallStep call manager.old manager.new result }
 {
     match call {
         Call::Start => manager.start(),
@@ -27,7 +27,7 @@ fn made(manager: &mut Manager, call: Call) -> Result<Option<Sent>, WrongPhase>
 impl Lab {
     /// The manager is called. In a wrong phase nothing changes.
     pub(crate) fn call(&mut self, call: Call) -> Result<(), AllocError>
-        ensures becomes { GoesOn result self.old self.new (calls call) }
+        ensures becomes { StepUnlessMemory result self.old self.new (calls call) }
         ensures idles { self.new.idles ≡ self.old.idles }
     {
         match made(&mut self.manager, call) {
@@ -38,7 +38,7 @@ impl Lab {
 
     /// The bytes of the frame of this number come to the manager, if there is such a frame.
     pub(crate) fn to_manager(&mut self, number: u32) -> Result<(), AllocError>
-        ensures becomes { GoesOn result self.old self.new (returns number) }
+        ensures becomes { StepUnlessMemory result self.old self.new (returns number) }
         ensures idles { self.new.idles ≡ self.old.idles }
     {
         let Some(frame) = self.frames.get(number) else {
@@ -50,14 +50,14 @@ impl Lab {
 
     /// The manager's frames are sent, if it sends some.
     pub(crate) fn send(&mut self, sent: Option<Sent>) -> Result<(), AllocError>
-        ensures becomes { OnOk result (Sends sent self.old self.new) }
+        ensures becomes { OnOk result (SendsFrame sent self.old self.new) }
         ensures out { self.new.out ≡ self.old.out }
         ensures idles { self.new.idles ≡ self.old.idles }
     {
         let Some(sent) = sent else {
             return Ok(());
         };
-        let mark = Mark {
+        let mark = FrameAge {
             on: sent.bus,
             request: usize::from(sent.request),
             idles: self.idles.on(sent.bus),

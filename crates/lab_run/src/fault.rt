@@ -3,21 +3,21 @@ ghost use Rattle.std.specs.Prelude.{◌≡◌};
 ghost use Rattle.lab_run.specs.FramesShown.{marks_on};
 ghost use Rattle.lab_run.specs.Checked.{TellsDelivery, TellsRoom};
 
+use crate::ages::BusAge;
 use crate::frames::Frames;
-use crate::marks::Known;
 use model_lab::{Fault, Way};
 use two_wire::Bus;
 
 /// What tells on both buses which frames are too old.
 #[derive(Clone, Copy)]
-pub struct Marks {
-    pub ipmb: Known,
-    pub smbus: Known,
+pub struct Ages {
+    pub ipmb: BusAge,
+    pub smbus: BusAge,
 }
 
-impl Marks {
-    /// That on one bus.
-    fn on(self, bus: Bus) -> Known
+impl Ages {
+    /// The ages on one bus.
+    fn on(self, bus: Bus) -> BusAge
         ensures { result ≡ marks_on bus self }
     {
         match bus {
@@ -29,7 +29,7 @@ impl Marks {
 
 impl Frames {
     /// The first thing that is wrong with the delivery of the frame of this number to this end.
-    pub fn delivery_fault(&self, way: Way, number: u32, marks: Marks) -> Option<Fault>
+    pub fn delivery_fault(&self, way: Way, number: u32, marks: Ages) -> Option<Fault>
         ensures { TellsDelivery self.now marks way number result }
     {
         let Some(frame) = self.get(number) else {

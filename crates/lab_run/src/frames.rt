@@ -3,7 +3,7 @@ ghost use Rattle.std.specs.Prelude.{◌≡◌, ◌++◌, ◌∷◌, [], length, 
 ghost use Rattle.model_lab.specs.Faults.{most_frames};
 ghost use Rattle.lab_run.specs.FramesShown.{sent_as};
 
-use crate::marks::Mark;
+use crate::ages::FrameAge;
 use model_lab::Way;
 use std::alloc::{AllocError, Global};
 use std::marker::Model;
@@ -16,8 +16,8 @@ pub const MOST_FRAMES: usize = 65_536;
 #[derive(Drop)]
 pub struct SentFrame {
     pub way: Way,
-    /// Its bus, and what tells how old it is.
-    pub mark: Mark,
+    /// The frame's bus, and what tells how old it is.
+    pub mark: FrameAge,
     pub bytes: Frame,
 }
 
@@ -93,7 +93,7 @@ impl Frames {
     }
 
     /// Frames are sent, one after another, each of this way and with this mark. Where memory is refused, the rest aren't.
-    pub fn send(&mut self, way: Way, mark: Mark, frames: &[Frame]) -> Result<(), AllocError>
+    pub fn send(&mut self, way: Way, mark: FrameAge, frames: &[Frame]) -> Result<(), AllocError>
         ensures { OnOk result (self.new ≡ self.old ++ map (sent_as way mark) frames.now) }
     {
         for frame in frames {

@@ -2,11 +2,11 @@
 ghost use Rattle.std.specs.Prelude.{◌≡◌, IfOk};
 ghost use Rattle.model_lab.specs.Meaning.{lab_names as the_names};
 ghost use Rattle.lab_run.specs.FramesShown.{ShowsFrames};
-ghost use Rattle.lab_run.specs.Shown.{ForShown, BeginsOnIpmb, BeginsOnSmbus, HasPlan, Begins, ForgotNone, idles_in};
+ghost use Rattle.lab_run.specs.Shown.{ForRepresented, BeginsOnIpmb, BeginsOnSmbus, HasPlan, BeginsLab, ForgotNone, idles_in};
 
-use crate::fault::Marks;
+use crate::ages::BusAge;
+use crate::fault::Ages;
 use crate::frames::Frames;
-use crate::marks::Known;
 use bmc_board::{Board, Records};
 use bmc_core::{At, IpmbPort, Out, SmbusPort};
 use cfg_records::BoardFile;
@@ -25,7 +25,7 @@ pub(crate) struct Idles {
 }
 
 impl Idles {
-    /// That on one bus.
+    /// How many idles happened on one bus.
     pub fn on(self, bus: Bus) -> usize
         ensures { result ≡ idles_in bus self }
     {
@@ -120,7 +120,7 @@ fn opened_ends(alloc: Global, plan: Plan) -> Result<Ends, AllocError>
     })
 }
 
-/// This lab, in memory of its own.
+/// The lab, in memory of its own.
 fn boxed(alloc: Global, lab: Lab) -> Result<Box<Lab>, AllocError>
     ensures { IfOk result (λ boxed. boxed.value ≡ lab) }
 {
@@ -136,7 +136,7 @@ fn boxed(alloc: Global, lab: Lab) -> Result<Box<Lab>, AllocError>
 impl Lab {
     /// A lab as it begins, in memory of its own.
     pub fn open(alloc: Global, file: BoardFile, plan: Plan) -> Result<Box<Lab>, AllocError>
-        ensures shows { IfOk result (λ lab. Begins file plan.steps plan.retries lab.value) }
+        ensures shows { IfOk result (λ lab. BeginsLab file plan.steps plan.retries lab.value) }
         ensures never { IfOk result (λ lab. ForgotNone lab.value.idles) }
     {
         let ends = match opened_ends(alloc, plan) {
@@ -168,15 +168,15 @@ impl Lab {
     }
 
     /// What tells which frames are too old.
-    pub(crate) fn marks(&self) -> Marks
-        ensures { ForShown self.now (λ _ x. ShowsFrames the_names self.now.frames result x) }
+    pub(crate) fn marks(&self) -> Ages
+        ensures { ForRepresented self.now (λ _ x. ShowsFrames the_names self.now.frames result x) }
     {
-        Marks {
-            ipmb: Known {
+        Ages {
+            ipmb: BusAge {
                 begun: self.manager.begun(Bus::Ipmb),
                 idles: self.idles.ipmb,
             },
-            smbus: Known {
+            smbus: BusAge {
                 begun: self.manager.begun(Bus::Smbus),
                 idles: self.idles.smbus,
             },

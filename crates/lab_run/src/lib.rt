@@ -2,11 +2,11 @@
 //! event, and what is noted of it.
 #![tactic(auto)]
 
+mod ages;
 mod calls;
 mod fault;
 mod frames;
 mod lab_state;
-mod marks;
 mod noise;
 mod note;
 mod noted;
@@ -16,12 +16,12 @@ mod port_side;
 mod step;
 mod told;
 
-pub use fault::Marks;
+pub use ages::{BusAge, FrameAge, is_still_open};
+pub use fault::Ages;
 pub use frames::{Frames, MOST_FRAMES, SentFrame};
 pub use lab_state::Lab;
-pub use marks::{Known, Mark, is_still_open};
 pub use model_lab::{Fault, Way, lab_names};
-pub use note::{Came, Note};
+pub use note::{Delivery, Note};
 pub use others::{idle_fault, message_fault, noise_fault, request_fault};
 pub use part::ManagerPart;
 pub use step::Refused;

@@ -1,12 +1,12 @@
 //! Notes.
-use bmc_core::Done;
+use bmc_core::Disposition;
 use text_schedule::Event;
 use two_wire::Bus;
 use undo_core::Phase;
 
 /// A frame that came to an end.
 #[derive(Clone, Copy)]
-pub struct Came {
+pub struct Delivery {
     /// The bus that it came over.
     pub on: Bus,
     /// Whether the manager had begun a newer request on the bus.
@@ -18,9 +18,9 @@ pub struct Came {
 pub struct Note<'a> {
     pub event: &'a Event,
     /// The frame that it delivered.
-    pub came: Option<Came>,
+    pub came: Option<Delivery>,
     /// What the controller did with it.
-    pub done: Option<Done>,
+    pub done: Option<Disposition>,
     /// The bus of the first frame that was sent at it.
     pub sends: Option<Bus>,
     /// How many frames had been sent before it.

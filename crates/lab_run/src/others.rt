@@ -7,7 +7,7 @@ ghost use Rattle.model_lab.specs.Faults.{first_of, is_own, message_changes};
 ghost use Rattle.model_lab.specs.Meaning.{request_of};
 ghost use Rattle.lab_run.specs.Checked.{TellsNoise, TellsIdle, request_checks, message_checks};
 
-use crate::marks::is_still_open;
+use crate::ages::is_still_open;
 use bmc_board::is_changing;
 use cfg_records::Asked;
 use ipmb_frame::read_frame;

@@ -1,7 +1,7 @@
 //! What is looked at of a packet that comes to the controller's port.
 ghost use Rattle.std.specs.Prelude.{◌≡◌, ◌==◌, ◌||◌};
 ghost use Rattle.two_wire.specs.declared.Bus.TheVariants.{Smbus};
-ghost use Rattle.lab_run.specs.Shown.{ForShown, ForSent};
+ghost use Rattle.lab_run.specs.Shown.{ForRepresented, ForSent};
 ghost use Rattle.lab_run.specs.Parts.{part_of, part_at};
 
 use crate::frames::SentFrame;
@@ -61,7 +61,7 @@ impl Lab {
 
     /// The packet that the event brings to the port, if it brings one.
     pub fn part(&self, event: &Event) -> Option<ManagerPart>
-        ensures { ForShown self.now (λ _ x. result ≡ part_at x event.now) }
+        ensures { ForRepresented self.now (λ _ x. result ≡ part_at x event.now) }
     {
         let Event::ToBmc(number) = event else {
             return None;

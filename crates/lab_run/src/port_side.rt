@@ -6,12 +6,12 @@ ghost use Rattle.ipmb_frame.specs.Grammar.{IsRequest};
 ghost use Rattle.model_ports.specs.Values.{IsFrameOn};
 ghost use Rattle.model_lab.specs.Meaning.{other_wire, request_of};
 ghost use Rattle.lab_run.specs.Makes.{delivers, hears_request, hears_message, forgets};
-ghost use Rattle.lab_run.specs.Shown.{Becomes, GoesOn, CanCountOn, ForgetsOneMore, idles_in};
+ghost use Rattle.lab_run.specs.Shown.{BecomesLab, StepUnlessMemory, CanCountOn, ForgetsOneMore, idles_in};
 ghost use Rattle.text_schedule.specs.declared.event.Event.TheVariants.{ToBmc};
-ghost use Rattle.lab_run.specs.Hearing.{Did, SendsOut, PortHears, HearsOther, StaysAtNoise, IgnoresNoise, packets_of};
+ghost use Rattle.lab_run.specs.Hearing.{EventResult, SendsOut, PortHears, HearsOther, StaysAtNoise, IgnoresNoise, packets_of};
 
+use crate::ages::FrameAge;
 use crate::lab_state::Lab;
-use crate::marks::Mark;
 use arrayvec::ArrayVec;
 use ipmb_frame::{Header, Party, Request, write_request};
 use mctp_net::{Envelope, Message, SomeData, Tag, split};
@@ -68,8 +68,8 @@ fn message_frames(names: &Names, message: &OtherMessage) -> ArrayVec<Frame, 4>
 impl Lab {
     /// The frame of this number comes to the controller's port on its bus, if there is such a frame.
     pub(crate) fn to_port(&mut self, number: u32) -> Result<(), AllocError>
-        ensures becomes { GoesOn result self.old self.new (delivers number) }
-        ensures done { OnOk result (Did (ToBmc number) self.old self.new) }
+        ensures becomes { StepUnlessMemory result self.old self.new (delivers number) }
+        ensures done { OnOk result (EventResult (ToBmc number) self.old self.new) }
         ensures idles { self.new.idles ≡ self.old.idles }
     {
         let Some(frame) = self.frames.get(number) else {
@@ -84,7 +84,7 @@ impl Lab {
 
     /// Somebody else's request comes to the port on IPMB.
     pub(crate) fn other_request(&mut self, request: &OtherRequest) -> Result<(), AllocError>
-        ensures becomes { GoesOn result self.old self.new (hears_request request.now) }
+        ensures becomes { StepUnlessMemory result self.old self.new (hears_request request.now) }
         ensures idles { self.new.idles ≡ self.old.idles }
     {
         let frame = request_frame(&self.names, request);
@@ -93,7 +93,7 @@ impl Lab {
 
     /// All packets of somebody else's message come to the port on the System Management Bus.
     pub(crate) fn other_message(&mut self, message: &OtherMessage) -> Result<(), AllocError>
-        ensures becomes { GoesOn result self.old self.new (hears_message message.now) }
+        ensures becomes { StepUnlessMemory result self.old self.new (hears_message message.now) }
         ensures idles { self.new.idles ≡ self.old.idles }
     {
         let frames = message_frames(&self.names, message);
@@ -111,7 +111,7 @@ impl Lab {
         ensures idles { self.new.idles ≡ self.old.idles }
     {
         self.hear(on, bytes);
-        let mark = Mark {
+        let mark = FrameAge {
             on,
             request: 0,
             idles: self.idles.on(on),
@@ -131,7 +131,7 @@ impl Lab {
     }
 
     /// The lab sends what a port filled in last, this way and with this mark.
-    fn send_out(&mut self, way: Way, mark: Mark) -> Result<(), AllocError>
+    fn send_out(&mut self, way: Way, mark: FrameAge) -> Result<(), AllocError>
         requires { mark.idles ≡ idles_in mark.on self.old.idles }
         ensures sent { OnOk result (SendsOut way mark self.old self.new) }
         ensures out { self.new.out ≡ self.old.out }
@@ -143,7 +143,7 @@ impl Lab {
     /// The port on a bus forgets a requester's window.
     pub(crate) fn idle(&mut self, on: Bus, requester: u8)
         requires { CanCountOn self.now.idles }
-        ensures becomes { Becomes self.old self.new (forgets on requester) }
+        ensures becomes { BecomesLab self.old self.new (forgets on requester) }
         ensures few { ForgetsOneMore self.old.idles self.new.idles }
     {
         match on {

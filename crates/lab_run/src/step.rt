@@ -2,8 +2,8 @@
 ghost use Rattle.std.specs.Prelude.{◌≡◌, None, OnOk};
 ghost use Rattle.model_lab.specs.Played.{fault_at, happens};
 ghost use Rattle.lab_run.specs.Makes.{benches};
-ghost use Rattle.lab_run.specs.Shown.{ForShown, Becomes, GoesOn, Steps, CanCountOn, ForgetsOneMore};
-ghost use Rattle.lab_run.specs.Hearing.{Did};
+ghost use Rattle.lab_run.specs.Shown.{ForRepresented, BecomesLab, StepUnlessMemory, EventStep, CanCountOn, ForgetsOneMore};
+ghost use Rattle.lab_run.specs.Hearing.{EventResult};
 ghost use Rattle.model_lab.specs.Meaning.{on_board};
 
 use crate::lab_state::Lab;
@@ -38,7 +38,7 @@ fn on_board(event: BenchEvent) -> Bench
 impl Lab {
     /// The first thing that is wrong with an event.
     fn fault(&self, event: &Event) -> Option<Fault>
-        ensures { ForShown self.now (λ file x. result ≡ fault_at file x event.now) }
+        ensures { ForRepresented self.now (λ file x. result ≡ fault_at file x event.now) }
     {
         let marks = self.marks();
         match event {
@@ -63,7 +63,7 @@ impl Lab {
 
     /// The activity of the board changes beside requests. A reading of a sensor that the board doesn't have changes nothing.
     fn bench(&mut self, event: Bench)
-        ensures becomes { Becomes self.old self.new (benches event) }
+        ensures becomes { BecomesLab self.old self.new (benches event) }
         ensures idles { self.new.idles ≡ self.old.idles }
     {
         let _ = self.board.bench(event);
@@ -71,10 +71,10 @@ impl Lab {
 
     /// An event without a fault happens.
     fn happen(&mut self, event: &Event) -> Result<(), AllocError>
-        requires taken { ForShown self.now (λ file x. fault_at file x event.now ≡ None) }
+        requires taken { ForRepresented self.now (λ file x. fault_at file x event.now ≡ None) }
         requires few { CanCountOn self.now.idles }
-        ensures becomes { GoesOn result self.old self.new (λ file. happens file event.now) }
-        ensures done { OnOk result (Did event.now self.old self.new) }
+        ensures becomes { StepUnlessMemory result self.old self.new (λ file. happens file event.now) }
+        ensures done { OnOk result (EventResult event.now self.old self.new) }
         ensures few { ForgetsOneMore self.old.idles self.new.idles }
     {
         match event {
@@ -93,8 +93,8 @@ impl Lab {
     /// One event happens. On a fault nothing changes.
     pub fn step(&mut self, event: &Event) -> Result<(), Refused>
         requires { CanCountOn self.now.idles }
-        ensures steps { Steps event.now self.old result self.new }
-        ensures done { OnOk result (Did event.now self.old self.new) }
+        ensures steps { EventStep event.now self.old result self.new }
+        ensures done { OnOk result (EventResult event.now self.old self.new) }
         ensures few { ForgetsOneMore self.old.idles self.new.idles }
     {
         if let Some(fault) = self.fault(event) {

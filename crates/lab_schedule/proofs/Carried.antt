@@ -21,9 +21,9 @@ use Rattle.lab_run.specs.declared.frames.SentFrame.{SentFrame}
 use Rattle.lab_run.specs.Shown.{IsSentFrame}
 use Rattle.lab_play.proofs.Running.{after_more}
 use Rattle.lab_schedule.specs.declared.drawing.Drawing.{Drawing}
-use Rattle.lab_schedule.specs.declared.drawing.Offer.TheVariants.{Taken}
+use Rattle.lab_schedule.specs.declared.drawing.OfferResult.TheVariants.{Taken}
 use Rattle.lab_schedule.specs.declared.make.Links.TheVariants as links
-use Rattle.lab_schedule.specs.Drawn.{Drawn, Offered, CanDeliver, DeliversAll, CanCarry, HasCarried, Carries}
+use Rattle.lab_schedule.specs.Drawn.{IsDrawnSchedule, OffersEvent, CanDeliver, DeliversAll, CanCarry, HasCarried, CarriesCall}
 use Rattle.lab_schedule.specs.Made.{IsCleanFor, IsMade}
 use Rattle.lab_schedule.proofs.CleanKeeps.{clean_keeps}
 use Rattle.lab_schedule.proofs.Deliveries.{AreFrames}
@@ -38,15 +38,15 @@ same_long (s ∷ ss) [] all = absurd all
 same_long (s ∷ ss) (f ∷ fs) all = ap suc (same_long ss fs all.1)
 
 -- a lab with so many frames isn't called
-pub carries_full : (call : Called) (old : Drawing) (sent : List SentFrame) → AreFrames sent old → most_frames ≤ length sent → Carries call old old
+pub carries_full : (call : Called) (old : Drawing) (sent : List SentFrame) → AreFrames sent old → most_frames ≤ length sent → CarriesCall call old old
 carries_full call old sent are full file start drawn late can =
     let x = after file old.events.items start in
     let room = room_to_call x call can.taken.0 in
     let long = same_long sent x.frames (are file x drawn.shows) in
     absurd (omega (arith, room, long, full))
 
-carries_all : (call : Called) (old mid new : Drawing) (sent : List SentFrame) (first : ℕ) → AreFrames sent old → first ≡ length sent → Offered (Calls call) old Taken mid → DeliversAll first mid new
-    → Carries call old new
+carries_all : (call : Called) (old mid new : Drawing) (sent : List SentFrame) (first : ℕ) → AreFrames sent old → first ≡ length sent → OffersEvent (Calls call) old Taken mid → DeliversAll first mid new
+    → CarriesCall call old new
 carries_all call old mid new sent first are is offered delivers file start drawn late can =
     let x = after file old.events.items start in
     let count : first ≡ length x.frames = is ∙ same_long sent x.frames (are file x drawn.shows) in
@@ -68,7 +68,7 @@ carries_all call old mid new sent first are is offered delivers file start drawn
 
 -- of what came of the deliveries, if memory wasn't refused
 pub carries_on : {E : Type 0} (result : Result (Unit {0}) E) (call : Called) (old mid new : Drawing) (sent : List SentFrame) (first : ℕ) → AreFrames sent old → first ≡ length sent
-    → Offered (Calls call) old Taken mid → OnOk result (DeliversAll first mid new) → OnOk result (Carries call old new)
+    → OffersEvent (Calls call) old Taken mid → OnOk result (DeliversAll first mid new) → OnOk result (CarriesCall call old new)
 carries_on (Ok did) call old mid new sent first are is offered delivers = carries_all call old mid new sent first are is offered delivers
 carries_on (Err memory) call old mid new sent first are is offered delivers = tt
 
@@ -144,7 +144,7 @@ module _ (file : BoardFile) (plan : List Op) (retries : ℕ) where
       }
 
   -- what is made
-  made : (d : Drawing) (undo : Bool) → Drawn file x0 d → IsCleanFor file plan retries links.Clean undo d.events.items
+  made : (d : Drawing) (undo : Bool) → IsDrawnSchedule file x0 d → IsCleanFor file plan retries links.Clean undo d.events.items
       → IsMade file plan retries (record { links = links.Clean; undo = undo }) d.events.items
   made d undo drawn clean = record {
     told = told_of file x0 (after file d.events.items x0);
@@ -154,13 +154,13 @@ module _ (file : BoardFile) (plan : List Op) (retries : ℕ) where
     clean = clean;
   }
 
-  pub started_made : (old new : Drawing) → IsEmpty old → old.late ≡ true → length plan ≤ 256 → Drawn file x0 old → Carries Start old new
+  pub started_made : (old new : Drawing) → IsEmpty old → old.late ≡ true → length plan ≤ 256 → IsDrawnSchedule file x0 old → CarriesCall Start old new
       → IsMade file plan retries (record { links = links.Clean; undo = false }) new.events.items
   started_made old new empty late few drawn carries =
       let went = carries file x0 drawn late (can_start old empty few) in
       made new false went.0 (starts_clean new (started old new empty went.2))
 
-  pub undone_made : (old mid new : Drawing) → IsEmpty old → old.late ≡ true → length plan ≤ 256 → Drawn file x0 old → Carries Start old mid → Carries Undo mid new
+  pub undone_made : (old mid new : Drawing) → IsEmpty old → old.late ≡ true → length plan ≤ 256 → IsDrawnSchedule file x0 old → CarriesCall Start old mid → CarriesCall Undo mid new
       → IsMade file plan retries (record { links = links.Clean; undo = true }) new.events.items
   undone_made old mid new empty late few drawn carries undoes =
       let went = carries file x0 drawn late (can_start old empty few) in

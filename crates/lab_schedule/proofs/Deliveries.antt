@@ -19,11 +19,11 @@ use Rattle.model_lab.specs.Played.{plans, fault_at, happens, after}
 use Rattle.model_headline.specs.CleanPlays.{events_from}
 use Rattle.lab_run.specs.declared.frames.SentFrame.{SentFrame}
 use Rattle.lab_run.specs.declared.lab_state.Lab.{Lab}
-use Rattle.lab_run.specs.Shown.{Shows, ForShown, IsSentFrame}
+use Rattle.lab_run.specs.Shown.{Represents, ForRepresented, IsSentFrame}
 use Rattle.lab_play.proofs.Running.{after_more}
 use Rattle.lab_schedule.specs.declared.drawing.Drawing.{Drawing}
-use Rattle.lab_schedule.specs.declared.drawing.Offer.TheVariants.{Taken, Faulty}
-use Rattle.lab_schedule.specs.Drawn.{delivered_by, delivery_of, Drawn, HasFew, Offered, CanDeliver, HasDelivered, DeliversAll}
+use Rattle.lab_schedule.specs.declared.drawing.OfferResult.TheVariants.{Taken, Faulty}
+use Rattle.lab_schedule.specs.Drawn.{delivered_by, delivery_of, IsDrawnSchedule, HasFew, OffersEvent, CanDeliver, HasDelivered, DeliversAll}
 use Rattle.lab_schedule.proofs.Cleanly.{room_to_deliver}
 
 -- ---- an event that delivers a frame
@@ -46,7 +46,7 @@ same_delivery file b number (suc i) (s ∷ ss) (f ∷ fs) all = same_delivery fi
 
 -- from the first number to this one
 pub record Gone (file : BoardFile) (start : LabModel plans) (first number : ℕ) (old now : Drawing) : Type 0 where
-  pub drawn : Drawn file start now
+  pub drawn : IsDrawnSchedule file start now
   pub late : now.late ≡ true
   pub done : List Event
   pub all : now.events.items ≡ old.events.items ++ done
@@ -58,16 +58,16 @@ pub record Delivering (first number : ℕ) (old now : Drawing) : Type 0 where
   pub few : HasFew now
   pub short : length now.events.items + first ≤ length old.events.items + number
   pub within : length now.events.items ≤ length old.events.items + most_frames
-  pub goes : (file : BoardFile) (start : LabModel plans) → Drawn file start old → old.late ≡ true → CanDeliver file first (after file old.events.items start)
+  pub goes : (file : BoardFile) (start : LabModel plans) → IsDrawnSchedule file start old → old.late ≡ true → CanDeliver file first (after file old.events.items start)
       → Gone file start first number old now
 
 -- the frames that the code has are those of the lab
 abbrev pub AreFrames : List SentFrame → Drawing → Type 0
-AreFrames sent now = (file : BoardFile) (x : LabModel plans) → Shows file now.lab.value x → AllZip IsSentFrame sent x.frames
+AreFrames sent now = (file : BoardFile) (x : LabModel plans) → Represents file now.lab.value x → AllZip IsSentFrame sent x.frames
 
 -- the lab was read out of its memory
-pub frames_are : (now : Drawing) (read : Lab) (sent : List SentFrame) → read ≡ now.lab.value → ForShown read (λ file x. AllZip IsSentFrame sent x.frames) → AreFrames sent now
-frames_are now read sent is are = subst (λ (l : Lab). ForShown l (λ file x. AllZip IsSentFrame sent x.frames)) is are
+pub frames_are : (now : Drawing) (read : Lab) (sent : List SentFrame) → read ≡ now.lab.value → ForRepresented read (λ file x. AllZip IsSentFrame sent x.frames) → AreFrames sent now
+frames_are now read sent is are = subst (λ (l : Lab). ForRepresented l (λ file x. AllZip IsSentFrame sent x.frames)) is are
 
 module _ (file : BoardFile) (start : LabModel plans) (first number : ℕ) (old now : Drawing) (g : Gone file start first number old now) (sent : List SentFrame) (are : AreFrames sent now) where
   abbrev y : LabModel plans
@@ -91,7 +91,7 @@ module _ (file : BoardFile) (start : LabModel plans) (first number : ℕ) (old n
     delivered = subst (λ (l : List Event). DeliversFrom plans file first (events_from file l x) x) (append-nil g.done) (g.closes [] none);
   }
 
-  ended : delivery_of number (slice_get sent number) ≡ None → Drawn file start now × (now.late ≡ true) × HasDelivered file first x old now
+  ended : delivery_of number (slice_get sent number) ≡ None → IsDrawnSchedule file start now × (now.late ≡ true) × HasDelivered file first x old now
   ended none = (g.drawn, g.late, delivered_all (ends_by g.can.events g.can.delivered (found ∙ ap (option_map (event_of lab_names file y.board)) none)))
 
   -- ---- the next frame comes
@@ -121,10 +121,10 @@ module _ (file : BoardFile) (start : LabModel plans) (first number : ℕ) (old n
     begins : Begins
     begins = begins_by g.can.events g.can.delivered g.can.taken
 
-    no_fault : (new : Drawing) (fault : Fault) → Offered e now (Faulty fault) new → ⊥
+    no_fault : (new : Drawing) (fault : Fault) → OffersEvent e now (Faulty fault) new → ⊥
     no_fault new fault offered = none-some fault (sym begins.none ∙ offered.1 file start g.drawn)
 
-    gone_more : (new : Drawing) → Offered e now Taken new → Gone file start first (number + 1) old new
+    gone_more : (new : Drawing) → OffersEvent e now Taken new → Gone file start first (number + 1) old new
     gone_more new offered =
         let next : happens file e y ≡ after file new.events.items start = sym (after_more file now.events.items e start) ∙ ap (λ (l : List Event). after file l start) (sym offered.0) in
         let b = begins in
@@ -169,7 +169,7 @@ delivers_full first number old now d full file start drawn late can =
     )
 
 pub delivers_more : (first number : ℕ) (old now new : Drawing) (sent : List SentFrame) (e : Event) → Delivering first number old now → AreFrames sent now
-    → delivery_of number (slice_get sent number) ≡ Some e → number < most_frames → Offered e now Taken new → HasFew new → length new.events.items ≤ suc (length now.events.items) → Delivering first (number + 1) old new
+    → delivery_of number (slice_get sent number) ≡ Some e → number < most_frames → OffersEvent e now Taken new → HasFew new → length new.events.items ≤ suc (length now.events.items) → Delivering first (number + 1) old new
 delivers_more first number old now new sent e d are is small offered few grown = record {
   few = few;
   short = let before = d.short in omega (arith, before, grown);
@@ -178,6 +178,6 @@ delivers_more first number old now new sent e d are is small offered few grown =
 }
 
 pub delivers_faulty : (first number : ℕ) (old now new : Drawing) (sent : List SentFrame) (e : Event) (fault : Fault) → Delivering first number old now → AreFrames sent now
-    → delivery_of number (slice_get sent number) ≡ Some e → Offered e now (Faulty fault) new → DeliversAll first old new
+    → delivery_of number (slice_get sent number) ≡ Some e → OffersEvent e now (Faulty fault) new → DeliversAll first old new
 delivers_faulty first number old now new sent e fault d are is offered file start drawn late can =
     absurd (no_fault file start first number old now (d.goes file start drawn late can) sent are e is new fault offered)

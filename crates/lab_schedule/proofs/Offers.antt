@@ -14,16 +14,16 @@ use Rattle.lab_run.specs.declared.lab_state.Lab.{Lab}
 use Rattle.lab_run.specs.declared.part.ManagerPart.{ManagerPart}
 use Rattle.lab_run.specs.declared.step.Refused.{Refused}
 use Rattle.lab_run.specs.declared.step.Refused.TheVariants as refused
-use Rattle.lab_run.specs.Shown.{Shows, Steps}
+use Rattle.lab_run.specs.Shown.{Represents, EventStep}
 use Rattle.lab_run.specs.Parts.{part_at}
 use Rattle.lab_run.specs.Coming.{done_at}
 use Rattle.lab_play.specs.declared.watch.Watch.{Watch}
-use Rattle.lab_play.specs.Watched.{took_by, waits_long, opened_in, broken_at, Watches, TellsNext, WatchesStep}
+use Rattle.lab_play.specs.Watched.{took_by, waits_long, opened_in, broken_at, WatchRepresents, TellsNext, WatchesStep}
 use Rattle.lab_play.proofs.Running.{after_more}
 use Rattle.lab_play.proofs.Watches.{no_packet, a_packet}
 use Rattle.lab_schedule.specs.declared.drawing.Drawing.{Drawing}
-use Rattle.lab_schedule.specs.declared.drawing.Offer.{Offer}
-use Rattle.lab_schedule.specs.Drawn.{Drawn, NotTaken, Offered}
+use Rattle.lab_schedule.specs.declared.drawing.OfferResult.{OfferResult}
+use Rattle.lab_schedule.specs.Drawn.{IsDrawnSchedule, NotTaken, OffersEvent}
 
 -- ---- the premise on packets
 
@@ -41,7 +41,7 @@ fresh watch = record watch { broken = None }
 keeps_by : (next : Option ℕ) (Keeps : Type 0) → next ≡ None → TellsNext None next 0 Keeps → Keeps
 keeps_by next Keeps none told = subst (λ (o : Option ℕ). TellsNext None o 0 Keeps) none told
 
-module _ (file : BoardFile) (lab : Lab) (x : LabModel plans) (shows : Shows file lab x) (watch : Watch) (opens : Watches watch x) (e : Event) where
+module _ (file : BoardFile) (lab : Lab) (x : LabModel plans) (shows : Represents file lab x) (watch : Watch) (opens : WatchRepresents watch x) (e : Event) where
   pub no_part_keeps : part_at x e ≡ None → KeepsPremise file x e
   no_part_keeps none = (no_packet file lab x shows (fresh watch) opens e 0 none).1
 
@@ -69,33 +69,33 @@ lines_more [] e all one = (one, tt)
 lines_more (d ∷ es) e all one = (all.0, lines_more es e all.1 one)
 
 -- the lab took it
-pub drawn_more : (file : BoardFile) (first : LabModel plans) (old new : Drawing) (lab : Lab) (e : Event) (place : ℕ) → lab ≡ old.lab.value → Drawn file first old
-    → Steps e lab (Ok tt) new.lab.value → WatchesStep e place lab old.watch (Ok tt) new.watch → new.events.items ≡ old.events.items ++ e ∷ [] → new.late ≡ old.late → has_line e ≡ true
-    → (old.late ≡ false → KeepsPremise file (after file old.events.items first) e) → Drawn file first new
+pub drawn_more : (file : BoardFile) (first : LabModel plans) (old new : Drawing) (lab : Lab) (e : Event) (place : ℕ) → lab ≡ old.lab.value → IsDrawnSchedule file first old
+    → EventStep e lab (Ok tt) new.lab.value → WatchesStep e place lab old.watch (Ok tt) new.watch → new.events.items ≡ old.events.items ++ e ∷ [] → new.late ≡ old.late → has_line e ≡ true
+    → (old.late ≡ false → KeepsPremise file (after file old.events.items first) e) → IsDrawnSchedule file first new
 drawn_more file first old new lab e place was drawn stepped watched more same line keeps =
     let es = old.events.items in
     let x = after file es first in
-    let shows : Shows file lab x = subst (λ (l : Lab). Shows file l x) (sym was) drawn.shows in
+    let shows : Represents file lab x = subst (λ (l : Lab). Represents file l x) (sym was) drawn.shows in
     let now = stepped file x shows in
     let next : happens file e x ≡ after file new.events.items first = sym (after_more file es e first) ∙ ap (λ (l : List Event). after file l first) (sym more) in
     record {
-      shows = subst (Shows file new.lab.value) next now.1;
+      shows = subst (Represents file new.lab.value) next now.1;
       taken = subst (λ (l : List Event). AreTaken file l first) (sym more) (taken_more file es e first drawn.taken now.0);
-      watches = subst (Watches new.watch) next (watched file x shows drawn.watches).0;
+      watches = subst (WatchRepresents new.watch) next (watched file x shows drawn.watches).0;
       kept = λ late. let before = sym same ∙ late in
           subst (λ (l : List Event). AllKeepPremise file l first) (sym more) (keep_more file es e first (drawn.kept before) (keeps before));
       lines = subst (λ (l : List Event). AllByRecursion (λ d. has_line d ≡ true) l) (sym more) (lines_more es e drawn.lines line);
     }
 
 -- the lab didn't take it
-pub not_taken : {E : Type 0} (old : Drawing) (lab now : Lab) (watch : Watch) (e : Event) (place : ℕ) (why : Refused) (given : Result Offer E) → lab ≡ old.lab.value
-    → Steps e lab (Err why) now → WatchesStep e place lab old.watch (Err why) watch → NotTaken why given
-    → IfOk given (λ offer. Offered e old offer (record old { lab = with_value old.lab now; watch = watch }))
+pub not_taken : {E : Type 0} (old : Drawing) (lab now : Lab) (watch : Watch) (e : Event) (place : ℕ) (why : Refused) (given : Result OfferResult E) → lab ≡ old.lab.value
+    → EventStep e lab (Err why) now → WatchesStep e place lab old.watch (Err why) watch → NotTaken why given
+    → IfOk given (λ offer. OffersEvent e old offer (record old { lab = with_value old.lab now; watch = watch }))
 not_taken old lab now watch e place (refused.Fault fault) given was stepped watched is =
     let new : Drawing = record old { lab = with_value old.lab now; watch = watch } in
-    subst (λ g. IfOk g (λ offer. Offered e old offer new)) (sym is) (
+    subst (λ g. IfOk g (λ offer. OffersEvent e old offer new)) (sym is) (
       ap (λ (l : Lab). record old { lab = with_value old.lab l; watch = watch }) (stepped.0 ∙ was) ∙ ap (λ (w : Watch). record old { watch = w }) watched,
-      λ file first drawn. let x = after file old.events.items first in stepped.1 file x (subst (λ (l : Lab). Shows file l x) (sym was) drawn.shows),
+      λ file first drawn. let x = after file old.events.items first in stepped.1 file x (subst (λ (l : Lab). Represents file l x) (sym was) drawn.shows),
     )
 not_taken old lab now watch e place refused.Memory (Ok offer) was stepped watched is = absurd (true≢false is)
 not_taken old lab now watch e place refused.Memory (Err memory) was stepped watched is = tt

@@ -19,11 +19,11 @@ use Rattle.model_headline.specs.CleanPlays.{events_from}
 use Rattle.lab_run.specs.declared.frames.SentFrame.{SentFrame}
 use Rattle.lab_run.specs.declared.step.Refused.{Refused}
 use Rattle.lab_run.specs.declared.step.Refused.TheVariants as refused
-use Rattle.lab_run.specs.Shown.{Shows, idles_in}
-use Rattle.lab_play.specs.Watched.{Watches}
+use Rattle.lab_run.specs.Shown.{Represents, idles_in}
+use Rattle.lab_play.specs.Watched.{WatchRepresents}
 use Rattle.lab_schedule.specs.declared.drawing.Drawing.{Drawing}
-use Rattle.lab_schedule.specs.declared.drawing.Offer.{Offer}
-use Rattle.lab_schedule.specs.declared.drawing.Offer.TheVariants.{Taken, Faulty, LeftOut}
+use Rattle.lab_schedule.specs.declared.drawing.OfferResult.{OfferResult}
+use Rattle.lab_schedule.specs.declared.drawing.OfferResult.TheVariants.{Taken, Faulty, LeftOut}
 
 -- how a frame of this number is delivered, by its way
 abbrev pub delivered_by : ℕ → Way → Option Event
@@ -38,10 +38,10 @@ delivery_of number (Some frame) = delivered_by number frame.way
 
 -- The lab began as this one of the model, and these events happened in it: it took each, and where no packet may join one that waits too long,
 -- none did. A line can say each.
-pub record Drawn (file : BoardFile) (first : LabModel plans) (drawing : Drawing) : Type 0 where
-  pub shows : Shows file drawing.lab.value (after file drawing.events.items first)
+pub record IsDrawnSchedule (file : BoardFile) (first : LabModel plans) (drawing : Drawing) : Type 0 where
+  pub shows : Represents file drawing.lab.value (after file drawing.events.items first)
   pub taken : AreTaken file drawing.events.items first
-  pub watches : Watches drawing.watch (after file drawing.events.items first)
+  pub watches : WatchRepresents drawing.watch (after file drawing.events.items first)
   pub kept : drawing.late ≡ false → AllKeepPremise file drawing.events.items first
   pub lines : AllByRecursion (λ e. has_line e ≡ true) drawing.events.items
 
@@ -51,18 +51,18 @@ HasFew drawing = (on : Bus) → idles_in on drawing.lab.value.idles ≤ length d
 
 -- whatever lab of the model it began as, it still did
 abbrev pub StaysDrawn : Drawing → Drawing → Type 0
-StaysDrawn old new = (file : BoardFile) (first : LabModel plans) → Drawn file first old → Drawn file first new
+StaysDrawn old new = (file : BoardFile) (first : LabModel plans) → IsDrawnSchedule file first old → IsDrawnSchedule file first new
 
 -- What comes of an event that is offered: it happens; or the lab has this fault to find with it; or it's left out, which no event is that a line
 -- can say where packets may join late.
-abbrev pub Offered : Event → Drawing → Offer → Drawing → Type 0
-Offered e old Taken new = (new.events.items ≡ old.events.items ++ e ∷ []) × (new.late ≡ old.late) × StaysDrawn old new
-Offered e old (Faulty fault) new =
-    (new ≡ old) × ((file : BoardFile) (first : LabModel plans) → Drawn file first old → fault_at file (after file old.events.items first) e ≡ Some fault)
-Offered e old LeftOut new = (new ≡ old) × (old.late ≡ true → has_line e ≡ false)
+abbrev pub OffersEvent : Event → Drawing → OfferResult → Drawing → Type 0
+OffersEvent e old Taken new = (new.events.items ≡ old.events.items ++ e ∷ []) × (new.late ≡ old.late) × StaysDrawn old new
+OffersEvent e old (Faulty fault) new =
+    (new ≡ old) × ((file : BoardFile) (first : LabModel plans) → IsDrawnSchedule file first old → fault_at file (after file old.events.items first) e ≡ Some fault)
+OffersEvent e old LeftOut new = (new ≡ old) × (old.late ≡ true → has_line e ≡ false)
 
 -- this is given where the lab didn't take the event
-abbrev pub NotTaken : {E : Type 0} → Refused → Result Offer E → Type 0
+abbrev pub NotTaken : {E : Type 0} → Refused → Result OfferResult E → Type 0
 NotTaken (refused.Fault fault) given = given ≡ Ok (Faulty fault)
 NotTaken refused.Memory given = is_ok given ≡ false
 
@@ -83,8 +83,8 @@ pub record HasDelivered (file : BoardFile) (number : ℕ) (x : LabModel plans) (
 -- what comes of the frames from this number on: where they can be delivered, they are
 abbrev pub DeliversAll : ℕ → Drawing → Drawing → Type 0
 DeliversAll number old new =
-    (file : BoardFile) (first : LabModel plans) → Drawn file first old → old.late ≡ true → let x = after file old.events.items first in CanDeliver file number x
-    → Drawn file first new × (new.late ≡ true) × HasDelivered file number x old new
+    (file : BoardFile) (first : LabModel plans) → IsDrawnSchedule file first old → old.late ≡ true → let x = after file old.events.items first in CanDeliver file number x
+    → IsDrawnSchedule file first new × (new.late ≡ true) × HasDelivered file number x old new
 
 -- the same of the call and of all frames that are sent from then on
 pub record CanCarry (file : BoardFile) (call : Called) (x : LabModel plans) : Type 0 where
@@ -97,7 +97,7 @@ pub record HasCarried (file : BoardFile) (call : Called) (x : LabModel plans) (o
   pub all : new.events.items ≡ old.events.items ++ Calls call ∷ done
   pub delivered : DeliversFrom plans file (length x.frames) (events_from file done (happens file (Calls call) x)) (happens file (Calls call) x)
 
-abbrev pub Carries : Called → Drawing → Drawing → Type 0
-Carries call old new =
-    (file : BoardFile) (first : LabModel plans) → Drawn file first old → old.late ≡ true → let x = after file old.events.items first in CanCarry file call x
-    → Drawn file first new × (new.late ≡ true) × HasCarried file call x old new
+abbrev pub CarriesCall : Called → Drawing → Drawing → Type 0
+CarriesCall call old new =
+    (file : BoardFile) (first : LabModel plans) → IsDrawnSchedule file first old → old.late ≡ true → let x = after file old.events.items first in CanCarry file call x
+    → IsDrawnSchedule file first new × (new.late ≡ true) × HasCarried file call x old new

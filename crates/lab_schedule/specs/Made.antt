@@ -15,7 +15,7 @@ use Rattle.lab_schedule.specs.Drawn as drawn
 use Rattle.lab_schedule.specs.declared.drawing.Drawing.{Drawing}
 use Rattle.lab_schedule.specs.declared.make.Links.{Links}
 use Rattle.lab_schedule.specs.declared.make.Links.TheVariants.{Clean, Drawn}
-use Rattle.lab_schedule.specs.declared.make.Wanted.{Wanted}
+use Rattle.lab_schedule.specs.declared.make.ScheduleOptions.{ScheduleOptions}
 
 -- over clean links a schedule starts the plan, and undoes it where that is wanted, and each frame is delivered once, in the order of their numbers,
 -- until none is left
@@ -31,7 +31,7 @@ joins_late (Drawn chances) = chances.late_joins
 
 -- The schedule that was wanted of the plan on the board of the file. A play of it takes each event, and a line can say each. Unless packets may join
 -- such as wait too long, each event keeps the premise on packets.
-pub record IsMade (file : BoardFile) (steps : List Op) (retries : ℕ) (wanted : Wanted) (events : List Event) : Type 0 where
+pub record IsMade (file : BoardFile) (steps : List Op) (retries : ℕ) (wanted : ScheduleOptions) (events : List Event) : Type 0 where
   pub told : Told
   pub played : IsPlayed file steps retries events (Whole told)
   pub lines : AllByRecursion (λ e. has_line e ≡ true) events
@@ -41,5 +41,5 @@ pub record IsMade (file : BoardFile) (steps : List Op) (retries : ℕ) (wanted :
 -- in an empty drawing of a plan's lab a clean schedule comes about, which undoes the plan where that is wanted
 abbrev pub MakesClean : Bool → Drawing → Drawing → Type 0
 MakesClean undo old new =
-    (file : BoardFile) (steps : List Op) (retries : ℕ) → length steps ≤ most_steps → drawn.Drawn file (opening plans file lab_names steps retries) old
+    (file : BoardFile) (steps : List Op) (retries : ℕ) → length steps ≤ most_steps → drawn.IsDrawnSchedule file (opening plans file lab_names steps retries) old
     → IsMade file steps retries (record { links = Clean; undo = undo }) new.events.items

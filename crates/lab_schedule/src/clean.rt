@@ -1,11 +1,11 @@
 //! Clean schedules: each frame is delivered once, as soon as it was sent.
 ghost use Rattle.std.specs.Prelude.{◌≡◌, ◌≤◌, ◌<◌, ◌+◌, [], true, length, IfOk, OnOk};
 ghost use Rattle.model_lab.specs.Faults.{most_frames};
-ghost use Rattle.lab_schedule.specs.Drawn.{Carries, DeliversAll, HasFew};
+ghost use Rattle.lab_schedule.specs.Drawn.{CarriesCall, DeliversAll, HasFew};
 ghost use Rattle.lab_schedule.specs.Made.{IsMade, MakesClean};
 ghost use Rattle.lab_schedule.specs.declared.make.Links.TheVariants as links;
 
-use crate::drawing::{Drawing, Offer, delivery};
+use crate::drawing::{Drawing, OfferResult, delivery};
 use cfg_records::BoardFile;
 use lab_run::MOST_FRAMES;
 use model_undo::Call;
@@ -31,10 +31,10 @@ impl Drawing {
                 return Ok(());
             };
             match self.offer(event)? {
-                Offer::Taken => {}
+                OfferResult::Taken => {}
                 // No event of a clean schedule has a fault, or no line.
-                Offer::Faulty(_) => return Ok(()),
-                Offer::LeftOut => return Ok(()),
+                OfferResult::Faulty(_) => return Ok(()),
+                OfferResult::LeftOut => return Ok(()),
             }
         }
         Ok(())
@@ -44,7 +44,7 @@ impl Drawing {
     fn carry_out(&mut self, call: Call) -> Result<(), AllocError>
         requires few { HasFew self.old }
         requires short { length self.old.events.items < 100000 }
-        ensures carries { OnOk result (Carries call self.old self.new) }
+        ensures carries { OnOk result (CarriesCall call self.old self.new) }
         ensures few { OnOk result (HasFew self.new) }
         ensures short { OnOk result (length self.new.events.items
             ≤ length self.old.events.items + most_frames + 1) }
@@ -54,10 +54,10 @@ impl Drawing {
             return Ok(());
         };
         match self.offer(Event::Calls(call))? {
-            Offer::Taken => self.deliver_from(first),
+            OfferResult::Taken => self.deliver_from(first),
             // A clean schedule's call has no fault, and a line.
-            Offer::Faulty(_) => Ok(()),
-            Offer::LeftOut => Ok(()),
+            OfferResult::Faulty(_) => Ok(()),
+            OfferResult::LeftOut => Ok(()),
         }
     }
 

@@ -5,9 +5,9 @@ ghost use Rattle.model_lab.specs.Lab.{Lab as LabModel, opening};
 ghost use Rattle.model_lab.specs.Meaning.{lab_names as the_names};
 ghost use Rattle.model_lab.specs.Played.{plans};
 ghost use Rattle.model_headline.specs.Plays.{KeepsPremise};
-ghost use Rattle.lab_run.specs.Shown.{Shows};
-ghost use Rattle.lab_play.specs.Watched.{Watches};
-ghost use Rattle.lab_schedule.specs.Drawn.{Drawn, HasFew, NotTaken, Offered, delivery_of};
+ghost use Rattle.lab_run.specs.Shown.{Represents};
+ghost use Rattle.lab_play.specs.Watched.{WatchRepresents};
+ghost use Rattle.lab_schedule.specs.Drawn.{IsDrawnSchedule, HasFew, NotTaken, OffersEvent, delivery_of};
 
 use cfg_records::BoardFile;
 use lab_play::{Watch, step_watched};
@@ -31,12 +31,12 @@ pub(crate) fn delivery(frames: &[SentFrame], number: u32) -> Option<Event>
 
 /// What came of an event that was offered.
 #[derive(Clone, Copy)]
-pub(crate) enum Offer {
-    /// It happened.
+pub(crate) enum OfferResult {
+    /// The event happened.
     Taken,
     /// The lab doesn't take it.
     Faulty(Fault),
-    /// It isn't asked of the lab: a packet would join one that waits too long, or no line says it.
+    /// The event isn't asked of the lab: a packet would join one that waits too long, or no line says it.
     LeftOut,
 }
 
@@ -52,7 +52,7 @@ pub(crate) struct Drawing {
 /// Whether the event may bring a packet that joins one which waits too long.
 fn may_join_late(lab: &Lab, watch: &Watch, event: &Event) -> bool
     ensures { result ≡ false → (file : AnyFile) (x : LabModel plans)
-        → Shows file lab.now x → Watches watch.now x → KeepsPremise file x event.now }
+        → Represents file lab.now x → WatchRepresents watch.now x → KeepsPremise file x event.now }
 {
     let Some(part) = lab.part(event) else {
         return false;
@@ -63,11 +63,11 @@ fn may_join_late(lab: &Lab, watch: &Watch, event: &Event) -> bool
 }
 
 /// What comes of an event that the lab didn't take.
-fn not_taken(why: Refused) -> Result<Offer, AllocError>
+fn not_taken(why: Refused) -> Result<OfferResult, AllocError>
     ensures { NotTaken why result }
 {
     match why {
-        Refused::Fault(fault) => Ok(Offer::Faulty(fault)),
+        Refused::Fault(fault) => Ok(OfferResult::Faulty(fault)),
         Refused::Memory => Err(AllocError),
     }
 }
@@ -81,7 +81,7 @@ impl Drawing {
         late: bool,
     ) -> Result<Drawing, AllocError>
         ensures drawn { IfOk result
-            (λ drawing. Drawn file (opening plans file the_names plan.steps plan.retries) drawing) }
+            (λ drawing. IsDrawnSchedule file (opening plans file the_names plan.steps plan.retries) drawing) }
         ensures late { IfOk result (λ drawing. drawing.late ≡ late) }
         ensures empty { IfOk result (λ drawing. drawing.events.items ≡ []) }
         ensures few { IfOk result HasFew }
@@ -109,27 +109,27 @@ impl Drawing {
     }
 
     /// The event happens, where the lab takes it and the premise on packets stays kept, and else nothing does.
-    pub fn offer(&mut self, event: Event) -> Result<Offer, AllocError>
+    pub fn offer(&mut self, event: Event) -> Result<OfferResult, AllocError>
         requires few { HasFew self.old }
         requires short { length self.old.events.items < 10000000 }
-        ensures offered { IfOk result (λ offer. Offered event self.old offer self.new) }
+        ensures offered { IfOk result (λ offer. OffersEvent event self.old offer self.new) }
         ensures few { OnOk result (HasFew self.new) }
         ensures short { OnOk result (length self.new.events.items
             ≤ suc (length self.old.events.items)) }
     {
         if !has_line(&event) {
             drop(event);
-            return Ok(Offer::LeftOut);
+            return Ok(OfferResult::LeftOut);
         }
         if !self.late && may_join_late(&self.lab, &self.watch, &event) {
             drop(event);
-            return Ok(Offer::LeftOut);
+            return Ok(OfferResult::LeftOut);
         }
         let place = self.events.len() + 1;
         match step_watched(&mut self.lab, &mut self.watch, &event, place) {
             Ok(()) => {
                 self.events.push(event)?;
-                Ok(Offer::Taken)
+                Ok(OfferResult::Taken)
             }
             Err(why) => {
                 drop(event);

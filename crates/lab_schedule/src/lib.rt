@@ -9,4 +9,4 @@ mod others;
 mod traffic;
 
 pub use chance::{Chances, Percent};
-pub use make::{Links, Wanted, make_schedule};
+pub use make::{Links, ScheduleOptions, make_schedule};

@@ -5,7 +5,7 @@ ghost use Rattle.lab_schedule.specs.Made.{IsMade};
 
 use crate::chance::Chances;
 use crate::clean::clean_events;
-use crate::drawing::{Drawing, Offer};
+use crate::drawing::{Drawing, OfferResult};
 use crate::traffic::Traffic;
 use cfg_records::BoardFile;
 use lab_run::Fault;
@@ -13,7 +13,7 @@ use std::alloc::{AllocError, Global};
 use text_schedule::Event;
 use undo_plans::Plan;
 
-/// So often something is offered to a lab at most.
+/// How often something is offered to a lab at most.
 const MOST_OFFERS: usize = 1_000_000;
 
 /// What the buses of a schedule do.
@@ -27,15 +27,15 @@ pub enum Links {
 
 /// The schedule that is wanted.
 #[derive(Clone, Copy)]
-pub struct Wanted {
+pub struct ScheduleOptions {
     pub links: Links,
     /// Whether the plan is undone once it is done or halted.
     pub undo: bool,
 }
 
 /// Whether the lab has no room for what was offered.
-fn is_full(offer: Offer) -> bool {
-    matches!(offer, Offer::Faulty(Fault::Room))
+fn is_full(offer: OfferResult) -> bool {
+    matches!(offer, OfferResult::Faulty(Fault::Room))
 }
 
 /// What the traffic draws is offered to the lab, until nothing is open or the lab has no more room.
@@ -83,11 +83,11 @@ pub fn make_schedule(
     alloc: Global,
     file: BoardFile,
     plan: Plan,
-    wanted: Wanted,
+    wanted: ScheduleOptions,
 ) -> Result<Vec<Event>, AllocError>
     ensures { IfOk result (λ events. IsMade file plan.steps plan.retries wanted events.items) }
 {
-    let Wanted { links, undo } = wanted;
+    let ScheduleOptions { links, undo } = wanted;
     match links {
         Links::Clean => clean_events(alloc, file, plan, undo),
         Links::Drawn(chances) => drawn_events(alloc, file, plan, undo, chances),

@@ -19,7 +19,7 @@ const MOST_NUMBER: u32 = 1_000_000;
 #[derive(Clone, Copy)]
 struct Held {
     number: u32,
-    /// So many frames still come before it.
+    /// How many frames still come before it.
     past: u32,
 }
 
@@ -30,7 +30,7 @@ pub(crate) struct Traffic {
     chances: Chances,
     /// Whether the plan is to be undone.
     undo: bool,
-    /// So many of the lab's frames were sent on their way, or lost.
+    /// How many of the lab's frames were sent on their way, or lost.
     seen: u32,
     /// The numbers of those that come next, in their order.
     queue: VecDeque<u32>,

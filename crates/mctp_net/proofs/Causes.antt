@@ -5,7 +5,7 @@ use Rattle.std.proofs.lemmas.Bool.Decides.{nat_tests}
 use Rattle.mctp_net.specs.declared.packet.Packet.{Packet}
 use Rattle.mctp_net.specs.declared.taken.DropCause.TheVariants.{NotOurs, NoStart, TooLong, OutOfSequence, UnitSize, NoSlot}
 use Rattle.mctp_net.specs.Assembly.{Assemblies, name_of, taken_under, joined_to, open_beside, is_ours, fails, drop_cause}
-use Rattle.mctp_net.specs.Sound.{Fits}
+use Rattle.mctp_net.specs.Sound.{FitsAssembly}
 
 -- no test holds where the first that holds is none
 none_of : (a b c d e f : Bool)
@@ -37,7 +37,7 @@ pub joined-more : (p : Packet) (a : Assemblies) → p.start ≡ false → joined
 joined-more p a e = rw e refl
 
 -- a packet that isn't dropped is the endpoint's and fits
-pub passes : (own : ℕ) (a : Assemblies) (p : Packet) → drop_cause own a p ≡ None → (is_ours own p ≡ true) × Fits a p
+pub passes : (own : ℕ) (a : Assemblies) (p : Packet) → drop_cause own a p ≡ None → (is_ours own p ≡ true) × FitsAssembly a p
 passes own a p h =
     let no : (fails own a p NotOurs ≡ false) × (fails own a p NoStart ≡ false) × (fails own a p TooLong ≡ false) × (fails own a p OutOfSequence ≡ false) × (fails own a p UnitSize ≡ false) × (fails own a p NoSlot ≡ false) =
     none_of (fails own a p NotOurs) (fails own a p NoStart) (fails own a p TooLong) (fails own a p OutOfSequence) (fails own a p UnitSize) (fails own a p NoSlot) h in (
@@ -68,7 +68,7 @@ none_for : (a b c d e f : Bool) → a ≡ false → b ≡ false → c ≡ false 
 none_for a b c d e f h i j k l m = rw (h, i, j, k, l, m) refl
 
 -- a packet that is the endpoint's and fits isn't dropped
-pub passes_back : (own : ℕ) (a : Assemblies) (p : Packet) → is_ours own p ≡ true → Fits a p → drop_cause own a p ≡ None
+pub passes_back : (own : ℕ) (a : Assemblies) (p : Packet) → is_ours own p ≡ true → FitsAssembly a p → drop_cause own a p ≡ None
 passes_back own a p ours fits =
     none_for (fails own a p NotOurs) (fails own a p NoStart) (fails own a p TooLong) (fails own a p OutOfSequence) (fails own a p UnitSize) (fails own a p NoSlot)
     (ap not ours) (begins p.start refl) (let few : length (joined_to p a) < 4 = fits.few in grind (arith, nat_tests)) (ap not (eq-eqb p.sequence (length (joined_to p a)) fits.numbered)) (sized p.end refl) (free p.start p.end refl refl)

@@ -8,13 +8,13 @@ use Rattle.mctp_net.specs.declared.packet.Name.{Name}
 use Rattle.mctp_net.specs.declared.packet.Packet.{Packet}
 use Rattle.mctp_net.specs.declared.message.Message.{Message}
 use Rattle.mctp_net.specs.Cut.{Piece, piece, IsPiece, EachFrom, IsCut, IsCutOf}
-use Rattle.mctp_net.specs.Assembly.{Assemblies, name_of, is_name, joined_to, open_beside, is_ours, ended, kept_with, after_where, after, IsTaken, ComesBack}
-use Rattle.mctp_net.specs.Sound.{Fits}
+use Rattle.mctp_net.specs.Assembly.{Assemblies, name_of, is_name, joined_to, open_beside, is_ours, ended, kept_with, after_where, after, IsPieceTaken, ComesBack}
+use Rattle.mctp_net.specs.Sound.{FitsAssembly}
 use Rattle.mctp_net.proofs.Names.{name-self}
 use Rattle.mctp_net.proofs.Causes.{passes_back, joined-start, joined-more}
 
 -- what is kept after a packet that is taken
-after-taken : (own : ℕ) (a : Assemblies) (p : Packet) → IsTaken own a p → after own a p ≡ kept_with p a
+after-taken : (own : ℕ) (a : Assemblies) (p : Packet) → IsPieceTaken own a p → after own a p ≡ kept_with p a
 after-taken own a p h = ap (λ cause. after_where cause p a) h.kept_on ∙ ap (λ b. cond b (ended p a) (kept_with p a)) h.more
 
 -- what waits under the name then
@@ -43,14 +43,14 @@ rest-comes own m count (p ∷ q ∷ rest) front a pieces sum few some more envel
     let joined : joined_to p a ≡ front = joined-more p a start ∙ ap (λ e. a.under (name_of e)) mine ∙ under in
     let long : length (joined_to p a) ≡ length front = ap length joined in
     let not_last : (length front + 1 == count) ≡ false = grind (arith, nat_tests) in
-    let fits : Fits a p = record {
+    let fits : FitsAssembly a p = record {
       few = omega arith;
       numbered = pieces.0.numbered ∙ sym long;
       started = pieces.0.started ∙ ap (λ n. n == 0) (sym long);
       full = λ _. pieces.0.full (omega arith);
       slots = λ yes _. absurd (let bad : true ≡ false = sym yes ∙ start in cc);
     } in
-    let taken : IsTaken own a p = record { kept_on = passes_back own a p (ours 0 p (omega arith)) fits; more = pieces.0.ended ∙ not_last } in
+    let taken : IsPieceTaken own a p = record { kept_on = passes_back own a p (ours 0 p (omega arith)) fits; more = pieces.0.ended ∙ not_last } in
     let next : length front + 1 ≡ length (front ++ piece p ∷ []) = sym (length-append front (piece p ∷ [])) in (
       taken,
       subst (λ b. ComesBack own b (q ∷ rest) m) (sym (after-taken own a p taken))
@@ -83,14 +83,14 @@ cut-comes_back own a m (p ∷ q ∷ rest) h ours room =
     let few : count ≤ 4 = h.cut.few in
     let not_last : (0 + 1 == count) ≡ false = grind (arith, nat_tests) in
     let free : open_beside (name_of p.envelope) a < 8 = subst (λ e. open_beside (name_of e) a < 8) (sym mine) (room (omega arith)) in
-    let fits : Fits a p = record {
+    let fits : FitsAssembly a p = record {
       few = omega arith;
       numbered = h.cut.pieces.0.numbered ∙ sym long;
       started = h.cut.pieces.0.started ∙ ap (λ n. n == 0) (sym long);
       full = λ _. h.cut.pieces.0.full (omega arith);
       slots = λ _ _. free;
     } in
-    let taken : IsTaken own a p = record { kept_on = passes_back own a p (ours 0 p (omega arith)) fits; more = h.cut.pieces.0.ended ∙ not_last } in (
+    let taken : IsPieceTaken own a p = record { kept_on = passes_back own a p (ours 0 p (omega arith)) fits; more = h.cut.pieces.0.ended ∙ not_last } in (
       taken,
       subst (λ b. ComesBack own b (q ∷ rest) m) (sym (after-taken own a p taken))
           (rest-comes own m count (q ∷ rest) (piece p ∷ []) (kept_with p a) h.cut.pieces.1 (omega arith) few (omega arith) (omega arith)

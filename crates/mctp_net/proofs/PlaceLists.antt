@@ -10,7 +10,7 @@ use Rattle.mctp_net.specs.declared.packet.Name.{Name}
 use Rattle.mctp_net.specs.declared.place.Place.{Place}
 use Rattle.mctp_net.specs.Grammar.{bit}
 use Rattle.mctp_net.specs.Assembly.{is_name, is_open, open_beside, with_under}
-use Rattle.mctp_net.specs.Places.{is_at, runs, part, under_in, is_used, open_in, assemblies_in, IsFilled, AreSound}
+use Rattle.mctp_net.specs.Places.{is_at, runs, part, under_in, is_used, open_in, assemblies_in, IsFilled, AreSoundPlaces}
 use Rattle.mctp_net.proofs.PacketLaws.{bit-lt}
 use Rattle.mctp_net.proofs.Names.{name-one, other-name_at, free_at, used_at}
 use Rattle.mctp_net.proofs.Runs.{length-runs}
@@ -121,10 +121,10 @@ pub count-around : (f : Place → Bool) (ps : List Place) (i : ℕ) (d : Place) 
 count-around f ps i d low = ap (λ qs. length (filter f qs)) (around ps i d low) ∙ count-mid f (take i ps) (drop (suc i) ps) (get_or ps i d)
 
 -- a place is used otherwise for a name that no other has
-pub replaced : (n : Name) (ps : List Place) (i : ℕ) (d t : Place) → AreSound ps → i < length ps
+pub replaced : (n : Name) (ps : List Place) (i : ℕ) (d t : Place) → AreSoundPlaces ps → i < length ps
     → length (filter (has n) (take i ps)) + length (filter (has n) (drop (suc i) ps)) ≡ 0
     → IsFor n (get_or ps i d) → IsFor n t → IsFilled t → length t.bytes ≤ 256
-    → (assemblies_in (set ps i t) None ≡ with_under n (part n t) (assemblies_in ps None)) × AreSound (set ps i t)
+    → (assemblies_in (set ps i t) None ≡ with_under n (part n t) (assemblies_in ps None)) × AreSoundPlaces (set ps i t)
 replaced n ps i d t sound low alone old new fills fits =
     let s : Place = get_or ps i d in
     let filled : IsFilled s = sound.filled i d low in
@@ -141,7 +141,7 @@ replaced n ps i d t sound low alone old new fills fits =
     )
 
 -- no other place has the name of a place
-pub alone-own : (n : Name) (ps : List Place) (i : ℕ) (d : Place) → AreSound ps → i < length ps → has n (get_or ps i d) ≡ true
+pub alone-own : (n : Name) (ps : List Place) (i : ℕ) (d : Place) → AreSoundPlaces ps → i < length ps → has n (get_or ps i d) ≡ true
     → length (filter (has n) (take i ps)) + length (filter (has n) (drop (suc i) ps)) ≡ 0
 alone-own n ps i d sound low mine =
     let one : bit (has n (get_or ps i d)) ≡ 1 = ap bit mine in
@@ -153,7 +153,7 @@ pub alone-none : (n : Name) (ps : List Place) (i : ℕ) (d : Place) → i < leng
 alone-none n ps i d low none = omega (arith, ap length none, count-around (has n) ps i d low)
 
 -- what is under a name is what its place has
-pub under-place : (n : Name) (ps : List Place) (i : ℕ) (d : Place) → AreSound ps → i < length ps → has n (get_or ps i d) ≡ true → under_in ps n ≡ runs (get_or ps i d).bytes
+pub under-place : (n : Name) (ps : List Place) (i : ℕ) (d : Place) → AreSoundPlaces ps → i < length ps → has n (get_or ps i d) ≡ true → under_in ps n ≡ runs (get_or ps i d).bytes
 under-place n ps i d sound low mine =
     let s : Place = get_or ps i d in
     let filled : IsFilled s = sound.filled i d low in

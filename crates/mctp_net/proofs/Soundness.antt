@@ -8,7 +8,7 @@ use Rattle.mctp_net.specs.declared.taken.DropCause.TheVariants.{NotOurs, NoStart
 use Rattle.mctp_net.specs.Grammar.{bit}
 use Rattle.mctp_net.specs.Cut.{Piece, piece, EachFrom}
 use Rattle.mctp_net.specs.Assembly.{Assemblies, name_of, is_name, is_open, taken_under, joined_to, open_beside, drop_cause, with_under, closed, ended, kept_with, after_where, after}
-use Rattle.mctp_net.specs.Sound.{IsWaitingAt, IsSound, Fits}
+use Rattle.mctp_net.specs.Sound.{IsWaitingAt, AreSoundAssemblies, FitsAssembly}
 use Rattle.mctp_net.proofs.Causes.{passes, joined-more}
 
 -- one more piece at the end
@@ -17,7 +17,7 @@ each_push P from [] p h k = (let e : from + 0 ≡ from = omega arith in subst (�
 each_push P from (q ∷ qs) p h k = (h.0, each_push P (from + 1) qs p h.1 (let e : from + suc (length qs) ≡ from + 1 + length qs = omega arith in subst (λ n. P n p) e k))
 
 -- other pieces under one name
-sound-with : (n : Name) (ps : List Piece) (a : Assemblies) → IsSound a → EachFrom IsWaitingAt 0 ps → length ps ≤ 4 → open_beside n a + bit (is_open ps) ≤ 8 → IsSound (with_under n ps a)
+sound-with : (n : Name) (ps : List Piece) (a : Assemblies) → AreSoundAssemblies a → EachFrom IsWaitingAt 0 ps → length ps ≤ 4 → open_beside n a + bit (is_open ps) ≤ 8 → AreSoundAssemblies (with_under n ps a)
 sound-with n ps a h waits few slots = record {
   fronts = λ m. at (λ qs. EachFrom IsWaitingAt 0 qs) (a.under m) waits (h.fronts m) (is_name m n);
   few = λ m. at (λ qs. length qs ≤ 4) (a.under m) few (h.few m) (is_name m n);
@@ -28,11 +28,11 @@ sound-with n ps a h waits few slots = record {
     at P qs x y true = x
     at P qs x y false = y
 
-sound-closed : (p : Packet) (a : Assemblies) → IsSound a → IsSound (closed p a)
+sound-closed : (p : Packet) (a : Assemblies) → AreSoundAssemblies a → AreSoundAssemblies (closed p a)
 sound-closed p a h = sound-with (name_of p.envelope) [] a h tt (omega arith) (let none : bit (is_open []) ≡ 0 = refl in omega (arith, h.slots))
 
 -- a packet that fits waits at the place behind those to which it's joined
-fits-waits : (p : Packet) (a : Assemblies) → Fits a p → p.end ≡ false → IsWaitingAt (length (joined_to p a)) (piece p)
+fits-waits : (p : Packet) (a : Assemblies) → FitsAssembly a p → p.end ≡ false → IsWaitingAt (length (joined_to p a)) (piece p)
 fits-waits p a fits more = record { numbered = fits.numbered; started = fits.started; ended = more; full = fits.full more }
 
 -- the pieces to which a packet is joined wait
@@ -47,7 +47,7 @@ joined-waiting p a h = by_start p.start
 open-push : (ps : List Piece) (p : Piece) → bit (is_open (ps ++ p ∷ [])) ≡ 1
 open-push ps p = let some : is_open (ps ++ p ∷ []) ≡ true = grind (arith, nat_tests, length-append ps (p ∷ [])) in ap bit some
 
-sound-kept : (p : Packet) (a : Assemblies) → IsSound a → Fits a p → p.end ≡ false → IsSound (kept_with p a)
+sound-kept : (p : Packet) (a : Assemblies) → AreSoundAssemblies a → FitsAssembly a p → p.end ≡ false → AreSoundAssemblies (kept_with p a)
 sound-kept p a h fits more =
     sound-with (name_of p.envelope) (joined_to p a ++ piece p ∷ []) a h
     (each_push IsWaitingAt 0 (joined_to p a) (piece p) (joined-waiting p a (h.fronts (name_of p.envelope))) (let e : length (joined_to p a) ≡ 0 + length (joined_to p a) = omega arith in subst (λ n. IsWaitingAt n (piece p)) e (fits-waits p a fits more)))
@@ -64,20 +64,20 @@ sound-kept p a h fits more =
         omega (arith, h.slots)
 
 -- what is kept after a packet is sound
-pub sound-after : (own : ℕ) (a : Assemblies) (p : Packet) → IsSound a → IsSound (after own a p)
+pub sound-after : (own : ℕ) (a : Assemblies) (p : Packet) → AreSoundAssemblies a → AreSoundAssemblies (after own a p)
 sound-after own a p h = by_cause (drop_cause own a p) refl
   where
-    unmade_too : IsSound (after_where (Some NotOurs) p a)
+    unmade_too : AreSoundAssemblies (after_where (Some NotOurs) p a)
     unmade_too = record { fronts = h.fronts; few = h.few; slots = h.slots }
 
-    ended_too : IsSound (ended p a)
-    ended_too = let k : IsSound (closed p a) = sound-closed p a h in record { fronts = k.fronts; few = k.few; slots = k.slots }
+    ended_too : AreSoundAssemblies (ended p a)
+    ended_too = let k : AreSoundAssemblies (closed p a) = sound-closed p a h in record { fronts = k.fronts; few = k.few; slots = k.slots }
 
-    by_end : (b : Bool) → p.end ≡ b → drop_cause own a p ≡ None → IsSound (cond b (ended p a) (kept_with p a))
+    by_end : (b : Bool) → p.end ≡ b → drop_cause own a p ≡ None → AreSoundAssemblies (cond b (ended p a) (kept_with p a))
     by_end true e none = ended_too
     by_end false e none = sound-kept p a h (passes own a p none).1 e
 
-    by_cause : (cause : Option DropCause) → drop_cause own a p ≡ cause → IsSound (after_where cause p a)
+    by_cause : (cause : Option DropCause) → drop_cause own a p ≡ cause → AreSoundAssemblies (after_where cause p a)
     by_cause (Some NotOurs) e = unmade_too
     by_cause (Some NoStart) e = unmade_too
     by_cause (Some TooLong) e = sound-closed p a h

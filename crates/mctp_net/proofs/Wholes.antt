@@ -10,7 +10,7 @@ use Rattle.mctp_net.specs.declared.taken.DropCause.{DropCause}
 use Rattle.mctp_net.specs.declared.taken.Taken.TheVariants as taken
 use Rattle.mctp_net.specs.Cut.{Piece, piece, IsPiece, EachFrom, carried, IsCut}
 use Rattle.mctp_net.specs.Assembly.{Assemblies, taken_under, joined_to, is_ours, drop_cause, ended, message_of, MakesWhole}
-use Rattle.mctp_net.specs.Sound.{IsWaitingAt, Fits}
+use Rattle.mctp_net.specs.Sound.{IsWaitingAt, FitsAssembly}
 use Rattle.mctp_net.proofs.Soundness.{each_push, joined-waiting}
 use Rattle.mctp_net.proofs.Causes.{passes, passes_back}
 
@@ -20,7 +20,7 @@ each_last P from [] p h = let e : from ≡ from + 0 = omega arith in subst (λ n
 each_last P from (q ∷ qs) p h = let e : from + 1 + length qs ≡ from + suc (length qs) = omega arith in subst (λ n. P n p) e (each_last P (from + 1) qs p h.1)
 
 -- a packet that makes a message whole fits
-pub whole-fits : (own : ℕ) (a : Assemblies) (p : Packet) (m : Message) → MakesWhole own a p m → Fits a p × (p.end ≡ true)
+pub whole-fits : (own : ℕ) (a : Assemblies) (p : Packet) (m : Message) → MakesWhole own a p m → FitsAssembly a p × (p.end ≡ true)
 whole-fits own a p m h =
     let front : List Piece = joined_to p a in
     let count : length (front ++ piece p ∷ []) ≡ length front + 1 = length-append front (piece p ∷ []) in
@@ -59,7 +59,7 @@ pieces-waiting count from (p ∷ ps) low h =
     )
 
 -- a packet that fits and is an end ends a cut
-ends-cut : (a : Assemblies) (p : Packet) → EachFrom IsWaitingAt 0 (taken_under p a) → Fits a p → p.end ≡ true → 0 < length p.payload → length p.payload ≤ 64
+ends-cut : (a : Assemblies) (p : Packet) → EachFrom IsWaitingAt 0 (taken_under p a) → FitsAssembly a p → p.end ≡ true → 0 < length p.payload → length p.payload ≤ 64
     → IsCut (carried (joined_to p a ++ piece p ∷ [])) (joined_to p a ++ piece p ∷ [])
 ends-cut a p waits fits end some most =
     let front : List Piece = joined_to p a in
@@ -89,7 +89,7 @@ ended-body a p = by_start p.start
     by_start false = refl
 
 -- the message that such a packet ends is the one that it makes whole
-pub whole-made : (own : ℕ) (a : Assemblies) (p : Packet) → EachFrom IsWaitingAt 0 (taken_under p a) → is_ours own p ≡ true → Fits a p → p.end ≡ true → 0 < length p.payload → length p.payload ≤ 64
+pub whole-made : (own : ℕ) (a : Assemblies) (p : Packet) → EachFrom IsWaitingAt 0 (taken_under p a) → is_ours own p ≡ true → FitsAssembly a p → p.end ≡ true → 0 < length p.payload → length p.payload ≤ 64
     → MakesWhole own a p (message_of (ended p a) p)
 whole-made own a p waits ours fits end some most = record {
   ours = ours;
@@ -115,7 +115,7 @@ waits-on own a p m more h = let bad : true ≡ false = sym (whole-fits own a p m
 pub whole-shown : (own : ℕ) (a b : Assemblies) (p : Packet) → EachFrom IsWaitingAt 0 (taken_under p a) → drop_cause own a p ≡ None → p.end ≡ true → 0 < length p.payload → length p.payload ≤ 64 → b ≡ ended p a
     → (m : Message) → ((taken.Whole ≡ taken.Whole) × (m ≡ message_of b p) → MakesWhole own a p m) × (MakesWhole own a p m → (taken.Whole ≡ taken.Whole) × (m ≡ message_of b p))
 whole-shown own a b p waits none end some most is m =
-    let may : (is_ours own p ≡ true) × Fits a p = passes own a p none in
+    let may : (is_ours own p ≡ true) × FitsAssembly a p = passes own a p none in
     let shown : message_of b p ≡ message_of (ended p a) p = ap (λ c. message_of c p) is in
     let made : MakesWhole own a p (message_of b p) = subst (MakesWhole own a p) (sym shown) (whole-made own a p waits may.0 may.1 end some most) in
     (λ e. subst (MakesWhole own a p) (sym e.1) made, λ w. (refl, whole-one own a p m w ∙ sym shown))

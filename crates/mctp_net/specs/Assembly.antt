@@ -146,7 +146,7 @@ dropped_for taken.Whole = None
 dropped_for (taken.Dropped cause) = Some cause
 
 -- the packet is taken, and others are to come
-pub record IsTaken (own : ℕ) (assemblies : Assemblies) (packet : Packet) : Type 0 where
+pub record IsPieceTaken (own : ℕ) (assemblies : Assemblies) (packet : Packet) : Type 0 where
   pub kept_on : drop_cause own assemblies packet ≡ None
   pub more : packet.end ≡ false
 
@@ -154,4 +154,4 @@ pub record IsTaken (own : ℕ) (assemblies : Assemblies) (packet : Packet) : Typ
 abbrev pub ComesBack : ℕ → Assemblies → List Packet → Message → Type 0
 ComesBack own assemblies [] message = ⊥
 ComesBack own assemblies (packet ∷ []) message = MakesWhole own assemblies packet message
-ComesBack own assemblies (packet ∷ next ∷ rest) message = IsTaken own assemblies packet × ComesBack own (after own assemblies packet) (next ∷ rest) message
+ComesBack own assemblies (packet ∷ next ∷ rest) message = IsPieceTaken own assemblies packet × ComesBack own (after own assemblies packet) (next ∷ rest) message

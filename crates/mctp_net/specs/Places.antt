@@ -55,12 +55,12 @@ abbrev pub assemblies_in : List Place → Option ℕ → Assemblies
 assemblies_in ps made = record { under = under_in ps; open_count = open_in ps; made = made_in ps made }
 
 -- what an assembler is
-pub record Kept : Type 0 where
+pub record KeptAssembly : Type 0 where
   pub places : List Place
   pub made : Option ℕ
 
 -- what it keeps
-abbrev pub seen : Kept → Assemblies
+abbrev pub seen : KeptAssembly → Assemblies
 seen kept = assemblies_in kept.places kept.made
 
 -- a place that is used has some runs of a unit
@@ -68,7 +68,7 @@ abbrev pub IsFilled : Place → Type 0
 IsFilled place = is_used place ≡ true → (0 < length place.bytes) × (length place.bytes % unit_size ≡ 0)
 
 -- there are eight places, each of another name or free
-pub record AreSound (ps : List Place) : Type 0 where
+pub record AreSoundPlaces (ps : List Place) : Type 0 where
   pub eight : length ps ≡ most_assemblies
   pub filled : All IsFilled ps
   pub fits : All (λ place. length place.bytes ≤ most_message_bytes) ps

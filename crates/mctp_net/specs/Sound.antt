@@ -14,13 +14,13 @@ pub record IsWaitingAt (number : ℕ) (piece : Piece) : Type 0 where
   pub full : length piece.payload ≡ unit_size
 
 -- under each name the pieces are the first of a cut, at most four, and at most eight assemblies are open
-pub record IsSound (assemblies : Assemblies) : Type 0 where
+pub record AreSoundAssemblies (assemblies : Assemblies) : Type 0 where
   pub fronts : (name : Name) → EachFrom IsWaitingAt 0 (assemblies.under name)
   pub few : (name : Name) → length (assemblies.under name) ≤ 4
   pub slots : assemblies.open_count ≤ most_assemblies
 
 -- the packet has the next place of the assembly to which it's joined, and there is room for it
-pub record Fits (assemblies : Assemblies) (packet : Packet) : Type 0 where
+pub record FitsAssembly (assemblies : Assemblies) (packet : Packet) : Type 0 where
   pub few : length (joined_to packet assemblies) < 4
   pub numbered : packet.sequence ≡ length (joined_to packet assemblies)
   pub started : packet.start ≡ (length (joined_to packet assemblies) == 0)

@@ -3,7 +3,7 @@ ghost use Rattle.std.specs.Prelude.{◌≡◌, ◌<◌, ◌≤◌, ◌↔◌, le
 ghost use Rattle.two_wire.specs.Sizes.{most_message_bytes};
 ghost use Rattle.mctp_net.specs.declared.message.Message.{Message as AnyMessage};
 ghost use Rattle.mctp_net.specs.declared.taken.Taken.TheVariants.{Whole as IsWhole, Waiting as IsWaiting};
-ghost use Rattle.mctp_net.specs.Assembly.{nothing, drop_cause, after, message_of, MakesWhole, IsTaken, dropped_for};
+ghost use Rattle.mctp_net.specs.Assembly.{nothing, drop_cause, after, message_of, MakesWhole, IsPieceTaken, dropped_for};
 ghost use Rattle.mctp_net.specs.Places.{seen};
 
 use crate::place::{Place, close_all, free_places, place_of};
@@ -30,14 +30,14 @@ impl Drop for Assembler {
 
 impl Model for Assembler {
     ghost use Rattle.std.specs.Prelude.{◌<◌, IfSome};
-    ghost use Rattle.mctp_net.specs.Places.{Kept, AreSound};
+    ghost use Rattle.mctp_net.specs.Places.{KeptAssembly, AreSoundPlaces};
     ghost use Rattle.mctp_net.specs.Sizes.{most_assemblies};
 
-    ghost Value = { Kept };
+    ghost Value = { KeptAssembly };
 
     ghost view = { λ a. record { places = a.places.items; made = a.made } };
 
-    ghost invariant = { λ a. AreSound a.places.items × IfSome a.made (λ i. i < most_assemblies) };
+    ghost invariant = { λ a. AreSoundPlaces a.places.items × IfSome a.made (λ i. i < most_assemblies) };
 }
 
 impl Assembler {
@@ -59,7 +59,7 @@ impl Assembler {
             ↔ MakesWhole own (seen self.old) packet.now m }
         ensures some { result ≡ IsWhole → 0 < length (message_of (seen self.new) packet.now).body }
         // It's waiting exactly where it's taken and is no end.
-        ensures waiting { (result ≡ IsWaiting) ↔ IsTaken own (seen self.old) packet.now }
+        ensures waiting { (result ≡ IsWaiting) ↔ IsPieceTaken own (seen self.old) packet.now }
         // Packets that wait under other names stay.
         ensures after { seen self.new ≡ after own (seen self.old) packet.now }
     {

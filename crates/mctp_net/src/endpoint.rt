@@ -76,7 +76,7 @@ impl Endpoint {
         Endpoint { eid }
     }
 
-    /// Its identifier.
+    /// The endpoint's identifier.
     pub fn eid(&self) -> EndpointId
         ensures { result ≡ self.now }
     {

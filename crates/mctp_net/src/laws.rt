@@ -8,7 +8,7 @@ ghost use Rattle.mctp_net.specs.Grammar.{IsPacket, HasFault, has_fault, faults};
 ghost use Rattle.mctp_net.specs.Cut.{IsCutOf};
 ghost use Rattle.mctp_net.specs.Sizes.{most_assemblies};
 ghost use Rattle.mctp_net.specs.Assembly.{Assemblies, nothing, name_of, is_name, is_ours, open_beside, drop_cause, named_where, after, ComesBack};
-ghost use Rattle.mctp_net.specs.Sound.{IsSound};
+ghost use Rattle.mctp_net.specs.Sound.{AreSoundAssemblies};
 
 /// Bytes are at most one packet.
 pub fn one_packet()
@@ -45,8 +45,8 @@ pub fn comes_back()
 
 /// Whatever packets come, under each name those that wait are the first of a cut, and at most eight assemblies are open.
 pub fn stays_sound()
-    ensures none { IsSound nothing }
-    ensures next { (own : ℕ) (a : Assemblies) (p : Packet) → IsSound a → IsSound (after own a p) }
+    ensures none { AreSoundAssemblies nothing }
+    ensures next { (own : ℕ) (a : Assemblies) (p : Packet) → AreSoundAssemblies a → AreSoundAssemblies (after own a p) }
 {}
 
 /// A packet changes what waits under its own name alone: unless it is dropped as NotOurs or NoStart, its assembly is longer

@@ -1,8 +1,8 @@
 //! What a packet does to the places.
 ghost use Rattle.std.specs.Prelude.{◌≡◌, ◌<◌, ◌≤◌, Some, None, true, false, IfSome, length};
 ghost use Rattle.mctp_net.specs.Assembly.{name_of, open_beside, drop_cause, after_where, closed, ended, kept_with};
-ghost use Rattle.mctp_net.specs.Places.{assemblies_in, AreSound, IsPlaceOf, IsRoomFor, open_in, under_in};
-ghost use Rattle.mctp_net.specs.Sound.{Fits};
+ghost use Rattle.mctp_net.specs.Places.{assemblies_in, AreSoundPlaces, IsPlaceOf, IsRoomFor, open_in, under_in};
+ghost use Rattle.mctp_net.specs.Sound.{FitsAssembly};
 ghost use Rattle.mctp_net.specs.Sizes.{unit_size, most_assemblies};
 
 use crate::packet::UNIT_SIZE;
@@ -16,7 +16,7 @@ pub(crate) fn drop_cause(
     place: Option<usize>,
     packet: &Packet<'_>,
 ) -> Option<DropCause>
-    requires sound { AreSound places.now }
+    requires sound { AreSoundPlaces places.now }
     requires place { IsPlaceOf (Some (name_of packet.now.envelope)) places.now place }
     ensures { result ≡ drop_cause own (assemblies_in places.now None) packet.now }
 {
@@ -49,7 +49,7 @@ pub(crate) fn drop_cause(
 
 /// How many packets wait under the packet's name.
 fn taken_at(places: &[Place], place: Option<usize>, packet: &Packet<'_>) -> usize
-    requires sound { AreSound places.now }
+    requires sound { AreSoundPlaces places.now }
     requires place { IsPlaceOf (Some (name_of packet.now.envelope)) places.now place }
     ensures { result ≡ length (under_in places.now (name_of packet.now.envelope)) }
 {
@@ -61,7 +61,7 @@ fn taken_at(places: &[Place], place: Option<usize>, packet: &Packet<'_>) -> usiz
 
 /// How many places other names have.
 fn used_beside(places: &[Place], place: Option<usize>, packet: &Packet<'_>) -> usize
-    requires sound { AreSound places.now }
+    requires sound { AreSoundPlaces places.now }
     requires place { IsPlaceOf (Some (name_of packet.now.envelope)) places.now place }
     ensures { result ≡ open_beside (name_of packet.now.envelope) (assemblies_in places.now None) }
 {
@@ -85,9 +85,9 @@ pub(crate) fn drop_for(
     place: Option<usize>,
     packet: &Packet<'_>,
 )
-    requires sound { AreSound places.old.items }
+    requires sound { AreSoundPlaces places.old.items }
     requires place { IsPlaceOf (Some (name_of packet.now.envelope)) places.old.items place }
-    ensures sound { AreSound places.new.items }
+    ensures sound { AreSoundPlaces places.new.items }
     ensures after { assemblies_in places.new.items None
         ≡ after_where (Some cause) packet.now (assemblies_in places.old.items None) }
 {
@@ -99,9 +99,9 @@ pub(crate) fn drop_for(
 
 /// Closes the assembly of the packet's name.
 fn let_go(places: &mut Vec<Place>, place: Option<usize>, packet: &Packet<'_>)
-    requires sound { AreSound places.old.items }
+    requires sound { AreSoundPlaces places.old.items }
     requires place { IsPlaceOf (Some (name_of packet.now.envelope)) places.old.items place }
-    ensures sound { AreSound places.new.items }
+    ensures sound { AreSoundPlaces places.new.items }
     ensures after { assemblies_in places.new.items None
         ≡ closed packet.now (assemblies_in places.old.items None) }
 {
@@ -113,11 +113,11 @@ fn let_go(places: &mut Vec<Place>, place: Option<usize>, packet: &Packet<'_>)
 
 /// Keeps a packet that fits and is no end.
 pub(crate) fn keep(places: &mut Vec<Place>, place: Option<usize>, packet: &Packet<'_>)
-    requires sound { AreSound places.old.items }
+    requires sound { AreSoundPlaces places.old.items }
     requires place { IsPlaceOf (Some (name_of packet.now.envelope)) places.old.items place }
-    requires fits { Fits (assemblies_in places.old.items None) packet.now }
+    requires fits { FitsAssembly (assemblies_in places.old.items None) packet.now }
     requires more { packet.now.end ≡ false }
-    ensures sound { AreSound places.new.items }
+    ensures sound { AreSoundPlaces places.new.items }
     ensures after { assemblies_in places.new.items None
         ≡ kept_with packet.now (assemblies_in places.old.items None) }
 {
@@ -130,12 +130,12 @@ pub(crate) fn keep(places: &mut Vec<Place>, place: Option<usize>, packet: &Packe
 
 /// Keeps a start that fits and is no end.
 fn begin(places: &mut Vec<Place>, place: Option<usize>, packet: &Packet<'_>)
-    requires sound { AreSound places.old.items }
+    requires sound { AreSoundPlaces places.old.items }
     requires place { IsPlaceOf (Some (name_of packet.now.envelope)) places.old.items place }
-    requires fits { Fits (assemblies_in places.old.items None) packet.now }
+    requires fits { FitsAssembly (assemblies_in places.old.items None) packet.now }
     requires more { packet.now.end ≡ false }
     requires start { packet.now.start ≡ true }
-    ensures sound { AreSound places.new.items }
+    ensures sound { AreSoundPlaces places.new.items }
     ensures after { assemblies_in places.new.items None
         ≡ kept_with packet.now (assemblies_in places.old.items None) }
 {
@@ -145,7 +145,7 @@ fn begin(places: &mut Vec<Place>, place: Option<usize>, packet: &Packet<'_>)
 
 /// The place of the packet's name, or a free one where it has none.
 fn room_for(places: &[Place], place: Option<usize>, packet: &Packet<'_>) -> usize
-    requires sound { AreSound places.now }
+    requires sound { AreSoundPlaces places.now }
     requires place { IsPlaceOf (Some (name_of packet.now.envelope)) places.now place }
     requires room { open_beside (name_of packet.now.envelope) (assemblies_in places.now None)
         < most_assemblies }
@@ -159,12 +159,12 @@ fn room_for(places: &[Place], place: Option<usize>, packet: &Packet<'_>) -> usiz
 
 /// Keeps a packet that fits and is neither start nor end.
 fn append(places: &mut Vec<Place>, place: Option<usize>, packet: &Packet<'_>)
-    requires sound { AreSound places.old.items }
+    requires sound { AreSoundPlaces places.old.items }
     requires place { IsPlaceOf (Some (name_of packet.now.envelope)) places.old.items place }
-    requires fits { Fits (assemblies_in places.old.items None) packet.now }
+    requires fits { FitsAssembly (assemblies_in places.old.items None) packet.now }
     requires more { packet.now.end ≡ false }
     requires start { packet.now.start ≡ false }
-    ensures sound { AreSound places.new.items }
+    ensures sound { AreSoundPlaces places.new.items }
     ensures after { assemblies_in places.new.items None
         ≡ kept_with packet.now (assemblies_in places.old.items None) }
 {
@@ -179,10 +179,10 @@ pub(crate) fn end(
     place: Option<usize>,
     packet: &Packet<'_>,
 ) -> Option<usize>
-    requires sound { AreSound places.old.items }
+    requires sound { AreSoundPlaces places.old.items }
     requires place { IsPlaceOf (Some (name_of packet.now.envelope)) places.old.items place }
-    requires fits { Fits (assemblies_in places.old.items None) packet.now }
-    ensures sound { AreSound places.new.items }
+    requires fits { FitsAssembly (assemblies_in places.old.items None) packet.now }
+    ensures sound { AreSoundPlaces places.new.items }
     ensures after { assemblies_in places.new.items result
         ≡ ended packet.now (assemblies_in places.old.items None) }
     ensures made { IfSome result (λ i. i < most_assemblies) }

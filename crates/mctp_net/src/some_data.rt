@@ -21,7 +21,7 @@ impl<'a, const CAP: usize> Model for SomeData<'a, CAP> {
 }
 
 impl<'a, const CAP: usize> SomeData<'a, CAP> {
-    /// These bytes.
+    /// Data of these bytes.
     pub fn new(bytes: &'a [u8]) -> Self
         requires some { 0 < length bytes.now }
         requires fit { length bytes.now ≤ CAP }

@@ -5,17 +5,17 @@ use std::fmt;
 /// Why a packet is dropped: the first cause that holds, in this order.
 #[derive(Clone, Copy, Debug, PartialEq, Eq)]
 pub enum DropCause {
-    /// It goes to another endpoint.
+    /// The packet goes to another endpoint.
     NotOurs,
-    /// It isn't a start, and no assembly of its name is open.
+    /// The packet isn't a start, and no assembly of its name is open.
     NoStart,
     /// Four packets were taken already.
     TooLong,
-    /// Its sequence isn't its place.
+    /// The packet's sequence number isn't its place's.
     OutOfSequence,
-    /// It isn't an end, and has other than 64 bytes.
+    /// The packet isn't an end, and has other than 64 bytes.
     UnitSize,
-    /// It would open a ninth assembly.
+    /// The packet would open a ninth assembly.
     NoSlot,
 }
 
@@ -43,10 +43,10 @@ impl Error for DropCause {}
 /// What becomes of a packet.
 #[derive(Clone, Copy, Debug, PartialEq, Eq)]
 pub enum Taken {
-    /// It's taken, and others are to come.
+    /// The packet is taken, and others are to come.
     Waiting,
-    /// It ends a message, which `Assembler::message` shows.
+    /// The packet ends a message, which `Assembler::message` shows.
     Whole,
-    /// It's dropped.
+    /// The packet is dropped.
     Dropped(DropCause),
 }

@@ -9,10 +9,10 @@ use Rattle.model_bus.specs.Numbering.{Rules, ipmb, smbus}
 use Rattle.model_bus.specs.BusState.{request_of, Content, Reply, BusState, is_open, new_bytes, carried_content, taken_content}
 use Rattle.model_bus.specs.Effect.{IsKeptFor}
 use Rattle.model_bus.specs.Packet.{Packet, IsCutFrom}
-use Rattle.model_bus.specs.Assembly.{Sent, Step, Waits, Whole, joined, takes, message_of}
+use Rattle.model_bus.specs.Assembly.{SentPacket, Step, Waits, Whole, joined, takes, message_of}
 use Rattle.model_bus.specs.PacketBus.{rules_of}
 use Rattle.model_bus.specs.PacketSchedule.{JoinRule}
-use Rattle.model_bus.specs.CleanLink.{GoesThrough, OpenGoesThrough, OpenGoesThroughInPackets, sent_in, Completes, CutIsWhole}
+use Rattle.model_bus.specs.CleanLink.{GoesThrough, OpenGoesThrough, OpenGoesThroughInPackets, sent_in, CompletesMessage, CutIsWhole}
 use Rattle.model_bus.proofs.Lists.{length_more}
 use Rattle.model_bus.proofs.NumberLaws.{IsNumbering, ipmb_numbers, smbus_numbers}
 use Rattle.model_bus.proofs.Repeats.{new_in}
@@ -70,34 +70,34 @@ packets_go_through rule asks b cutting start events none waits empty honest =
 -- ---- packets in order
 
 abbrev Result : Type 0
-Result = Step × List Sent
+Result = Step × List SentPacket
 
-fits_here : (taken : List Sent) (s : Sent) → length taken ≤ 3 → s.packet.sequence ≡ length taken → (ltb 3 (length taken) || not (eqb s.packet.sequence (length taken))) ≡ false
+fits_here : (taken : List SentPacket) (s : SentPacket) → length taken ≤ 3 → s.packet.sequence ≡ length taken → (ltb 3 (length taken) || not (eqb s.packet.sequence (length taken))) ≡ false
 fits_here taken s few at = or_from _ _ (le-ltb 3 (length taken) few) (not_from_true _ (eq-eqb _ _ at))
 
-joined_last : (taken : List Sent) (s : Sent) → length taken ≤ 3 → s.packet.sequence ≡ length taken → s.packet.last ≡ true → joined taken s ≡ (Whole (taken ++ s ∷ []), [])
+joined_last : (taken : List SentPacket) (s : SentPacket) → length taken ≤ 3 → s.packet.sequence ≡ length taken → s.packet.last ≡ true → joined taken s ≡ (Whole (taken ++ s ∷ []), [])
 joined_last taken s few at last = cond-false _ _ _ (fits_here taken s few at) ∙ cond-true _ _ _ last
 
-joined_waits : (taken : List Sent) (s : Sent) → length taken ≤ 3 → s.packet.sequence ≡ length taken → s.packet.last ≡ false → length s.packet.payload ≡ 64 → joined taken s ≡ (Waits, taken ++ s ∷ [])
+joined_waits : (taken : List SentPacket) (s : SentPacket) → length taken ≤ 3 → s.packet.sequence ≡ length taken → s.packet.last ≡ false → length s.packet.payload ≡ 64 → joined taken s ≡ (Waits, taken ++ s ∷ [])
 joined_waits taken s few at last size = cond-false _ _ _ (fits_here taken s few at) ∙ cond-false _ _ _ last ∙ cond-false _ _ _ (not_from_true _ (eq-eqb _ _ size))
 
-takes_start : (taken : List Sent) (s : Sent) → s.packet.first ≡ true → takes taken s ≡ joined [] s
+takes_start : (taken : List SentPacket) (s : SentPacket) → s.packet.first ≡ true → takes taken s ≡ joined [] s
 takes_start [] s first = cond-true _ _ _ first
 takes_start (t ∷ ts) s first = cond-true _ _ _ first
 
-takes_next : (t : Sent) (ts : List Sent) (s : Sent) → s.packet.first ≡ false → takes (t ∷ ts) s ≡ joined (t ∷ ts) s
+takes_next : (t : SentPacket) (ts : List SentPacket) (s : SentPacket) → s.packet.first ≡ false → takes (t ∷ ts) s ≡ joined (t ∷ ts) s
 takes_next t ts s first = cond-false _ _ _ first
 
 -- the first of some packets waits, and the others complete what they complete behind it
-one_waits : (whole taken next rest : List Sent) (s u : Sent) → takes taken s ≡ (Waits, next) → Completes whole next (u ∷ rest) → Completes whole taken (s ∷ u ∷ rest)
-one_waits whole taken next rest s u e done = (ap (λ (r : Result). r.0) e, subst (λ (l : List Sent). Completes whole l (u ∷ rest)) (sym (ap (λ (r : Result). r.1) e)) done)
+one_waits : (whole taken next rest : List SentPacket) (s u : SentPacket) → takes taken s ≡ (Waits, next) → CompletesMessage whole next (u ∷ rest) → CompletesMessage whole taken (s ∷ u ∷ rest)
+one_waits whole taken next rest s u e done = (ap (λ (r : Result). r.0) e, subst (λ (l : List SentPacket). CompletesMessage whole l (u ∷ rest)) (sym (ap (λ (r : Result). r.1) e)) done)
 
 module _ (n idles : ℕ) where
-  abbrev one : Packet → Sent
+  abbrev one : Packet → SentPacket
   one p = record { request = n; idles = idles; packet = p }
 
-  rest_completes : (place : ℕ) (ps : List Packet) (bytes : List ℕ) (t : Sent) (ts : List Sent) → IsCutFrom place ps bytes → length (t ∷ ts) ≡ place → place + length ps ≤ 4
-      → Completes ((t ∷ ts) ++ sent_in n idles ps) (t ∷ ts) (sent_in n idles ps)
+  rest_completes : (place : ℕ) (ps : List Packet) (bytes : List ℕ) (t : SentPacket) (ts : List SentPacket) → IsCutFrom place ps bytes → length (t ∷ ts) ≡ place → place + length ps ≤ 4
+      → CompletesMessage ((t ∷ ts) ++ sent_in n idles ps) (t ∷ ts) (sent_in n idles ps)
   rest_completes place [] bytes t ts h long few = absurd h
   rest_completes place (p ∷ []) bytes t ts h long few =
       let later : p.first ≡ false = h.1 ∙ ne_eqb place 0 (λ zero_is. omega arith) in
@@ -109,9 +109,9 @@ module _ (n idles : ℕ) where
       let next = rest_completes (suc place) (q ∷ ps) h.4 t (ts ++ one p ∷ []) h.6 (omega arith) (omega arith) in
       let whole : (t ∷ (ts ++ one p ∷ [])) ++ sent_in n idles (q ∷ ps) ≡ (t ∷ ts) ++ sent_in n idles (p ∷ q ∷ ps) = append_assoc (t ∷ ts) (one p ∷ []) (sent_in n idles (q ∷ ps)) in
       one_waits ((t ∷ ts) ++ sent_in n idles (p ∷ q ∷ ps)) (t ∷ ts) (t ∷ (ts ++ one p ∷ [])) (sent_in n idles ps) (one p) (one q) e
-      (subst (λ (w : List Sent). Completes w (t ∷ (ts ++ one p ∷ [])) (sent_in n idles (q ∷ ps))) whole next)
+      (subst (λ (w : List SentPacket). CompletesMessage w (t ∷ (ts ++ one p ∷ [])) (sent_in n idles (q ∷ ps))) whole next)
 
-  cut_completes : (ps : List Packet) (bytes : List ℕ) (taken : List Sent) → length ps ≤ 4 → IsCutFrom 0 ps bytes → Completes (sent_in n idles ps) taken (sent_in n idles ps)
+  cut_completes : (ps : List Packet) (bytes : List ℕ) (taken : List SentPacket) → length ps ≤ 4 → IsCutFrom 0 ps bytes → CompletesMessage (sent_in n idles ps) taken (sent_in n idles ps)
   cut_completes [] bytes taken few h = absurd h
   cut_completes (p ∷ []) bytes taken few h = takes_start taken (one p) h.1 ∙ joined_last [] (one p) (omega arith) h.0 h.2
   cut_completes (p ∷ q ∷ ps) bytes taken few h =

@@ -7,9 +7,9 @@ use Rattle.std.proofs.lemmas.Option.{none-some}
 use Rattle.model_bus.specs.Request.{Request, Kept, Entry, Carried, Idled, is_same, carried_since}
 use Rattle.model_bus.specs.Carried.{kept_for, requesters, is_busy, Outcome, Repeats, IsBusy, IsNew, outcome, outcome_of, log_after, Heard, HeardRequest, HeardIdle, log_with, outcomes}
 use Rattle.model_bus.specs.Numbering.{Rules}
-use Rattle.model_bus.specs.Greeting.{greeting, HearsNot, log_with_all, Greets, IsNext, IsPast, InTurn, IsAside, AllAside, GreetingForgets}
+use Rattle.model_bus.specs.Greeting.{greeting, HearsNot, log_with_all, GreetsPort, IsNext, IsPast, InTurn, IsAside, AllAside, GreetingForgets}
 use Rattle.model_bus.specs.Start.{IsFresh, FreshWindow}
-use Rattle.model_bus.specs.Assembly.{Sent, Whole, joined}
+use Rattle.model_bus.specs.Assembly.{SentPacket, Whole, joined}
 use Rattle.model_bus.specs.GreetingPackets.{SinglesClear}
 use Rattle.model_bus.proofs.NumberLaws.{IsNumbering, IsGreeting}
 use Rattle.model_bus.proofs.Repeats.{is_same-number, Has, numbers_of, none_past, older_is_forgotten}
@@ -86,7 +86,7 @@ module _ (above : ℕ → ℕ → Bool) where
       (cond_both (eqb requester q) [] (carried_since q log) (Marked mark second) (λ t. tt) (λ f. m))
 
 -- a message of one packet is whole at once
-alone : (sent : Sent) → sent.packet.last ≡ true → sent.packet.sequence ≡ 0 → joined [] sent ≡ (Whole (sent ∷ []), [])
+alone : (sent : SentPacket) → sent.packet.last ≡ true → sent.packet.sequence ≡ 0 → joined [] sent ≡ (Whole (sent ∷ []), [])
 alone sent last first = rw first (rw last refl)
 
 pub singles_clear : SinglesClear
@@ -407,7 +407,7 @@ module _ (b : Rules) (numbers : IsNumbering b) where
   module _ (circle : ℕ) (are : IsGreeting b (b.number_of (circle / 2)) (b.number_of (circle / 2 - 1)) (b.number_of (circle - 1))) where
     second_new : (one two answer reply : List ℕ) (before : List Entry) (between : List Heard)
         → let first = greeting b (circle / 2 - 1) one answer in let second = greeting b (circle - 1) two reply in
-        Greets b first second before between
+        GreetsPort b first second before between
         → outcome b.is_above second.request (log_with_all b.is_above (HeardRequest first ∷ between) before) ≡ IsNew
     second_new one two answer reply before between greets =
         let first = greeting b (circle / 2 - 1) one answer in
@@ -420,7 +420,7 @@ module _ (b : Rules) (numbers : IsNumbering b) where
 
     greeted_fresh : (one two answer reply : List ℕ) (before : List Entry) (between : List Heard)
         → let first = greeting b (circle / 2 - 1) one answer in let second = greeting b (circle - 1) two reply in
-        Greets b first second before between
+        GreetsPort b first second before between
         → FreshWindow b (log_with b.is_above (HeardRequest second) (log_with_all b.is_above (HeardRequest first ∷ between) before))
     greeted_fresh one two answer reply before between greets =
         let second = greeting b (circle - 1) two reply in

@@ -11,8 +11,8 @@ use Rattle.model_bus.specs.Start.{NothingUnderWay, FreshWindow, NothingWaits}
 use Rattle.model_bus.specs.Effect.{SameRequests}
 use Rattle.model_bus.specs.Repeat.{In}
 use Rattle.model_bus.specs.Packet.{Packet, IsCutting}
-use Rattle.model_bus.specs.Assembly.{Name, Sent, Step, Waits, Whole, Drops, IsWhole, takes, waiting, message_of}
-use Rattle.model_bus.specs.PacketBus.{PacketBus, rules_of, request_name, reply_name, Ends, PacketEvent, Plain, PacketReachesPort, PacketReachesManager, OtherPacket, OtherReplyPacket, Closes, Clears, PacketResumes, set_at, is_awaited, whole_comes, whole_returns, other_request, hears_other, port_takes, manager_takes, packet_comes, packet_returns, packet_at_port, packet_at_manager, packet_happens, packet_run}
+use Rattle.model_bus.specs.Assembly.{Name, SentPacket, Step, Waits, Whole, Drops, IsWhole, takes, waiting, message_of}
+use Rattle.model_bus.specs.PacketBus.{PacketBus, rules_of, request_name, reply_name, BusEnds, PacketEvent, Plain, PacketReachesPort, PacketReachesManager, OtherPacket, OtherReplyPacket, Closes, Clears, PacketResumes, set_at, is_awaited, whole_comes, whole_returns, other_request, hears_other, port_takes, manager_takes, packet_comes, packet_returns, packet_at_port, packet_at_manager, packet_happens, packet_run}
 use Rattle.model_bus.specs.PacketSchedule.{RecentWhereWhole, PacketMayJoin, JoinsAtPort, IsPlain, IsPacketHonest, AllPacketHonest}
 use Rattle.model_bus.specs.PacketEffect.{step_of, whole_request, whole_reply, completed_request, completed_reply, PortEffect, ManagerEffect, FrameAtPort, FrameAtManager, HasPacketEffect}
 use Rattle.model_bus.proofs.Lists.{length_more}
@@ -61,34 +61,34 @@ module _ (b : PacketBus) (cutting : IsCutting b.split) (before : List Entry) whe
   abbrev pub rules : Rules
   rules = rules_of b
 
-  abbrev pub PortAssemblies : BusState → (Name → List Sent) → Type 0
+  abbrev pub PortAssemblies : BusState → (Name → List SentPacket) → Type 0
   PortAssemblies s port = (tag : ℕ) → IsAssembly b.first b.split cutting (begun_at s) tag (port (named b.manager true tag))
 
-  abbrev pub ManagerAssemblies : BusState → (Name → List Sent) → Type 0
+  abbrev pub ManagerAssemblies : BusState → (Name → List SentPacket) → Type 0
   ManagerAssemblies s manager = (tag : ℕ) → IsAssembly b.first b.split cutting (kept_at s) tag (manager (named b.controller false tag))
 
   -- what waits at the manager is of the open request
-  abbrev pub IsAwaited : BusState → List Sent → Type 0
-  IsAwaited s taken = (t : Sent) → In t taken → (t.request ≡ length s.taken) × (length s.taken < length s.begun)
+  abbrev pub IsAwaited : BusState → List SentPacket → Type 0
+  IsAwaited s taken = (t : SentPacket) → In t taken → (t.request ≡ length s.taken) × (length s.taken < length s.begun)
 
-  abbrev pub AllAwaited : BusState → (Name → List Sent) → Type 0
+  abbrev pub AllAwaited : BusState → (Name → List SentPacket) → Type 0
   AllAwaited s manager = (tag : ℕ) → IsAwaited s (manager (named b.controller false tag))
 
   -- the invariant of a bus of packets
-  pub record EndsHold (x : Ends) : Type 0 where
+  pub record EndsHold (x : BusEnds) : Type 0 where
     pub holds : Holds rules x.bus
     pub shows : LogShows rules before x.bus
     pub port : PortAssemblies x.bus x.port
     pub manager : ManagerAssemblies x.bus x.manager
     pub awaited : AllAwaited x.bus x.manager
 
-  port_grows : (old new : BusState) → BusGrows old new → (port : Name → List Sent) → PortAssemblies old port → PortAssemblies new port
+  port_grows : (old new : BusState) → BusGrows old new → (port : Name → List SentPacket) → PortAssemblies old port → PortAssemblies new port
   port_grows old new g port a tag = assembly_grows b.first b.split cutting (begun_at old) (begun_at new) g.begun tag (port (named b.manager true tag)) (a tag)
 
-  manager_grows : (old new : BusState) → BusGrows old new → (manager : Name → List Sent) → ManagerAssemblies old manager → ManagerAssemblies new manager
+  manager_grows : (old new : BusState) → BusGrows old new → (manager : Name → List SentPacket) → ManagerAssemblies old manager → ManagerAssemblies new manager
   manager_grows old new g manager a tag = assembly_grows b.first b.split cutting (kept_at old) (kept_at new) (kept_within old new g) tag (manager (named b.controller false tag)) (a tag)
 
-  awaited_still : (old new : BusState) (manager : Name → List Sent) → new.taken ≡ old.taken → length old.begun ≤ length new.begun → AllAwaited old manager → AllAwaited new manager
+  awaited_still : (old new : BusState) (manager : Name → List SentPacket) → new.taken ≡ old.taken → length old.begun ≤ length new.begun → AllAwaited old manager → AllAwaited new manager
   awaited_still old new manager same longer all tag t is =
       let a = all tag t is in
       let lengths : length new.taken ≡ length old.taken = ap (λ (l : List (List ℕ)). length l) same in
@@ -106,7 +106,7 @@ module _ (b : PacketBus) (cutting : IsCutting b.split) (before : List Entry) whe
   keeps_still : (s : BusState) → Holds rules s → LogShows rules before s → Keeps s s
   keeps_still s h shows = record { holds = h; shows = shows; grows = stays s; taken = refl; longer = omega arith }
 
-  after_step : (x : Ends) → EndsHold x → (new : BusState) (port : Name → List Sent) → Keeps x.bus new → PortAssemblies new port → EndsHold (record { bus = new; port = port; manager = x.manager })
+  after_step : (x : BusEnds) → EndsHold x → (new : BusState) (port : Name → List SentPacket) → Keeps x.bus new → PortAssemblies new port → EndsHold (record { bus = new; port = port; manager = x.manager })
   after_step x ok new port w assemblies = record {
     holds = w.holds;
     shows = w.shows;
@@ -155,11 +155,11 @@ module _ (b : PacketBus) (cutting : IsCutting b.split) (before : List Entry) whe
       (plain_keeps s h shows (OtherAsks r answer) tt other, has_effect rules (smbus_numbers b.manager b.controller b.first) s (OtherAsks r answer) h other)
 
   -- a packet reaches the port
-  port_step : (x : Ends) → EndsHold x → (answer : List ℕ) (n idles : ℕ) (bytes : List ℕ) (place : ℕ) (o : Option Packet) → slice_get (b.split bytes) place ≡ o → (h : Holds rules x.bus) → h.floor ≤ n → length x.bus.begun ≤ n + 8 → slice_get x.bus.begun n ≡ Some bytes
+  port_step : (x : BusEnds) → EndsHold x → (answer : List ℕ) (n idles : ℕ) (bytes : List ℕ) (place : ℕ) (o : Option Packet) → slice_get (b.split bytes) place ≡ o → (h : Holds rules x.bus) → h.floor ≤ n → length x.bus.begun ≤ n + 8 → slice_get x.bus.begun n ≡ Some bytes
       → PacketMayJoin RecentWhereWhole rules x.bus (x.port (request_name b n)) n idles o → EndsHold (port_takes b answer n idles o x) × PortEffect rules n (Ask bytes) (whole_request rules n (step_of x.port (request_name b n) n idles o)) answer x.bus (port_takes b answer n idles o x).bus
   port_step x ok answer n idles bytes place None e h above live at joins = (ok, port_still rules n (Ask bytes) answer x.bus)
   port_step x ok answer n idles bytes place (Some p) e h above live at joins =
-      let s : Sent = record { request = n; idles = idles; packet = p } in
+      let s : SentPacket = record { request = n; idles = idles; packet = p } in
       let taken = x.port (request_name b n) in
       let r = assembly_step b.first b.split cutting (begun_at x.bus) (length x.bus.begun) (λ n bytes e. slice_get_within x.bus.begun n bytes e) taken s bytes (ok.port (tag_of b.first n)) at (in_slice (b.split bytes) place p e) live joins in
       let new = whole_comes rules answer n (takes taken s).0 x.bus in
@@ -170,12 +170,12 @@ module _ (b : PacketBus) (cutting : IsCutting b.split) (before : List Entry) whe
         w.1,
       )
 
-  content_step : (x : Ends) → EndsHold x → (answer : List ℕ) (place n idles : ℕ) (content : Content) → (h : Holds rules x.bus) → h.floor ≤ n → length x.bus.begun ≤ n + 8 → Fits rules x.bus.begun x.bus.carried n content
+  content_step : (x : BusEnds) → EndsHold x → (answer : List ℕ) (place n idles : ℕ) (content : Content) → (h : Holds rules x.bus) → h.floor ≤ n → length x.bus.begun ≤ n + 8 → Fits rules x.bus.begun x.bus.carried n content
       → JoinsAtPort RecentWhereWhole b x place n idles content → EndsHold (packet_comes b answer place n idles content x) × PortEffect rules n content (completed_request b x place n idles content) answer x.bus (packet_comes b answer place n idles content x).bus
   content_step x ok answer place n idles (Ask bytes) h above live fits joins = port_step x ok answer n idles bytes place (slice_get (b.split bytes) place) refl h above live fits joins
   content_step x ok answer place n idles (Reply number reply) h above live fits joins = (ok, port_still rules n (Reply number reply) answer x.bus)
 
-  frame_at_port : (x : Ends) → EndsHold x → (which place : ℕ) (answer : List ℕ) (o : Option Frame) → slice_get x.bus.frames which ≡ o
+  frame_at_port : (x : BusEnds) → EndsHold x → (which place : ℕ) (answer : List ℕ) (o : Option Frame) → slice_get x.bus.frames which ≡ o
       → IfSome o (λ f. IsLive rules x.bus f × JoinsAtPort RecentWhereWhole b x place f.request f.idles f.content) → EndsHold (packet_at_port b answer place o x) × FrameAtPort b x place answer (packet_at_port b answer place o x).bus o
   frame_at_port x ok which place answer None e honest = (ok, same_requests x.bus)
   frame_at_port x ok which place answer (Some f) e honest =
@@ -191,24 +191,24 @@ module _ (b : PacketBus) (cutting : IsCutting b.split) (before : List Entry) whe
       (one_tag b.first n (length s.taken) (length s.begun) below opened live (omega arith) (eqb-true _ _ parts.1), opened)
 
   -- the bus and what waits, after a packet at the manager
-  record Returned (content : Content) (complete : Option Content) (old new : BusState) (name : Name) (rest : List Sent) (manager : Name → List Sent) : Type 0 where
+  record Returned (content : Content) (complete : Option Content) (old new : BusState) (name : Name) (rest : List SentPacket) (manager : Name → List SentPacket) : Type 0 where
     holds : Holds rules new
     shows : LogShows rules before new
     grows : BusGrows old new
     awaited : AllAwaited new (set_at name rest manager)
     effect : ManagerEffect rules content complete old new
 
-  module _ (x : Ends) (ok : EndsHold x) (n number : ℕ) (reply : List ℕ) (live : length x.bus.begun ≤ n + 8) (fits : Fits rules x.bus.begun x.bus.carried n (Reply number (Some reply))) (is_open_one : (n ≡ length x.bus.taken) × (length x.bus.taken < length x.bus.begun)) where
-    still_awaited : (rest : List Sent) → IsAwaited x.bus rest → AllAwaited x.bus (set_at (reply_name b n) rest x.manager)
+  module _ (x : BusEnds) (ok : EndsHold x) (n number : ℕ) (reply : List ℕ) (live : length x.bus.begun ≤ n + 8) (fits : Fits rules x.bus.begun x.bus.carried n (Reply number (Some reply))) (is_open_one : (n ≡ length x.bus.taken) × (length x.bus.taken < length x.bus.begun)) where
+    still_awaited : (rest : List SentPacket) → IsAwaited x.bus rest → AllAwaited x.bus (set_at (reply_name b n) rest x.manager)
     still_awaited rest all = at_tag b.controller false (λ tag taken. IsAwaited x.bus taken) (tag_of b.first n) rest x.manager all ok.awaited
 
-    none_waits : (new : BusState) (rest : List Sent) → rest ≡ [] → AllAwaited new (set_at (reply_name b n) rest x.manager)
+    none_waits : (new : BusState) (rest : List SentPacket) → rest ≡ [] → AllAwaited new (set_at (reply_name b n) rest x.manager)
     none_waits new rest empty =
         at_tag_alone b.controller false (λ tag taken. IsAwaited new taken) (tag_of b.first n) rest x.manager
-        (λ t is. absurd (subst (λ (l : List Sent). In t l) empty is))
+        (λ t is. absurd (subst (λ (l : List SentPacket). In t l) empty is))
         (λ tag differs t is. absurd (differs (sym ((ok.manager tag).tags t is) ∙ ap (tag_of b.first) ((ok.awaited tag t is).0 ∙ sym is_open_one.0))))
 
-    whole_returns_keeps : (st : Step) (rest : List Sent) → WholeIs reply st → (IsWhole st → rest ≡ []) → IsAwaited x.bus rest → Returned (Reply number (Some reply)) (whole_reply number st) x.bus (whole_returns rules number st x.bus) (reply_name b n) rest x.manager
+    whole_returns_keeps : (st : Step) (rest : List SentPacket) → WholeIs reply st → (IsWhole st → rest ≡ []) → IsAwaited x.bus rest → Returned (Reply number (Some reply)) (whole_reply number st) x.bus (whole_returns rules number st x.bus) (reply_name b n) rest x.manager
     whole_returns_keeps Waits rest is empty all = record { holds = ok.holds; shows = ok.shows; grows = stays x.bus; awaited = still_awaited rest all; effect = manager_still rules (Reply number (Some reply)) x.bus }
     whole_returns_keeps Drops rest is empty all = record { holds = ok.holds; shows = ok.shows; grows = stays x.bus; awaited = still_awaited rest all; effect = manager_still rules (Reply number (Some reply)) x.bus }
     whole_returns_keeps (Whole ss) rest is empty all =
@@ -225,7 +225,7 @@ module _ (b : PacketBus) (cutting : IsCutting b.split) (before : List Entry) whe
         }
 
   -- a packet reaches the manager
-  manager_step : (x : Ends) → EndsHold x → (n idles number : ℕ) (reply : List ℕ) (place : ℕ) (o : Option Packet) → slice_get (b.split reply) place ≡ o → length x.bus.begun ≤ n + 8 → Fits rules x.bus.begun x.bus.carried n (Reply number (Some reply))
+  manager_step : (x : BusEnds) → EndsHold x → (n idles number : ℕ) (reply : List ℕ) (place : ℕ) (o : Option Packet) → slice_get (b.split reply) place ≡ o → length x.bus.begun ≤ n + 8 → Fits rules x.bus.begun x.bus.carried n (Reply number (Some reply))
       → (n ≡ length x.bus.taken) × (length x.bus.taken < length x.bus.begun) → EndsHold (manager_takes b number n idles o x) × ManagerEffect rules (Reply number (Some reply)) (whole_reply number (step_of x.manager (reply_name b n) n idles o)) x.bus (manager_takes b number n idles o x).bus
   manager_step x ok n idles number reply place None e live fits awaited = (ok, manager_still rules (Reply number (Some reply)) x.bus)
   manager_step x ok n idles number reply place (Some p) e live fits awaited =
@@ -233,13 +233,13 @@ module _ (b : PacketBus) (cutting : IsCutting b.split) (before : List Entry) whe
       let below = ok.holds.sound.below in let one_open = ok.holds.sound.one_open in
       let bound : (n : ℕ) (bytes : List ℕ) → kept_at x.bus n ≡ Some bytes → n < length x.bus.begun =
       (λ n bytes e. let within = reply_within x.bus.carried n bytes (slice_get x.bus.carried n) refl e in omega arith) in
-      let s : Sent = record { request = n; idles = idles; packet = p } in
+      let s : SentPacket = record { request = n; idles = idles; packet = p } in
       let taken = x.manager (reply_name b n) in
-      let recent : IsWhole (takes taken s).0 → (t : Sent) → In t (waiting taken s) → length x.bus.begun ≤ t.request + 8 =
+      let recent : IsWhole (takes taken s).0 → (t : SentPacket) → In t (waiting taken s) → length x.bus.begun ≤ t.request + 8 =
       (λ _ t is. let at_open = (ok.awaited (tag_of b.first n) t (in_waiting taken s t is)).0 in omega arith) in
       let r = assembly_step b.first b.split cutting (kept_at x.bus) (length x.bus.begun) bound taken s reply (ok.manager (tag_of b.first n)) at (in_slice (b.split reply) place p e) live recent in
       let rest_awaited : IsAwaited x.bus (takes taken s).1 =
-      (λ t is. elim (in_rest taken s t is) [ inl old ↦ ok.awaited (tag_of b.first n) t old | inr e ↦ subst (λ (t : Sent). (t.request ≡ length x.bus.taken) × (length x.bus.taken < length x.bus.begun)) e awaited ]) in
+      (λ t is. elim (in_rest taken s t is) [ inl old ↦ ok.awaited (tag_of b.first n) t old | inr e ↦ subst (λ (t : SentPacket). (t.request ≡ length x.bus.taken) × (length x.bus.taken < length x.bus.begun)) e awaited ]) in
       let new = whole_returns rules number (takes taken s).0 x.bus in
       let w = whole_returns_keeps x ok n number reply live fits awaited (takes taken s).0 (takes taken s).1 r.0 (takes_whole taken s) rest_awaited in (
         record {
@@ -253,7 +253,7 @@ module _ (b : PacketBus) (cutting : IsCutting b.split) (before : List Entry) whe
         w.effect,
       )
 
-  busy_step : (x : Ends) → EndsHold x → (n : ℕ) → EndsHold (record x { manager = set_at (reply_name b n) [] x.manager })
+  busy_step : (x : BusEnds) → EndsHold x → (n : ℕ) → EndsHold (record x { manager = set_at (reply_name b n) [] x.manager })
   busy_step x ok n = record {
     holds = ok.holds;
     shows = ok.shows;
@@ -262,7 +262,7 @@ module _ (b : PacketBus) (cutting : IsCutting b.split) (before : List Entry) whe
     awaited = at_empty b.controller false (λ tag taken. IsAwaited x.bus taken) (reply_name b n) x.manager (λ tag t is. absurd is) ok.awaited;
   }
 
-  reply_step : (x : Ends) → EndsHold x → (place n idles : ℕ) (content : Content) → length x.bus.begun ≤ n + 8 → Fits rules x.bus.begun x.bus.carried n content
+  reply_step : (x : BusEnds) → EndsHold x → (place n idles : ℕ) (content : Content) → length x.bus.begun ≤ n + 8 → Fits rules x.bus.begun x.bus.carried n content
       → EndsHold (packet_returns b place n idles content x) × ManagerEffect rules content (completed_reply b x place n idles content) x.bus (packet_returns b place n idles content x).bus
   reply_step x ok place n idles (Ask bytes) live fits = (ok, manager_still rules (Ask bytes) x.bus)
   reply_step x ok place n idles (Reply number None) live fits =
@@ -281,12 +281,12 @@ module _ (b : PacketBus) (cutting : IsCutting b.split) (before : List Entry) whe
         | inr f ↦ subst Does (sym f) (ok, manager_still rules content x.bus)
       ]
 
-  frame_at_manager : (x : Ends) → EndsHold x → (which place : ℕ) (o : Option Frame) → slice_get x.bus.frames which ≡ o → IfSome o (IsLive rules x.bus)
+  frame_at_manager : (x : BusEnds) → EndsHold x → (which place : ℕ) (o : Option Frame) → slice_get x.bus.frames which ≡ o → IfSome o (IsLive rules x.bus)
       → EndsHold (packet_at_manager b place o x) × FrameAtManager b x place (packet_at_manager b place o x).bus o
   frame_at_manager x ok which place None e live = (ok, same_requests x.bus)
   frame_at_manager x ok which place (Some f) e live = reply_step x ok place f.request f.idles f.content live.0 (ok.holds.sound.frames which f e).fits
 
-  other_step : (x : Ends) → EndsHold x → (name : Name) (packet : Packet) (answer : List ℕ) → (name.source ≡ b.manager → ⊥)
+  other_step : (x : BusEnds) → EndsHold x → (name : Name) (packet : Packet) (answer : List ℕ) → (name.source ≡ b.manager → ⊥)
       → EndsHold (packet_happens b x (OtherPacket name packet answer)) × SameRequests x.bus (packet_happens b x (OtherPacket name packet answer)).bus
   other_step x ok name packet answer other =
       let r = takes (x.port name) (record { request = 0; idles = 0; packet = packet }) in
@@ -298,7 +298,7 @@ module _ (b : PacketBus) (cutting : IsCutting b.split) (before : List Entry) whe
       )
 
   -- what waits at the manager is dropped
-  cleared : (x : Ends) → EndsHold x → EndsHold (record x { manager = λ name. [] })
+  cleared : (x : BusEnds) → EndsHold x → EndsHold (record x { manager = λ name. [] })
   cleared x ok = record {
     holds = ok.holds;
     shows = ok.shows;
@@ -308,7 +308,7 @@ module _ (b : PacketBus) (cutting : IsCutting b.split) (before : List Entry) whe
   }
 
   -- each honest event keeps what holds, and does to the manager's requests what it may
-  pub packet_step : (x : Ends) (e : PacketEvent) → EndsHold x → IsPacketHonest RecentWhereWhole b x e → EndsHold (packet_happens b x e) × HasPacketEffect b x e
+  pub packet_step : (x : BusEnds) (e : PacketEvent) → EndsHold x → IsPacketHonest RecentWhereWhole b x e → EndsHold (packet_happens b x e) × HasPacketEffect b x e
   packet_step x (Plain e) ok honest =
       let new = happens rules x.bus e in
       let w = plain_keeps x.bus ok.holds ok.shows e honest.0 honest.1 in
@@ -317,7 +317,7 @@ module _ (b : PacketBus) (cutting : IsCutting b.split) (before : List Entry) whe
   packet_step x (PacketReachesManager which place) ok honest = frame_at_manager x ok which place _ refl honest
   packet_step x (OtherPacket name packet answer) ok honest = other_step x ok name packet answer honest
   packet_step x (OtherReplyPacket name packet number) ok honest =
-      subst (λ (y : Ends). EndsHold y × SameRequests x.bus y.bus) (sym (packet_ignored b x name packet number honest)) (ok, same_requests x.bus)
+      subst (λ (y : BusEnds). EndsHold y × SameRequests x.bus y.bus) (sym (packet_ignored b x name packet number honest)) (ok, same_requests x.bus)
   packet_step x (Closes name) ok honest = (
     record {
       holds = ok.holds;
@@ -331,16 +331,16 @@ module _ (b : PacketBus) (cutting : IsCutting b.split) (before : List Entry) whe
   packet_step x Clears ok honest = (cleared x ok, same_requests x.bus)
   packet_step x PacketResumes ok honest = (cleared x ok, same_requests x.bus)
 
-  pub packet_run_holds : (events : List PacketEvent) (x : Ends) → EndsHold x → AllPacketHonest RecentWhereWhole b events x → EndsHold (packet_run b events x)
+  pub packet_run_holds : (events : List PacketEvent) (x : BusEnds) → EndsHold x → AllPacketHonest RecentWhereWhole b events x → EndsHold (packet_run b events x)
   packet_run_holds [] x ok honest = ok
   packet_run_holds (e ∷ es) x ok honest = packet_run_holds es (packet_happens b x e) (packet_step x e ok honest.0).0 honest.1
 
 -- a bus of packets with nothing under way, nothing waiting and an empty window
-pub start_ends_hold : (b : PacketBus) (cutting : IsCutting b.split) (x : Ends) → NothingUnderWay x.bus → NothingWaits b x → FreshWindow (rules_of b) x.bus.log → EndsHold b cutting x.bus.log x
+pub start_ends_hold : (b : PacketBus) (cutting : IsCutting b.split) (x : BusEnds) → NothingUnderWay x.bus → NothingWaits b x → FreshWindow (rules_of b) x.bus.log → EndsHold b cutting x.bus.log x
 start_ends_hold b cutting x none waits empty = record {
   holds = start_holds (rules_of b) x.bus none empty;
   shows = start_shows (rules_of b) x.bus.log x.bus none refl;
   port = λ tag. subst (IsAssembly b.first b.split cutting (begun_at x.bus) tag) (sym (waits.port (named b.manager true tag) refl)) (nothing b.first b.split cutting (begun_at x.bus) tag);
   manager = λ tag. subst (IsAssembly b.first b.split cutting (kept_at x.bus) tag) (sym (waits.manager (named b.controller false tag) refl)) (nothing b.first b.split cutting (kept_at x.bus) tag);
-  awaited = λ tag t is. absurd (subst (λ (l : List Sent). In t l) (waits.manager (named b.controller false tag) refl) is);
+  awaited = λ tag t is. absurd (subst (λ (l : List SentPacket). In t l) (waits.manager (named b.controller false tag) refl) is);
 }

@@ -5,8 +5,8 @@ use Rattle.model_bus.specs.Numbering.{Rules}
 use Rattle.model_bus.specs.BusState.{BusState, Frame, Content, Ask, Reply}
 use Rattle.model_bus.specs.Schedule.{IsLive}
 use Rattle.model_bus.specs.Packet.{Packet}
-use Rattle.model_bus.specs.Assembly.{Sent, Step, Waits, Whole, Drops, IsWhole, IsJoined, takes}
-use Rattle.model_bus.specs.PacketBus.{PacketBus, rules_of, request_name, Ends, PacketEvent, Plain, PacketReachesPort, PacketReachesManager, OtherPacket, OtherReplyPacket, Closes, Clears, PacketResumes, packet_happens, packet_run}
+use Rattle.model_bus.specs.Assembly.{SentPacket, Step, Waits, Whole, Drops, IsWhole, IsJoined, takes}
+use Rattle.model_bus.specs.PacketBus.{PacketBus, rules_of, request_name, BusEnds, PacketEvent, Plain, PacketReachesPort, PacketReachesManager, OtherPacket, OtherReplyPacket, Closes, Clears, PacketResumes, packet_happens, packet_run}
 use Rattle.model_bus.specs.PacketSchedule.{JoinRule, LiveWhereJoined, OneRequestWhereJoined, RecentWhereWhole, MayJoin, PacketMayJoin, JoinsAtPort, IsPacketHonest, AllPacketHonest, AlwaysAtMostOnceInPackets, RuleImplies, NoneOpenIsPacketHonest}
 use Rattle.model_bus.specs.PacketEffect.{EventsHavePacketEffects}
 use Rattle.model_bus.proofs.WholeMessages.{at_most_once_from, none_open}
@@ -20,7 +20,7 @@ whole_joined Drops whole = whole
 
 -- a rule that asks no less of a packet of a recent request than that what waits is recent where it completes a message
 abbrev pub AsksNoLess : JoinRule → Type 0
-AsksNoLess rule = (b : Rules) (s : BusState) (taken : List Sent) (p : Sent) → length s.begun ≤ p.request + b.span → MayJoin rule b s taken p → MayJoin RecentWhereWhole b s taken p
+AsksNoLess rule = (b : Rules) (s : BusState) (taken : List SentPacket) (p : SentPacket) → length s.begun ≤ p.request + b.span → MayJoin rule b s taken p → MayJoin RecentWhereWhole b s taken p
 
 pub recent_itself : AsksNoLess RecentWhereWhole
 recent_itself b s taken p live joins = joins
@@ -34,20 +34,20 @@ one_is_recent b s taken p live joins whole t is =
     subst (λ (n : ℕ). length s.begun ≤ n + b.span) (sym same) live
 
 module _ (rule : JoinRule) (asks : AsksNoLess rule) (b : PacketBus) where
-  packet_implies : (s : BusState) (taken : List Sent) (n idles : ℕ) (o : Option Packet) → length s.begun ≤ n + (rules_of b).span → PacketMayJoin rule (rules_of b) s taken n idles o → PacketMayJoin RecentWhereWhole (rules_of b) s taken n idles o
+  packet_implies : (s : BusState) (taken : List SentPacket) (n idles : ℕ) (o : Option Packet) → length s.begun ≤ n + (rules_of b).span → PacketMayJoin rule (rules_of b) s taken n idles o → PacketMayJoin RecentWhereWhole (rules_of b) s taken n idles o
   packet_implies s taken n idles None live joins = joins
   packet_implies s taken n idles (Some p) live joins = asks (rules_of b) s taken (record { request = n; idles = idles; packet = p }) live joins
 
-  content_implies : (x : Ends) (place n idles : ℕ) (c : Content) → length x.bus.begun ≤ n + (rules_of b).span → JoinsAtPort rule b x place n idles c → JoinsAtPort RecentWhereWhole b x place n idles c
+  content_implies : (x : BusEnds) (place n idles : ℕ) (c : Content) → length x.bus.begun ≤ n + (rules_of b).span → JoinsAtPort rule b x place n idles c → JoinsAtPort RecentWhereWhole b x place n idles c
   content_implies x place n idles (Ask bytes) live joins = packet_implies x.bus (x.port (request_name b n)) n idles (slice_get (b.split bytes) place) live joins
   content_implies x place n idles (Reply number reply) live joins = joins
 
-  frame_implies : (x : Ends) (place : ℕ) (o : Option Frame) → IfSome o (λ f. IsLive (rules_of b) x.bus f × JoinsAtPort rule b x place f.request f.idles f.content)
+  frame_implies : (x : BusEnds) (place : ℕ) (o : Option Frame) → IfSome o (λ f. IsLive (rules_of b) x.bus f × JoinsAtPort rule b x place f.request f.idles f.content)
       → IfSome o (λ f. IsLive (rules_of b) x.bus f × JoinsAtPort RecentWhereWhole b x place f.request f.idles f.content)
   frame_implies x place None honest = honest
   frame_implies x place (Some f) honest = (honest.0, content_implies x place f.request f.idles f.content honest.0.0 honest.1)
 
-  pub event_implies : (x : Ends) (e : PacketEvent) → IsPacketHonest rule b x e → IsPacketHonest RecentWhereWhole b x e
+  pub event_implies : (x : BusEnds) (e : PacketEvent) → IsPacketHonest rule b x e → IsPacketHonest RecentWhereWhole b x e
   event_implies x (Plain e) honest = honest
   event_implies x (PacketReachesPort which place answer) honest = frame_implies x place (slice_get x.bus.frames which) honest
   event_implies x (PacketReachesManager which place) honest = honest
@@ -57,7 +57,7 @@ module _ (rule : JoinRule) (asks : AsksNoLess rule) (b : PacketBus) where
   event_implies x Clears honest = honest
   event_implies x PacketResumes honest = honest
 
-  pub all_imply : (events : List PacketEvent) (x : Ends) → AllPacketHonest rule b events x → AllPacketHonest RecentWhereWhole b events x
+  pub all_imply : (events : List PacketEvent) (x : BusEnds) → AllPacketHonest rule b events x → AllPacketHonest RecentWhereWhole b events x
   all_imply [] x honest = honest
   all_imply (e ∷ es) x honest = (event_implies x e honest.0, all_imply es (packet_happens b x e) honest.1)
 
@@ -65,12 +65,12 @@ pub implies : (rule : JoinRule) → AsksNoLess rule → RuleImplies rule RecentW
 implies rule asks b events x honest = all_imply rule asks b events x honest
 
 -- a prefix of an honest schedule is honest
-pub packet_prefix : (rule : JoinRule) (b : PacketBus) (events later : List PacketEvent) (x : Ends) → AllPacketHonest rule b (events ++ later) x → AllPacketHonest rule b events x
+pub packet_prefix : (rule : JoinRule) (b : PacketBus) (events later : List PacketEvent) (x : BusEnds) → AllPacketHonest rule b (events ++ later) x → AllPacketHonest rule b events x
 packet_prefix rule b [] later x honest = tt
 packet_prefix rule b (e ∷ es) later x honest = (honest.0, packet_prefix rule b es later (packet_happens b x e) honest.1)
 
 -- and so is the rest, after it
-pub packet_rest : (rule : JoinRule) (b : PacketBus) (events later : List PacketEvent) (x : Ends) → AllPacketHonest rule b (events ++ later) x → AllPacketHonest rule b later (packet_run b events x)
+pub packet_rest : (rule : JoinRule) (b : PacketBus) (events later : List PacketEvent) (x : BusEnds) → AllPacketHonest rule b (events ++ later) x → AllPacketHonest rule b later (packet_run b events x)
 packet_rest rule b [] later x honest = honest
 packet_rest rule b (e ∷ es) later x honest = packet_rest rule b es later (packet_happens b x e) honest.1
 

@@ -8,10 +8,10 @@ use Rattle.model_bus.specs.Numbering.{Rules, ipmb, smbus, tag_of}
 use Rattle.model_bus.specs.BusState.{BusState, Frame, Content, Ask, Reply, Event, Begins, SendsAgain, ReachesPort, ReachesManager, OtherAsks, OtherReplies, IsIdle, Resumes, is_open, begins, sends_again, comes, at_port, taken_content, taken_now, taken_from, takes_if, happens, run}
 use Rattle.model_bus.specs.Repeat.{In}
 use Rattle.model_bus.specs.Packet.{Packet}
-use Rattle.model_bus.specs.Assembly.{is_name, Sent, Step, Waits, Whole, Drops, takes, message_of}
-use Rattle.model_bus.specs.PacketBus.{PacketBus, rules_of, request_name, reply_name, Ends, PacketEvent, Plain, PacketReachesPort, PacketReachesManager, OtherPacket, OtherReplyPacket, Closes, Clears, PacketResumes, set_at, is_awaited, whole_comes, whole_returns, other_request, hears_other, port_takes, manager_takes, packet_comes, packet_returns, packet_at_port, packet_at_manager, packet_happens, packet_run}
+use Rattle.model_bus.specs.Assembly.{is_name, SentPacket, Step, Waits, Whole, Drops, takes, message_of}
+use Rattle.model_bus.specs.PacketBus.{PacketBus, rules_of, request_name, reply_name, BusEnds, PacketEvent, Plain, PacketReachesPort, PacketReachesManager, OtherPacket, OtherReplyPacket, Closes, Clears, PacketResumes, set_at, is_awaited, whole_comes, whole_returns, other_request, hears_other, port_takes, manager_takes, packet_comes, packet_returns, packet_at_port, packet_at_manager, packet_happens, packet_run}
 use Rattle.model_bus.specs.PacketSchedule.{JoinRule}
-use Rattle.model_bus.specs.Resume.{known_since, ActsAs, GoesOn, GoesOnInPackets, TagsGoOn, NothingWaitsWhereClosed}
+use Rattle.model_bus.specs.Resume.{known_since, ActsAs, ResumedGoesOn, GoesOnInPackets, TagsGoOn, NothingWaitsWhereClosed}
 use Rattle.model_bus.proofs.Lists.{length_more}
 use Rattle.model_bus.proofs.NumberLaws.{IsNumbering, ipmb_numbers, smbus_numbers}
 use Rattle.model_bus.proofs.Steps.{Holds, start_holds, run_holds}
@@ -135,7 +135,7 @@ closed_lengths b s h closed =
     let none : length s.begun ≤ length s.taken = ltb-false _ _ closed in
     omega arith
 
-goes_on : (bus : ℕ → Rules) → NumbersGoOn bus → ((first : ℕ) → IsNumbering (bus first)) → GoesOn bus
+goes_on : (bus : ℕ → Rules) → NumbersGoOn bus → ((first : ℕ) → IsNumbering (bus first)) → ResumedGoesOn bus
 goes_on bus go_on numbers first start events later none empty honest =
     let b = bus first in
     let old = run b events start in
@@ -143,41 +143,41 @@ goes_on bus go_on numbers first start events later none empty honest =
     let closed = closed_lengths b old holds (honest_rest b events (Resumes ∷ later) start honest).0 in
     acts_as bus go_on first old (run b later old) closed (run_longer b later old)
 
-pub ipmb_resumes : (manager controller : ℕ) → GoesOn (ipmb manager controller)
+pub ipmb_resumes : (manager controller : ℕ) → ResumedGoesOn (ipmb manager controller)
 ipmb_resumes manager controller = goes_on (ipmb manager controller) (ipmb_goes_on manager controller) (ipmb_numbers manager controller)
 
-pub smbus_resumes : (manager controller : ℕ) → GoesOn (smbus manager controller)
+pub smbus_resumes : (manager controller : ℕ) → ResumedGoesOn (smbus manager controller)
 smbus_resumes manager controller = goes_on (smbus manager controller) (smbus_goes_on manager controller) (smbus_numbers manager controller)
 
 module _ (b : PacketBus) where
   abbrev rules : Rules
   rules = rules_of b
 
-  port_longer : (answer : List ℕ) (n idles : ℕ) (o : Option Packet) (x : Ends) → Longer x.bus (port_takes b answer n idles o x).bus
+  port_longer : (answer : List ℕ) (n idles : ℕ) (o : Option Packet) (x : BusEnds) → Longer x.bus (port_takes b answer n idles o x).bus
   port_longer answer n idles None x = stays_long x.bus
   port_longer answer n idles (Some p) x = whole_comes_longer rules answer n (takes (x.port (request_name b n)) (record { request = n; idles = idles; packet = p })).0 x.bus
 
-  manager_longer : (number n idles : ℕ) (o : Option Packet) (x : Ends) → Longer x.bus (manager_takes b number n idles o x).bus
+  manager_longer : (number n idles : ℕ) (o : Option Packet) (x : BusEnds) → Longer x.bus (manager_takes b number n idles o x).bus
   manager_longer number n idles None x = stays_long x.bus
   manager_longer number n idles (Some p) x = whole_returns_longer rules number (takes (x.manager (reply_name b n)) (record { request = n; idles = idles; packet = p })).0 x.bus
 
-  packet_comes_longer : (answer : List ℕ) (place n idles : ℕ) (c : Content) (x : Ends) → Longer x.bus (packet_comes b answer place n idles c x).bus
+  packet_comes_longer : (answer : List ℕ) (place n idles : ℕ) (c : Content) (x : BusEnds) → Longer x.bus (packet_comes b answer place n idles c x).bus
   packet_comes_longer answer place n idles (Ask bytes) x = port_longer answer n idles (slice_get (b.split bytes) place) x
   packet_comes_longer answer place n idles (Reply number reply) x = stays_long x.bus
 
-  packet_returns_longer : (place n idles : ℕ) (c : Content) (x : Ends) → Longer x.bus (packet_returns b place n idles c x).bus
+  packet_returns_longer : (place n idles : ℕ) (c : Content) (x : BusEnds) → Longer x.bus (packet_returns b place n idles c x).bus
   packet_returns_longer place n idles (Ask bytes) x = stays_long x.bus
   packet_returns_longer place n idles (Reply number None) x =
-      cond_both (is_awaited b n x.bus) (record x { manager = set_at (reply_name b n) [] x.manager }) x (λ (y : Ends). Longer x.bus y.bus) (λ _. stays_long x.bus) (λ _. stays_long x.bus)
+      cond_both (is_awaited b n x.bus) (record x { manager = set_at (reply_name b n) [] x.manager }) x (λ (y : BusEnds). Longer x.bus y.bus) (λ _. stays_long x.bus) (λ _. stays_long x.bus)
   packet_returns_longer place n idles (Reply number (Some reply)) x =
       let o = slice_get (b.split reply) place in
-      cond_both (is_awaited b n x.bus) (manager_takes b number n idles o x) x (λ (y : Ends). Longer x.bus y.bus) (λ _. manager_longer number n idles o x) (λ _. stays_long x.bus)
+      cond_both (is_awaited b n x.bus) (manager_takes b number n idles o x) x (λ (y : BusEnds). Longer x.bus y.bus) (λ _. manager_longer number n idles o x) (λ _. stays_long x.bus)
 
-  packet_at_port_longer : (answer : List ℕ) (place : ℕ) (o : Option Frame) (x : Ends) → Longer x.bus (packet_at_port b answer place o x).bus
+  packet_at_port_longer : (answer : List ℕ) (place : ℕ) (o : Option Frame) (x : BusEnds) → Longer x.bus (packet_at_port b answer place o x).bus
   packet_at_port_longer answer place None x = stays_long x.bus
   packet_at_port_longer answer place (Some f) x = packet_comes_longer answer place f.request f.idles f.content x
 
-  packet_at_manager_longer : (place : ℕ) (o : Option Frame) (x : Ends) → Longer x.bus (packet_at_manager b place o x).bus
+  packet_at_manager_longer : (place : ℕ) (o : Option Frame) (x : BusEnds) → Longer x.bus (packet_at_manager b place o x).bus
   packet_at_manager_longer place None x = stays_long x.bus
   packet_at_manager_longer place (Some f) x = packet_returns_longer place f.request f.idles f.content x
 
@@ -185,20 +185,20 @@ module _ (b : PacketBus) where
   other_longer answer None s = stays_long s
   other_longer answer (Some r) s = stays_long s
 
-  packet_longer : (x : Ends) (e : PacketEvent) → Longer x.bus (packet_happens b x e).bus
+  packet_longer : (x : BusEnds) (e : PacketEvent) → Longer x.bus (packet_happens b x e).bus
   packet_longer x (Plain e) = happens_longer rules x.bus e
   packet_longer x (PacketReachesPort which place answer) = packet_at_port_longer answer place (slice_get x.bus.frames which) x
   packet_longer x (PacketReachesManager which place) = packet_at_manager_longer place (slice_get x.bus.frames which) x
   packet_longer x (OtherPacket name packet answer) = other_longer answer (other_request name (takes (x.port name) (record { request = 0; idles = 0; packet = packet })).0) x.bus
   packet_longer x (OtherReplyPacket name packet number) =
       let n = length x.bus.taken in
-      cond_both (is_open x.bus && is_name name (reply_name b n)) (manager_takes b number n 0 (Some packet) x) x (λ (y : Ends). Longer x.bus y.bus)
+      cond_both (is_open x.bus && is_name name (reply_name b n)) (manager_takes b number n 0 (Some packet) x) x (λ (y : BusEnds). Longer x.bus y.bus)
       (λ _. manager_longer number n 0 (Some packet) x) (λ _. stays_long x.bus)
   packet_longer x (Closes name) = stays_long x.bus
   packet_longer x Clears = stays_long x.bus
   packet_longer x PacketResumes = stays_long x.bus
 
-  pub packets_longer : (events : List PacketEvent) (x : Ends) → Longer x.bus (packet_run b events x).bus
+  pub packets_longer : (events : List PacketEvent) (x : BusEnds) → Longer x.bus (packet_run b events x).bus
   packets_longer [] x = stays_long x.bus
   packets_longer (e ∷ es) x = still_longer x.bus (packet_happens b x e).bus (packet_run b es (packet_happens b x e)).bus (packet_longer x e) (packets_longer es (packet_happens b x e))
 
@@ -210,7 +210,7 @@ packets_resume rule asks b cutting start events later none waits empty honest =
     let closed = closed_lengths (rules_of b) old.bus ok.holds (packet_rest rule b events (PacketResumes ∷ later) start honest).0 in
     acts_as (smbus b.manager b.controller) (smbus_goes_on b.manager b.controller) b.first old.bus (packet_run b (PacketResumes ∷ later) old).bus closed (packets_longer b (PacketResumes ∷ later) old)
 
-no_members : (ts : List Sent) → ((t : Sent) → In t ts → ⊥) → ts ≡ []
+no_members : (ts : List SentPacket) → ((t : SentPacket) → In t ts → ⊥) → ts ≡ []
 no_members [] none = refl
 no_members (t ∷ ts) none = absurd (none t (inl refl))
 

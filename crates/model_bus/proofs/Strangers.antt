@@ -9,7 +9,7 @@ use Rattle.model_bus.specs.BusState.{BusState, Reply, OtherAsks, is_open, taken_
 use Rattle.model_bus.specs.Bytes.{PldmHeader, pldm_request, request_in, SpellsRequest, ReadsRequests}
 use Rattle.model_bus.specs.Packet.{Packet}
 use Rattle.model_bus.specs.Assembly.{Name, is_name, Step, Waits, Whole, Drops, takes, message_of}
-use Rattle.model_bus.specs.PacketBus.{PacketBus, rules_of, reply_name, Ends, manager_takes, other_returns, other_request, hears_other}
+use Rattle.model_bus.specs.PacketBus.{PacketBus, rules_of, reply_name, BusEnds, manager_takes, other_returns, other_request, hears_other}
 use Rattle.model_bus.specs.PacketEffect.{OthersAsk}
 
 none_from : (b : Rules) (source number : ℕ) (reply : List ℕ) (s : BusState) → (source ≡ b.controller → ⊥) → taken_from b source number reply s ≡ None
@@ -19,7 +19,7 @@ none_from b source number reply s other =
 pub ignored : (b : Rules) (source number : ℕ) (reply : List ℕ) (s : BusState) → (source ≡ b.controller → ⊥) → takes_if (taken_from b source number reply s) s ≡ s
 ignored b source number reply s other = ap (λ (o : Option (List ℕ)). takes_if o s) (none_from b source number reply s other)
 
-pub packet_ignored : (b : PacketBus) (x : Ends) (name : Name) (packet : Packet) (number : ℕ) → (name.source ≡ b.controller → ⊥) → other_returns b name packet number x ≡ x
+pub packet_ignored : (b : PacketBus) (x : BusEnds) (name : Name) (packet : Packet) (number : ℕ) → (name.source ≡ b.controller → ⊥) → other_returns b name packet number x ≡ x
 packet_ignored b x name packet number other =
     cond_both (is_open x.bus && is_name name (reply_name b (length x.bus.taken))) (manager_takes b number (length x.bus.taken) 0 (Some packet) x) x (λ y. y ≡ x)
     (λ t. absurd (other (eqb-true _ _ (and_parts _ _ (and_parts _ _ (and_parts _ _ t).1).0).0))) (λ _. refl)

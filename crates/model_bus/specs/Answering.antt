@@ -7,7 +7,7 @@ use Rattle.model_bus.specs.BusState.{BusState, Frame, Content, Ask, Reply, Event
 use Rattle.model_bus.specs.Schedule.{IsLive, AllHonest}
 use Rattle.model_bus.specs.Start.{NothingUnderWay, FreshWindow, NothingWaits}
 use Rattle.model_bus.specs.Packet.{IsCutting}
-use Rattle.model_bus.specs.PacketBus.{PacketBus, rules_of, Ends, PacketEvent, packet_run}
+use Rattle.model_bus.specs.PacketBus.{PacketBus, rules_of, BusEnds, PacketEvent, packet_run}
 use Rattle.model_bus.specs.PacketSchedule.{JoinRule, AllPacketHonest}
 use Rattle.model_bus.specs.Bytes.{is_busy_code, IsRequestOn, IsReplyOn, answers}
 
@@ -35,7 +35,7 @@ TestIsModel on rules = (start : BusState) (events : List Event) → NothingUnder
 
 -- so it is at every event of every schedule of packets that is honest by the rule
 abbrev pub TestIsModelInPackets : Bus → JoinRule → Type 0
-TestIsModelInPackets on rule = (bus : PacketBus) → IsCutting bus.split → (start : Ends) (events : List PacketEvent)
+TestIsModelInPackets on rule = (bus : PacketBus) → IsCutting bus.split → (start : BusEnds) (events : List PacketEvent)
     → NothingUnderWay start.bus → NothingWaits bus start → FreshWindow (rules_of bus) start.bus.log
     → AllPacketHonest rule bus events start → AreWritten on (rules_of bus) (packet_run bus events start).bus → TestsAgree on (rules_of bus) (packet_run bus events start).bus
 

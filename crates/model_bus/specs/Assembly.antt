@@ -13,7 +13,7 @@ abbrev pub is_name : Name → Name → Bool
 is_name name other = ((name.source == other.source) && (if name.owner then other.owner else not other.owner)) && (name.tag == other.tag)
 
 -- a packet that was sent: with the request whose message, or reply, it is a part of, and the idles of its frame
-pub record Sent : Type 0 where
+pub record SentPacket : Type 0 where
   pub request : ℕ
   pub idles : ℕ
   pub packet : Packet
@@ -23,12 +23,12 @@ pub data Step : Type 0 where
   -- it waits in its assembly
   Waits : Step
   -- it ends one: these are the packets, in order
-  Whole : List Sent → Step
+  Whole : List SentPacket → Step
   Drops : Step
 
 -- What an end does with a packet, and which packets wait then under its name. It drops the packet and all that wait where four wait, where the
 -- packet's sequence isn't its place, or where the packet isn't the end and hasn't `unit_size` bytes.
-abbrev pub joined : List Sent → Sent → Step × List Sent
+abbrev pub joined : List SentPacket → SentPacket → Step × List SentPacket
 joined taken sent =
     if nat_lt 3 (length taken) || not (sent.packet.sequence == length taken) then (Drops, [])
     else if sent.packet.last then (Whole (taken ++ sent ∷ []), [])
@@ -36,12 +36,12 @@ joined taken sent =
     else (Waits, taken ++ sent ∷ [])
 
 -- a start opens an assembly anew; any other packet needs an open assembly, and is dropped where none is open
-abbrev pub takes : List Sent → Sent → Step × List Sent
+abbrev pub takes : List SentPacket → SentPacket → Step × List SentPacket
 takes [] sent = if sent.packet.first then joined [] sent else (Drops, [])
 takes (sent ∷ sents) sending = if sending.packet.first then joined [] sending else joined (sent ∷ sents) sending
 
 -- the packets that a packet is joined to, if the packet is taken
-abbrev pub waiting : List Sent → Sent → List Sent
+abbrev pub waiting : List SentPacket → SentPacket → List SentPacket
 waiting taken sent = if sent.packet.first then [] else taken
 
 -- a message is complete
@@ -57,11 +57,11 @@ IsJoined Waits = Unit {0}
 IsJoined Drops = ⊥
 
 -- the request of the first packet, in which a message's number stands, or `request` where there is no packet
-abbrev pub first_request : ℕ → List Sent → ℕ
+abbrev pub first_request : ℕ → List SentPacket → ℕ
 first_request request [] = request
 first_request request (sent ∷ sents) = sent.request
 
 -- the bytes of packets, joined
-abbrev pub message_of : List Sent → List ℕ
+abbrev pub message_of : List SentPacket → List ℕ
 message_of [] = []
 message_of (sent ∷ sents) = sent.packet.payload ++ message_of sents

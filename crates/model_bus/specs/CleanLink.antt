@@ -7,8 +7,8 @@ use Rattle.model_bus.specs.Schedule.{AllHonest}
 use Rattle.model_bus.specs.Start.{NothingUnderWay, FreshWindow, NothingWaits}
 use Rattle.model_bus.specs.Effect.{IsKeptFor}
 use Rattle.model_bus.specs.Packet.{Packet, IsCut, IsCutting}
-use Rattle.model_bus.specs.Assembly.{Sent, Waits, Whole, takes, message_of}
-use Rattle.model_bus.specs.PacketBus.{PacketBus, rules_of, Ends, PacketEvent, packet_run}
+use Rattle.model_bus.specs.Assembly.{SentPacket, Waits, Whole, takes, message_of}
+use Rattle.model_bus.specs.PacketBus.{PacketBus, rules_of, BusEnds, PacketEvent, packet_run}
 use Rattle.model_bus.specs.PacketSchedule.{JoinRule, AllPacketHonest}
 
 -- what becomes of the open request's frames
@@ -27,21 +27,21 @@ OpenGoesThrough rules = (start : BusState) (events : List Event) → NothingUnde
 
 -- and in packets, by the rule
 abbrev pub OpenGoesThroughInPackets : JoinRule → Type 0
-OpenGoesThroughInPackets rule = (bus : PacketBus) → IsCutting bus.split → (start : Ends) (events : List PacketEvent)
+OpenGoesThroughInPackets rule = (bus : PacketBus) → IsCutting bus.split → (start : BusEnds) (events : List PacketEvent)
     → NothingUnderWay start.bus → NothingWaits bus start → FreshWindow (rules_of bus) start.bus.log
     → AllPacketHonest rule bus events start → GoesThrough (rules_of bus) (packet_run bus events start).bus
 
 -- packets as they are sent in a frame of this request
-abbrev pub sent_in : ℕ → ℕ → List Packet → List Sent
+abbrev pub sent_in : ℕ → ℕ → List Packet → List SentPacket
 sent_in request idles ps = map (λ (packet : Packet). record { request = request; idles = idles; packet = packet }) ps
 
 -- packets that come one after another to what was taken: each waits, but the last, which completes these
-abbrev pub Completes : List Sent → List Sent → List Sent → Type 0
-Completes whole taken [] = ⊥
-Completes whole taken (sent ∷ []) = takes taken sent ≡ (Whole whole, [])
-Completes whole taken (sent ∷ sending ∷ sents) = ((takes taken sent).0 ≡ Waits) × Completes whole (takes taken sent).1 (sending ∷ sents)
+abbrev pub CompletesMessage : List SentPacket → List SentPacket → List SentPacket → Type 0
+CompletesMessage whole taken [] = ⊥
+CompletesMessage whole taken (sent ∷ []) = takes taken sent ≡ (Whole whole, [])
+CompletesMessage whole taken (sent ∷ sending ∷ sents) = ((takes taken sent).0 ≡ Waits) × CompletesMessage whole (takes taken sent).1 (sending ∷ sents)
 
 -- the packets of a cut, one after another, are the message, whatever waited before
 abbrev pub CutIsWhole : Type 0
-CutIsWhole = (n idles : ℕ) (ps : List Packet) (bytes : List ℕ) (taken : List Sent) → IsCut ps bytes
-    → Completes (sent_in n idles ps) taken (sent_in n idles ps) × (message_of (sent_in n idles ps) ≡ bytes)
+CutIsWhole = (n idles : ℕ) (ps : List Packet) (bytes : List ℕ) (taken : List SentPacket) → IsCut ps bytes
+    → CompletesMessage (sent_in n idles ps) taken (sent_in n idles ps) × (message_of (sent_in n idles ps) ≡ bytes)

@@ -19,14 +19,14 @@ pub record SameRequests (old new : BusState) : Type 0 where
   pub taken : new.taken ≡ old.taken
 
 -- a request is begun, and none was open
-pub record IsBegun (old new : BusState) (bytes : List ℕ) : Type 0 where
+pub record BeginsRequest (old new : BusState) (bytes : List ℕ) : Type 0 where
   pub begun : new.begun ≡ old.begun ++ bytes ∷ []
   pub carried : new.carried ≡ old.carried
   pub taken : new.taken ≡ old.taken
   pub none_open : length old.taken ≡ length old.begun
 
 -- the open request is carried out, for the first time, and its reply is kept
-pub record IsCarried (old new : BusState) (bytes reply : List ℕ) : Type 0 where
+pub record CarriesOpen (old new : BusState) (bytes reply : List ℕ) : Type 0 where
   pub begun : new.begun ≡ old.begun
   pub taken : new.taken ≡ old.taken
   pub opened : slice_get old.begun (length old.taken) ≡ Some bytes
@@ -35,7 +35,7 @@ pub record IsCarried (old new : BusState) (bytes reply : List ℕ) : Type 0 wher
   pub kept : IsKeptFor new.carried (length old.taken) reply
 
 -- the open request's reply is taken, which is the one that is kept for it
-pub record IsTaken (old new : BusState) (reply : List ℕ) : Type 0 where
+pub record TakesReply (old new : BusState) (reply : List ℕ) : Type 0 where
   pub begun : new.begun ≡ old.begun
   pub carried : new.carried ≡ old.carried
   pub taken : new.taken ≡ old.taken ++ reply ∷ []
@@ -44,14 +44,14 @@ pub record IsTaken (old new : BusState) (reply : List ℕ) : Type 0 where
 
 -- what each event does
 abbrev pub HasEffect : Rules → BusState → Event → Type 0
-HasEffect rules state (Begins bytes) = MatchBool (is_open state) (SameRequests state (happens rules state (Begins bytes))) (IsBegun state (happens rules state (Begins bytes)) bytes)
+HasEffect rules state (Begins bytes) = MatchBool (is_open state) (SameRequests state (happens rules state (Begins bytes))) (BeginsRequest state (happens rules state (Begins bytes)) bytes)
 HasEffect rules state SendsAgain = SameRequests state (happens rules state SendsAgain)
 HasEffect rules state (ReachesPort which answer) =
     let new = happens rules state (ReachesPort which answer) in
-    MatchOption (carried_now rules (slice_get state.frames which) state) (SameRequests state new) (λ bytes. IsCarried state new bytes answer)
+    MatchOption (carried_now rules (slice_get state.frames which) state) (SameRequests state new) (λ bytes. CarriesOpen state new bytes answer)
 HasEffect rules state (ReachesManager which) =
     let new = happens rules state (ReachesManager which) in
-    MatchOption (taken_now rules (slice_get state.frames which) state) (SameRequests state new) (λ reply. IsTaken state new reply)
+    MatchOption (taken_now rules (slice_get state.frames which) state) (SameRequests state new) (λ reply. TakesReply state new reply)
 HasEffect rules state (OtherAsks request answer) = SameRequests state (happens rules state (OtherAsks request answer))
 HasEffect rules state (OtherReplies source number reply) = SameRequests state (happens rules state (OtherReplies source number reply))
 HasEffect rules state (IsIdle requester) = SameRequests state (happens rules state (IsIdle requester))

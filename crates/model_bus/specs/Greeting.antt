@@ -26,7 +26,7 @@ log_with_all is_above (heard ∷ heards) log = log_with_all is_above heards (log
 
 -- The manager greets a port that did anything before: the first greeting comes and isn't told that the port is busy; then the second
 -- one comes, for the first time since, and isn't told so either. Between the two the port may hear anything else, from anybody.
-pub record Greets (rules : Rules) (first second : Kept) (before : List Entry) (between : List Heard) : Type 0 where
+pub record GreetsPort (rules : Rules) (first second : Kept) (before : List Entry) (between : List Heard) : Type 0 where
   pub first_heard : outcome rules.is_above first.request before ≢ IsBusy
   pub between_them : HearsNot second.request between
   pub second_heard : outcome rules.is_above second.request (log_with_all rules.is_above (HeardRequest first ∷ between) before) ≢ IsBusy
@@ -63,12 +63,12 @@ pub record GreetingForgets (circle : ℕ) (rules : Rules) : Type 0 where
   -- whatever the port did before, the second of two greetings is carried out
   pub carried : (one two answer reply : List ℕ) (before : List Entry) (between : List Heard)
       → let first = greeting rules (circle / 2 - 1) one answer in let second = greeting rules (circle - 1) two reply in
-      Greets rules first second before between
+      GreetsPort rules first second before between
       → outcome rules.is_above second.request (log_with_all rules.is_above (HeardRequest first ∷ between) before) ≡ IsNew
   -- so the manager's window is fresh then
   pub two_freshen : (one two answer reply : List ℕ) (before : List Entry) (between : List Heard)
       → let first = greeting rules (circle / 2 - 1) one answer in let second = greeting rules (circle - 1) two reply in
-      Greets rules first second before between
+      GreetsPort rules first second before between
       → FreshWindow rules (log_with rules.is_above (HeardRequest second) (log_with_all rules.is_above (HeardRequest first ∷ between) before))
   -- and it is after one greeting of the other number, carried out or repeated
   pub one_freshens : (bytes answer : List ℕ) (before : List Entry)

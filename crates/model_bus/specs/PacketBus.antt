@@ -5,7 +5,7 @@ use Rattle.model_bus.specs.Numbering.{Rules, smbus, tag_of}
 use Rattle.model_bus.specs.BusState.{BusState, Frame, Content, Ask, Reply, Event, OtherAsks, Resumes, opening, is_open, request_of, hears, taken_content, takes_if, happens}
 use Rattle.model_bus.specs.Bytes.{request_in}
 use Rattle.model_bus.specs.Packet.{Packet}
-use Rattle.model_bus.specs.Assembly.{Name, is_name, Sent, Step, Waits, Whole, Drops, takes, first_request, message_of}
+use Rattle.model_bus.specs.Assembly.{Name, is_name, SentPacket, Step, Waits, Whole, Drops, takes, first_request, message_of}
 
 -- what the bus fixes: both endpoints, the count from which the manager's requests go on, and how messages are cut
 pub record PacketBus : Type 0 where
@@ -27,10 +27,10 @@ abbrev pub reply_name : PacketBus → ℕ → Name
 reply_name bus request = record { source = bus.controller; owner = false; tag = tag_of bus.first request }
 
 -- the bus in whole messages, and the packets that wait at either end, under each name
-pub record Ends : Type 0 where
+pub record BusEnds : Type 0 where
   pub bus : BusState
-  pub port : Name → List Sent
-  pub manager : Name → List Sent
+  pub port : Name → List SentPacket
+  pub manager : Name → List SentPacket
 
 -- what can happen on the bus in packets; a schedule is a list of these
 pub data PacketEvent : Type 0 where
@@ -52,7 +52,7 @@ pub data PacketEvent : Type 0 where
   PacketResumes : PacketEvent
 
 -- the assemblies with one of them changed
-abbrev pub set_at : Name → List Sent → (Name → List Sent) → Name → List Sent
+abbrev pub set_at : Name → List SentPacket → (Name → List SentPacket) → Name → List SentPacket
 set_at name taken assemblies other = if is_name other name then taken else assemblies other
 
 -- The port hears a request that is complete, under the number in its first packet. The reply belongs to `request`, since a packet of that
@@ -80,7 +80,7 @@ hears_other rules answer None state = state
 hears_other rules answer (Some request) state = happens rules state (OtherAsks request answer)
 
 -- the port takes a packet of this request, if there is such a packet
-abbrev pub port_takes : PacketBus → List ℕ → ℕ → ℕ → Option Packet → Ends → Ends
+abbrev pub port_takes : PacketBus → List ℕ → ℕ → ℕ → Option Packet → BusEnds → BusEnds
 port_takes bus answer request idles None ends = ends
 port_takes bus answer request idles (Some packet) ends =
     let taken = takes (ends.port (request_name bus request)) (record { request = request; idles = idles; packet = packet }) in
@@ -91,30 +91,30 @@ abbrev pub is_awaited : PacketBus → ℕ → BusState → Bool
 is_awaited bus request state = is_open state && (tag_of bus.first request == tag_of bus.first (length state.taken))
 
 -- the manager takes a packet of a reply to this request, if there is such a packet
-abbrev pub manager_takes : PacketBus → ℕ → ℕ → ℕ → Option Packet → Ends → Ends
+abbrev pub manager_takes : PacketBus → ℕ → ℕ → ℕ → Option Packet → BusEnds → BusEnds
 manager_takes bus number request idles None ends = ends
 manager_takes bus number request idles (Some packet) ends =
     let taken = takes (ends.manager (reply_name bus request)) (record { request = request; idles = idles; packet = packet }) in
     record ends { bus = whole_returns (rules_of bus) number taken.0 ends.bus; manager = set_at (reply_name bus request) taken.1 ends.manager }
 
 -- the port takes a packet of another requester
-abbrev pub other_takes : PacketBus → Name → Packet → List ℕ → Ends → Ends
+abbrev pub other_takes : PacketBus → Name → Packet → List ℕ → BusEnds → BusEnds
 other_takes bus name packet answer ends =
     let taken = takes (ends.port name) (record { request = 0; idles = 0; packet = packet }) in
     record ends { bus = hears_other (rules_of bus) answer (other_request name taken.0) ends.bus; port = set_at name taken.1 ends.port }
 
 -- the manager takes a packet of another only under the open request's reply's name
-abbrev pub other_returns : PacketBus → Name → Packet → ℕ → Ends → Ends
+abbrev pub other_returns : PacketBus → Name → Packet → ℕ → BusEnds → BusEnds
 other_returns bus name packet number ends =
     if is_open ends.bus && is_name name (reply_name bus (length ends.bus.taken)) then manager_takes bus number (length ends.bus.taken) 0 (Some packet) ends else ends
 
 -- a packet of this content comes to the port, which ignores packets of anything but a request
-abbrev pub packet_comes : PacketBus → List ℕ → ℕ → ℕ → ℕ → Content → Ends → Ends
+abbrev pub packet_comes : PacketBus → List ℕ → ℕ → ℕ → ℕ → Content → BusEnds → BusEnds
 packet_comes bus answer place request idles (Ask bytes) ends = port_takes bus answer request idles (slice_get (bus.split bytes) place) ends
 packet_comes bus answer place request idles (Reply number reply) ends = ends
 
 -- a busy reply is a single packet, a start, so what waited is closed, and it counts as no reply
-abbrev pub packet_returns : PacketBus → ℕ → ℕ → ℕ → Content → Ends → Ends
+abbrev pub packet_returns : PacketBus → ℕ → ℕ → ℕ → Content → BusEnds → BusEnds
 packet_returns bus place request idles (Ask bytes) ends = ends
 packet_returns bus place request idles (Reply number None) ends =
     if is_awaited bus request ends.bus then record ends { manager = set_at (reply_name bus request) [] ends.manager } else ends
@@ -122,17 +122,17 @@ packet_returns bus place request idles (Reply number (Some reply)) ends =
     if is_awaited bus request ends.bus then manager_takes bus number request idles (slice_get (bus.split reply) place) ends else ends
 
 -- a packet of a frame comes to the port, if there is such a frame
-abbrev pub packet_at_port : PacketBus → List ℕ → ℕ → Option Frame → Ends → Ends
+abbrev pub packet_at_port : PacketBus → List ℕ → ℕ → Option Frame → BusEnds → BusEnds
 packet_at_port bus answer place None ends = ends
 packet_at_port bus answer place (Some frame) ends = packet_comes bus answer place frame.request frame.idles frame.content ends
 
 -- a packet of a frame comes to the manager, if there is such a frame
-abbrev pub packet_at_manager : PacketBus → ℕ → Option Frame → Ends → Ends
+abbrev pub packet_at_manager : PacketBus → ℕ → Option Frame → BusEnds → BusEnds
 packet_at_manager bus place None ends = ends
 packet_at_manager bus place (Some frame) ends = packet_returns bus place frame.request frame.idles frame.content ends
 
 -- both ends after an event
-abbrev pub packet_happens : PacketBus → Ends → PacketEvent → Ends
+abbrev pub packet_happens : PacketBus → BusEnds → PacketEvent → BusEnds
 packet_happens bus ends (Plain event) = record ends { bus = happens (rules_of bus) ends.bus event }
 packet_happens bus ends (PacketReachesPort which place answer) = packet_at_port bus answer place (slice_get ends.bus.frames which) ends
 packet_happens bus ends (PacketReachesManager which place) = packet_at_manager bus place (slice_get ends.bus.frames which) ends
@@ -143,10 +143,10 @@ packet_happens bus ends Clears = record ends { manager = λ name. [] }
 packet_happens bus ends PacketResumes = record ends { bus = happens (rules_of bus) ends.bus Resumes; manager = λ name. [] }
 
 -- both ends after a schedule, event by event
-abbrev pub packet_run : PacketBus → List PacketEvent → Ends → Ends
+abbrev pub packet_run : PacketBus → List PacketEvent → BusEnds → BusEnds
 packet_run bus [] ends = ends
 packet_run bus (event ∷ events) ends = packet_run bus events (packet_happens bus ends event)
 
 -- no packet waits
-abbrev pub opening_ends : List Entry → Ends
+abbrev pub opening_ends : List Entry → BusEnds
 opening_ends before = record { bus = opening before; port = λ name. []; manager = λ name. [] }

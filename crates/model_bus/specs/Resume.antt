@@ -6,7 +6,7 @@ use Rattle.model_bus.specs.BusState.{BusState, Content, Event, Resumes, is_open,
 use Rattle.model_bus.specs.Schedule.{AllHonest}
 use Rattle.model_bus.specs.Start.{NothingUnderWay, FreshWindow, NothingWaits}
 use Rattle.model_bus.specs.Packet.{IsCutting}
-use Rattle.model_bus.specs.PacketBus.{PacketBus, rules_of, Ends, PacketEvent, PacketResumes, reply_name, packet_run}
+use Rattle.model_bus.specs.PacketBus.{PacketBus, rules_of, BusEnds, PacketEvent, PacketResumes, reply_name, packet_run}
 use Rattle.model_bus.specs.PacketSchedule.{JoinRule, AllPacketHonest}
 
 -- the bus as the new manager knows it, where the old one left it so: of requests and replies only its own
@@ -24,8 +24,8 @@ pub record ActsAs (own : Rules) (known : BusState) (rules : Rules) (state : BusS
 
 -- After every resume of an honest schedule the new manager acts so, and goes on doing so. Its requests count from the number that came next. `bus`
 -- gives the rules by the count from which a manager's requests go on.
-abbrev pub GoesOn : (ℕ → Rules) → Type 0
-GoesOn bus = (first : ℕ) (start : BusState) (events later : List Event) → NothingUnderWay start → FreshWindow (bus first) start.log
+abbrev pub ResumedGoesOn : (ℕ → Rules) → Type 0
+ResumedGoesOn bus = (first : ℕ) (start : BusState) (events later : List Event) → NothingUnderWay start → FreshWindow (bus first) start.log
     → AllHonest (bus first) (events ++ Resumes ∷ later) start
     → let old = run (bus first) events start in
     let later_state = run (bus first) later old in
@@ -37,7 +37,7 @@ TagsGoOn = (first n later : ℕ) → tag_of ((first + n) % instances) later ≡ 
 
 -- the same in packets, by the rule
 abbrev pub GoesOnInPackets : JoinRule → Type 0
-GoesOnInPackets rule = (bus : PacketBus) → IsCutting bus.split → (start : Ends) (events later : List PacketEvent)
+GoesOnInPackets rule = (bus : PacketBus) → IsCutting bus.split → (start : BusEnds) (events later : List PacketEvent)
     → NothingUnderWay start.bus → NothingWaits bus start → FreshWindow (rules_of bus) start.bus.log
     → AllPacketHonest rule bus (events ++ PacketResumes ∷ later) start
     → let old = packet_run bus events start in
@@ -47,7 +47,7 @@ GoesOnInPackets rule = (bus : PacketBus) → IsCutting bus.split → (start : En
 
 -- while no request is open nothing waits at the manager, so a resume drops nothing
 abbrev pub NothingWaitsWhereClosed : JoinRule → Type 0
-NothingWaitsWhereClosed rule = (bus : PacketBus) → IsCutting bus.split → (start : Ends) (events : List PacketEvent)
+NothingWaitsWhereClosed rule = (bus : PacketBus) → IsCutting bus.split → (start : BusEnds) (events : List PacketEvent)
     → NothingUnderWay start.bus → NothingWaits bus start → FreshWindow (rules_of bus) start.bus.log
     → AllPacketHonest rule bus events start → is_open (packet_run bus events start).bus ≡ false
     → (request : ℕ) → (packet_run bus events start).manager (reply_name bus request) ≡ []

@@ -4,7 +4,7 @@ use Rattle.model_bus.specs.Request.{Kept, Entry, carried_since}
 use Rattle.model_bus.specs.Numbering.{Rules}
 use Rattle.model_bus.specs.BusState.{BusState}
 use Rattle.model_bus.specs.Assembly.{Name}
-use Rattle.model_bus.specs.PacketBus.{PacketBus, Ends}
+use Rattle.model_bus.specs.PacketBus.{PacketBus, BusEnds}
 
 -- nothing is under way: the manager has begun nothing, and no frame of it, or to it, was sent
 pub record NothingUnderWay (state : BusState) : Type 0 where
@@ -25,6 +25,6 @@ abbrev pub FreshWindow : Rules → List Entry → Type 0
 FreshWindow rules log = IsFresh rules (carried_since rules.manager log)
 
 -- nothing waits: no packet of the manager at the port, and none of the controller at the manager
-pub record NothingWaits (bus : PacketBus) (ends : Ends) : Type 0 where
+pub record NothingWaits (bus : PacketBus) (ends : BusEnds) : Type 0 where
   pub port : (name : Name) → name.source ≡ bus.manager → ends.port name ≡ []
   pub manager : (name : Name) → name.source ≡ bus.controller → ends.manager name ≡ []

@@ -19,7 +19,7 @@ ghost use Rattle.two_wire.specs.Circles.{sequence_numbers, instances};
 ghost use Rattle.two_wire.specs.declared.Bus.{Bus};
 ghost use Rattle.two_wire.specs.declared.Bus.TheVariants.{Ipmb, Smbus};
 ghost use Rattle.model_bus.specs.Answering.{TestIsModel, TestIsModelInPackets, BusyFails};
-ghost use Rattle.model_bus.specs.Resume.{GoesOn, GoesOnInPackets, TagsGoOn, NothingWaitsWhereClosed};
+ghost use Rattle.model_bus.specs.Resume.{ResumedGoesOn, GoesOnInPackets, TagsGoOn, NothingWaitsWhereClosed};
 
 /// Over every honest schedule of whole messages the manager's requests are carried out at most once, in the order begun,
 /// and it takes for each the reply that is kept for it.
@@ -43,12 +43,12 @@ pub fn events_have_effects()
 /// replies alone it then does what the bus says of a manager: which request is open, under which number, what comes next, and
 /// which replies are taken. So the theorems, which count both managers' requests together, are about it.
 pub fn resumed_manager_goes_on()
-    ensures ipmb { (manager controller : ℕ) → GoesOn (ipmb manager controller) }
-    ensures smbus { (manager controller : ℕ) → GoesOn (smbus manager controller) }
+    ensures ipmb { (manager controller : ℕ) → ResumedGoesOn (ipmb manager controller) }
+    ensures smbus { (manager controller : ℕ) → ResumedGoesOn (smbus manager controller) }
     ensures tags { TagsGoOn }
 {}
 
-/// The same in packets. At such a moment nothing waits at the manager, so that nothing is dropped.
+/// The resumed manager goes on in packets too. At such a moment nothing waits at the manager, so that nothing is dropped.
 pub fn resumed_manager_goes_on_in_packets()
     ensures recent { GoesOnInPackets RecentWhereWhole }
     ensures live { GoesOnInPackets LiveWhereJoined }

@@ -12,14 +12,14 @@ use Rattle.record_base.specs.declared.bios_attribute.SetBiosAttribute.{SetBiosAt
 use Rattle.record_base.specs.Requests.{byte_at}
 use Rattle.record_base.specs.AttributeSizes.{most_sent}
 use Rattle.record_base.specs.AttributeValue.{string_type, number_of}
-use Rattle.record_base.specs.AttributeRange.{type_of, Allows, IsValue}
+use Rattle.record_base.specs.AttributeRange.{type_of, AllowsValue, IsValue}
 use Rattle.record_base.specs.BiosAttribute.{setting}
 use Rattle.record_base.specs.BiosAttributeLaws.{few_sent, sent_whole, same_setting}
 use Rattle.pldm_base.specs.Parts.{part_length, part_bytes, most_whole}
 use Rattle.bios_attr.specs.BiosAttribute.{SetsAttribute, is_settable, op_entry}
 use Rattle.bios_attr.specs.declared.bios_attribute.AttributeLimits.{AttributeLimits}
 use Rattle.attribute_parts.specs.Entries.{text_length, whole_length, op_of, begins_string, allows_length, first_fault, middle_fault, last_fault}
-use Rattle.attribute_parts.specs.Stagings.{Staged, most_stagings, without, with_staged, room_fault}
+use Rattle.attribute_parts.specs.Stagings.{StagedParts, most_stagings, without, with_staged, room_fault}
 
 -- ---- values of so many bytes are texts
 
@@ -35,12 +35,12 @@ record IsText (r : AttributeRange) (value : List ℕ) : Type 0 where
 long_text : (r : AttributeRange) (value : List ℕ) → IsValue r value → most_whole < 3 + length value → IsText r value
 long_text (range.Enumeration possible) [] is long = absurd is
 long_text (range.Enumeration possible) (count ∷ indexes) is long =
-    let here = comes (count == length indexes) (Indexes indexes) (Allows (range.Enumeration possible)) is in
+    let here = comes (count == length indexes) (Indexes indexes) (AllowsValue (range.Enumeration possible)) is in
     absurd (omega (arith, here.1.few, possible.few, long))
 long_text (range.Text lengths) [] is long = absurd is
 long_text (range.Text lengths) (low ∷ []) is long = absurd is
 long_text (range.Text lengths) (low ∷ high ∷ text) is long =
-    let here = comes _ (Text text) (Allows (range.Text lengths)) is in
+    let here = comes _ (Text text) (AllowsValue (range.Text lengths)) is in
     let count : number_of low high ≡ length text = eqb-true _ _ here.0 in
     record {
       of_type = refl;
@@ -48,7 +48,7 @@ long_text (range.Text lengths) (low ∷ high ∷ text) is long =
       allowed = and_from _ _ (le-leb lengths.least (number_of low high) (omega (arith, count, here.1.enough))) (le-leb (number_of low high) lengths.most (omega (arith, count, here.1.few)));
     }
 long_text (range.Integer steps) bytes is long =
-    let here = comes (length bytes == 8) _ (Allows (range.Integer steps)) is in
+    let here = comes (length bytes == 8) _ (AllowsValue (range.Integer steps)) is in
     let eight : length bytes ≡ 8 = eqb-true _ _ here.0 in
     absurd (omega (arith, eight, long))
 
@@ -163,13 +163,13 @@ op_back op =
 
 -- ---- stagings
 
-pub without_staged : (own : ℕ) (entry : List ℕ) (stagings : Staged) → without own (with_staged own entry stagings) ≡ without own stagings
+pub without_staged : (own : ℕ) (entry : List ℕ) (stagings : StagedParts) → without own (with_staged own entry stagings) ≡ without own stagings
 without_staged own entry [] = grind (arith, nat_tests)
 without_staged own entry (first ∷ rest) = grind (arith, nat_tests, without_staged own entry rest)
 
-pub without_twice : (own : ℕ) (stagings : Staged) → without own (without own stagings) ≡ without own stagings
+pub without_twice : (own : ℕ) (stagings : StagedParts) → without own (without own stagings) ≡ without own stagings
 without_twice own [] = refl
 without_twice own (first ∷ rest) = grind (arith, nat_tests, without_twice own rest)
 
-pub has_room : (own : ℕ) (stagings : Staged) → length (without own stagings) < most_stagings → room_fault stagings own ≡ None
+pub has_room : (own : ℕ) (stagings : StagedParts) → length (without own stagings) < most_stagings → room_fault stagings own ≡ None
 has_room own stagings few = ap (λ (t : Bool). if t then Some 1 else None) (lt-leb most_stagings (length (without own stagings)) few)

@@ -3,7 +3,7 @@ use Rattle.std.proofs.Common.{◌≡◌, ℕ, List, [], Option, Some, None, refl
 use Rattle.two_wire.specs.declared.Bus.{Bus}
 use Rattle.two_wire.specs.declared.Bus.TheVariants.{Smbus}
 use Rattle.cfg_records.specs.declared.board_file.BoardFile.{BoardFile}
-use Rattle.attribute_parts.specs.Stagings.{Staged}
+use Rattle.attribute_parts.specs.Stagings.{StagedParts}
 use Rattle.record_kinds.specs.declared.limits.Limits.{Limits}
 use Rattle.record_kinds.specs.Series.{Series, Reads, Sends}
 use Rattle.record_kinds.specs.Limits.{limits_at}
@@ -13,21 +13,21 @@ use Rattle.bmc_board.specs.State.{State, on_bench}
 use Rattle.bmc_board.proofs.OneAnswer.{has_answer}
 use Rattle.bmc_board.proofs.Quiet.{keeps_records, keeps_stagings}
 use Rattle.model_bus.specs.Addresses.{Addresses}
-use Rattle.model_undo.specs.Family.{Keeps}
+use Rattle.model_undo.specs.Family.{KeepsRecords}
 use Rattle.model_undo.specs.Line.{Exchange, Line}
 use Rattle.model_undo.specs.World.{BoardMay}
-use Rattle.model_family.specs.Family.{Allows, IsReadyFor, family, answer}
+use Rattle.model_family.specs.Family.{AllowsBody, IsReadyFor, family, answer}
 use Rattle.model_ports.specs.Wires.{asked_from}
 use Rattle.model_lab.specs.ManagerWires.{wires}
 use Rattle.model_family.specs.Board.{StartsValid, StartsReady, QuietMay, BenchMay, AnswersMay}
 
 -- ---- valid records
 
-sound_value : (limits : Option Limits) (value : List ℕ) → IsSoundAt limits (Some value) → Allows limits value
+sound_value : (limits : Option Limits) (value : List ℕ) → IsSoundAt limits (Some value) → AllowsBody limits value
 sound_value (Some l) value sound = sound
 sound_value None value sound = sound
 
-allows_sound : (limits : Option Limits) (had : Option (List ℕ)) (value : List ℕ) → had ≡ Some value → IsSoundAt limits had → Allows limits value
+allows_sound : (limits : Option Limits) (had : Option (List ℕ)) (value : List ℕ) → had ≡ Some value → IsSoundAt limits had → AllowsBody limits value
 allows_sound limits had value at sound = sound_value limits value (subst (IsSoundAt limits) at sound)
 
 pub starts_valid : (setup : BoardFile) (at : Bus → Addresses) → StartsValid setup at
@@ -47,8 +47,8 @@ starts_ready setup at = λ series. ready_at_first (at Smbus).manager series
 -- ---- what may happen
 
 -- a board with the same records and the same stagings is ready for the same
-pub kept_by : (setup : BoardFile) (at : Bus → Addresses) (board after : State) → after.records ≡ board.records → after.activity.stagings ≡ board.activity.stagings → Keeps (family setup at) board after
-kept_by setup at board after records stagings = (records, λ series bodies ready. subst (λ (s : Staged). IsReadyFor (at Smbus).manager s series bodies) (sym stagings) ready)
+pub kept_by : (setup : BoardFile) (at : Bus → Addresses) (board after : State) → after.records ≡ board.records → after.activity.stagings ≡ board.activity.stagings → KeepsRecords (family setup at) board after
+kept_by setup at board after records stagings = (records, λ series bodies ready. subst (λ (s : StagedParts). IsReadyFor (at Smbus).manager s series bodies) (sym stagings) ready)
 
 pub bench_may : (setup : BoardFile) (at : Bus → Addresses) (L : Bus → Line) → BenchMay setup at L
 bench_may setup at L w activity = kept_by setup at w.board (on_bench w.board activity) refl refl

@@ -13,7 +13,7 @@ use Rattle.model_bus.specs.Numbering.{ipmb}
 use Rattle.model_bus.specs.BusState.{ReachesPort, ReachesManager}
 use Rattle.model_bus.proofs.Decides.{is_honest, is_honest-tells}
 use Rattle.model_undo.specs.Family.{AllValid}
-use Rattle.model_undo.specs.World.{World, BoardMay, May}
+use Rattle.model_undo.specs.World.{World, BoardMay, MayHappen}
 use Rattle.model_undo.specs.Example.{addresses, messages, quiet_messages}
 use Rattle.model_family.specs.Family.{family, answer}
 use Rattle.model_ports.specs.Wires.{asked_from}
@@ -24,11 +24,11 @@ use Rattle.model_family.specs.Example.{with_others, board, with_policy, to_port,
 module _ (setup : BoardFile) (others : Records) where
   port_may : (w : World (family setup addresses) messages) (which : ℕ) (reply : List ℕ) (b : State) → is_honest (ipmb 44 32 0) (w.on Ipmb) (ReachesPort which reply) ≡ true
       → BoardMay (family setup addresses) messages (wires addresses) Ipmb ((messages Ipmb).carries (w.on Ipmb) (ReachesPort which reply)) w.board b
-      → May (family setup addresses) messages (wires addresses) w (to_port setup others which reply b)
+      → MayHappen (family setup addresses) messages (wires addresses) w (to_port setup others which reply b)
   port_may w which reply b live does = ((tt, is_honest-tells (ipmb 44 32 0) (w.on Ipmb) (ReachesPort which reply) live), refl, does)
 
   manager_may : (w : World (family setup addresses) messages) (which : ℕ) → is_honest (ipmb 44 32 0) (w.on Ipmb) (ReachesManager which) ≡ true
-      → May (family setup addresses) messages (wires addresses) w (to_manager setup others which)
+      → MayHappen (family setup addresses) messages (wires addresses) w (to_manager setup others which)
   manager_may w which live = ((tt, is_honest-tells (ipmb 44 32 0) (w.on Ipmb) (ReachesManager which) live), refl)
 
   -- a request of these bytes is carried out
@@ -45,16 +45,16 @@ module _ (setup : BoardFile) (others : Records) where
   is_valid all key.PowerPolicy v e = subst IsPowerPolicy (same_Some _ _ e) (record { one = refl; known = lit≤ tt })
   is_valid all k v e = all k v e
 
-  get_carried : May (family setup addresses) messages (wires addresses) (after setup others 1) (to_port setup others 0 (0x04 ∷ 0x00 ∷ 0x01 ∷ 0x00 ∷ 0x00 ∷ 0x00 ∷ 0x00 ∷ []) (board setup others))
+  get_carried : MayHappen (family setup addresses) messages (wires addresses) (after setup others 1) (to_port setup others 0 (0x04 ∷ 0x00 ∷ 0x01 ∷ 0x00 ∷ 0x00 ∷ 0x00 ∷ 0x00 ∷ []) (board setup others))
   get_carried = port_may (after setup others 1) 0 (0x04 ∷ 0x00 ∷ 0x01 ∷ 0x00 ∷ 0x00 ∷ 0x00 ∷ 0x00 ∷ []) (board setup others) refl (does (after setup others 1) (0x00 ∷ 0x00 ∷ 0x01 ∷ []) (0x04 ∷ 0x00 ∷ 0x01 ∷ 0x00 ∷ 0x00 ∷ 0x00 ∷ 0x00 ∷ []) refl)
 
-  set_carried : May (family setup addresses) messages (wires addresses) (after setup others 3) (to_port setup others 2 (0x04 ∷ 0x04 ∷ 0x06 ∷ 0x00 ∷ 0x07 ∷ []) (with_policy 1 (board setup others)))
+  set_carried : MayHappen (family setup addresses) messages (wires addresses) (after setup others 3) (to_port setup others 2 (0x04 ∷ 0x04 ∷ 0x06 ∷ 0x00 ∷ 0x07 ∷ []) (with_policy 1 (board setup others)))
   set_carried = port_may (after setup others 3) 2 (0x04 ∷ 0x04 ∷ 0x06 ∷ 0x00 ∷ 0x07 ∷ []) (with_policy 1 (board setup others)) refl (does (after setup others 3) (0x00 ∷ 0x04 ∷ 0x06 ∷ 0x01 ∷ []) (0x04 ∷ 0x04 ∷ 0x06 ∷ 0x00 ∷ 0x07 ∷ []) refl)
 
-  set_repeats : May (family setup addresses) messages (wires addresses) (after setup others 5) (to_port setup others 2 [] (with_policy 1 (board setup others)))
+  set_repeats : MayHappen (family setup addresses) messages (wires addresses) (after setup others 5) (to_port setup others 2 [] (with_policy 1 (board setup others)))
   set_repeats = port_may (after setup others 5) 2 [] (with_policy 1 (board setup others)) refl (refl, λ series bodies ready. ready)
 
-  undo_carried : May (family setup addresses) messages (wires addresses) (after setup others 7) (to_port setup others 5 (0x04 ∷ 0x08 ∷ 0x06 ∷ 0x00 ∷ 0x07 ∷ []) (with_policy 0 (with_policy 1 (board setup others))))
+  undo_carried : MayHappen (family setup addresses) messages (wires addresses) (after setup others 7) (to_port setup others 5 (0x04 ∷ 0x08 ∷ 0x06 ∷ 0x00 ∷ 0x07 ∷ []) (with_policy 0 (with_policy 1 (board setup others))))
   undo_carried =
       port_may (after setup others 7) 5 (0x04 ∷ 0x08 ∷ 0x06 ∷ 0x00 ∷ 0x07 ∷ []) (with_policy 0 (with_policy 1 (board setup others))) refl (does (after setup others 7) (0x00 ∷ 0x08 ∷ 0x06 ∷ 0x00 ∷ []) (0x04 ∷ 0x08 ∷ 0x06 ∷ 0x00 ∷ 0x07 ∷ []) refl)
 

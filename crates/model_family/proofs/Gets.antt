@@ -31,17 +31,17 @@ use Rattle.bmc_board.specs.Request.{Get, LaterPart}
 use Rattle.bmc_board.specs.Replies.{refused, unknown_code}
 use Rattle.bmc_board.specs.BiosTables.{part_answer}
 use Rattle.bmc_board.specs.AttributeParts.{later_answer}
-use Rattle.bmc_board.specs.Answer.{Given, get_answer}
+use Rattle.bmc_board.specs.Answer.{AnswerAndState, get_answer}
 use Rattle.bmc_board.specs.Row.{Row}
 use Rattle.bmc_board.proofs.Undone.{unknown_is_fault}
 use Rattle.model_bus.specs.Answered.{Answered}
 use Rattle.model_bus.specs.Addresses.{Addresses}
 use Rattle.model_undo.specs.Words.{AreAnswered, AllAnswered}
-use Rattle.model_undo.specs.Family.{AllValid, Gave}
-use Rattle.model_undo.specs.IsFamily.{Showed}
+use Rattle.model_undo.specs.Family.{AllValid, GaveAnswer}
+use Rattle.model_undo.specs.IsFamily.{ShownRecord}
 use Rattle.model_ports.specs.Wires.{board_answer}
 use Rattle.model_lab.specs.ManagerWords.{from_manager, manager_words}
-use Rattle.model_family.specs.Family.{Allows, ShowsWithin, family}
+use Rattle.model_family.specs.Family.{AllowsBody, ShowsWithin, family}
 use Rattle.model_family.proofs.Parts.{shown_part, AreShown, together, ShowsLast, last_shown, goes, stops, IsLater, later_asked}
 use Rattle.model_family.proofs.Requests.{read_as, get_is_read, later_is_read}
 
@@ -101,7 +101,7 @@ shown_where None None live unknown a fault is carried = not_refused a unknown fa
 
 module _ (setup : BoardFile) (at : Bus → Addresses) (r : Records) where
   abbrev Given_here : Asked → Answered → Type 0
-  Given_here asked a = Gave (family setup at) r asked a
+  Given_here asked a = GaveAnswer (family setup at) r asked a
 
   -- the answer that shows these data
   abbrev showing : List ℕ → Answered
@@ -112,11 +112,11 @@ module _ (setup : BoardFile) (at : Bus → Addresses) (r : Records) where
       let b = gave.0 in
       let row = read_as setup b (from_manager at (get_asked k)) (Get k) (board_answer (showing body)) gave.1 (get_is_read at k) (subst (λ (x : Asked). Row setup b x (board_answer (showing body)) gave.1) is gave.3) in
       subst (λ (v : Records). Shown (limits_at setup k) (v k) body) gave.2
-      (shown_where (limits_at setup k) (b.records k) b.activity.live (unknown_code setup k) (board_answer (showing body)) (unknown_is_fault setup k) (ap (λ (g : Given). g.0) row) refl)
+      (shown_where (limits_at setup k) (b.records k) b.activity.live (unknown_code setup k) (board_answer (showing body)) (unknown_is_fault setup k) (ap (λ (g : AnswerAndState). g.0) row) refl)
 
   -- ---- a record that one reply shows
 
-  one_shows : (k : Key) → IsOne setup k → (bodies : List (List ℕ)) → AllAnswered (manager_words at) Given_here (Reads k) bodies → Showed (family setup at) k (joined bodies) r
+  one_shows : (k : Key) → IsOne setup k → (bodies : List (List ℕ)) → AllAnswered (manager_words at) Given_here (Reads k) bodies → ShownRecord (family setup at) k (joined bodies) r
   one_shows k one [] h = absurd (h.some refl)
   one_shows k one (body ∷ []) h =
       let first = h.in_order in
@@ -162,7 +162,7 @@ module _ (setup : BoardFile) (at : Bus → Addresses) (r : Records) where
         (subst (λ (x : Asked). Row setup b x (board_answer (showing body)) gave.1) asks.is gave.3) in
         let has : b.records k ≡ Some value = ap (λ (v : Records). v k) gave.2 ∙ found in
         let told : board_answer (showing body) ≡ part_answer entry (asked_of_entry entry get_next_part offset) =
-        ap (λ (g : Given). g.0) row ∙ (λ i. later_answer (there i) (has i) b.activity.live (unknown_code setup k) offset) in
+        ap (λ (g : AnswerAndState). g.0) row ∙ (λ i. later_answer (there i) (has i) b.activity.live (unknown_code setup k) offset) in
         told_where offset (board_answer (showing body)) (asked_of_entry entry get_next_part offset) (later_asked entry offset) told refl
 
     -- each reply behind the first
@@ -260,28 +260,28 @@ attribute_limits setup handle given is = by (attribute_at setup.attributes.items
     by None is = absurd (none-some given is)
     by (Some a) is = (record { handle = handle; read_only = a.read_only; range = range_of a.kind }, sym (same_Some _ _ is))
 
-pub parts_show : (setup : BoardFile) (at : Bus → Addresses) (r : Records) (k : Key) (bodies : List (List ℕ)) → AllValid (family setup at) r → AllAnswered (manager_words at) (Gave (family setup at) r) (Reads k) bodies
-    → Showed (family setup at) k (joined bodies) r
+pub parts_show : (setup : BoardFile) (at : Bus → Addresses) (r : Records) (k : Key) (bodies : List (List ℕ)) → AllValid (family setup at) r → AllAnswered (manager_words at) (GaveAnswer (family setup at) r) (Reads k) bodies
+    → ShownRecord (family setup at) k (joined bodies) r
 parts_show setup at r k bodies valid all = by (one_or_attribute setup k)
   where
-    first_of_all : (handle : ℕ) (bodies : List (List ℕ)) → AllAnswered (manager_words at) (Gave (family setup at) r) (Reads (key.BiosAttribute handle)) bodies
+    first_of_all : (handle : ℕ) (bodies : List (List ℕ)) → AllAnswered (manager_words at) (GaveAnswer (family setup at) r) (Reads (key.BiosAttribute handle)) bodies
         → (body : List ℕ) × Shown (limits_at setup (key.BiosAttribute handle)) (r (key.BiosAttribute handle)) body
     first_of_all handle [] h = absurd (h.some refl)
     first_of_all handle (body ∷ bodies) h = (body, first_given setup at r (key.BiosAttribute handle) h.in_order.0 body h.in_order.1 h.in_order.2)
 
-    of_attribute : (handle : ℕ) → AllAnswered (manager_words at) (Gave (family setup at) r) (Reads (key.BiosAttribute handle)) bodies → Showed (family setup at) (key.BiosAttribute handle) (joined bodies) r
+    of_attribute : (handle : ℕ) → AllAnswered (manager_words at) (GaveAnswer (family setup at) r) (Reads (key.BiosAttribute handle)) bodies → ShownRecord (family setup at) (key.BiosAttribute handle) (joined bodies) r
     of_attribute handle all =
         let k = key.BiosAttribute handle in
         let first = (first_of_all handle bodies all).1 in
         let own = attribute_limits setup handle first.limits first.at in
         let there : limits_at setup k ≡ Some (limits.BiosAttribute own.0) = first.at ∙ ap Some own.1 in
-        let is_valid : Allows (Some (limits.BiosAttribute own.0)) first.value = subst (λ (l : Option Limits). Allows l first.value) there (valid k first.value first.found) in
+        let is_valid : AllowsBody (Some (limits.BiosAttribute own.0)) first.value = subst (λ (l : Option Limits). AllowsBody l first.value) there (valid k first.value first.found) in
         let size = value_length own.0.range first.value is_valid in
         let is : joined bodies ≡ attribute_view own.0 first.value = attribute_joined setup at r handle own.0 first.value there first.found (omega (arith, size.most)) bodies all in
         record { value = first.value; found = first.found; shows = subst (λ (l : Option Limits). ShowsWithin l first.value (joined bodies)) (sym there) (first.live, is) }
 
-    by : IsOne setup k ⊎ ((handle : ℕ) × (k ≡ key.BiosAttribute handle)) → Showed (family setup at) k (joined bodies) r
+    by : IsOne setup k ⊎ ((handle : ℕ) × (k ≡ key.BiosAttribute handle)) → ShownRecord (family setup at) k (joined bodies) r
     by (inl one) = one_shows setup at r k one bodies all
     by (inr is) =
-        subst (λ (q : Key). Showed (family setup at) q (joined bodies) r) (sym is.1)
-        (of_attribute is.0 (subst (λ (q : Key). AllAnswered (manager_words at) (Gave (family setup at) r) (Reads q) bodies) is.1 all))
+        subst (λ (q : Key). ShownRecord (family setup at) q (joined bodies) r) (sym is.1)
+        (of_attribute is.0 (subst (λ (q : Key). AllAnswered (manager_words at) (GaveAnswer (family setup at) r) (Reads q) bodies) is.1 all))

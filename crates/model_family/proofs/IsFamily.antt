@@ -24,7 +24,7 @@ use Rattle.record_kinds.specs.Series.{sends, first_shown}
 use Rattle.bmc_board.specs.Request.{Get, asked_by}
 use Rattle.bmc_board.specs.State.{State}
 use Rattle.bmc_board.specs.Replies.{unknown_code}
-use Rattle.bmc_board.specs.Answer.{Given, get_answer, answer_of}
+use Rattle.bmc_board.specs.Answer.{AnswerAndState, get_answer, answer_of}
 use Rattle.bmc_board.specs.AnyAnswer.{IsCode}
 use Rattle.bmc_board.specs.Row.{Row}
 use Rattle.bmc_board.proofs.AnswerFacts.{limits_are_of, never_busy}
@@ -36,7 +36,7 @@ use Rattle.model_undo.specs.Family.{Family, SetsTo}
 use Rattle.model_undo.specs.IsFamily.{AreKinds, IsFamily}
 use Rattle.model_bus.specs.Addresses.{Addresses}
 use Rattle.model_ports.specs.Wires.{board_answer}
-use Rattle.model_family.specs.Family.{Allows, SetsWithin, ShowsWithin, conf_within, IsReadyFor, family}
+use Rattle.model_family.specs.Family.{AllowsBody, SetsWithin, ShowsWithin, conf_within, IsReadyFor, family}
 use Rattle.model_family.proofs.Requests.{read_as}
 use Rattle.model_family.proofs.Gets.{Shown, shown_where, parts_show}
 use Rattle.model_family.proofs.Sets.{own_byte, behind, Deed, Goes, Done, Refused, IsRefusedSo, deed}
@@ -44,7 +44,7 @@ use Rattle.model_family.proofs.Ready.{get_leaves, stays_ready}
 
 -- ---- the kinds: what holds within limits that may be none
 
-keeps_within : (limits : Option Limits) (op : Op) (old new : List ℕ) → Allows limits old → SetsWithin limits op old new → Allows limits new
+keeps_within : (limits : Option Limits) (op : Op) (old new : List ℕ) → AllowsBody limits old → SetsWithin limits op old new → AllowsBody limits new
 keeps_within (Some l) op old new is_valid is_set = (laws.record_laws l).keeps op old new is_valid is_set
 keeps_within None op old new is_valid is_set = absurd is_set
 
@@ -60,12 +60,12 @@ steady_within None value body other shown again = refl
 abbrev AreOf : Option Limits → Key → Type 0
 AreOf limits key = (l : Limits) → limits ≡ Some l → is_of l key
 
-same_key_within : (limits : Option Limits) (op back : Op) (value body : List ℕ) → AreOf limits (key_of op) → Allows limits value → ShowsWithin limits value body → inverse op body ≡ Some back → key_of back ≡ key_of op
+same_key_within : (limits : Option Limits) (op back : Op) (value body : List ℕ) → AreOf limits (key_of op) → AllowsBody limits value → ShowsWithin limits value body → inverse op body ≡ Some back → key_of back ≡ key_of op
 same_key_within (Some l) op back value body of is_valid shown is =
     (laws.record_laws l).same_record op back value shown.0 (of l refl) is_valid (sym (ap (inverse op) shown.1) ∙ is)
 same_key_within None op back value body of is_valid shown is = absurd is_valid
 
-undoes_within : (limits : Option Limits) (op back : Op) (old new body : List ℕ) → Allows limits old → SetsWithin limits op old new → ShowsWithin limits old body → inverse op body ≡ Some back → SetsWithin limits back new old
+undoes_within : (limits : Option Limits) (op back : Op) (old new body : List ℕ) → AllowsBody limits old → SetsWithin limits op old new → ShowsWithin limits old body → inverse op body ≡ Some back → SetsWithin limits back new old
 undoes_within (Some l) op back old new body is_valid is_set shown is =
     (laws.record_laws l).undoes op back old new shown.0 is_valid is_set (sym (ap (inverse op) shown.1) ∙ is)
 undoes_within None op back old new body is_valid is_set shown is = absurd is_set
@@ -74,7 +74,7 @@ not_some : {X : Type 0} (o : Option X) → o ≡ None → IsSome o → ⊥
 not_some (Some x) none is = none-some x (sym none)
 not_some None none is = false≢true is
 
-refuses_within : (limits : Option Limits) (op : Op) (value body : List ℕ) → AreOf limits (key_of op) → Allows limits value → ShowsWithin limits value body → inverse op body ≡ None → restorable op body → ⊥
+refuses_within : (limits : Option Limits) (op : Op) (value body : List ℕ) → AreOf limits (key_of op) → AllowsBody limits value → ShowsWithin limits value body → inverse op body ≡ None → restorable op body → ⊥
 refuses_within (Some l) op value body of is_valid shown none can =
     let reply : is_reply op body = subst (is_reply op) (sym shown.1) ((laws.record_laws l).replies op value shown.0 (of l refl) is_valid) in
     not_some (inverse op body) none ((laws.kind_laws.invertible op body).1 (reply, can))
@@ -85,17 +85,17 @@ restores_from op back body is = ((laws.kind_laws.invertible op body).0 (subst Is
 
 -- ---- the map of records
 
-valid_where : (setup : BoardFile) (records : Records) (key : Key) (new : List ℕ) → ((k : Key) (v : List ℕ) → records k ≡ Some v → Allows (limits_at setup k) v) → Allows (limits_at setup key) new
-    → (k : Key) (b : Bool) → same_key key k ≡ b → (v : List ℕ) → (if b then Some new else records k) ≡ Some v → Allows (limits_at setup k) v
+valid_where : (setup : BoardFile) (records : Records) (key : Key) (new : List ℕ) → ((k : Key) (v : List ℕ) → records k ≡ Some v → AllowsBody (limits_at setup k) v) → AllowsBody (limits_at setup key) new
+    → (k : Key) (b : Bool) → same_key key k ≡ b → (v : List ℕ) → (if b then Some new else records k) ≡ Some v → AllowsBody (limits_at setup k) v
 valid_where setup records key new all is k true e v at =
-    subst (λ (q : Key). Allows (limits_at setup q) v) (exact_key key k e) (subst (Allows (limits_at setup key)) (same_Some _ _ at) is)
+    subst (λ (q : Key). AllowsBody (limits_at setup q) v) (exact_key key k e) (subst (AllowsBody (limits_at setup key)) (same_Some _ _ at) is)
 valid_where setup records key new all is k false e v at = all k v at
 
 -- ---- Gets
 
 read_get : (setup : BoardFile) (before : State) (asked : Asked) (key : Key) (a : Answered) (after : State) → asked_by asked ≡ Ok (Get key) → Row setup before asked (board_answer a) after
     → board_answer a ≡ get_answer (limits_at setup key) (before.records key) before.activity.live (unknown_code setup key)
-read_get setup before asked key a after is row = ap (λ (g : Given). g.0) (read_as setup before asked (Get key) (board_answer a) after is row)
+read_get setup before asked key a after is row = ap (λ (g : AnswerAndState). g.0) (read_as setup before asked (Get key) (board_answer a) after is row)
 
 get_shows : (setup : BoardFile) (before : State) (asked : Asked) (key : Key) (a : Answered) (after : State) → asked_by asked ≡ Ok (Get key) → Row setup before asked (board_answer a) after → a.code ≡ success
     → Shown (limits_at setup key) (before.records key) a.body
@@ -146,7 +146,7 @@ not_busy code one other = grind (arith, nat_tests)
 free : (setup : BoardFile) (before : State) (asked : Asked) (a : Answered) (after : State) → Row setup before asked (board_answer a) after → is_busy a.code ≡ false
 free setup before asked a after row =
     let given = has_one_answer setup before asked (board_answer a) after row in
-    let code : a.code ≡ (answer_of setup before asked).0.code = ap (λ (g : Given). g.0.code) given in
+    let code : a.code ≡ (answer_of setup before asked).0.code = ap (λ (g : AnswerAndState). g.0.code) given in
     let is : IsCode a.code = subst IsCode (sym code) (never_busy setup before asked) in
     not_busy a.code is.not_busy is.is_ready
 

@@ -27,7 +27,7 @@ use Rattle.bmc_board.specs.Request.{Get, Set, PartOfSet, LaterPart, asked_by}
 use Rattle.bmc_board.specs.AttributeCommands.{part_set}
 use Rattle.bmc_board.specs.State.{State}
 use Rattle.bmc_board.specs.Decode.{asked_from}
-use Rattle.bmc_board.specs.Row.{Serves, Replies, Row}
+use Rattle.bmc_board.specs.Row.{AnswersRequest, AnswersResult, Row}
 use Rattle.bmc_board.proofs.FromAnyone.{is_read_from_all}
 use Rattle.bmc_board.proofs.Decoded.{gets_are_read, sets_are_read}
 use Rattle.model_bus.specs.Addresses.{Addresses}
@@ -35,8 +35,8 @@ use Rattle.model_ports.specs.Wires.{bus_of}
 use Rattle.model_lab.specs.ManagerWords.{from_manager}
 use Rattle.model_family.proofs.Parts.{data_with}
 
-pub read_as : (setup : BoardFile) (before : State) (asked : Asked) (request : BoardRequest) (answered : BoardAnswer) (after : State) → asked_by asked ≡ Ok request → Row setup before asked answered after → Serves setup before request answered after
-read_as setup before asked request answered after is row = subst (λ (r : Result BoardRequest ℕ). Replies setup before r answered after) is row
+pub read_as : (setup : BoardFile) (before : State) (asked : Asked) (request : BoardRequest) (answered : BoardAnswer) (after : State) → asked_by asked ≡ Ok request → Row setup before asked answered after → AnswersRequest setup before request answered after
+read_as setup before asked request answered after is row = subst (λ (r : Result BoardRequest ℕ). AnswersResult setup before r answered after) is row
 
 pub get_is_read : (at : Bus → Addresses) (key : Key) → asked_by (from_manager at (get_asked key)) ≡ Ok (Get key)
 get_is_read at key =

@@ -26,7 +26,7 @@ use Rattle.bios_attr.specs.declared.bios_attribute.AttributeLimits.{AttributeLim
 use Rattle.bios_attr.specs.EntryParts.{bios, set_current_value, set_part, part_at, is_in_parts, entry_of, first_request, request_at, alone_at}
 use Rattle.attribute_parts.specs.declared.set_part.SetPart.TheVariants.{Start, Middle, End}
 use Rattle.attribute_parts.specs.Entries.{middle_fault, last_fault, op_of}
-use Rattle.attribute_parts.specs.Stagings.{Staged, most_stagings, staged_by, without, or_else, start_fault, later_fault, unless, joined, start_outcome, add_outcome, end_outcome}
+use Rattle.attribute_parts.specs.Stagings.{StagedParts, most_stagings, staged_by, without, or_else, start_fault, later_fault, unless, joined, start_outcome, add_outcome, end_outcome}
 use Rattle.attribute_parts.proofs.Apart.{own_last}
 use Rattle.record_kinds.specs.Boards.{attribute_at}
 use Rattle.record_kinds.specs.declared.limits.Limits.{Limits}
@@ -38,8 +38,8 @@ use Rattle.bmc_board.specs.Request.{Set, PartOfSet}
 use Rattle.bmc_board.specs.State.{State, IsUnchanged}
 use Rattle.bmc_board.specs.Replies.{refused, unknown_code}
 use Rattle.bmc_board.specs.AttributeParts.{named_in, limits_named}
-use Rattle.bmc_board.specs.Answer.{Given, staged}
-use Rattle.bmc_board.specs.Row.{Is, Sets, SetsAt, SetsWhole, Ends, Row}
+use Rattle.bmc_board.specs.Answer.{AnswerAndState, staged}
+use Rattle.bmc_board.specs.Row.{IsAnswerGiven, SetAnswered, SetsAt, SetsWhole, AnswersLastPart, Row}
 use Rattle.bmc_board.proofs.PartFacts.{Refuses, start_code, add_code, end_code, unstaged_records}
 use Rattle.bmc_board.proofs.Undone.{unknown_is_fault}
 use Rattle.model_bus.specs.Answered.{Answered}
@@ -61,7 +61,7 @@ pub record Tells (limits : Option Limits) (value : Option (List ℕ)) (op : Op) 
   pub keeps : code ≢ success → after ≡ before
   pub says : code ≢ success → (old new : List ℕ) → value ≡ Some old → ¬ SetsWithin limits op old new
 
-told_where : (limits : Limits) (old : List ℕ) (unknown : ℕ) (op : Op) (before : State) (answered : BoardAnswer) (after : State) → Sets (Some limits) (Some old) unknown op before answered after → Tells (Some limits) (Some old) op before.records answered.code after.records
+told_where : (limits : Limits) (old : List ℕ) (unknown : ℕ) (op : Op) (before : State) (answered : BoardAnswer) (after : State) → SetAnswered (Some limits) (Some old) unknown op before answered after → Tells (Some limits) (Some old) op before.records answered.code after.records
 told_where limits old unknown op before answered after (inl is) = record {
   does = λ _. (old, is.new, refl, is.is_set, ap (λ (s : State). s.records) is.left);
   keeps = λ ne. absurd (ne (ap (λ (a : BoardAnswer). a.code) is.replied));
@@ -82,7 +82,7 @@ told_absent limits value unknown op before answered after fault none is = record
   says = λ _. none;
 }
 
-pub tells : (limits : Option Limits) (value : Option (List ℕ)) (unknown : ℕ) (op : Op) (before : State) (answered : BoardAnswer) (after : State) → unknown ≢ success → Sets limits value unknown op before answered after
+pub tells : (limits : Option Limits) (value : Option (List ℕ)) (unknown : ℕ) (op : Op) (before : State) (answered : BoardAnswer) (after : State) → unknown ≢ success → SetAnswered limits value unknown op before answered after
     → Tells limits value op before.records answered.code after.records
 tells (Some l) (Some old) unknown op before answered after fault is = told_where l old unknown op before answered after is
 tells (Some l) None unknown op before answered after fault is = told_absent (Some l) None unknown op before answered after fault (λ old new had is_set. none-some old had) is
@@ -256,13 +256,13 @@ module _ (setup : BoardFile) (at : Bus → Addresses) where
     refused_not x code r ok err = absurd cc
 
     module _ (board after : State) (a : Answered) where
-      abbrev stagings : Staged
+      abbrev stagings : StagedParts
       stagings = board.activity.stagings
 
-      refusal : (bodies : List (List ℕ)) (code : ℕ) → (0 < code) → Is (board_answer a) after (refused code, board) → ((records : Records) → ¬ SetsTo (family setup at) setting board.records records) → Deed setting bodies board a after
+      refusal : (bodies : List (List ℕ)) (code : ℕ) → (0 < code) → IsAnswerGiven (board_answer a) after (refused code, board) → ((records : Records) → ¬ SetsTo (family setup at) setting board.records records) → Deed setting bodies board a after
       refusal bodies code fault is says = Refused (record {
-        fault = λ carried. let same : a.code ≡ code = ap (λ (g : Given). g.0.code) is in omega (arith, fault, same, carried);
-        kept = ap (λ (g : Given). g.1.records) is;
+        fault = λ carried. let same : a.code ≡ code = ap (λ (g : AnswerAndState). g.0.code) is in omega (arith, fault, same, carried);
+        kept = ap (λ (g : AnswerAndState). g.1.records) is;
         says = says;
       })
 
@@ -283,14 +283,14 @@ module _ (setup : BoardFile) (at : Bus → Addresses) where
           ∙ ap (λ (f : Option Attribute). start_outcome (option_map limits_of f) stagings own first) there.found
           ∙ (λ i. unless (or_else (first_none (limits_of there.attribute) o there.is long i) (has_room own stagings few i)) first)
 
-      first_staged : (r : Result (List ℕ) ℕ) → start ≡ r → length (without own stagings) < most_stagings → Is (board_answer a) after (staged own board r) → Deed setting [] board a after
+      first_staged : (r : Result (List ℕ) ℕ) → start ≡ r → length (without own stagings) < most_stagings → IsAnswerGiven (board_answer a) after (staged own board r) → Deed setting [] board a after
       first_staged (Ok made) e few is =
           let same : made ≡ first = made_of (start_fault (limits_named setup (named_in first)) stagings own first) first made e in
           Goes (record {
-            carried = ap (λ (g : Given). g.0.code) is;
+            carried = ap (λ (g : AnswerAndState). g.0.code) is;
             more = behind_there [] a.body (omega (arith, long));
-            kept = ap (λ (g : Given). g.1.records) is;
-            ready = ap (λ (g : Given). staged_by own g.1.activity.stagings) is ∙ own_last stagings own made ∙ ap Some same;
+            kept = ap (λ (g : AnswerAndState). g.1.records) is;
+            ready = ap (λ (g : AnswerAndState). staged_by own g.1.activity.stagings) is ∙ own_last stagings own made ∙ ap Some same;
           })
       first_staged (Err code) e few is =
           refusal [] code (subst Refuses e (start_code (limits_named setup (named_in first)) stagings own first)).is_fault is
@@ -330,15 +330,15 @@ module _ (setup : BoardFile) (at : Bus → Addresses) where
           ended_ok : part_length * place < length entry → length entry ≤ part_length * suc place → IsThere → ended ≡ Ok (op_of (before ++ part))
           ended_ok begun within there = ended_is ∙ ap (λ (f : Option ℕ). unless f (op_of (before ++ part))) (last_none (limits_of there.attribute) o there.is long place (omega arith) begun within)
 
-          later_staged : (r : Result (List ℕ) ℕ) → added ≡ r → part_length * suc place < length entry → Is (board_answer a) after (staged own board r) → Deed setting all board a after
+          later_staged : (r : Result (List ℕ) ℕ) → added ≡ r → part_length * suc place < length entry → IsAnswerGiven (board_answer a) after (staged own board r) → Deed setting all board a after
           later_staged (Ok made) e within is =
               let same : made ≡ before ++ part = made_of (middle_fault before (part_length * place) part) (before ++ part) made (sym added_is ∙ e) in
               let next : take (part_length * suc place) entry ≡ take (part_length * suc (length (bodies ++ a.body ∷ []))) entry = ap (λ (n : ℕ). take (part_length * suc n) entry) (sym (count bodies a.body)) in
               Goes (record {
-                carried = ap (λ (g : Given). g.0.code) is;
+                carried = ap (λ (g : AnswerAndState). g.0.code) is;
                 more = behind_there all a.body within;
-                kept = ap (λ (g : Given). g.1.records) is;
-                ready = ap (λ (g : Given). staged_by own g.1.activity.stagings) is ∙ own_last stagings own made ∙ ap Some (same ∙ take_next entry place ∙ next);
+                kept = ap (λ (g : AnswerAndState). g.1.records) is;
+                ready = ap (λ (g : AnswerAndState). staged_by own g.1.activity.stagings) is ∙ own_last stagings own made ∙ ap Some (same ∙ take_next entry place ∙ next);
               })
           later_staged (Err code) e within is =
               refusal all code (subst Refuses e (add_code stagings own (part_length * place) part)).is_fault is
@@ -347,7 +347,7 @@ module _ (setup : BoardFile) (at : Bus → Addresses) where
           whole : length entry ≤ part_length * suc place → op_of (before ++ part) ≡ o
           whole within = ap op_of (take_next entry place ∙ take_all (part_length * suc place) entry within) ∙ op_back o
 
-          last_ended : (r : Result SetBiosAttribute ℕ) → ended ≡ r → part_length * place < length entry → length entry ≤ part_length * suc place → Ends setup own r board (board_answer a) after → Deed setting all board a after
+          last_ended : (r : Result SetBiosAttribute ℕ) → ended ≡ r → part_length * place < length entry → length entry ≤ part_length * suc place → AnswersLastPart setup own r board (board_answer a) after → Deed setting all board a after
           last_ended (Ok made) e begun within is =
               let same : made ≡ o = made_of (last_fault before (part_length * place) part) (op_of (before ++ part)) made (sym ended_is ∙ e) ∙ whole within in
               let set : SetsWhole setup own setting board (board_answer a) after = subst (λ (x : SetBiosAttribute). SetsWhole setup own (op.BiosAttribute x) board (board_answer a) after) same is in

@@ -9,7 +9,7 @@ use Rattle.cfg_records.specs.declared.board_file.BoardFile.{BoardFile}
 use Rattle.cfg_records.specs.Records.{Records, with_record}
 use Rattle.pldm_base.specs.Parts.{part_length}
 use Rattle.bios_attr.specs.EntryParts.{entry_of}
-use Rattle.attribute_parts.specs.Stagings.{Staged, most_stagings, staged_by, without}
+use Rattle.attribute_parts.specs.Stagings.{StagedParts, most_stagings, staged_by, without}
 use Rattle.record_kinds.specs.declared.limits.Limits.{Limits}
 use Rattle.record_kinds.specs.Series.{Series, Reads, Sends}
 use Rattle.record_kinds.specs.Limits.{key_of, restorable, valid, sets, view, conf, limits_at}
@@ -24,9 +24,9 @@ use Rattle.model_ports.specs.Wires.{board_answer, family_answer}
 use Rattle.model_lab.specs.ManagerWords.{manager_words}
 
 -- the limits allow the value
-abbrev pub Allows : Option Limits → List ℕ → Type 0
-Allows (Some limits) value = valid limits value
-Allows None value = ⊥
+abbrev pub AllowsBody : Option Limits → List ℕ → Type 0
+AllowsBody (Some limits) value = valid limits value
+AllowsBody None value = ⊥
 
 -- within the limits the operation is accepted at the first value, and makes it the second
 abbrev pub SetsWithin : Option Limits → Op → List ℕ → List ℕ → Type 0
@@ -47,7 +47,7 @@ conf_within None body = []
 
 -- A board with these stagings is ready for the next request of a series of this requester, after replies with these data. For a first one
 -- fewer than eight others have a staging. Before a later one the requester has staged the parts that it sent.
-abbrev pub IsReadyFor : (own : ℕ) → Staged → Series → List (List ℕ) → Type 0
+abbrev pub IsReadyFor : (own : ℕ) → StagedParts → Series → List (List ℕ) → Type 0
 IsReadyFor own stagings (Reads key) bodies = Unit {0}
 IsReadyFor own stagings (Sends asked) [] = length (without own stagings) < most_stagings
 IsReadyFor own stagings (Sends asked) (body ∷ bodies) = staged_by own stagings ≡ Some (take (part_length * length (body ∷ bodies)) (entry_of asked))
@@ -60,7 +60,7 @@ family setup at = record {
   Records = Records;
   get = λ records key. records key;
   put = with_record;
-  Valid = λ key value. Allows (limits_at setup key) value;
+  Valid = λ key value. AllowsBody (limits_at setup key) value;
   Sets = λ op old new. SetsWithin (limits_at setup (key_of op)) op old new;
   Shows = λ key value body. ShowsWithin (limits_at setup key) value body;
   conf = λ key body. conf_within (limits_at setup key) body;

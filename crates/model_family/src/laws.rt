@@ -9,7 +9,7 @@ ghost use Rattle.model_undo.specs.Headline.{AlwaysStands, UndoneForGood, StopsOn
 ghost use Rattle.model_undo.specs.Giving.{HaltsByAnswers};
 ghost use Rattle.model_undo.specs.RecordsRun.{RecordsStand};
 ghost use Rattle.model_undo.specs.Resume.{GoesOnAlike};
-ghost use Rattle.model_undo.specs.Restart.{IsKept};
+ghost use Rattle.model_undo.specs.Restart.{KeepsPlace};
 ghost use Rattle.model_undo.specs.Silence.{RestartsAreSilences};
 ghost use Rattle.model_undo.specs.Clean.{AnswersByRow};
 ghost use Rattle.model_undo.specs.CleanSeries.{AreFinite, AlwaysRunsThrough};
@@ -73,7 +73,7 @@ pub fn restarts_are_silences()
 /// The manager that is made again has the same request open under the same number, gives the same list, and sends nothing by itself. `quiet`, `again`
 /// and `stop` change nothing of what it is made of.
 pub fn restarted_keeps_its_place()
-    ensures { (at : Bus → Addresses) → IsKept (manager_words at) }
+    ensures { (at : Bus → Addresses) → KeepsPlace (manager_words at) }
 {}
 
 /// Each series of requests that the manager makes has an end, whatever the replies are.

@@ -38,7 +38,7 @@ use Rattle.model_family.proofs.IsFamily.{is_family}
 use Rattle.undo_plans.specs.declared.names.Names.{Names}
 use Rattle.model_ports.specs.Values.{Asks}
 use Rattle.model_ports.specs.Bytes.{heard_in, response_bytes, response_to, said, busy_on}
-use Rattle.model_ports.specs.PortSteps.{Deed, asked_in, left_by, response_after, hears_request, turn, hears, stays}
+use Rattle.model_ports.specs.PortSteps.{StepResult, asked_in, left_by, response_after, hears_request, turn, hears, stays}
 use Rattle.model_ports.specs.PortEvents.{answer_to}
 use Rattle.model_lab.specs.ManagerSteps.{addresses, own_on}
 use Rattle.model_lab.specs.ManagerEvents.{HoldsReply}
@@ -48,8 +48,8 @@ use Rattle.model_lab.specs.Lab.{LabFrame, Lab, port_does, frame_now, with_port}
 use Rattle.model_lab.specs.Honest.{IsAnother}
 use Rattle.model_ports.proofs.Spelling.{are_the_models}
 use Rattle.model_headline.specs.Each.{Each}
-use Rattle.model_headline.specs.Tied.{own_plans, own_family, own_lines, own_wires, ipmb_bus, rules_on, requests, HoldsAsked, IsHeldBy, IsHeld, IsAnswer, EntryAnswers, IsTied, world_of, IsGiven, Goes}
-use Rattle.model_headline.specs.Follows.{Holds}
+use Rattle.model_headline.specs.Tied.{own_plans, own_family, own_lines, own_wires, ipmb_bus, rules_on, requests, HoldsAsked, IsHeldBy, IsHeld, IsAnswer, EntryAnswers, IsTied, world_of, IsGivenAnswer, WorldFollows}
+use Rattle.model_headline.specs.Follows.{HoldsInWorld}
 use Rattle.model_headline.proofs.Each.{each_append}
 use Rattle.model_headline.proofs.Frames.{all_held}
 use Rattle.model_headline.proofs.Begun.{own}
@@ -97,7 +97,7 @@ module _ (setup : BoardFile) (names : Names) (bus : Bus) where
 -- ---- a request on IPMB
 
 module _ (setup : BoardFile) (names : Names) (plan : List Op) (start : Records) where
-  module _ (x : Lab (own_plans setup names)) (on : States (own_lines setup names)) (tied : IsTied setup names x on) (h : Holds setup names plan start (world_of setup names x on)) (r : Request) where
+  module _ (x : Lab (own_plans setup names)) (on : States (own_lines setup names)) (tied : IsTied setup names x on) (h : HoldsInWorld setup names plan start (world_of setup names x on)) (r : Request) where
     -- what the board would answer, and what a port would keep
     abbrev given : BoardAnswer × State
     given = answer_of setup x.board (asked_in r)
@@ -109,7 +109,7 @@ module _ (setup : BoardFile) (names : Names) (plan : List Op) (start : Records) 
     abbrev done : Outcome
     done = outcome (is_above 64) (heard_in r) (on Ipmb).log
 
-    abbrev deed_at : List Entry → Outcome → Deed
+    abbrev deed_at : List Entry → Outcome → StepResult
     deed_at log o = record { port = record (x.ipmb) { log = log_after o kept log }; board = left_by o given.1 x.board; sent = response_after r (reply_after o kept) ∷ [] }
 
     turned : hears_request setup x.ipmb x.board r ≡ deed_at x.ipmb.log (outcome (is_above 64) (heard_in r) x.ipmb.log)
@@ -183,7 +183,7 @@ module _ (setup : BoardFile) (names : Names) (plan : List Op) (start : Records) 
     stagings_stay IsNew quiet = keeps_stagings setup x.board (asked_in r) given.0 given.1 quiet (has_answer setup x.board (asked_in r))
 
     other_asks : is_changing (asked_in r) ≡ false → r.header.requester.address ≢ names.own_address
-        → Goes setup names x on (left_lab ToOthers 0 done)
+        → WorldFollows setup names x on (left_lab ToOthers 0 done)
     other_asks quiet another = record {
       happenings = OnBus Ipmb asks (left_by done given.1 x.board) ∷ [];
       left = update (own_lines setup names) Ipmb other_on on;
@@ -196,13 +196,13 @@ module _ (setup : BoardFile) (names : Names) (plan : List Op) (start : Records) 
 
     -- a request of another comes to the port, if it goes to its address
     pub other_goes : is_changing (asked_in r) ≡ false → IsAnother Ipmb x.manager.names r.header.requester.address
-        → Goes setup names x on (port_does (own_plans setup names) Ipmb ToOthers 0 (hears setup x.ipmb x.board (Asks r)) x)
+        → WorldFollows setup names x on (port_does (own_plans setup names) Ipmb ToOthers 0 (hears setup x.ipmb x.board (Asks r)) x)
     other_goes quiet another = by (r.header.responder.address == x.ipmb.wire)
       where
         there : r.header.requester.address ≢ names.own_address
         there e = another.0 (e ∙ ap (λ n. n.own_address) (sym tied.named))
 
-        nothing : Goes setup names x on (port_does (own_plans setup names) Ipmb ToOthers 0 (stays x.ipmb x.board) x)
+        nothing : WorldFollows setup names x on (port_does (own_plans setup names) Ipmb ToOthers 0 (stays x.ipmb x.board) x)
         nothing = record {
           happenings = [];
           left = on;
@@ -226,8 +226,8 @@ module _ (setup : BoardFile) (names : Names) (plan : List Op) (start : Records) 
           };
         }
 
-        by : (t : Bool) → Goes setup names x on (port_does (own_plans setup names) Ipmb ToOthers 0 (cond t (hears_request setup x.ipmb x.board r) (stays x.ipmb x.board)) x)
-        by true = subst (λ d. Goes setup names x on (port_does (own_plans setup names) Ipmb ToOthers 0 d x)) (sym deed_is) (other_asks quiet there)
+        by : (t : Bool) → WorldFollows setup names x on (port_does (own_plans setup names) Ipmb ToOthers 0 (cond t (hears_request setup x.ipmb x.board r) (stays x.ipmb x.board)) x)
+        by true = subst (λ d. WorldFollows setup names x on (port_does (own_plans setup names) Ipmb ToOthers 0 d x)) (sym deed_is) (other_asks quiet there)
         by false = nothing
 
     -- ---- the manager asks
@@ -331,7 +331,7 @@ module _ (setup : BoardFile) (names : Names) (plan : List Op) (start : Records) 
       )
 
       -- the answer is the lab's
-      gave : (o : Outcome) → Each (IsGiven setup names x (left_lab ToManager f.request o))
+      gave : (o : Outcome) → Each (IsGivenAnswer setup names x (left_lab ToManager f.request o))
           (given_by (own_family setup names) (own_lines setup names) (own_wires setup names) Ipmb (exchange (new_bytes o hold.bytes) (answer_to setup x.board r)) x.board (left_by o given.1 x.board) ++ [])
       gave (Repeats reply) = tt
       gave IsBusy = tt
@@ -351,19 +351,19 @@ module _ (setup : BoardFile) (names : Names) (plan : List Op) (start : Records) 
         tt,
       )
 
-      manager_asks : Goes setup names x on (left_lab ToManager f.request done)
+      manager_asks : WorldFollows setup names x on (left_lab ToManager f.request done)
       manager_asks = record {
         happenings = OnBus Ipmb reaches_port (left_by done given.1 x.board) ∷ [];
         left = update (own_lines setup names) Ipmb model_after on;
         may = (((tt, honest_there), refl, subst (λ o. world.BoardMay (own_family setup names) (own_lines setup names) (own_wires setup names) Ipmb o x.board (left_by done given.1 x.board)) (sym carried_so) (board_may done)), tt);
         reaches = ap (λ (s : BusState). let w : World (own_family setup names) (own_lines setup names) = record { machine = x.manager.machine; on = update (own_lines setup names) Ipmb s on; board = left_by done given.1 x.board } in w) happens_so;
-        gives = subst (λ o. Each (IsGiven setup names x (left_lab ToManager f.request done)) (given_by (own_family setup names) (own_lines setup names) (own_wires setup names) Ipmb o x.board (left_by done given.1 x.board) ++ [])) (sym carried_so) (gave done);
+        gives = subst (λ o. Each (IsGivenAnswer setup names x (left_lab ToManager f.request done)) (given_by (own_family setup names) (own_lines setup names) (own_wires setup names) Ipmb o x.board (left_by done given.1 x.board) ++ [])) (sym carried_so) (gave done);
         tied = port_tied ToManager f.request done model_after goes_on held_reply;
       }
 
       -- a frame of the manager comes to the port on IPMB
-      pub asked_goes : Goes setup names x on (port_does (own_plans setup names) Ipmb ToManager f.request (hears setup x.ipmb x.board (Asks r)) x)
+      pub asked_goes : WorldFollows setup names x on (port_does (own_plans setup names) Ipmb ToManager f.request (hears setup x.ipmb x.board (Asks r)) x)
       asked_goes =
           let there : (r.header.responder.address == x.ipmb.wire) ≡ true = eq-eqb _ _ (ap (λ (q : Request). q.header.responder.address) (sym same) ∙ hold.to_port ∙ sym tied.ipmb_wire) in
-          subst (λ (t : Bool). Goes setup names x on (port_does (own_plans setup names) Ipmb ToManager f.request (cond t (hears_request setup x.ipmb x.board r) (stays x.ipmb x.board)) x)) (sym there)
-          (subst (λ d. Goes setup names x on (port_does (own_plans setup names) Ipmb ToManager f.request d x)) (sym deed_is) manager_asks)
+          subst (λ (t : Bool). WorldFollows setup names x on (port_does (own_plans setup names) Ipmb ToManager f.request (cond t (hears_request setup x.ipmb x.board r) (stays x.ipmb x.board)) x)) (sym there)
+          (subst (λ d. WorldFollows setup names x on (port_does (own_plans setup names) Ipmb ToManager f.request d x)) (sym deed_is) manager_asks)

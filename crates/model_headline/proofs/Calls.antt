@@ -12,7 +12,7 @@ use Rattle.mctp_net.specs.Assembly.{Assemblies, nothing, open_beside}
 use Rattle.model_bus.specs.PacketBus.{Clears}
 use Rattle.model_undo.specs.Machine.{count_of, Task, Gets, Sets, Undoes, Part, Stage, AtStart, Opened, AtEnd, AtHalt, AtUndone, AtRefused, Machine, Turn, sending, starts, undoes, quiets, agains, stops, first_stage, undo_stage, enters}
 use Rattle.model_undo.specs.Joined.{IsClosed, AreOpen}
-use Rattle.model_undo.specs.Giving.{Giving, given_at}
+use Rattle.model_undo.specs.Giving.{GivenAnswer, given_at}
 use Rattle.model_undo.specs.World as world
 use Rattle.model_undo.specs.World.{States, World, Happening, Calls, OnBus, update}
 use Rattle.model_ports.specs.Wires.{bus_of}
@@ -30,14 +30,14 @@ use Rattle.model_bus.specs.Answering.{AreWritten}
 use Rattle.model_bus.proofs.Lists.{Grows}
 use Rattle.model_headline.specs.Each.{Each}
 use Rattle.model_headline.proofs.Frames.{all_held}
-use Rattle.model_headline.specs.Follows.{Holds}
-use Rattle.model_headline.specs.Tied.{own_plans, own_family, own_lines, own_wires, rules_on, requests, EntryAnswers, IsTied, world_of, IsGiven, Goes}
+use Rattle.model_headline.specs.Follows.{HoldsInWorld}
+use Rattle.model_headline.specs.Tied.{own_plans, own_family, own_lines, own_wires, rules_on, requests, EntryAnswers, IsTied, world_of, IsGivenAnswer, WorldFollows}
 use Rattle.model_headline.proofs.Begun.{own, words, NoneOpen, enter_tied, again_tied, same_world}
 
 module _ (setup : BoardFile) (names : Names) (plan : List Op) (start : Records) where
   -- ---- what is open
 
-  pub none_open : (x : Lab (own_plans setup names)) (on : States (own_lines setup names)) → Holds setup names plan start (world_of setup names x on) → ((bus : Bus) → IsClosed (requests setup names on bus)) → NoneOpen setup names on
+  pub none_open : (x : Lab (own_plans setup names)) (on : States (own_lines setup names)) → HoldsInWorld setup names plan start (world_of setup names x on) → ((bus : Bus) → IsClosed (requests setup names on bus)) → NoneOpen setup names on
   none_open x on h closed bus =
       let order = h.joined.orderly bus in let a = order.answered in let b = order.below in let c = closed bus in omega arith
 
@@ -72,7 +72,7 @@ module _ (setup : BoardFile) (names : Names) (plan : List Op) (start : Records) 
 
   -- ---- start
 
-  module _ (x : Lab (own_plans setup names)) (on : States (own_lines setup names)) (tied : IsTied setup names x on) (h : Holds setup names plan start (world_of setup names x on)) where
+  module _ (x : Lab (own_plans setup names)) (on : States (own_lines setup names)) (tied : IsTied setup names x on) (h : HoldsInWorld setup names plan start (world_of setup names x on)) where
     abbrev machine : Machine (words setup names)
     machine = x.manager.machine
 
@@ -109,15 +109,15 @@ module _ (setup : BoardFile) (names : Names) (plan : List Op) (start : Records) 
     starts_so (AtRefused k code) at = rests
 
     goes_by : (call : Happening (own_family setup names) (own_lines setup names)) (y : Lab (own_plans setup names)) (o : Option (Turn (words setup names)))
-        → world.May (own_family setup names) (own_lines setup names) (own_wires setup names) (world_of setup names x on) call
+        → world.MayHappen (own_family setup names) (own_lines setup names) (own_wires setup names) (world_of setup names x on) call
         → world.happens (own_family setup names) (own_lines setup names) (own_wires setup names) (world_of setup names x on) call ≡ world.opens (own_family setup names) (own_lines setup names) (own_wires setup names) o (world_of setup names x on)
-        → given_at (own_family setup names) (own_lines setup names) (own_wires setup names) (world_of setup names x on) call ≡ [] → y ≡ done_by x.manager.joined o x → Follows o → Goes setup names x on y
+        → given_at (own_family setup names) (own_lines setup names) (own_wires setup names) (world_of setup names x on) call ≡ [] → y ≡ done_by x.manager.joined o x → Follows o → WorldFollows setup names x on y
     goes_by call y o may is none same f = record {
       happenings = call ∷ [];
       left = f.left;
       may = (may, tt);
       reaches = is ∙ f.reaches ∙ ap (λ z. world_of setup names z f.left) (sym same);
-      gives = subst (λ (gs : List (Giving (own_family setup names))). Each (IsGiven setup names x y) (gs ++ [])) (sym none) tt;
+      gives = subst (λ (gs : List (GivenAnswer (own_family setup names))). Each (IsGivenAnswer setup names x y) (gs ++ [])) (sym none) tt;
       tied = subst (λ z. IsTied setup names z f.left) (sym same) f.ties;
     }
 
@@ -125,7 +125,7 @@ module _ (setup : BoardFile) (names : Names) (plan : List Op) (start : Records) 
     unfolding called
     start_is = refl
 
-    pub start_goes : Goes setup names x on (call_does (own_plans setup names) (called (own_plans setup names) calls.Start x.manager) x)
+    pub start_goes : WorldFollows setup names x on (call_does (own_plans setup names) (called (own_plans setup names) calls.Start x.manager) x)
     start_goes = goes_by (Calls calls.Start) _ (starts (words setup names) machine.stage machine) tt refl refl start_is (starts_so machine.stage refl)
 
     -- ---- stop
@@ -145,7 +145,7 @@ module _ (setup : BoardFile) (names : Names) (plan : List Op) (start : Records) 
     unfolding called
     stop_is = refl
 
-    pub stop_goes : Goes setup names x on (call_does (own_plans setup names) (called (own_plans setup names) calls.Stop x.manager) x)
+    pub stop_goes : WorldFollows setup names x on (call_does (own_plans setup names) (called (own_plans setup names) calls.Stop x.manager) x)
     stop_goes = goes_by (Calls calls.Stop) _ (stops (words setup names) machine.stage machine) tt refl refl stop_is (stops_so machine.stage)
 
     -- ---- quiet and again
@@ -198,15 +198,15 @@ module _ (setup : BoardFile) (names : Names) (plan : List Op) (start : Records) 
     agains_so (AtRefused k code) at = resting
 
     repeats_by : (call : Happening (own_family setup names) (own_lines setup names)) (y : Lab (own_plans setup names)) (o : Option (Turn (words setup names)))
-        → world.May (own_family setup names) (own_lines setup names) (own_wires setup names) (world_of setup names x on) call
+        → world.MayHappen (own_family setup names) (own_lines setup names) (own_wires setup names) (world_of setup names x on) call
         → world.happens (own_family setup names) (own_lines setup names) (own_wires setup names) (world_of setup names x on) call ≡ world.repeats (own_family setup names) (own_lines setup names) (own_wires setup names) o (world_of setup names x on)
-        → given_at (own_family setup names) (own_lines setup names) (own_wires setup names) (world_of setup names x on) call ≡ [] → y ≡ done_by x.manager.joined o x → Repeats o → Goes setup names x on y
+        → given_at (own_family setup names) (own_lines setup names) (own_wires setup names) (world_of setup names x on) call ≡ [] → y ≡ done_by x.manager.joined o x → Repeats o → WorldFollows setup names x on y
     repeats_by call y o may is none same f = record {
       happenings = call ∷ [];
       left = f.left;
       may = (may, tt);
       reaches = is ∙ f.reaches ∙ ap (λ z. world_of setup names z f.left) (sym same);
-      gives = subst (λ (gs : List (Giving (own_family setup names))). Each (IsGiven setup names x y) (gs ++ [])) (sym none) tt;
+      gives = subst (λ (gs : List (GivenAnswer (own_family setup names))). Each (IsGivenAnswer setup names x y) (gs ++ [])) (sym none) tt;
       tied = subst (λ z. IsTied setup names z f.left) (sym same) f.ties;
     }
 
@@ -214,14 +214,14 @@ module _ (setup : BoardFile) (names : Names) (plan : List Op) (start : Records) 
     unfolding called
     quiet_is = refl
 
-    pub quiet_goes : Goes setup names x on (call_does (own_plans setup names) (called (own_plans setup names) calls.Quiet x.manager) x)
+    pub quiet_goes : WorldFollows setup names x on (call_does (own_plans setup names) (called (own_plans setup names) calls.Quiet x.manager) x)
     quiet_goes = repeats_by (Calls calls.Quiet) _ (quiets (words setup names) machine.stage machine) tt refl refl quiet_is (quiets_so machine.stage refl)
 
     again_is : call_does (own_plans setup names) (called (own_plans setup names) calls.Again x.manager) x ≡ done_by x.manager.joined (agains (words setup names) machine.stage machine) x
     unfolding called
     again_is = refl
 
-    pub again_goes : Goes setup names x on (call_does (own_plans setup names) (called (own_plans setup names) calls.Again x.manager) x)
+    pub again_goes : WorldFollows setup names x on (call_does (own_plans setup names) (called (own_plans setup names) calls.Again x.manager) x)
     again_goes = repeats_by (Calls calls.Again) _ (agains (words setup names) machine.stage machine) tt refl refl again_is (agains_so machine.stage refl)
 
     -- ---- undo
@@ -262,7 +262,7 @@ module _ (setup : BoardFile) (names : Names) (plan : List Op) (start : Records) 
         by all Smbus = all Smbus
 
     undo_from : (stage : Stage (words setup names)) → stage ≡ machine.stage → undoes (words setup names) stage machine ≡ Some (enters (words setup names) (undo_stage (words setup names) machine.undo) machine)
-        → ((bus : Bus) → IsClosed (requests setup names on bus)) → Goes setup names x on (done_by nothing (undoes (words setup names) stage machine) x)
+        → ((bus : Bus) → IsClosed (requests setup names on bus)) → WorldFollows setup names x on (done_by nothing (undoes (words setup names) stage machine) x)
     undo_from stage at is closed =
         let t = enters (words setup names) (undo_stage (words setup names) machine.undo) machine in
         let y = managed t.machine nothing x in
@@ -282,13 +282,13 @@ module _ (setup : BoardFile) (names : Names) (plan : List Op) (start : Records) 
           tied = subst (λ z. IsTied setup names z now) (sym same) ok;
         }
 
-    undo_rests : Goes setup names x on x
+    undo_rests : WorldFollows setup names x on x
     undo_rests = record { happenings = []; left = on; may = tt; reaches = refl; gives = tt; tied = tied }
 
     pub are_closed : (stage : Stage (words setup names)) → stage ≡ machine.stage → (bus : Bus) → AreOpen (own_family setup names) (own_wires setup names) (λ b. 0) stage bus (requests setup names on bus)
     are_closed stage at = subst (λ s. (bus : Bus) → AreOpen (own_family setup names) (own_wires setup names) (λ b. 0) s bus (requests setup names on bus)) (sym at) h.joined.are_open
 
-    undo_so : (stage : Stage (words setup names)) → stage ≡ machine.stage → Goes setup names x on (done_by nothing (undoes (words setup names) stage machine) x)
+    undo_so : (stage : Stage (words setup names)) → stage ≡ machine.stage → WorldFollows setup names x on (done_by nothing (undoes (words setup names) stage machine) x)
     undo_so AtEnd at = undo_from AtEnd at refl (are_closed AtEnd at)
     undo_so (AtHalt k why) at = undo_from (AtHalt k why) at refl (are_closed (AtHalt k why) at)
     undo_so AtStart at = undo_rests
@@ -300,12 +300,12 @@ module _ (setup : BoardFile) (names : Names) (plan : List Op) (start : Records) 
     unfolding called
     undo_is = refl
 
-    pub undo_goes : Goes setup names x on (call_does (own_plans setup names) (called (own_plans setup names) calls.Undo x.manager) x)
-    undo_goes = subst (λ y. Goes setup names x on y) undo_is (undo_so machine.stage refl)
+    pub undo_goes : WorldFollows setup names x on (call_does (own_plans setup names) (called (own_plans setup names) calls.Undo x.manager) x)
+    undo_goes = subst (λ y. WorldFollows setup names x on y) undo_is (undo_so machine.stage refl)
 
     -- ---- any call
 
-    pub call_goes : (call : Call) → Goes setup names x on (call_does (own_plans setup names) (called (own_plans setup names) call x.manager) x)
+    pub call_goes : (call : Call) → WorldFollows setup names x on (call_does (own_plans setup names) (called (own_plans setup names) call x.manager) x)
     call_goes calls.Start = start_goes
     call_goes calls.Quiet = quiet_goes
     call_goes calls.Stop = stop_goes

@@ -4,16 +4,16 @@ use Rattle.record_base.specs.declared.message.Asked.{Asked}
 use Rattle.record_base.specs.declared.message.Answered.{Answered}
 use Rattle.cfg_records.specs.declared.board_file.BoardFile.{BoardFile}
 use Rattle.bmc_board.specs.State.{State}
-use Rattle.bmc_board.specs.Answer.{Given, answer_of}
+use Rattle.bmc_board.specs.Answer.{AnswerAndState, answer_of}
 use Rattle.model_bus.specs.Request.{Request as Heard, Kept, Entry}
 use Rattle.model_bus.specs.Carried.{Outcome, Repeats, IsBusy, IsNew, outcome}
-use Rattle.model_ports.specs.PortSteps.{Turn, turn, PortState, Deed}
+use Rattle.model_ports.specs.PortSteps.{Turn, turn, PortState, StepResult}
 use Rattle.model_ports.specs.Turns.{TurnsBy}
 use Rattle.model_ports.proofs.Turning.{turns_by}
 use Rattle.bmc_history.specs.declared.event.Call.{Call}
 use Rattle.bmc_history.specs.declared.event.Call.TheVariants.{Exchanged}
 use Rattle.bmc_history.specs.declared.event.Event.{Event as BoardEvent}
-use Rattle.bmc_history.specs.Replay.{Replays}
+use Rattle.bmc_history.specs.Replay.{IsReplay}
 use Rattle.model_headline.specs.Histories.{IsExchange, CarriesOut}
 use Rattle.model_headline.proofs.Lists.{carries_none, carries_both, replays_both, at_seat, seats_both}
 
@@ -21,7 +21,7 @@ module _ (setup : BoardFile) where
   pub record Did (log : List Entry) (before : State) (later : List Entry) (left : State) : Type 0 where
     pub calls : List Call
     pub carried : CarriesOut calls log later
-    pub replays : (seat : ℕ) → Replays setup before (at_seat seat calls) left
+    pub replays : (seat : ℕ) → IsReplay setup before (at_seat seat calls) left
 
   pub did_nothing : (log : List Entry) (before : State) → Did log before log before
   did_nothing log before = record { calls = []; carried = carries_none log; replays = λ seat. refl }
@@ -30,15 +30,15 @@ module _ (setup : BoardFile) where
   did_both a b c first mid last one two = record {
     calls = one.calls ++ two.calls;
     carried = carries_both one.calls two.calls a b c one.carried two.carried;
-    replays = λ seat. subst (λ (events : List BoardEvent). Replays setup first events last) (sym (seats_both seat one.calls two.calls))
+    replays = λ seat. subst (λ (events : List BoardEvent). IsReplay setup first events last) (sym (seats_both seat one.calls two.calls))
         (replays_both setup first mid last (at_seat seat one.calls) (at_seat seat two.calls) (one.replays seat) (two.replays seat));
   }
 
   -- what a port did with what came
-  abbrev pub DidAt : PortState → State → Deed → Type 0
+  abbrev pub DidAt : PortState → State → StepResult → Type 0
   DidAt port before d = Did port.log before d.port.log d.board
 
-  pub did_if : (t : Bool) (port : PortState) (before : State) (d e : Deed) → DidAt port before d → DidAt port before e → DidAt port before (cond t d e)
+  pub did_if : (t : Bool) (port : PortState) (before : State) (d e : StepResult) → DidAt port before d → DidAt port before e → DidAt port before (cond t d e)
   did_if true port before d e here there = here
   did_if false port before d e here there = there
 
@@ -53,7 +53,7 @@ module _ (setup : BoardFile) where
 
     carried_out : outcome above r log ≡ IsNew → DidTurn (turn above r spell setup asked log before)
     carried_out e =
-        let given : Given = answer_of setup before asked in
+        let given : AnswerAndState = answer_of setup before asked in
         let k : Kept = record { request = r; reply = spell given.0 } in
         subst DidTurn (sym (by.new e)) (record {
           calls = Exchanged asked given.0 ∷ [];

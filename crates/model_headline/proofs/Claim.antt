@@ -36,7 +36,7 @@ use Rattle.model_headline.proofs.Labs.{none_orderly, Steps, step_so}
 use Rattle.model_headline.proofs.Honesty.{Runs, runs_so, first_honest, later_honest}
 use Rattle.model_headline.proofs.Grows.{step_grows}
 use Rattle.model_headline.proofs.Meaning.{after_so, stands_so, shows_so, shows_parts}
-use Rattle.model_headline.specs.Seen.{bare, seen_entry, seen_log, words_of, seen_plans, seen_words, spell, seen_call, seen_event, seen_why, seen_lab, stage_of, Made}
+use Rattle.model_headline.specs.Seen.{bare, seen_entry, seen_log, words_of, seen_plans, seen_words, spell, seen_call, seen_event, seen_why, seen_lab, stage_of, SeenManager}
 use Rattle.model_headline.proofs.Holds.{Reads as EntryReads, Holds}
 use Rattle.model_undo.specs.declared.call.Call.TheVariants as lab_call
 use Rattle.model_undo.specs.declared.phase.Phase.TheVariants as undo_phase
@@ -152,7 +152,7 @@ has_stop (e ∷ es) (inr is) = let more = has_stop es is in record { earlier = e
 -- ---- the claim
 
 -- nothing was put together yet
-abbrev pub nothing_made : Made
+abbrev pub nothing_made : SeenManager
 nothing_made = record { ipmb = []; smbus = []; manager = [] }
 
 module _ (setup : BoardFile) (names : Names) (plan : List Op) (retries : ℕ) where
@@ -172,10 +172,10 @@ module _ (setup : BoardFile) (names : Names) (plan : List Op) (retries : ℕ) wh
   theorem = headline setup names plan retries
 
   stands : (events : List Event) (all : AllHonest (ours setup) names events start)
-      → plans.Stands (own_family setup names) plan start.board.records (machine.phase_at (seen_words names) (stage_of names (after setup (ours setup) names plan retries events).manager.phase)) (after setup (ours setup) names plan retries events).board.records
+      → plans.PhaseMeans (own_family setup names) plan start.board.records (machine.phase_at (seen_words names) (stage_of names (after setup (ours setup) names plan retries events).manager.phase)) (after setup (ours setup) names plan retries events).board.records
   stands events all =
       let g = ran events all in
-      subst (λ (y : lab.Lab (seen_plans names)). plans.Stands (own_family setup names) plan start.board.records (machine.phase_of (seen_words names) y.manager.machine) y.board.records) g.is
+      subst (λ (y : lab.Lab (seen_plans names)). plans.PhaseMeans (own_family setup names) plan start.board.records (machine.phase_of (seen_words names) y.manager.machine) y.board.records) g.is
       (theorem.stands (map seen_event events) (g.honest, g.live))
 
   record Same (x : Lab) : Type 0 where
@@ -200,7 +200,7 @@ module _ (setup : BoardFile) (names : Names) (plan : List Op) (retries : ℕ) wh
 
   -- ---- causes of a halt
 
-  pub port_log : (on : Bus) (made : Made) (x : Lab) → (lab.port_on (seen_plans names) on (seen_lab names made x)).log ≡ seen_log (spell on) (port_on on x).log
+  pub port_log : (on : Bus) (made : SeenManager) (x : Lab) → (lab.port_on (seen_plans names) on (seen_lab names made x)).log ≡ seen_log (spell on) (port_on on x).log
   port_log Ipmb made x = refl
   port_log Smbus made x = refl
 
@@ -227,7 +227,7 @@ module _ (setup : BoardFile) (names : Names) (plan : List Op) (retries : ℕ) wh
       pub carried : (port_on on (step (ours setup) names z here)).log ≡ Carried heard (board_of a) ∷ (port_on on z).log
       pub row : Row setup z.board asked (board_of a) (step (ours setup) names z here).board
 
-    given : (asked : Asked) (a : UndoAnswered) → answers.Answers setup names (seen_lab names f.made_then z) (seen_lab names one.made (step (ours setup) names z here)) asked a → Given asked a
+    given : (asked : Asked) (a : UndoAnswered) → answers.AnswerGiven setup names (seen_lab names f.made_then z) (seen_lab names one.made (step (ours setup) names z here)) asked a → Given asked a
     given asked a was =
         let on = was.bus in
         let grown = step_grows (ours setup) names on z here in
@@ -260,9 +260,9 @@ module _ (setup : BoardFile) (names : Names) (plan : List Op) (retries : ℕ) wh
       let before_is : law.after setup names plan retries g.before ≡ seen_lab names ran_so.made_then x = ap (law.after setup names plan retries) s.same_before ∙ ran_so.is in
       let after_is : lab.step (seen_plans names) setup (law.after setup names plan retries g.before) g.event ≡ seen_lab names stepped.made (step (ours setup) names x s.here) =
       (λ i. lab.step (seen_plans names) setup (before_is i) (s.same_event i)) ∙ stepped.is in
-      let was : answers.Answers setup names (seen_lab names ran_so.made_then x) (seen_lab names stepped.made (step (ours setup) names x s.here)) (by_manager names asked) a =
-      subst (λ (y : lab.Lab (seen_plans names)). answers.Answers setup names (seen_lab names ran_so.made_then x) y (by_manager names asked) a) after_is
-      (subst (λ (y : lab.Lab (seen_plans names)). answers.Answers setup names y (lab.step (seen_plans names) setup (law.after setup names plan retries g.before) g.event) (by_manager names asked) a) before_is g.answers) in
+      let was : answers.AnswerGiven setup names (seen_lab names ran_so.made_then x) (seen_lab names stepped.made (step (ours setup) names x s.here)) (by_manager names asked) a =
+      subst (λ (y : lab.Lab (seen_plans names)). answers.AnswerGiven setup names (seen_lab names ran_so.made_then x) y (by_manager names asked) a) after_is
+      (subst (λ (y : lab.Lab (seen_plans names)). answers.AnswerGiven setup names y (lab.step (seen_plans names) setup (law.after setup names plan retries g.before) g.event) (by_manager names asked) a) before_is g.answers) in
       let is = given s.earlier s.here s.rest all_here (by_manager names asked) a was in
       record {
         before = s.earlier;

@@ -27,23 +27,23 @@ use Rattle.model_headline.proofs.Answers.{is_busy, of_answer, responses_alike, m
 use Rattle.model_headline.proofs.Machine.{seen_turn, at_phase, answered, bodies_then, turn_told, takes_turn}
 use Rattle.model_headline.proofs.Sends.{seen_deed, turn_lands, IsSeen}
 use Rattle.model_headline.proofs.ClaimSeries.{task_made}
-use Rattle.model_headline.specs.Seen.{seen_as, words_of, seen_plans, seen_words, seen_value, seen_task, part_of, stage_of, machine_of, seen_manager, seen_lab, Made}
+use Rattle.model_headline.specs.Seen.{seen_as, words_of, seen_plans, seen_words, seen_value, seen_task, part_of, stage_of, machine_of, seen_manager, seen_lab, SeenManager}
 use Rattle.model_headline.proofs.Holds.{IsOrderly, IsLow}
 
 cond_same : {X : Type 0} (b : Bool) (x : X) → x ≡ cond b x x
 cond_same true x = refl
 cond_same false x = refl
 
-module _ (names : Names) (x : Lab) (made : Made) where
+module _ (names : Names) (x : Lab) (made : SeenManager) where
   -- a deed of the model's manager lands in the lab after a turn
-  abbrev pub Lands : manager.ManagerDeed (seen_plans names) → Turn → Type 0
+  abbrev pub Lands : manager.ManagerStepResult (seen_plans names) → Turn → Type 0
   Lands d t = IsSeen names (lab.manager_does (seen_plans names) d (seen_lab names made x)) (goes_on names t x)
 
   -- it does where it is the turn's
-  pub lands : (d : manager.ManagerDeed (seen_plans names)) (t : Turn) (made_then : List ℕ) → d ≡ seen_deed names made_then t → Lands d t
+  pub lands : (d : manager.ManagerStepResult (seen_plans names)) (t : Turn) (made_then : List ℕ) → d ≡ seen_deed names made_then t → Lands d t
   lands d t made_then e =
-      let then : Made = record made { manager = made_then } in
-      record { made = then; is = ap (λ (d : manager.ManagerDeed (seen_plans names)). lab.manager_does (seen_plans names) d (seen_lab names made x)) e ∙ turn_lands names t then x }
+      let then : SeenManager = record made { manager = made_then } in
+      record { made = then; is = ap (λ (d : manager.ManagerStepResult (seen_plans names)). lab.manager_does (seen_plans names) d (seen_lab names made x)) e ∙ turn_lands names t then x }
 
   module _ (task : Task) (bodies : List (List ℕ)) (m : Manager) (made_then : List ℕ) where
     -- the manager, while the task's request is open
@@ -54,7 +54,7 @@ module _ (names : Names) (x : Lab) (made : Made) where
     there = seen_manager names made_then opened
 
     -- the machine takes an answer, or not
-    abbrev taken : UndoAnswered → manager.ManagerDeed (seen_plans names)
+    abbrev taken : UndoAnswered → manager.ManagerStepResult (seen_plans names)
     taken a = manager.taken_or (seen_plans names) there (machine.reply_of (seen_words names) a there.machine)
 
     goes_there : (t : Turn) → opened.waits ≡ t.manager.waits → manager.goes_on (seen_plans names) there (seen_turn names t) ≡ seen_deed names made_then t

@@ -9,7 +9,7 @@ use Rattle.record_base.specs.declared.message.Answered.{Answered}
 use Rattle.record_kinds.specs.Limits.{key_of}
 use Rattle.undo_plans.specs.declared.names.Names.{Names}
 use Rattle.model_bus.specs.Answered.{Answered as UndoAnswered}
-use Rattle.model_undo.specs.Words.{IsOf, IsMade, AreAnswered, AllAnswered}
+use Rattle.model_undo.specs.Words.{IsOneOf, IsMade, AreAnswered, AllAnswered}
 use Rattle.model_headline.specs.Manager.{Task, Gets, Sets, Undoes, Series, Reads, sends, first_of, next_after, request_after, by_manager, asked_for}
 use Rattle.model_headline.specs.Claim.{AreGiven}
 use Rattle.model_headline.specs.Seen.{seen_words}
@@ -26,11 +26,11 @@ after_is series (one ∷ bodies) body asked e = ap (λ (o : Option Asked). unwra
 module _ (names : Names) where
   -- ---- a manager makes it
 
-  pub is_of : (series : Series) (bodies : List (List ℕ)) → IsOf (seen_words names) series (by_manager names (request_after series bodies))
+  pub is_of : (series : Series) (bodies : List (List ℕ)) → IsOneOf (seen_words names) series (by_manager names (request_after series bodies))
   is_of series [] = inl refl
   is_of series (body ∷ bodies) = at (next_after series (body ∷ bodies)) refl
     where
-      at : (o : Option Asked) → next_after series (body ∷ bodies) ≡ o → IsOf (seen_words names) series (by_manager names (unwrap_or o (first_of series)))
+      at : (o : Option Asked) → next_after series (body ∷ bodies) ≡ o → IsOneOf (seen_words names) series (by_manager names (unwrap_or o (first_of series)))
       at None e = inl refl
       at (Some asked) e = inr (body ∷ bodies, ap (option_map (by_manager names)) e)
 

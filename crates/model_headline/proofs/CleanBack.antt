@@ -16,13 +16,13 @@ use Rattle.record_kinds.specs.declared.limits.Limits.{Limits}
 use Rattle.record_kinds.specs.declared.limits.Limits.TheVariants as limits
 use Rattle.record_kinds.specs.Boards.{attribute_at}
 use Rattle.record_kinds.specs.Limits.{key_of, limits_at}
-use Rattle.record_kinds.specs.Sound.{IsSound}
+use Rattle.record_kinds.specs.Sound.{AreSoundRecords}
 use Rattle.record_kinds.specs.Series.{Series, Reads, sends, set_whole}
 use Rattle.bmc_board.specs.State.{State}
 use Rattle.bmc_board.proofs.AnswerFacts.{stays_sound}
 use Rattle.model_undo.specs.Family.{Family}
 use Rattle.model_undo.specs.Undoable.{LeadsBack, CanUndo}
-use Rattle.model_undo.specs.CleanSeries.{Answers, AnswersAll, GoAll, AnswersEach}
+use Rattle.model_undo.specs.CleanSeries.{SeriesAnswered, AnswersAll, GoAll, AnswersEach}
 use Rattle.model_family.specs.Family.{answer, SetsWithin}
 use Rattle.model_family.proofs.IsFamily.{is_family}
 use Rattle.model_family.proofs.Board.{starts_valid}
@@ -94,11 +94,11 @@ module _ (setup : BoardFile) (names : Names) where
   abbrev B : Family
   B = own_family setup names
 
-  answers_sound : (series : Series) (before bodies : List (List ℕ)) (b c : State) → Answers B (answer setup) series before bodies b c → IsSound setup b.records → IsSound setup c.records
-  answers_sound series before [] b c h sound = subst (λ (s : State). IsSound setup s.records) (sym h) sound
+  answers_sound : (series : Series) (before bodies : List (List ℕ)) (b c : State) → SeriesAnswered B (answer setup) series before bodies b c → AreSoundRecords setup b.records → AreSoundRecords setup c.records
+  answers_sound series before [] b c h sound = subst (λ (s : State). AreSoundRecords setup s.records) (sym h) sound
   answers_sound series before (body ∷ bodies) b c h sound = answers_sound series (before ++ body ∷ []) bodies (answer setup b h.0).1 c h.3 (stays_sound setup b h.0 sound)
 
-  pub steps_counted : (steps : List Op) (n : ℕ) (b c : State) (go : GoAll B (answer setup) steps n b c) → IsSound setup b.records → n ≡ step_parts setup names steps n b c go
+  pub steps_counted : (steps : List Op) (n : ℕ) (b c : State) (go : GoAll B (answer setup) steps n b c) → AreSoundRecords setup b.records → n ≡ step_parts setup names steps n b c go
   steps_counted [] n b c go sound = go.1
   steps_counted (o ∷ os) n b c go sound =
       let g = go.3 in

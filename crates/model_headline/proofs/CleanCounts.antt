@@ -24,7 +24,7 @@ use Rattle.model_undo.specs.declared.phase.Why.{Why}
 use Rattle.model_undo.specs.declared.phase.Why.TheVariants.{Stop, Refused, NotRestorable, GetRefused}
 use Rattle.model_undo.specs.declared.phase.Phase.{Phase}
 use Rattle.model_undo.specs.Family.{Family}
-use Rattle.model_undo.specs.CleanSeries.{Answers, AnswersAll, RefusesOne, Goes, GoAll, Sticks, EndsIn, AnswersEach}
+use Rattle.model_undo.specs.CleanSeries.{SeriesAnswered, AnswersAll, RefusesOne, CarriesSeries, GoAll, HaltsSeries, EndsIn, AnswersEach}
 use Rattle.model_lab.specs.ManagerWords.{from_manager, manager_words}
 use Rattle.model_family.specs.Family.{family, answer}
 use Rattle.model_headline.specs.Made.{AllSeries}
@@ -90,7 +90,7 @@ module _ (setup : BoardFile) (at : Bus → Addresses) where
   abbrev F : Family
   F = family setup at
 
-  replied_few : (series : Series) → IsSeries F.words series → (before bodies : List (List ℕ)) (b c : State) → Answers F (answer setup) series before bodies b c → length before ≤ 6 → length before + length bodies ≤ 6
+  replied_few : (series : Series) → IsSeries F.words series → (before bodies : List (List ℕ)) (b c : State) → SeriesAnswered F (answer setup) series before bodies b c → length before ≤ 6 → length before + length bodies ≤ 6
   replied_few series made before [] b c h few = omega (arith, few)
   replied_few series made before (body ∷ bodies) b c h few =
       let below = next_below at series made before h.0 h.1 in
@@ -113,7 +113,7 @@ module _ (setup : BoardFile) (at : Bus → Addresses) where
   sets_made : (o : Op) → IsSeries F.words (sends o)
   sets_made o = inr (o, refl)
 
-  goes_few : (b : State) (o : Op) (n : ℕ) (c : State) → Goes F (answer setup) b o n c → n ≤ 12
+  goes_few : (b : State) (o : Op) (n : ℕ) (c : State) → CarriesSeries F (answer setup) b o n c → n ≤ 12
   goes_few b o n c g =
       let got = all_few (get_of o) (gets_made o) g.got b g.mid g.read in
       let put = all_few (sends o) (sets_made o) g.put g.mid c g.done in
@@ -134,7 +134,7 @@ module _ (setup : BoardFile) (at : Bus → Addresses) where
   more_few i [] b phase n e = let none = e.1 in omega (arith, none)
   more_few i (o ∷ os) b phase n e = by e.0 e.1
     where
-      by : (why : Why) → Sticks F (answer setup) b o why n → n ≤ 12
+      by : (why : Why) → HaltsSeries F (answer setup) b o why n → n ≤ 12
       by Stop s = absurd s
       by (GetRefused code) s = let one = one_few (get_of o) (gets_made o) code n b s in omega (arith, one)
       by NotRestorable s = let few = all_few (get_of o) (gets_made o) s.0 b s.1 s.2 in let all = s.4 in omega (arith, few, all)

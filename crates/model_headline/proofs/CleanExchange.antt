@@ -30,8 +30,8 @@ use Rattle.model_family.proofs.IsFamily.{is_family}
 use Rattle.undo_plans.specs.declared.names.Names.{Names}
 use Rattle.model_ports.specs.Values.{Asks, Tells}
 use Rattle.model_ports.specs.Bytes.{heard_in, response_bytes, response_to}
-use Rattle.model_ports.specs.PortSteps.{PortState, Deed, Turn as PortTurn, hears, hears_request, request_turn, response_after, spelled, asked_in, stays}
-use Rattle.model_lab.specs.ManagerSteps.{addresses, ManagerState, ManagerDeed, sent_of, goes_on, rests, taken_or, hears_reply, hears_response}
+use Rattle.model_ports.specs.PortSteps.{PortState, StepResult, Turn as PortTurn, hears, hears_request, request_turn, response_after, spelled, asked_in, stays}
+use Rattle.model_lab.specs.ManagerSteps.{addresses, ManagerState, ManagerStepResult, sent_of, goes_on, rests, taken_or, hears_reply, hears_response}
 use Rattle.model_lab.specs.declared.way.Way.TheVariants.{ToManager}
 use Rattle.model_ports.proofs.Turning.{turns_by}
 use Rattle.model_headline.specs.Tied.{own_plans, own_family, rules_on, ipmb_bus}
@@ -126,7 +126,7 @@ module _ (setup : BoardFile) (names : Names) where
         (turns_by (is_above 64) (heard_in r) (spelled Ipmb (heard_in r)) setup (asked_in r) log b).new new
         ∙ ap (λ (a : Asked). let t : PortTurn = record { outcome = IsNew; log = Carried (record { request = heard_in r; reply = reply_to Ipmb bytes (answer setup b a).0 }) ∷ log; left = (answer setup b a).1; replied = Some (reply_to Ipmb bytes (answer setup b a).0) } in t) asked_is
 
-    abbrev deed_of : PortTurn → Deed
+    abbrev deed_of : PortTurn → StepResult
     deed_of t = record { port = ipmb_port t.log; board = t.left; sent = response_after r t.replied ∷ [] }
 
     pub port_answers : hears setup (ipmb_port log) b (Asks r) ≡ record { port = ipmb_port (entry ∷ log); board = (answer setup b asked).1; sent = Tells (response_to r (answer setup b asked).0) ∷ [] }
@@ -212,7 +212,7 @@ module _ (setup : BoardFile) (names : Names) where
       let last : SendsNewest (own_plans setup names) (hears_response (own_plans setup names) (response_to request (answer setup b asked).0) mid.manager) = subst (SendsNewest (own_plans setup names)) (sym taken) newest in
       record {
         count = 2;
-        calm = (clear_idles m.counts (enters (own_family setup names).words (Opened true task part) m) b r clear, (omega arith, tt), subst (λ (d : Deed). Calm (own_plans setup names) setup 1 (port_goes (own_plans setup names) Ipmb d [] l)) (sym heard) (quiet, (omega arith, inr (refl, last)), quiet));
+        calm = (clear_idles m.counts (enters (own_family setup names).words (Opened true task part) m) b r clear, (omega arith, tt), subst (λ (d : StepResult). Calm (own_plans setup names) setup 1 (port_goes (own_plans setup names) Ipmb d [] l)) (sym heard) (quiet, (omega arith, inr (refl, last)), quiet));
         few = omega arith;
         rest = record r { ipmb_log = e ∷ r.ipmb_log };
         clear = record {
@@ -221,6 +221,6 @@ module _ (setup : BoardFile) (names : Names) where
           kept = clear.kept;
           joined = clear.joined;
         };
-        is = ap (λ (d : Deed). settles (own_plans setup names) setup 1 (port_goes (own_plans setup names) Ipmb d [] l)) heard
-            ∙ ap (λ (d : ManagerDeed (own_plans setup names)). manager_goes (own_plans setup names) d [] mid) taken;
+        is = ap (λ (d : StepResult). settles (own_plans setup names) setup 1 (port_goes (own_plans setup names) Ipmb d [] l)) heard
+            ∙ ap (λ (d : ManagerStepResult (own_plans setup names)). manager_goes (own_plans setup names) d [] mid) taken;
       }

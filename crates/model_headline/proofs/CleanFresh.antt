@@ -12,7 +12,7 @@ use Rattle.model_bus.specs.Circle.{span_of}
 use Rattle.model_undo.specs.Machine.{Stage, AtStart, Opened, AtEnd, AtHalt, AtUndone, AtRefused, Machine, bus_at, enters, count_of}
 use Rattle.model_ports.specs.Values.{Value}
 use Rattle.model_ports.specs.PortSteps.{hears}
-use Rattle.model_lab.specs.ManagerSteps.{own_on, Plans, ManagerState, ManagerDeed, Sent, goes_on, manager_hears}
+use Rattle.model_lab.specs.ManagerSteps.{own_on, Plans, ManagerState, ManagerStepResult, Sent, goes_on, manager_hears}
 use Rattle.model_lab.specs.declared.way.Way.{Way}
 use Rattle.model_lab.specs.declared.way.Way.TheVariants.{ToPort, ToManager, ToOthers}
 use Rattle.model_lab.specs.Lab.{LabFrame, Event, ToBmc, ToMgr, Lab, idles_on, port_on, frame_now, port_does, delivered, returned, manager_does, step, run}
@@ -40,7 +40,7 @@ module _ (P : Plans) where
   NoIdles l = (q : ℕ) → (idles_of q l.ipmb.log ≡ 0) × (idles_of q l.smbus.log ≡ 0)
 
   -- what is sent is of the request that was begun last on its bus
-  abbrev pub SendsNewest : ManagerDeed P → Type 0
+  abbrev pub SendsNewest : ManagerStepResult P → Type 0
   SendsNewest d = IfSome d.sent (λ s. begun_on P.words s.on d.manager.machine ≤ s.request + 1)
 
   -- so it is as a stage is entered

@@ -30,10 +30,10 @@ use Rattle.bmc_board.proofs.OneAnswer.{has_answer}
 use Rattle.model_bus.specs.Addresses.{Addresses}
 use Rattle.model_bus.specs.Answered.{Answered}
 use Rattle.model_undo.specs.Words.{Words, IsNext, AreAnswered, AllAnswered}
-use Rattle.model_undo.specs.Family.{Family, AllValid, Gave}
-use Rattle.model_undo.specs.IsFamily.{Showed}
+use Rattle.model_undo.specs.Family.{Family, AllValid, GaveAnswer}
+use Rattle.model_undo.specs.IsFamily.{ShownRecord}
 use Rattle.model_undo.proofs.Series.{is_of}
-use Rattle.model_undo.specs.CleanSeries.{Answers, AnswersAll}
+use Rattle.model_undo.specs.CleanSeries.{SeriesAnswered, AnswersAll}
 use Rattle.model_lab.specs.ManagerWords.{from_manager}
 use Rattle.model_lab.specs.ManagerSteps.{addresses}
 use Rattle.model_family.specs.Family.{family, answer, ShowsWithin}
@@ -84,7 +84,7 @@ module _ (setup : BoardFile) (at : Bus → Addresses) where
   F = family setup at
 
   -- the answers are the board's at its records, which none of them changes
-  gave : (k : Key) (r : Records) (before bodies : List (List ℕ)) (b c : State) → b.records ≡ r → Answers F (answer setup) (Reads k) before bodies b c → AreAnswered F.words (Gave F r) (Reads k) before bodies
+  gave : (k : Key) (r : Records) (before bodies : List (List ℕ)) (b c : State) → b.records ≡ r → SeriesAnswered F (answer setup) (Reads k) before bodies b c → AreAnswered F.words (GaveAnswer F r) (Reads k) before bodies
   gave k r before [] b c same h = tt
   gave k r before (body ∷ bodies) b c same h =
       let a = answer setup b h.0 in
@@ -92,11 +92,11 @@ module _ (setup : BoardFile) (at : Bus → Addresses) where
       let kept = (is_family setup at).parts_keep b a.1 k h.0 a.0 (is_of F.words (Reads k) before h.0 h.1) row in
       (h.0, h.1, (b, a.1, same, subst (λ (x : Answered). F.Row b h.0 x a.1) h.2 row), gave k r (before ++ body ∷ []) bodies a.1 c (kept ∙ same) h.3)
 
-  gave_all : (k : Key) (bodies : List (List ℕ)) (b c : State) → AnswersAll F (answer setup) (Reads k) bodies b c → AllAnswered F.words (Gave F b.records) (Reads k) bodies
+  gave_all : (k : Key) (bodies : List (List ℕ)) (b c : State) → AnswersAll F (answer setup) (Reads k) bodies b c → AllAnswered F.words (GaveAnswer F b.records) (Reads k) bodies
   gave_all k bodies b c h = record { in_order = gave k b.records [] bodies b c refl h.replied; some = h.some; no_more = h.no_more }
 
   -- how many bytes of the entry they show
-  sized : (handle : ℕ) (before : List (List ℕ)) (x : List ℕ) (xs : List (List ℕ)) (b c : State) → Answers F (answer setup) (Reads (key.BiosAttribute handle)) before (x ∷ xs) b c
+  sized : (handle : ℕ) (before : List (List ℕ)) (x : List ℕ) (xs : List (List ℕ)) (b c : State) → SeriesAnswered F (answer setup) (Reads (key.BiosAttribute handle)) before (x ∷ xs) b c
       → length (flat_map entry_in (x ∷ xs)) ≡ part_length * length xs + (length (last_of (x ∷ xs)) - before_part)
   sized handle before x [] b c h =
       let all = length-append (entry_in x) [] in
@@ -136,7 +136,7 @@ module _ (setup : BoardFile) (at : Bus → Addresses) where
             absurd (omega (arith, long, some, size))
 
     -- several show a long one
-    more_parts : (x y : List ℕ) (ys : List (List ℕ)) (b c : State) → Answers F (answer setup) (Reads (key.BiosAttribute handle)) [] (x ∷ y ∷ ys) b c → joined (x ∷ y ∷ ys) ≡ shown → length (x ∷ y ∷ ys) ≡ parts_of entry
+    more_parts : (x y : List ℕ) (ys : List (List ℕ)) (b c : State) → SeriesAnswered F (answer setup) (Reads (key.BiosAttribute handle)) [] (x ∷ y ∷ ys) b c → joined (x ∷ y ∷ ys) ≡ shown → length (x ∷ y ∷ ys) ≡ parts_of entry
     more_parts x y ys b c h all = by (ends (length (x ∷ y ∷ ys)) (last_of (x ∷ y ∷ ys))) refl all
       where
         by : (t : Bool) → ends (length (x ∷ y ∷ ys)) (last_of (x ∷ y ∷ ys)) ≡ t → cond t (no_handle ++ start_and_end ∷ flat_map entry_in (x ∷ y ∷ ys)) [] ≡ shown → length (x ∷ y ∷ ys) ≡ parts_of entry
@@ -164,7 +164,7 @@ module _ (setup : BoardFile) (at : Bus → Addresses) where
           let here : s.value ≡ value = same_Some _ _ (sym s.found ∙ found) in
           s.shows ∙ (λ i. first_shown (same i) (view (same i) (here i) s.live))
 
-      counted : (bodies : List (List ℕ)) (b c : State) → b.records ≡ r → AnswersAll F (answer setup) (Reads (key.BiosAttribute handle)) bodies b c → AllAnswered F.words (Gave F r) (Reads (key.BiosAttribute handle)) bodies → joined bodies ≡ shown
+      counted : (bodies : List (List ℕ)) (b c : State) → b.records ≡ r → AnswersAll F (answer setup) (Reads (key.BiosAttribute handle)) bodies b c → AllAnswered F.words (GaveAnswer F r) (Reads (key.BiosAttribute handle)) bodies → joined bodies ≡ shown
           → length bodies ≡ parts_of entry
       counted [] b c at_r h all is = absurd (h.some refl)
       counted (x ∷ []) b c at_r h all is = one_part x (first_is x (first_given setup at r (key.BiosAttribute handle) all.in_order.0 x all.in_order.1 all.in_order.2)) is
@@ -219,7 +219,7 @@ module _ (setup : BoardFile) (names : Names) where
       of_attribute handle h =
           let k = key.BiosAttribute handle in
           let all = gave_all setup (addresses names) k bodies b c h in
-          let s : Showed Board k (joined bodies) b.records = (is_family setup (addresses names)).parts_show b.records k bodies valid all in
+          let s : ShownRecord Board k (joined bodies) b.records = (is_family setup (addresses names)).parts_show b.records k bodies valid all in
           let e = shows_entry handle (attribute_at setup.attributes.items handle) s.value (joined bodies) s.shows in
           counted setup (addresses names) handle e.own s.value b.records e.there s.found bodies b c refl h all e.is
           ∙ sym (let same : get_count (limits_at setup k) (b.records k) ≡ get_count (Some (limits.BiosAttribute e.own)) (Some s.value) = λ i. get_count (e.there i) (s.found i) in same)

@@ -14,7 +14,7 @@ use Rattle.record_base.specs.declared.message.Asked.{Asked}
 use Rattle.record_base.specs.declared.message.Asked.TheVariants.{Ipmi, Pldm}
 use Rattle.cfg_records.specs.declared.board_file.BoardFile.{BoardFile}
 use Rattle.record_kinds.specs.Series.{Series}
-use Rattle.record_kinds.specs.Sound.{IsSound}
+use Rattle.record_kinds.specs.Sound.{AreSoundRecords}
 use Rattle.record_kinds.proofs.Starts.{starts_sound}
 use Rattle.bmc_board.specs.State.{State}
 use Rattle.bmc_board.proofs.AnswerFacts.{stays_sound}
@@ -129,7 +129,7 @@ module _ (setup : BoardFile) (names : Names) where
     made : StageMade (addresses names) stage
     undo : AllSeries (addresses names) m.undo
     clear : IsClear setup names m.counts r
-    sound : IsSound setup b.records
+    sound : AreSoundRecords setup b.records
 
   -- the link goes to one that shows what comes of the board's answers to so many requests
   record Follows (n : ℕ) (y : Moment (own_family setup names)) (l : Link (own_plans setup names)) : Type 0 where
@@ -180,7 +180,7 @@ module _ (setup : BoardFile) (names : Names) where
         few = e.few;
       }
 
-  exchanged : (task : Task M) (asked : Asked) (before : List (List ℕ)) (m : Machine M) (b : State) (r : Rest setup names) → IsMade M asked → IsClear setup names m.counts r → IsSound setup b.records
+  exchanged : (task : Task M) (asked : Asked) (before : List (List ℕ)) (m : Machine M) (b : State) (r : Rest setup names) → IsMade M asked → IsClear setup names m.counts r → AreSoundRecords setup b.records
       → Exchanged setup names task (part_of setup names asked before) m b r
   exchanged task (Ipmi from net_fn lun command body) before m b r made clear sound = ipmb_exchange setup names task from net_fn lun command body before m b r made clear
   exchanged task (Pldm from kind command body) before m b r made clear sound = smbus_exchange setup names task from kind command body before m b r made clear sound

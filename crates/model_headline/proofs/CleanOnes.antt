@@ -15,7 +15,7 @@ use Rattle.model_undo.specs.declared.phase.Why.TheVariants.{Stop, Refused, NotRe
 use Rattle.model_undo.specs.declared.phase.Phase.{Phase}
 use Rattle.model_undo.specs.declared.phase.Phase.TheVariants.{Halted}
 use Rattle.model_undo.specs.Undoable.{CanUndo}
-use Rattle.model_undo.specs.CleanSeries.{AnswersAll, GoAll, Sticks, EndsIn}
+use Rattle.model_undo.specs.CleanSeries.{AnswersAll, GoAll, HaltsSeries, EndsIn}
 use Rattle.model_family.specs.Family.{answer}
 use Rattle.model_lab.specs.ManagerSteps.{addresses}
 use Rattle.undo_plans.specs.declared.names.Names.{Names}
@@ -77,7 +77,7 @@ module _ (setup : BoardFile) (names : Names) where
   more_one i [] b phase n all e = e.1 ∙ sym (ap count_at e.0)
   more_one i (o ∷ os) b phase n all e = by e.0 e.1 e.2
     where
-      by : (why : Why) → Sticks B (answer setup) b o why n → phase ≡ Halted i why → n ≡ count_at phase
+      by : (why : Why) → HaltsSeries B (answer setup) b o why n → phase ≡ Halted i why → n ≡ count_at phase
       by Stop s is = absurd s
       by (GetRefused code) s is = refused_alone setup (addresses names) (Reads (key_of o)) (get_alone o all.0) code n b s ∙ sym (ap count_at is)
       by NotRestorable s is = let all_of = got_one o all.0 s.0 b s.1 s.2 in let count = s.4 in let two : n ≡ 1 = count ∙ all_of in two ∙ sym (ap count_at is)

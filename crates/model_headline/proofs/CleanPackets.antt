@@ -13,7 +13,7 @@ use Rattle.mctp_net.specs.declared.message.Message.{Message}
 use Rattle.mctp_net.specs.declared.taken.DropCause.{DropCause}
 use Rattle.mctp_net.specs.Grammar.{bit}
 use Rattle.mctp_net.specs.Cut.{Piece, piece}
-use Rattle.mctp_net.specs.Assembly.{Assemblies, name_of, is_open, joined_to, open_beside, is_ours, with_under, drop_cause, after, after_where, ended, kept_with, message_of, ComesBack, MakesWhole, IsTaken}
+use Rattle.mctp_net.specs.Assembly.{Assemblies, name_of, is_open, joined_to, open_beside, is_ours, with_under, drop_cause, after, after_where, ended, kept_with, message_of, ComesBack, MakesWhole, IsPieceTaken}
 use Rattle.mctp_net.proofs.Names.{name-self}
 use Rattle.mctp_net.proofs.ComingBack.{cut-comes_back}
 use Rattle.mctp_net.proofs.Wholes.{whole-passes, whole-fits, whole-one}
@@ -22,8 +22,8 @@ use Rattle.bmc_board.specs.State.{State}
 use Rattle.model_undo.specs.Machine.{Part as TaskPart}
 use Rattle.model_ports.specs.Values.{Part, parts_of}
 use Rattle.model_ports.specs.Cuts.{kept_after_parts}
-use Rattle.model_ports.specs.PortSteps.{PortState, Deed, hears, hears_part, hears_message, ends_message, stays}
-use Rattle.model_lab.specs.ManagerSteps.{Plans, ManagerState, ManagerDeed, heeded_on, open_count, is_part, rests, hears_reply, ends_reply, joins, joins_for, hears_packet}
+use Rattle.model_ports.specs.PortSteps.{PortState, StepResult, hears, hears_part, hears_message, ends_message, stays}
+use Rattle.model_lab.specs.ManagerSteps.{Plans, ManagerState, ManagerStepResult, heeded_on, open_count, is_part, rests, hears_reply, ends_reply, joins, joins_for, hears_packet}
 use Rattle.model_lab.specs.declared.way.Way.TheVariants.{ToPort, ToManager}
 use Rattle.model_ports.proofs.Parts.{parts_are_cuts}
 use Rattle.model_headline.proofs.CleanQueue.{Due, due, Link, port_goes, manager_goes, settles}
@@ -43,7 +43,7 @@ beside_same n ps a =
     back : (x y : ℕ) → x + y - y ≡ x
     back x y = omega arith
 
-taken_is : (own : ℕ) (a : Assemblies) (p : Packet) → IsTaken own a p → after own a p ≡ kept_with p a
+taken_is : (own : ℕ) (a : Assemblies) (p : Packet) → IsPieceTaken own a p → after own a p ≡ kept_with p a
 taken_is own a p h = ap (λ (c : Option DropCause). after_where c p a) h.kept_on ∙ ap (λ (t : Bool). cond t (ended p a) (kept_with p a)) h.more
 
 whole_is : (own : ℕ) (a : Assemblies) (p : Packet) (m : Message) → MakesWhole own a p m → after own a p ≡ ended p a
@@ -107,7 +107,7 @@ module _ (P : Plans) (setup : BoardFile) where
   unfolding hears_part
   part_taken port before p none = ap (ends_message setup (with_kept port (after port.eid port.kept p)) before p) none
 
-  waits : (port : PortState) (before : State) (p : Packet) → IsTaken port.eid port.kept p → hears_part setup port before p ≡ stays (with_kept port (after port.eid port.kept p)) before
+  waits : (port : PortState) (before : State) (p : Packet) → IsPieceTaken port.eid port.kept p → hears_part setup port before p ≡ stays (with_kept port (after port.eid port.kept p)) before
   waits port before p taken =
       let next = with_kept port (after port.eid port.kept p) in
       part_taken port before p taken.kept_on ∙ ap (λ (t : Bool). cond t (hears_message setup next before (message_of next.kept p)) (stays next before)) taken.more
@@ -137,11 +137,11 @@ module _ (P : Plans) (setup : BoardFile) where
   port_hears [] l m h same is = absurd h
   port_hears (p ∷ []) l m h same is =
       let mine : p.envelope ≡ m.envelope = All-head (λ q. q.envelope ≡ m.envelope) p [] same in
-      ap (λ (d : Deed). port_goes P Smbus d [] l) (there l.smbus l.board p (ap (λ (e : Envelope). e.destination) mine ∙ is) ∙ gives l.smbus l.board p m h)
+      ap (λ (d : StepResult). port_goes P Smbus d [] l) (there l.smbus l.board p (ap (λ (e : Envelope). e.destination) mine ∙ is) ∙ gives l.smbus l.board p m h)
   port_hears (p ∷ q ∷ rest) l m h same is =
       let mine : p.envelope ≡ m.envelope = All-head (λ x. x.envelope ≡ m.envelope) p (q ∷ rest) same in
       let next : Link P = record l { smbus = with_kept l.smbus (after l.smbus.eid l.smbus.kept p) } in
-      ap (λ (d : Deed). settles P setup (length (q ∷ rest)) (port_goes P Smbus d (dues_at (q ∷ rest)) l)) (there l.smbus l.board p (ap (λ (e : Envelope). e.destination) mine ∙ is) ∙ waits l.smbus l.board p h.0)
+      ap (λ (d : StepResult). settles P setup (length (q ∷ rest)) (port_goes P Smbus d (dues_at (q ∷ rest)) l)) (there l.smbus l.board p (ap (λ (e : Envelope). e.destination) mine ∙ is) ∙ waits l.smbus l.board p h.0)
       ∙ ap (λ (ds : List Due). settles P setup (length (q ∷ rest)) (record next { queue = ds })) (no_more (dues_at (q ∷ rest)))
       ∙ port_hears (q ∷ rest) next m h.1 (All-tail (λ x. x.envelope ≡ m.envelope) p (q ∷ rest) same) is
 
@@ -152,7 +152,7 @@ module _ (P : Plans) (setup : BoardFile) where
   port_calm (p ∷ []) l m h same is few none ends =
       let mine : p.envelope ≡ m.envelope = All-head (λ q. q.envelope ≡ m.envelope) p [] same in
       let heard = there l.smbus l.board p (ap (λ (e : Envelope). e.destination) mine ∙ is) ∙ gives l.smbus l.board p m h in
-      (none, (omega arith, tt), subst (λ (d : Deed). NoIdles P (port_goes P Smbus d [] l)) (sym heard) ends)
+      (none, (omega arith, tt), subst (λ (d : StepResult). NoIdles P (port_goes P Smbus d [] l)) (sym heard) ends)
   port_calm (p ∷ q ∷ rest) l m h same is few none ends =
       let mine : p.envelope ≡ m.envelope = All-head (λ x. x.envelope ≡ m.envelope) p (q ∷ rest) same in
       let next : Link P = record l { smbus = with_kept l.smbus (after l.smbus.eid l.smbus.kept p) } in
@@ -160,7 +160,7 @@ module _ (P : Plans) (setup : BoardFile) where
       let more : Calm P setup (length (q ∷ rest)) (record next { queue = dues_at (q ∷ rest) }) = port_calm (q ∷ rest) next m h.1 (All-tail (λ x. x.envelope ≡ m.envelope) p (q ∷ rest) same) is (omega (arith, few)) none ends in (
         none,
         (shorter q rest few, tt),
-        subst (λ (d : Deed). Calm P setup (length (q ∷ rest)) (port_goes P Smbus d (dues_at (q ∷ rest)) l)) (sym heard)
+        subst (λ (d : StepResult). Calm P setup (length (q ∷ rest)) (port_goes P Smbus d (dues_at (q ∷ rest)) l)) (sym heard)
             (subst (λ (ds : List Due). Calm P setup (length (q ∷ rest)) (record next { queue = ds })) (sym (no_more (dues_at (q ∷ rest)))) more),
       )
     where
@@ -192,7 +192,7 @@ module _ (P : Plans) (setup : BoardFile) where
       let kept = l.manager.joined in
       let next = with_joined l.manager (after own kept p) in
       let made : message_of next.joined p ≡ m = ap (λ (a : Assemblies). message_of a p) (whole_is own kept p m h) ∙ sym (whole-one own kept p m h) in
-      ap (λ (d : ManagerDeed P). manager_goes P d [] l)
+      ap (λ (d : ManagerStepResult P). manager_goes P d [] l)
       (joins_on l.manager p part heeded (mine p in_it) (whole-passes own kept p m h)
       ∙ ap (λ (t : Bool). cond t (hears_reply P Smbus (message_of next.joined p).body next) (rests P next)) (whole-fits own kept p m h).1
       ∙ ap (λ (x : Message). hears_reply P Smbus x.body next) made)
@@ -202,7 +202,7 @@ module _ (P : Plans) (setup : BoardFile) where
       let kept = l.manager.joined in
       let next = with_joined l.manager (after own kept p) in
       let on : Link P = record l { manager = next } in
-      ap (λ (d : ManagerDeed P). settles P setup (length (q ∷ rest)) (manager_goes P d (dues_back (q ∷ rest)) l))
+      ap (λ (d : ManagerStepResult P). settles P setup (length (q ∷ rest)) (manager_goes P d (dues_back (q ∷ rest)) l))
       (joins_on l.manager p part heeded (mine p in_it) h.0.kept_on ∙ ap (λ (t : Bool). cond t (hears_reply P Smbus (message_of next.joined p).body next) (rests P next)) h.0.more)
       ∙ ap (λ (ds : List Due). settles P setup (length (q ∷ rest)) (record on { queue = ds })) (no_more (dues_back (q ∷ rest)))
       ∙ manager_joins (q ∷ rest) on m part heeded h.1 (All-tail (λ x. x.envelope ≡ m.envelope) p (q ∷ rest) same) mine
@@ -233,8 +233,8 @@ module _ (P : Plans) (setup : BoardFile) where
       joins_on l.manager p part heeded (mine p in_it) h.0.kept_on ∙ ap (λ (t : Bool). cond t (hears_reply P Smbus (message_of next.joined p).body next) (rests P next)) h.0.more in
       let more : Calm P setup (length (q ∷ rest)) (record on { queue = dues_back (q ∷ rest) }) = manager_calm (q ∷ rest) on m part heeded h.1 (All-tail (λ x. x.envelope ≡ m.envelope) p (q ∷ rest) same) mine (omega (arith, few)) none newest in (
         none,
-        (shorter q rest few, inl (ap (λ (d : ManagerDeed P). d.manager.machine) heard, ap (λ (d : ManagerDeed P). d.sent) heard)),
-        subst (λ (d : ManagerDeed P). Calm P setup (length (q ∷ rest)) (manager_goes P d (dues_back (q ∷ rest)) l)) (sym heard)
+        (shorter q rest few, inl (ap (λ (d : ManagerStepResult P). d.manager.machine) heard, ap (λ (d : ManagerStepResult P). d.sent) heard)),
+        subst (λ (d : ManagerStepResult P). Calm P setup (length (q ∷ rest)) (manager_goes P d (dues_back (q ∷ rest)) l)) (sym heard)
             (subst (λ (ds : List Due). Calm P setup (length (q ∷ rest)) (record on { queue = ds })) (sym (no_more (dues_back (q ∷ rest)))) more),
       )
     where

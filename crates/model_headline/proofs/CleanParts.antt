@@ -17,7 +17,7 @@ use Rattle.bmc_board.specs.State.{State}
 use Rattle.model_bus.specs.Addresses.{Addresses}
 use Rattle.model_undo.specs.Words.{IsNext}
 use Rattle.model_undo.specs.Family.{Family}
-use Rattle.model_undo.specs.CleanSeries.{Answers, AnswersAll, RefusesOne}
+use Rattle.model_undo.specs.CleanSeries.{SeriesAnswered, AnswersAll, RefusesOne}
 use Rattle.model_lab.specs.ManagerWords.{from_manager}
 use Rattle.model_family.specs.Family.{family, answer}
 use Rattle.model_headline.specs.CleanParts.{set_count}
@@ -40,7 +40,7 @@ module _ (setup : BoardFile) (at : Bus → Addresses) where
     pub is_next : IsNext F.words series before asked
     pub count : length before + 1 ≡ n
 
-  last_next : (series : Series) (before : List (List ℕ)) (body : List ℕ) (bodies : List (List ℕ)) (b c : State) → Answers F (answer setup) series before (body ∷ bodies) b c → WasNext series (length before + length (body ∷ bodies))
+  last_next : (series : Series) (before : List (List ℕ)) (body : List ℕ) (bodies : List (List ℕ)) (b c : State) → SeriesAnswered F (answer setup) series before (body ∷ bodies) b c → WasNext series (length before + length (body ∷ bodies))
   last_next series before body [] b c h = record { before = before; asked = h.0; is_next = h.1; count = refl }
   last_next series before body (other ∷ bodies) b c h =
       let rest = last_next series (before ++ body ∷ []) other bodies (answer setup b h.0).1 c h.3 in

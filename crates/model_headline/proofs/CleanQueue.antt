@@ -8,8 +8,8 @@ use Rattle.cfg_records.specs.declared.board_file.BoardFile.{BoardFile}
 use Rattle.mctp_net.specs.Assembly.{is_ours}
 use Rattle.bmc_board.specs.State.{State}
 use Rattle.model_ports.specs.Values.{Value, Asks, Tells, Part}
-use Rattle.model_ports.specs.PortSteps.{PortState, Deed, hears}
-use Rattle.model_lab.specs.ManagerSteps.{Plans, ManagerState, ManagerDeed, Sent, manager_hears}
+use Rattle.model_ports.specs.PortSteps.{PortState, StepResult, hears}
+use Rattle.model_lab.specs.ManagerSteps.{Plans, ManagerState, ManagerStepResult, Sent, manager_hears}
 use Rattle.model_lab.specs.declared.way.Way.{Way}
 use Rattle.model_lab.specs.declared.way.Way.TheVariants.{ToPort, ToManager, ToOthers}
 use Rattle.model_lab.specs.Lab.{LabFrame, Event, ToBmc, ToMgr, Lab, frame_now, opens, port_does, delivered, returned, manager_does, step, run}
@@ -69,10 +69,10 @@ module _ (P : Plans) where
   dues_of None = []
   dues_of (Some s) = map (due s.on ToPort) s.values
 
-  abbrev pub port_goes : Bus → Deed → List Due → Link → Link
+  abbrev pub port_goes : Bus → StepResult → List Due → Link → Link
   port_goes on d rest l = with_link_port on d.port (record l { board = d.board; queue = rest ++ map (due on ToManager) d.sent })
 
-  abbrev pub manager_goes : ManagerDeed P → List Due → Link → Link
+  abbrev pub manager_goes : ManagerStepResult P → List Due → Link → Link
   manager_goes d rest l = record l { manager = d.manager; queue = rest ++ dues_of d.sent }
 
   pub frames_due : (on : Bus) (way : Way) (request : ℕ) (x : Lab P) (vs : List Value) → AreDue (map (due on way) vs) (map (frame_now P on way request x) vs)

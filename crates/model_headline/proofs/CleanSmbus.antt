@@ -27,7 +27,7 @@ use Rattle.bios_attr.specs.EntryParts.{entry_in, is_in_parts, set_part, part_at,
 use Rattle.pldm_base.specs.Parts.{part_length, most_whole}
 use Rattle.record_kinds.specs.Limits.{get_asked}
 use Rattle.record_kinds.specs.Series.{set_whole}
-use Rattle.record_kinds.specs.Sound.{IsSound}
+use Rattle.record_kinds.specs.Sound.{AreSoundRecords}
 use Rattle.record_base.specs.declared.numeric_effecter.NumericBytes.{NumericBytes}
 use Rattle.record_base.specs.declared.numeric_effecter.NumericBytes.TheVariants.{One, Two, Four, Other}
 use Rattle.effecter_recs.specs.ChangeLaws.{two_each}
@@ -54,8 +54,8 @@ use Rattle.undo_plans.specs.declared.names.Names.{Names}
 use Rattle.model_ports.specs.Values.{Part, parts_of}
 use Rattle.model_ports.specs.Bytes.{pldm_heard_in, said}
 use Rattle.model_ports.specs.Cuts.{kept_after_parts}
-use Rattle.model_ports.specs.PortSteps.{Deed, Turn as PortTurn, hears_message, hears_pldm, pldm_turn, pldm_asked, replies, spelled}
-use Rattle.model_lab.specs.ManagerSteps.{addresses, ManagerState, ManagerDeed, goes_on, rests, taken_or, hears_reply, is_part}
+use Rattle.model_ports.specs.PortSteps.{StepResult, Turn as PortTurn, hears_message, hears_pldm, pldm_turn, pldm_asked, replies, spelled}
+use Rattle.model_lab.specs.ManagerSteps.{addresses, ManagerState, ManagerStepResult, goes_on, rests, taken_or, hears_reply, is_part}
 use Rattle.model_ports.proofs.Turning.{turns_by}
 use Rattle.model_ports.proofs.Parts.{parts_are_cuts}
 use Rattle.model_headline.specs.Tied.{own_plans, own_family, rules_on, smbus_bus}
@@ -176,7 +176,7 @@ module _ (setup : BoardFile) (names : Names) where
     reply_some : 0 < length answering.body
     reply_some = omega arith
 
-    reply_fits : IsSound setup b.records → length answering.body ≤ 256
+    reply_fits : AreSoundRecords setup b.records → length answering.body ≤ 256
     reply_fits sound = omega (arith, answers_fit setup b asked sound)
 
     heard_is : pldm_heard_in names.own_eid q ≡ request_of (rules_of (smbus_bus setup names)) count bytes
@@ -195,7 +195,7 @@ module _ (setup : BoardFile) (names : Names) where
           (turns_by (is_above 32) (pldm_heard_in names.own_eid q) (spelled Smbus (pldm_heard_in names.own_eid q)) setup (pldm_asked names.own_eid q) log b).new new
           ∙ ap (λ (a : Asked). let t : PortTurn = record { outcome = IsNew; log = Carried (record { request = pldm_heard_in names.own_eid q; reply = reply_to Smbus bytes (answer setup b a).0 }) ∷ log; left = (answer setup b a).1; replied = Some (reply_to Smbus bytes (answer setup b a).0) } in t) asked_is
 
-      abbrev deed_of : PortTurn → Deed
+      abbrev deed_of : PortTurn → StepResult
       deed_of t = record { port = smbus_port setup names kept t.log; board = t.left; sent = replies (smbus_port setup names kept log) message (said Smbus (pldm_heard_in names.own_eid q) t.replied) }
 
       port_answers : hears_message setup (smbus_port setup names kept log) b message ≡ record { port = smbus_port setup names kept (entry ∷ log); board = (answer setup b asked).1; sent = map Part (parts_of answering) }
@@ -241,7 +241,7 @@ module _ (setup : BoardFile) (names : Names) where
       ∙ and_from _ _ (and_from _ _ (eq-eqb names.own_wire names.own_wire refl) (eq-eqb names.peer_wire names.peer_wire refl)) (and_from _ _ (eq-eqb names.peer_eid names.peer_eid refl) (and_from _ _ refl (eq-eqb (count % 8) (count % 8) refl)))
 
   pub smbus_exchange : (task : Task (own_family setup names).words) (from kind command : ℕ) (body : List ℕ) (before : List (List ℕ)) (m : Machine (own_family setup names).words) (b : State) (r : Rest setup names)
-      → IsMade (own_family setup names).words (Pldm from kind command body) → IsClear setup names m.counts r → IsSound setup b.records → Exchanged setup names task (part_of setup names (Pldm from kind command body) before) m b r
+      → IsMade (own_family setup names).words (Pldm from kind command body) → IsClear setup names m.counts r → AreSoundRecords setup b.records → Exchanged setup names task (part_of setup names (Pldm from kind command body) before) m b r
   smbus_exchange task from kind command body before m b r made clear sound =
       let n = m.counts.smbus in
       let wanted : Asked = Pldm from kind command body in
@@ -265,7 +265,7 @@ module _ (setup : BoardFile) (names : Names) where
       let mid : Link (own_plans setup names) = record l { board = (answer setup b wanted).1; smbus = smbus_port setup names kept (e ∷ r.smbus_log); queue = dues_back qs } in
       let port : settles (own_plans setup names) setup (length ps) l ≡ mid =
       port_hears (own_plans setup names) setup ps l ask comes asked_in refl
-      ∙ ap (λ (d : Deed). port_goes (own_plans setup names) Smbus d [] l) (port_answers n from kind command body made b kept r.smbus_log clear.smbus) in
+      ∙ ap (λ (d : StepResult). port_goes (own_plans setup names) Smbus d [] l) (port_answers n from kind command body made b kept r.smbus_log clear.smbus) in
       let few_asked : length ps ≤ 4 = at_most ps (parts_are_cuts.cut ask some_asked fits_asked).cut.few in
       let few_told : length qs ≤ 4 = at_most qs (parts_are_cuts.cut tell some_told fits_told).cut.few in
       let quiet : NoIdles (own_plans setup names) mid = (λ i. (none_idle (rules_on setup names Ipmb) m.counts.ipmb r.ipmb_log i clear.ipmb, none_idle (rules_on setup names Smbus) n r.smbus_log i clear.smbus)) in
@@ -276,7 +276,7 @@ module _ (setup : BoardFile) (names : Names) where
         count = length ps + length qs;
         calm = calm_more (own_plans setup names) setup (length ps) (length qs) l
             (port_calm (own_plans setup names) setup ps l ask comes asked_in refl few_asked (clear_idles setup names m.counts (enters (own_family setup names).words (Opened true task part) m) b r clear)
-            (subst (λ (d : Deed). NoIdles (own_plans setup names) (port_goes (own_plans setup names) Smbus d [] l)) (sym (port_answers n from kind command body made b kept r.smbus_log clear.smbus)) quiet))
+            (subst (λ (d : StepResult). NoIdles (own_plans setup names) (port_goes (own_plans setup names) Smbus d [] l)) (sym (port_answers n from kind command body made b kept r.smbus_log clear.smbus)) quiet))
             (subst (Calm (own_plans setup names) setup (length qs)) (sym port) (manager_calm (own_plans setup names) setup qs mid tell part refl goes told_in (is_mine n) few_told quiet (subst (SendsNewest (own_plans setup names)) (sym taken) newest)));
         few = omega (arith, few_asked, few_told);
         rest = record r { smbus_log = e ∷ r.smbus_log; kept = kept; joined = joined };
@@ -289,5 +289,5 @@ module _ (setup : BoardFile) (names : Names) where
         is = settles_more (own_plans setup names) setup (length ps) (length qs) l
             ∙ ap (settles (own_plans setup names) setup (length qs)) port
             ∙ manager_joins (own_plans setup names) setup qs mid tell part refl goes told_in (is_mine n)
-            ∙ ap (λ (d : ManagerDeed (own_plans setup names)). manager_goes (own_plans setup names) d [] mid) taken;
+            ∙ ap (λ (d : ManagerStepResult (own_plans setup names)). manager_goes (own_plans setup names) d [] mid) taken;
       }

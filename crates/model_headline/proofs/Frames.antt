@@ -12,7 +12,7 @@ use Rattle.model_lab.specs.declared.way.Way.TheVariants.{ToPort, ToManager, ToOt
 use Rattle.model_lab.specs.Lab.{LabFrame}
 use Rattle.model_headline.specs.Each.{Each}
 use Rattle.model_headline.proofs.Each.{each_imply}
-use Rattle.model_headline.specs.Tied.{own_lines, IsHeldBy, IsHeld, IsOf, requests}
+use Rattle.model_headline.specs.Tied.{own_lines, IsHeldBy, IsHeld, IsFrameOf, requests}
 
 -- ---- what holds a frame holds it on
 
@@ -21,7 +21,7 @@ module _ (setup : BoardFile) (names : Names) where
   abbrev pub Sends : States (own_lines setup names) → States (own_lines setup names) → Type 0
   Sends on now = (bus : Bus) → Grows (requests setup names on bus).frames (requests setup names now bus).frames
 
-  of_grows : (old new : List Frame) (f : LabFrame) (which : ℕ) (g : Frame) → Grows old new → IsOf setup names old f which g → IsOf setup names new f which g
+  of_grows : (old new : List Frame) (f : LabFrame) (which : ℕ) (g : Frame) → Grows old new → IsFrameOf setup names old f which g → IsFrameOf setup names new f which g
   of_grows old new f which g more is = record { sent = more which g is.sent; request = is.request; idles = is.idles }
 
   held_by : (way : Way) (bus : Bus) (on now : States (own_lines setup names)) (f : LabFrame) → Sends on now → IsHeldBy setup names way bus on f → IsHeldBy setup names way bus now f

@@ -4,7 +4,7 @@ use Rattle.std.proofs.lemmas.Option.{none-some, slice_get_read}
 use Rattle.two_wire.specs.declared.Bus.{Bus}
 use Rattle.two_wire.specs.declared.Bus.TheVariants.{Ipmb, Smbus}
 use Rattle.mctp_net.specs.Assembly.{nothing}
-use Rattle.mctp_net.specs.Sound.{IsSound}
+use Rattle.mctp_net.specs.Sound.{AreSoundAssemblies}
 use Rattle.record_base.specs.declared.message.Asked.{Asked}
 use Rattle.record_base.specs.declared.op.Op.{Op}
 use Rattle.cfg_records.specs.declared.board_file.BoardFile.{BoardFile}
@@ -23,14 +23,14 @@ use Rattle.model_bus.specs.Answered.{Answered}
 use Rattle.model_undo.specs.declared.phase.Why.TheVariants.{Stop, Refused, NotRestorable, GetRefused}
 use Rattle.model_undo.specs.declared.phase.Phase.{Phase}
 use Rattle.model_undo.specs.declared.phase.Phase.TheVariants.{Fresh, Getting, Setting, Done, Halted, Unsettled, Undoing, Undone, UndoRefused}
-use Rattle.model_undo.specs.Giving.{Giving, given_in, GaveIn as Gave, CausedIn}
+use Rattle.model_undo.specs.Giving.{GivenAnswer, given_in, GaveIn as Gave, CausedIn}
 use Rattle.model_undo.proofs.Giving.{halts_by_answers}
 use Rattle.model_undo.proofs.Series.{all_answered_as}
 use Rattle.model_undo.specs.declared.call.Call.TheVariants.{Stop as StopCall}
 use Rattle.model_headline.specs.Answers.{CausedBy}
 use Rattle.model_headline.proofs.Each.{each_at}
 use Rattle.model_headline.proofs.Stopped.{told_to_stop}
-use Rattle.model_undo.specs.Plan.{IsAfter, Halts, Stands}
+use Rattle.model_undo.specs.Plan.{IsAfter, HaltMeans, PhaseMeans}
 use Rattle.model_undo.specs.Machine.{count_of, phase_of}
 use Rattle.model_undo.specs.World as world
 use Rattle.model_undo.specs.World.{States, World, Happening}
@@ -43,7 +43,7 @@ use Rattle.model_lab.specs.ManagerSteps.{addresses}
 use Rattle.model_lab.specs.Lab.{Event, Calls, Lab, run}
 use Rattle.model_headline.specs.Each.{Each}
 use Rattle.model_headline.specs.Tied.{own_plans, own_family, own_lines, own_wires, rules_on, requests, EntryAnswers, IsTied, world_of}
-use Rattle.model_headline.specs.Follows.{Holds}
+use Rattle.model_headline.specs.Follows.{HoldsInWorld}
 use Rattle.model_headline.specs.Fresh.{first_over, IsFreshStart, IsTrustedFrom, GaveFrom, StandsFrom, FreshStartsStand, GreetedIsFresh}
 use Rattle.model_headline.proofs.Goes.{Went, goes_may, goes_reach}
 use Rattle.model_headline.proofs.Theorem.{GivenIn, Ran, all_followed, all_own, still_holds, first_honest, first_own, later_honest, later_own, both_run}
@@ -57,7 +57,7 @@ module _ (setup : BoardFile) (names : Names) (plan : List Op) (retries : ℕ) (b
   quiet Ipmb = opening_bus ipmb_log
   quiet Smbus = opening_ends smbus_log
 
-  nothing_sound : IsSound nothing
+  nothing_sound : AreSoundAssemblies nothing
   nothing_sound = record { fronts = λ n. tt; few = λ n. omega arith; slots = omega arith }
 
   nothing_counted : (bus : Bus) → count_of bus start.manager.machine.counts ≡ length (requests setup names quiet bus).taken
@@ -96,7 +96,7 @@ module _ (setup : BoardFile) (names : Names) (plan : List Op) (retries : ℕ) (b
   is_start : IsStart (own_family setup names) (own_lines setup names) (own_wires setup names) quiet board
   is_start = record { on_bus = starts; valid = fresh.valid; ready = fresh.ready }
 
-  start_holds : Holds setup names plan board.records (world_of setup names start quiet)
+  start_holds : HoldsInWorld setup names plan board.records (world_of setup names start quiet)
   start_holds = opening_holds (own_family setup names) (is_family setup (addresses names)) (own_lines setup names) (packet_lines (addresses names) packets_of packets_cut) (own_wires setup names) plan retries quiet board is_start
 
   ran : (events : List Event) → IsTrustedFrom setup names plan retries start events → Ran setup names plan board.records events start quiet
@@ -104,7 +104,7 @@ module _ (setup : BoardFile) (names : Names) (plan : List Op) (retries : ℕ) (b
 
   stands_so : (events : List Event) → IsTrustedFrom setup names plan retries start events
       → let now = run (own_plans setup names) setup events start in
-      Stands (own_family setup names) plan board.records (phase_of (own_family setup names).words now.manager.machine) now.board.records
+      PhaseMeans (own_family setup names) plan board.records (phase_of (own_family setup names).words now.manager.machine) now.board.records
   stands_so events good =
       let g = (ran events good).went in
       let y = run (own_plans setup names) setup events start in
@@ -139,17 +139,17 @@ module _ (setup : BoardFile) (names : Names) (plan : List Op) (retries : ℕ) (b
       let y = run (own_plans setup names) setup events start in
       let g = (ran events good).went in
       let h = still_holds setup names plan x0.board.records x0 y quiet start_holds g in
-      let told : Halts (own_family setup names) y.manager.machine.stopped plan (Halted k Stop) y.board.records =
-      subst (λ (p : Phase). Halts (own_family setup names) y.manager.machine.stopped plan p y.board.records) halted
+      let told : HaltMeans (own_family setup names) y.manager.machine.stopped plan (Halted k Stop) y.board.records =
+      subst (λ (p : Phase). HaltMeans (own_family setup names) y.manager.machine.stopped plan p y.board.records) halted
       (halts_at (own_family setup names) (is_family setup (addresses names)) (own_lines setup names) (packet_lines (addresses names) packets_of packets_cut) (own_wires setup names) plan x0.board.records (world_of setup names y g.left) h) in
       told_to_stop (own_plans setup names) setup events x0 refl told
 
   -- an answer that is one of a run's was given at an event of it
-  gave_in : (events : List Event) (given : List (Giving (own_family setup names))) → Each (GivenIn setup names plan start.board.records events start) given
+  gave_in : (events : List Event) (given : List (GivenAnswer (own_family setup names))) → Each (GivenIn setup names plan start.board.records events start) given
       → (k : ℕ) (asked : Asked) (a : Answered) → Gave (own_family setup names) (own_lines setup names) (own_wires setup names) given plan start.board.records k asked a → GaveFrom setup names plan retries start events k asked a
   gave_in events given all k asked a g =
       let x0 = start in
-      let one : Giving (own_family setup names) = record { before = g.before; asked = asked; answered = a; after = g.after } in
+      let one : GivenAnswer (own_family setup names) = record { before = g.before; asked = asked; answered = a; after = g.after } in
       let is = each_at (GivenIn setup names plan x0.board.records events x0) given g.is_one.0 one all (slice_get_read given (length given) g.is_one.0 one refl g.is_one.1 (sym g.is_one.2)) in
       record {
         before = is.before;

@@ -1,14 +1,14 @@
 -- Where one step of a lab is followed by another, the model's world goes on to the end of both.
 use Rattle.std.proofs.Common.{◌≡◌, List, [], ◌∷◌, ◌++◌, refl, sym, ◌∙◌, ap, subst, append_assoc}
 use Rattle.cfg_records.specs.declared.board_file.BoardFile.{BoardFile}
-use Rattle.model_undo.specs.Giving.{Giving, given_at, given_in}
+use Rattle.model_undo.specs.Giving.{GivenAnswer, given_at, given_in}
 use Rattle.model_undo.specs.World as world
 use Rattle.model_undo.specs.World.{States, World, Happening, AllMay, run}
 use Rattle.model_undo.proofs.Headline.{run_on}
 use Rattle.undo_plans.specs.declared.names.Names.{Names}
 use Rattle.model_lab.specs.Lab.{Lab}
 use Rattle.model_headline.specs.Each.{Each}
-use Rattle.model_headline.specs.Tied.{own_plans, own_family, own_lines, own_wires, IsTied, IsGiven, world_of, Goes}
+use Rattle.model_headline.specs.Tied.{own_plans, own_family, own_lines, own_wires, IsTied, IsGivenAnswer, world_of, WorldFollows}
 
 module _ (setup : BoardFile) (names : Names) where
   both_may : (first later : List (Happening (own_family setup names) (own_lines setup names))) (w : World (own_family setup names) (own_lines setup names)) → AllMay (own_family setup names) (own_lines setup names) (own_wires setup names) first w
@@ -22,7 +22,7 @@ module _ (setup : BoardFile) (names : Names) where
   both_give [] later w = refl
   both_give (e ∷ es) later w =
       append_assoc (given_at (own_family setup names) (own_lines setup names) (own_wires setup names) w e) _ _
-      ∙ ap (λ (gs : List (Giving (own_family setup names))). given_at (own_family setup names) (own_lines setup names) (own_wires setup names) w e ++ gs) (both_give es later (world.happens (own_family setup names) (own_lines setup names) (own_wires setup names) w e))
+      ∙ ap (λ (gs : List (GivenAnswer (own_family setup names))). given_at (own_family setup names) (own_lines setup names) (own_wires setup names) w e ++ gs) (both_give es later (world.happens (own_family setup names) (own_lines setup names) (own_wires setup names) w e))
 
   -- the model's world goes from one lab's to the other's
   pub record Went (x : Lab (own_plans setup names)) (on : States (own_lines setup names)) (y : Lab (own_plans setup names)) : Type 0 where
@@ -33,10 +33,10 @@ module _ (setup : BoardFile) (names : Names) where
     pub tied : IsTied setup names y left
 
   -- the answers that are given on the way
-  abbrev pub given_on : (x : Lab (own_plans setup names)) (on : States (own_lines setup names)) (y : Lab (own_plans setup names)) → Went x on y → List (Giving (own_family setup names))
+  abbrev pub given_on : (x : Lab (own_plans setup names)) (on : States (own_lines setup names)) (y : Lab (own_plans setup names)) → Went x on y → List (GivenAnswer (own_family setup names))
   given_on x on y g = given_in (own_family setup names) (own_lines setup names) (own_wires setup names) g.happenings (world_of setup names x on)
 
-  abbrev pub went_there : (x y : Lab (own_plans setup names)) (on : States (own_lines setup names)) → Goes setup names x on y → Went x on y
+  abbrev pub went_there : (x y : Lab (own_plans setup names)) (on : States (own_lines setup names)) → WorldFollows setup names x on y → Went x on y
   went_there x y on g = record { happenings = g.happenings; left = g.left; may = g.may; reaches = g.reaches; tied = g.tied }
 
   abbrev pub stays_there : (x : Lab (own_plans setup names)) (on : States (own_lines setup names)) → IsTied setup names x on → Went x on x
@@ -73,16 +73,16 @@ module _ (setup : BoardFile) (names : Names) where
   quietly_on x y z on first later = record {
     went = goes_on x y z on first.went later.went;
     none = sym (gives_both x y z on first.went later.went)
-        ∙ ap (λ (gs : List (Giving (own_family setup names))). gs ++ given_on y first.went.left z later.went) first.none
+        ∙ ap (λ (gs : List (GivenAnswer (own_family setup names))). gs ++ given_on y first.went.left z later.went) first.none
         ∙ later.none;
   }
 
-  pub goes_quietly : (x y : Lab (own_plans setup names)) (on : States (own_lines setup names)) → Quietly x on y → Goes setup names x on y
+  pub goes_quietly : (x y : Lab (own_plans setup names)) (on : States (own_lines setup names)) → Quietly x on y → WorldFollows setup names x on y
   goes_quietly x y on q = record {
     happenings = q.went.happenings;
     left = q.went.left;
     may = q.went.may;
     reaches = q.went.reaches;
-    gives = subst (Each (IsGiven setup names x y)) (sym q.none) tt;
+    gives = subst (Each (IsGivenAnswer setup names x y)) (sym q.none) tt;
     tied = q.went.tied;
   }

@@ -22,7 +22,7 @@ use Rattle.model_headline.specs.Claim.{ours, open_on, begun, IsDelivered, JoinsL
 use Rattle.model_headline.proofs.Packets.{Agrees, is_kept}
 use Rattle.model_headline.proofs.Sends.{idles_on_alike}
 use Rattle.model_headline.proofs.Labs.{there, step_so}
-use Rattle.model_headline.specs.Seen.{seen_plans, seen_words, seen_value, seen_way, seen_frame, seen_event, seen_lab, Made, part_of, stage_of, counts_of, machine_of}
+use Rattle.model_headline.specs.Seen.{seen_plans, seen_words, seen_value, seen_way, seen_frame, seen_event, seen_lab, SeenManager, part_of, stage_of, counts_of, machine_of}
 use Rattle.model_headline.proofs.Holds.{Holds}
 
 none_same : (asked : Asked) → Some asked ≡ None → ⊥
@@ -70,7 +70,7 @@ module _ (setup : BoardFile) (names : Names) where
 
   -- ---- events
 
-  module _ (made : Made) (x : Lab) (h : Holds names x) where
+  module _ (made : SeenManager) (x : Lab) (h : Holds names x) where
     delivered_so : (way : Way) (place : ℕ) → IsDelivered names way x place → honest.IsDelivered (seen_plans names) (seen_way way) (seen_lab names made x) place
     delivered_so way place is = record {
       frame = seen_frame is.frame;
@@ -118,14 +118,14 @@ module _ (setup : BoardFile) (names : Names) where
   -- ---- schedules
 
   -- the model's lab runs as this one does, by honest events whose packets join live ones
-  pub record Runs (events : List Event) (made : Made) (x : Lab) : Type 0 where
-    pub made_then : Made
+  pub record Runs (events : List Event) (made : SeenManager) (x : Lab) : Type 0 where
+    pub made_then : SeenManager
     pub is : lab.run (seen_plans names) setup (map seen_event events) (seen_lab names made x) ≡ seen_lab names made_then (run (ours setup) names events x)
     pub holds : Holds names (run (ours setup) names events x)
     pub honest : honest.AllHonest (seen_plans names) setup (map seen_event events) (seen_lab names made x)
     pub live : joins.AllJoinLive (seen_plans names) setup (map seen_event events) (seen_lab names made x)
 
-  pub runs_so : (events : List Event) (made : Made) (x : Lab) → Holds names x → AllHonest (ours setup) names events x → Runs events made x
+  pub runs_so : (events : List Event) (made : SeenManager) (x : Lab) → Holds names x → AllHonest (ours setup) names events x → Runs events made x
   unfolding lab.run run
   runs_so [] made x h all = record { made_then = made; is = refl; holds = h; honest = tt; live = tt }
   runs_so (e ∷ es) made x h all =

@@ -14,7 +14,7 @@ use Rattle.record_base.specs.declared.op.Op.{Op}
 use Rattle.cfg_records.specs.declared.board_file.BoardFile.{BoardFile}
 use Rattle.cfg_records.specs.Records.{Records}
 use Rattle.model_bus.specs.Repeat.{In}
-use Rattle.model_bus.specs.Assembly.{Name, Sent}
+use Rattle.model_bus.specs.Assembly.{Name, SentPacket}
 use Rattle.model_bus.specs.BusState.{Content}
 use Rattle.model_bus.specs.Circle.{span_of}
 use Rattle.model_bus.specs.Schedule.{IsLive as IsLiveThere}
@@ -32,19 +32,19 @@ use Rattle.model_lab.specs.Joins.{JoinsLive, IsJoinLive}
 use Rattle.model_lab.specs.declared.way.Way.TheVariants.{ToPort}
 use Rattle.model_lab.specs.Lab.{ToBmc, LabFrame, Lab}
 use Rattle.model_headline.specs.Tied.{own_plans, own_lines, smbus_bus, rules_on, HoldsAskedPart, IsHeld, IsHeldBy, IsTied, world_of}
-use Rattle.model_headline.specs.Follows.{Holds}
+use Rattle.model_headline.specs.Follows.{HoldsInWorld}
 use Rattle.model_headline.proofs.Each.{each_at}
 use Rattle.model_headline.proofs.Sending.{from_zero}
 use Rattle.model_headline.proofs.Live.{smbus_holds, live_there, most_begun}
 
 module _ (setup : BoardFile) (names : Names) (plan : List Op) (start : Records) where
-  module _ (x : Lab (own_plans setup names)) (on : States (own_lines setup names)) (tied : IsTied setup names x on) (h : Holds setup names plan start (world_of setup names x on)) where
+  module _ (x : Lab (own_plans setup names)) (on : States (own_lines setup names)) (tied : IsTied setup names x on) (h : HoldsInWorld setup names plan start (world_of setup names x on)) where
     module _ (f : LabFrame) (hold : HoldsAskedPart setup names (on Smbus) f) where
       abbrev p : Packet
       p = hold.packet
 
       -- what waits of the manager's under the packet's tag
-      abbrev waits : List Sent
+      abbrev waits : List SentPacket
       waits = (on Smbus).port (request_name (smbus_bus setup names) hold.part.frame.request)
 
       -- what waits is what the port has
@@ -57,7 +57,7 @@ module _ (setup : BoardFile) (names : Names) (plan : List Op) (start : Records) 
       some_waits : p.start ≡ false → drop_cause x.smbus.eid x.smbus.kept p ≡ None → (length waits == 0) ≡ false
       some_waits more none =
           let long : length waits ≡ length (taken_under p x.smbus.kept) =
-          sym (length-map waits (λ (s : Sent). s.packet)) ∙ ap length alike ∙ length-map (taken_under p x.smbus.kept) seen in
+          sym (length-map waits (λ (s : SentPacket). s.packet)) ∙ ap length alike ∙ length-map (taken_under p x.smbus.kept) seen in
           ap (λ (n : ℕ). n == 0) long
           ∙ ap (λ (ps : List Piece). length ps == 0) (sym (joined-more p x.smbus.kept more))
           ∙ sym (passes x.smbus.eid x.smbus.kept p none).1.started
@@ -73,15 +73,15 @@ module _ (setup : BoardFile) (names : Names) (plan : List Op) (start : Records) 
 
       -- so what it joins is of its own request
       own_by : IsLiveThere (rules_on setup names Smbus) (on Smbus).bus hold.part.frame → begun_on (own_plans setup names).words Smbus x.manager.machine ≤ x.opened p.envelope.tag + 8
-          → (ts : List Sent) → waits ≡ ts → (length waits == 0) ≡ false → x.opened p.envelope.tag ≡ f.request
-      own_by live recent [] none some = absurd (false≢true (sym some ∙ ap (λ (l : List Sent). length l == 0) none))
+          → (ts : List SentPacket) → waits ≡ ts → (length waits == 0) ≡ false → x.opened p.envelope.tag ≡ f.request
+      own_by live recent [] none some = absurd (false≢true (sym some ∙ ap (λ (l : List SentPacket). length l == 0) none))
       own_by live recent (t ∷ ts) there some =
           let m = hold.part.frame.request in
-          let is : In t waits = subst (λ (l : List Sent). In t l) (sym there) (inl refl) in
+          let is : In t waits = subst (λ (l : List SentPacket). In t l) (sym there) (inl refl) in
           let assembly = (smbus_holds setup names plan start x on h).1.port (m % 8) in
           let named : waits ≡ (on Smbus).port (let n : Name = record { source = names.own_eid; owner = true; tag = m % 8 } in n) =
           ap (λ (k : ℕ). (on Smbus).port (let n : Name = record { source = names.own_eid; owner = true; tag = k % 8 } in n)) (sym (from_zero m)) in
-          let at : In t ((on Smbus).port (let n : Name = record { source = names.own_eid; owner = true; tag = m % 8 } in n)) = subst (λ (l : List Sent). In t l) named is in
+          let at : In t ((on Smbus).port (let n : Name = record { source = names.own_eid; owner = true; tag = m % 8 } in n)) = subst (λ (l : List SentPacket). In t l) named is in
           let each = assembly.each t at in
           let below : t.request < length (on Smbus).bus.begun = slice_get_within (on Smbus).bus.begun t.request each.0 each.1 in
           let tags : (0 + t.request) % 8 ≡ (0 + m) % 8 = assembly.tags t at ∙ ap (λ (k : ℕ). k % 8) (from_zero m) in

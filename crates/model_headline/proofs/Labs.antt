@@ -25,7 +25,7 @@ use Rattle.model_headline.proofs.Each.{each_at, each_append, each_map}
 use Rattle.model_headline.specs.Frames.{Value, Asks, Tells, Part, circle, envelope, packets_of, is_meant, is_taken, waits_after, whole}
 use Rattle.model_headline.specs.Manager.{Call, Start, Quiet, Stop, Again, Undo, Task, Gets, Sets, Undoes, Phase, Fresh, Open, Done, Halted, Undone, UndoRefused, Manager, Turn, rests, called, bus_of, series_of, next_after, asked_for, open_in, frames_of, carried_out, refused, answered_by, answer_in, is_part, read_in}
 use Rattle.model_headline.specs.Manager as the_manager
-use Rattle.model_headline.specs.Lab.{Deed, stays, hears, hears_packets, Way, ToPort, ToManager, ToOthers, Frame, Event, Calls, ToBmc, ToMgr, OtherIpmb, OtherSmbus, Noise, Idles, OnBench, Lab, port_on, idles_on, with_frames, sends, goes_on, port_does, opens, delivered, returned, hears_all, step}
+use Rattle.model_headline.specs.Lab.{StepResult, stays, hears, hears_packets, Way, ToPort, ToManager, ToOthers, Frame, Event, Calls, ToBmc, ToMgr, OtherIpmb, OtherSmbus, Noise, Idles, OnBench, Lab, port_on, idles_on, with_frames, sends, goes_on, port_does, opens, delivered, returned, hears_all, step}
 use Rattle.model_headline.specs.Claim.{ours, IsDelivered, IsHonest}
 use Rattle.model_headline.proofs.Packets.{is_kept}
 use Rattle.model_headline.proofs.Cuts.{cuts_alike}
@@ -34,7 +34,7 @@ use Rattle.model_headline.proofs.Sends.{frames_alike, IsSeen, call_lands}
 use Rattle.model_headline.proofs.ClaimSeries.{task_made}
 use Rattle.model_headline.proofs.ClaimReturns.{LowValue, comes}
 use Rattle.model_headline.proofs.Ports.{Does, MayCome, parts_suit, packets_do, does}
-use Rattle.model_headline.specs.Seen.{seen_plans, seen_value, seen_way, seen_frame, seen_event, seen_call, seen_port, seen_manager, seen_lab, Made}
+use Rattle.model_headline.specs.Seen.{seen_plans, seen_value, seen_way, seen_frame, seen_event, seen_call, seen_port, seen_manager, seen_lab, SeenManager}
 use Rattle.model_headline.proofs.Holds.{IsOrderly, Suits, IsSound, Holds}
 use Rattle.model_lab.specs.declared.way.Way.TheVariants as lab_way
 
@@ -185,21 +185,21 @@ module _ (setup : BoardFile) (names : Names) where
 
   -- the model's lab is this one, and what holds still holds
   pub record Steps (y : lab.Lab (seen_plans names)) (x : Lab) : Type 0 where
-    pub made : Made
+    pub made : SeenManager
     pub is : y ≡ seen_lab names made x
     pub holds : Holds names x
 
   turn_steps : (y : lab.Lab (seen_plans names)) (t : Turn) (x : Lab) → Holds names x → IsOrderly t.manager.waits → IsSeen names y (goes_on names t x) → Steps y (goes_on names t x)
   turn_steps y t x h orderly seen = record { made = seen.made; is = seen.is; holds = turn_holds t x h orderly }
 
-  port_steps : (on : Bus) (way : Way) (request : ℕ) (made : Made) (x : Lab) (d : port.Deed) (t : Deed) → Does names setup on way d t → Holds names x
+  port_steps : (on : Bus) (way : Way) (request : ℕ) (made : SeenManager) (x : Lab) (d : port.StepResult) (t : StepResult) → Does names setup on way d t → Holds names x
       → Steps (lab.port_does (seen_plans names) on (seen_way way) request d (seen_lab names made x)) (port_does names on way request t x)
   port_steps Ipmb way request made x d t did h =
-      let then : Made = record made { ipmb = did.made } in
+      let then : SeenManager = record made { ipmb = did.made } in
       let next : Lab = record x { board = t.board; ipmb = t.port } in
       record {
         made = then;
-        is = ap (λ (d : port.Deed). lab.port_does (seen_plans names) Ipmb (seen_way way) request d (seen_lab names made x)) did.is ∙ frames_alike names Ipmb way request t.sent then next;
+        is = ap (λ (d : port.StepResult). lab.port_does (seen_plans names) Ipmb (seen_way way) request d (seen_lab names made x)) did.is ∙ frames_alike names Ipmb way request t.sent then next;
         holds = record {
           ipmb_orderly = did.orderly;
           smbus_orderly = h.smbus_orderly;
@@ -210,11 +210,11 @@ module _ (setup : BoardFile) (names : Names) where
         };
       }
   port_steps Smbus way request made x d t did h =
-      let then : Made = record made { smbus = did.made } in
+      let then : SeenManager = record made { smbus = did.made } in
       let next : Lab = record x { board = t.board; smbus = t.port } in
       record {
         made = then;
-        is = ap (λ (d : port.Deed). lab.port_does (seen_plans names) Smbus (seen_way way) request d (seen_lab names made x)) did.is ∙ frames_alike names Smbus way request t.sent then next;
+        is = ap (λ (d : port.StepResult). lab.port_does (seen_plans names) Smbus (seen_way way) request d (seen_lab names made x)) did.is ∙ frames_alike names Smbus way request t.sent then next;
         holds = record {
           ipmb_orderly = h.ipmb_orderly;
           smbus_orderly = did.orderly;
@@ -227,7 +227,7 @@ module _ (setup : BoardFile) (names : Names) where
 
   -- ---- the manager's frames at the port
 
-  opens_alike : (v : Value) (request : ℕ) (made : Made) (x : Lab) → lab.opens (seen_plans names) (seen_value v) request (seen_lab names made x) ≡ seen_lab names made (opens v request x)
+  opens_alike : (v : Value) (request : ℕ) (made : SeenManager) (x : Lab) → lab.opens (seen_plans names) (seen_value v) request (seen_lab names made x) ≡ seen_lab names made (opens v request x)
   opens_alike (Asks r) request made x = refl
   opens_alike (Tells r) request made x = refl
   opens_alike (Part p) request made x = at (p.start && is_meant x.smbus.eid p)
@@ -263,7 +263,7 @@ module _ (setup : BoardFile) (names : Names) where
   may_come Smbus (Tells r) low = absurd low
   may_come Smbus (Part p) low = tt
 
-  delivered_on : (on : Bus) (v : Value) (request : ℕ) (made : Made) (x : Lab) → Holds names x → MayCome names setup on ToManager v
+  delivered_on : (on : Bus) (v : Value) (request : ℕ) (made : SeenManager) (x : Lab) → Holds names x → MayCome names setup on ToManager v
       → Steps (lab.port_does (seen_plans names) on lab_way.ToManager request (port.hears setup (lab.port_on (seen_plans names) on (seen_lab names made x)) x.board (seen_value v)) (lab.opens (seen_plans names) (seen_value v) request (seen_lab names made x)))
       (port_does names on ToManager request (hears (ours setup) (port_on on x) x.board v) (opens v request x))
   delivered_on Ipmb v request made x h may =
@@ -284,7 +284,7 @@ module _ (setup : BoardFile) (names : Names) where
   sound_way : (f : Frame) (way : Way) → IsSound names f → f.way ≡ way → Suits names f.on way f.value
   sound_way f way sound e = subst (λ (w : Way). Suits names f.on w f.value) e sound
 
-  low_value : (x : Lab) (made : Made) (on : Bus) (v : Value) → Suits names on ToManager v → LowValue names x made v
+  low_value : (x : Lab) (made : SeenManager) (on : Bus) (v : Value) → Suits names on ToManager v → LowValue names x made v
   low_value x made Ipmb (Asks r) low = absurd low
   low_value x made Ipmb (Tells r) low = low
   low_value x made Ipmb (Part p) low = absurd low
@@ -294,7 +294,7 @@ module _ (setup : BoardFile) (names : Names) where
 
   -- ---- each event
 
-  module _ (made : Made) (x : Lab) (h : Holds names x) where
+  module _ (made : SeenManager) (x : Lab) (h : Holds names x) where
     to_port : (place : ℕ) → IsDelivered names ToPort x place → Steps (lab.delivered (seen_plans names) setup (slice_get (map seen_frame x.frames) place) (seen_lab names made x)) (delivered (ours setup) names (slice_get x.frames place) x)
     to_port place is =
         let f = is.frame in

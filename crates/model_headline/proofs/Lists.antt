@@ -8,7 +8,7 @@ use Rattle.bmc_board.specs.State.{State}
 use Rattle.model_bus.specs.Request.{Kept, Entry}
 use Rattle.bmc_history.specs.declared.event.Call.{Call}
 use Rattle.bmc_history.specs.declared.event.Event.{Event as BoardEvent}
-use Rattle.bmc_history.specs.Replay.{calls_of, after_call, Replays}
+use Rattle.bmc_history.specs.Replay.{calls_of, after_call, IsReplay}
 use Rattle.model_headline.specs.Histories.{all_carried, IsCall, CarriesOut}
 
 -- ---- what a port carried out
@@ -31,8 +31,8 @@ carries_both cs more a b c first then = (
 
 -- ---- a history, one part after another
 
-pub replays_both : (file : BoardFile) (first mid last : State) (events later : List BoardEvent) → Replays file first events mid → Replays file mid later last → Replays file first (events ++ later) last
-replays_both file first mid last [] later run then = subst (λ (s : State). Replays file s later last) (sym run) then
+pub replays_both : (file : BoardFile) (first mid last : State) (events later : List BoardEvent) → IsReplay file first events mid → IsReplay file mid later last → IsReplay file first (events ++ later) last
+replays_both file first mid last [] later run then = subst (λ (s : State). IsReplay file s later last) (sym run) then
 replays_both file first mid last (event ∷ events) later run then = (run.0, replays_both file (after_call file first event.call) mid last events later run.1 then)
 
 pub calls_both : (seat : ℕ) (events later : List BoardEvent) → calls_of seat (events ++ later) ≡ calls_of seat events ++ calls_of seat later

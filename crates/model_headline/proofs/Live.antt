@@ -26,7 +26,7 @@ use Rattle.model_lab.specs.Honest.{IsLive}
 use Rattle.model_headline.specs.Tied.{own_plans, own_family, own_lines, own_wires, ipmb_bus, smbus_bus, rules_on, requests, IsTied, world_of}
 use Rattle.model_headline.proofs.Begun.{words}
 use Rattle.model_headline.proofs.Sent.{idles_alike}
-use Rattle.model_headline.specs.Follows.{Holds}
+use Rattle.model_headline.specs.Follows.{HoldsInWorld}
 
 module _ (setup : BoardFile) (names : Names) (plan : List Op) (start : Records) where
   numbering : (bus : Bus) → IsNumbering (rules_on setup names bus)
@@ -35,15 +35,15 @@ module _ (setup : BoardFile) (names : Names) (plan : List Op) (start : Records) 
 
   -- ---- the invariants of the buses
 
-  pub ipmb_holds : (x : Lab (own_plans setup names)) (on : States (own_lines setup names)) → Holds setup names plan start (world_of setup names x on) → BusHolds (ipmb_bus setup names) (on Ipmb)
+  pub ipmb_holds : (x : Lab (own_plans setup names)) (on : States (own_lines setup names)) → HoldsInWorld setup names plan start (world_of setup names x on) → BusHolds (ipmb_bus setup names) (on Ipmb)
   unfolding packet_lines whole_is_line
   ipmb_holds x on h = h.holds Ipmb
 
-  pub smbus_holds : (x : Lab (own_plans setup names)) (on : States (own_lines setup names)) → Holds setup names plan start (world_of setup names x on) → AllHold (smbus_bus setup names) packets_cut (on Smbus)
+  pub smbus_holds : (x : Lab (own_plans setup names)) (on : States (own_lines setup names)) → HoldsInWorld setup names plan start (world_of setup names x on) → AllHold (smbus_bus setup names) packets_cut (on Smbus)
   unfolding packet_lines packets_are_line
   smbus_holds x on h = h.holds Smbus
 
-  module _ (x : Lab (own_plans setup names)) (on : States (own_lines setup names)) (tied : IsTied setup names x on) (h : Holds setup names plan start (world_of setup names x on)) where
+  module _ (x : Lab (own_plans setup names)) (on : States (own_lines setup names)) (tied : IsTied setup names x on) (h : HoldsInWorld setup names plan start (world_of setup names x on)) where
     pub ipmb_agrees : TestsAgree Ipmb (ipmb_bus setup names) (on Ipmb)
     ipmb_agrees = tests_agree Ipmb (ipmb_bus setup names) (numbering Ipmb) (on Ipmb) (ipmb_holds x on h) (tied.written Ipmb)
 

@@ -28,7 +28,7 @@ use Rattle.model_undo.specs.Headline as undo_headline
 use Rattle.model_family.specs.Family.{SetsWithin, conf_within}
 use Rattle.model_headline.specs.Tied.{own_family}
 use Rattle.model_headline.specs.Manager.{Gets, Sets, Undoes, Phase, Fresh, Open, Done, Halted, Undone, UndoRefused, sends}
-use Rattle.model_headline.specs.Claim.{ours, SetsTo, IsAfter, Stands, ShowsSame, ShowsSameParts}
+use Rattle.model_headline.specs.Claim.{ours, SetsTo, IsAfter, PhaseMeans, ShowsSame, ShowsSameParts}
 use Rattle.model_headline.specs.Seen.{words_of, seen_words, stage_of}
 
 module _ (setup : BoardFile) (names : Names) where
@@ -55,7 +55,7 @@ module _ (setup : BoardFile) (names : Names) where
     swapped k m r (inl is) = inr (after_so k r is)
     swapped k m r (inr is) = inl (after_so m r is)
 
-    pub stands_so : (phase : Phase) (r : Records) → plans.Stands family plan start (machine.phase_at (seen_words names) (stage_of names phase)) r → Stands setup plan start phase r
+    pub stands_so : (phase : Phase) (r : Records) → plans.PhaseMeans family plan start (machine.phase_at (seen_words names) (stage_of names phase)) r → PhaseMeans setup plan start phase r
     stands_so Fresh r is = is
     stands_so (Open true (Gets k op) bodies) r is = after_so k r is
     stands_so (Open false (Gets k op) bodies) r is = both k (suc k) r is

@@ -27,10 +27,10 @@ use Rattle.model_bus.specs.Request.{Request as Heard, Kept, Entry}
 use Rattle.model_bus.specs.Numbering.{is_above}
 use Rattle.model_bus.specs.Carried.{Outcome, Repeats, IsBusy, IsNew, outcome, log_after}
 use Rattle.model_bus.specs.Packet.{packets_of, packets_from, Packet as ModelPacket}
-use Rattle.model_bus.specs.Assembly.{is_name, Sent, Step, takes}
+use Rattle.model_bus.specs.Assembly.{is_name, SentPacket, Step, takes}
 use Rattle.model_bus.specs.BusState.{BusState}
 use Rattle.model_bus.specs.Answering.{AreWritten}
-use Rattle.model_bus.specs.PacketBus.{PacketBus, Ends, PacketEvent, OtherPacket, Closes, request_name, set_at, other_request, hears_other, packet_happens}
+use Rattle.model_bus.specs.PacketBus.{PacketBus, BusEnds, PacketEvent, OtherPacket, Closes, request_name, set_at, other_request, hears_other, packet_happens}
 use Rattle.model_bus.proofs.Lists.{Grows}
 use Rattle.model_undo.specs.Machine.{count_of}
 use Rattle.model_undo.specs.World.{States, OnBus, OnBench, update}
@@ -40,7 +40,7 @@ use Rattle.model_family.proofs.Board.{kept_by}
 use Rattle.undo_plans.specs.declared.names.Names.{Names}
 use Rattle.model_ports.specs.Values.{parts_of}
 use Rattle.model_ports.specs.Bytes.{pldm_heard_in}
-use Rattle.model_ports.specs.PortSteps.{PortState, Deed, turn, spelled, left_by, pldm_asked, stays, hears_control, hears_pldm, hears_typed, hears_message, hears_part, hears_parts, ends_message, hears_all}
+use Rattle.model_ports.specs.PortSteps.{PortState, StepResult, turn, spelled, left_by, pldm_asked, stays, hears_control, hears_pldm, hears_typed, hears_message, hears_part, hears_parts, ends_message, hears_all}
 use Rattle.model_ports.specs.PortEvents.{name_in, part_answer_to, event_by, happens_if, IsPortOf}
 use Rattle.model_lab.specs.ManagerSteps.{addresses}
 use Rattle.model_lab.specs.Honest.{IsAnother, ChangesNothing}
@@ -50,7 +50,7 @@ use Rattle.model_ports.specs.Cuts.{is_for, has_slot, kept_with_parts}
 use Rattle.model_ports.proofs.PortEvents.{parts_leave_log}
 use Rattle.model_ports.proofs.Parts.{parts_are_heard}
 use Rattle.model_headline.specs.Each.{Each}
-use Rattle.model_headline.specs.Tied.{own_plans, own_lines, smbus_bus, rules_on, requests, IsHeld, IsAnswer, EntryAnswers, IsTied, Goes}
+use Rattle.model_headline.specs.Tied.{own_plans, own_lines, smbus_bus, rules_on, requests, IsHeld, IsAnswer, EntryAnswers, IsTied, WorldFollows}
 use Rattle.model_headline.proofs.Each.{each_append, each_map, each_by_place}
 use Rattle.model_headline.proofs.Frames.{all_held}
 use Rattle.model_headline.proofs.Sending.{part_envelope, small_part}
@@ -63,7 +63,7 @@ module _ (setup : BoardFile) (names : Names) (before : State) where
   Answers log = Each (EntryAnswers setup names Smbus) log
 
   -- the port stays at its wire, and each reply that it keeps is one
-  pub record Fits (port : PortState) (d : Deed) : Type 0 where
+  pub record Fits (port : PortState) (d : StepResult) : Type 0 where
     pub wire : d.port.wire ≡ port.wire
     pub answered : Answers d.port.log
 
@@ -126,7 +126,7 @@ module _ (setup : BoardFile) (before : State) where
   abbrev Leaves : State → Type 0
   Leaves after = (after.records ≡ before.records) × (after.activity.stagings ≡ before.activity.stagings)
 
-  abbrev Keeps : Deed → Type 0
+  abbrev Keeps : StepResult → Type 0
   Keeps d = Leaves d.board
 
   turn_leaves : (o : Outcome) (after : State) → Leaves after → Leaves (left_by o after before)
@@ -211,7 +211,7 @@ module _ (setup : BoardFile) (names : Names) where
     abbrev b : PacketBus
     b = smbus_bus setup names
 
-    abbrev ends : Ends
+    abbrev ends : BusEnds
     ends = on Smbus
 
     abbrev answer : List ℕ
@@ -241,14 +241,14 @@ module _ (setup : BoardFile) (names : Names) where
         by false e = e
 
     -- these ends hold what the manager had
-    record Stays (e : Ends) : Type 0 where
+    record Stays (e : BusEnds) : Type 0 where
       manager : e.manager ≡ ends.manager
       taken : e.bus.taken ≡ ends.bus.taken
       written : AreWritten Smbus (rules_on setup names Smbus) e.bus
       more : Grows ends.bus.frames e.bus.frames
       mine : (n : ℕ) → e.port (request_name b n) ≡ ends.port (request_name b n)
 
-    tied_at : (e : Ends) → IsPortOf e port → Stays e → IsTied setup names left_lab (update (own_lines setup names) Smbus e on)
+    tied_at : (e : BusEnds) → IsPortOf e port → Stays e → IsTied setup names left_lab (update (own_lines setup names) Smbus e on)
     tied_at e is s = record {
       named = tied.named;
       ipmb_wire = tied.ipmb_wire;
@@ -262,17 +262,17 @@ module _ (setup : BoardFile) (names : Names) where
       answered = by (λ any c. Each (EntryAnswers setup names any) c.log) tied.answered (subst (Each (EntryAnswers setup names Smbus)) (sym is.log) fits.answered);
       made = tied.made;
       frames = all_held setup names on (update (own_lines setup names) Smbus e on) x.frames (by (λ any c. Grows (requests setup names on any).frames c.frames) (λ any n f at. at) s.more) tied.frames;
-      opened = λ n t at. tied.opened n t (subst (λ (ss : List Sent). In t ss) (s.mine n) at);
+      opened = λ n t at. tied.opened n t (subst (λ (ss : List SentPacket). In t ss) (s.mine n) at);
     }
       where
         by : (Q : Bus → BusState → Type 0) → ((any : Bus) → Q any (requests setup names on any)) → Q Smbus e.bus → (any : Bus) → Q any (requests setup names (update (own_lines setup names) Smbus e on) any)
         by Q all here Ipmb = all Ipmb
         by Q all here Smbus = here
 
-    set_beside : (ss : List Sent) (n : ℕ) → set_at (name_in p) ss ends.port (request_name b n) ≡ ends.port (request_name b n)
+    set_beside : (ss : List SentPacket) (n : ℕ) → set_at (name_in p) ss ends.port (request_name b n) ≡ ends.port (request_name b n)
     set_beside ss n = ap (λ (t : Bool). cond t ss (ends.port (request_name b n))) (not_mine n)
 
-    asks_stays : (o : Option Heard) (ss : List Sent) → Stays (record ends { bus = hears_other (rules_on setup names Smbus) answer o ends.bus; port = set_at (name_in p) ss ends.port })
+    asks_stays : (o : Option Heard) (ss : List SentPacket) → Stays (record ends { bus = hears_other (rules_on setup names Smbus) answer o ends.bus; port = set_at (name_in p) ss ends.port })
     asks_stays None ss = record {
       manager = refl;
       taken = refl;
@@ -288,8 +288,8 @@ module _ (setup : BoardFile) (names : Names) where
       mine = set_beside ss;
     }
 
-    abbrev taken : Step × List Sent
-    taken = takes (ends.port (name_in p)) (let s : Sent = record { request = 0; idles = 0; packet = seen (piece p) } in s)
+    abbrev taken : Step × List SentPacket
+    taken = takes (ends.port (name_in p)) (let s : SentPacket = record { request = 0; idles = 0; packet = seen (piece p) } in s)
 
     is_taken : IsPortOf (packet_happens b ends event) port → Quietly setup names x on left_lab
     is_taken is = record {
@@ -375,13 +375,13 @@ module _ (setup : BoardFile) (names : Names) where
 
   module _ (x : Lab (own_plans setup names)) (on : States (own_lines setup names)) (tied : IsTied setup names x on) where
     -- the lab after the deed, before its frames are sent
-    abbrev unsent : Deed → Lab (own_plans setup names)
+    abbrev unsent : StepResult → Lab (own_plans setup names)
     unsent d = with_port (own_plans setup names) Smbus d.port (record x { board = d.board })
 
-    held : (now : States (own_lines setup names)) (d : Deed) → Each (IsHeld setup names now) (map (frame_now (own_plans setup names) Smbus ToOthers 0 (unsent d)) d.sent)
+    held : (now : States (own_lines setup names)) (d : StepResult) → Each (IsHeld setup names now) (map (frame_now (own_plans setup names) Smbus ToOthers 0 (unsent d)) d.sent)
     held now d = each_map (frame_now (own_plans setup names) Smbus ToOthers 0 (unsent d)) (IsHeld setup names now) d.sent (each_by_place _ d.sent (λ n v at. tt))
 
-    ends_so : (d : Deed) → Keeps setup x.board d → Quietly setup names x on (record x { smbus = d.port }) → Goes setup names x on (port_does (own_plans setup names) Smbus ToOthers 0 d x)
+    ends_so : (d : StepResult) → Keeps setup x.board d → Quietly setup names x on (record x { smbus = d.port }) → WorldFollows setup names x on (port_does (own_plans setup names) Smbus ToOthers 0 d x)
     ends_so d leaves first =
         let now = first.went.left in
         let t = first.went.tied in
@@ -412,12 +412,12 @@ module _ (setup : BoardFile) (names : Names) where
 
     -- a message of another comes, if it goes to the port's address
     pub message_goes : (m : Message) → ChangesNothing m.envelope.source_eid m.body → IsAnother Smbus x.manager.names m.envelope.source_eid
-        → Goes setup names x on (port_does (own_plans setup names) Smbus ToOthers 0 (hears_all setup x.smbus x.board m) x)
+        → WorldFollows setup names x on (port_does (own_plans setup names) Smbus ToOthers 0 (hears_all setup x.smbus x.board m) x)
     message_goes m quiet another = by (m.envelope.destination == x.smbus.wire)
       where
         there : m.envelope.source_eid ≢ names.own_eid
         there e = another.0 (e ∙ ap (λ n. n.own_eid) (sym tied.named))
 
-        by : (t : Bool) → Goes setup names x on (port_does (own_plans setup names) Smbus ToOthers 0 (cond t (hears_parts setup x.smbus x.board (parts_of m)) (stays x.smbus x.board)) x)
+        by : (t : Bool) → WorldFollows setup names x on (port_does (own_plans setup names) Smbus ToOthers 0 (cond t (hears_parts setup x.smbus x.board (parts_of m)) (stays x.smbus x.board)) x)
         by true = ends_so (hears_parts setup x.smbus x.board (parts_of m)) (parts_keep setup x.board x.smbus m quiet) (parts_go (parts_of m) (all_others m there) x on tied x.board)
         by false = ends_so (stays x.smbus x.board) (refl, refl) (quiet_there setup names x on tied)

@@ -22,13 +22,13 @@ use Rattle.model_ports.specs.PortSteps.{idles}
 use Rattle.model_lab.specs.ManagerSteps.{own_on}
 use Rattle.model_lab.specs.Lab.{Lab, with_port, port_on}
 use Rattle.model_headline.specs.Each.{Each}
-use Rattle.model_headline.specs.Tied.{own_plans, own_family, own_lines, own_wires, rules_on, requests, EntryAnswers, IsTied, world_of, Goes}
-use Rattle.model_headline.specs.Follows.{Holds}
+use Rattle.model_headline.specs.Tied.{own_plans, own_family, own_lines, own_wires, rules_on, requests, EntryAnswers, IsTied, world_of, WorldFollows}
+use Rattle.model_headline.specs.Follows.{HoldsInWorld}
 use Rattle.model_headline.proofs.Frames.{all_held}
 use Rattle.model_headline.proofs.Begun.{words}
 
 module _ (setup : BoardFile) (names : Names) (plan : List Op) (start : Records) where
-  module _ (x : Lab (own_plans setup names)) (on : States (own_lines setup names)) (tied : IsTied setup names x on) (h : Holds setup names plan start (world_of setup names x on)) where
+  module _ (x : Lab (own_plans setup names)) (on : States (own_lines setup names)) (tied : IsTied setup names x on) (h : HoldsInWorld setup names plan start (world_of setup names x on)) where
     -- where no request is open, none is open on the bus
     none_open_on : (stage : Stage (words setup names)) (bus : Bus) → open_bus_at (words setup names) stage ≡ None → AreOpen (own_family setup names) (own_wires setup names) (λ b. 0) stage bus (requests setup names on bus) → IsClosed (requests setup names on bus)
     none_open_on (Opened heeded task part) bus none opened = absurd (none-some _ (sym none))
@@ -49,7 +49,7 @@ module _ (setup : BoardFile) (names : Names) (plan : List Op) (start : Records) 
     abbrev idle_smbus : ℕ → BusState
     idle_smbus requester = record ((on Smbus).bus) { log = Idled requester ∷ (on Smbus).bus.log }
 
-    ipmb_idles : (requester : ℕ) → (requester ≡ own_on Ipmb x.manager.names → open_bus (words setup names) x.manager.machine ≡ None) → Goes setup names x on (with_port (own_plans setup names) Ipmb (idles requester x.ipmb) x)
+    ipmb_idles : (requester : ℕ) → (requester ≡ own_on Ipmb x.manager.names → open_bus (words setup names) x.manager.machine ≡ None) → WorldFollows setup names x on (with_port (own_plans setup names) Ipmb (idles requester x.ipmb) x)
     ipmb_idles requester honest = record {
       happenings = OnBus Ipmb (IsIdle requester) x.board ∷ [];
       left = update (own_lines setup names) Ipmb (idle_ipmb requester) on;
@@ -77,7 +77,7 @@ module _ (setup : BoardFile) (names : Names) (plan : List Op) (start : Records) 
         by Q all here Ipmb = here
         by Q all here Smbus = all Smbus
 
-    smbus_idles : (requester : ℕ) → (requester ≡ own_on Smbus x.manager.names → open_bus (words setup names) x.manager.machine ≡ None) → Goes setup names x on (with_port (own_plans setup names) Smbus (idles requester x.smbus) x)
+    smbus_idles : (requester : ℕ) → (requester ≡ own_on Smbus x.manager.names → open_bus (words setup names) x.manager.machine ≡ None) → WorldFollows setup names x on (with_port (own_plans setup names) Smbus (idles requester x.smbus) x)
     smbus_idles requester honest = record {
       happenings = OnBus Smbus (Plain (IsIdle requester)) x.board ∷ [];
       left = update (own_lines setup names) Smbus (record (on Smbus) { bus = idle_smbus requester }) on;
@@ -105,16 +105,16 @@ module _ (setup : BoardFile) (names : Names) (plan : List Op) (start : Records) 
         by Q all here Ipmb = all Ipmb
         by Q all here Smbus = here
 
-    pub idle_goes : (bus : Bus) (requester : ℕ) → (requester ≡ own_on bus x.manager.names → open_bus (words setup names) x.manager.machine ≡ None) → Goes setup names x on (with_port (own_plans setup names) bus (idles requester (port_on (own_plans setup names) bus x)) x)
+    pub idle_goes : (bus : Bus) (requester : ℕ) → (requester ≡ own_on bus x.manager.names → open_bus (words setup names) x.manager.machine ≡ None) → WorldFollows setup names x on (with_port (own_plans setup names) bus (idles requester (port_on (own_plans setup names) bus x)) x)
     idle_goes Ipmb requester honest = ipmb_idles requester honest
     idle_goes Smbus requester honest = smbus_idles requester honest
 
     -- ---- noise and the bench
 
-    pub noise_goes : Goes setup names x on x
+    pub noise_goes : WorldFollows setup names x on x
     noise_goes = record { happenings = []; left = on; may = tt; reaches = refl; gives = tt; tied = tied }
 
-    pub bench_goes : (activity : Activity) → Goes setup names x on (record x { board = on_bench x.board activity })
+    pub bench_goes : (activity : Activity) → WorldFollows setup names x on (record x { board = on_bench x.board activity })
     bench_goes activity = record {
       happenings = OnBench (on_bench x.board activity) ∷ [];
       left = on;

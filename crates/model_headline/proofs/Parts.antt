@@ -13,16 +13,16 @@ use Rattle.record_base.specs.declared.op.Op.{Op}
 use Rattle.cfg_records.specs.declared.board_file.BoardFile.{BoardFile}
 use Rattle.cfg_records.specs.Records.{Records}
 use Rattle.model_bus.specs.Repeat.{In}
-use Rattle.model_bus.specs.Assembly.{Name, is_name, Sent, Step, IsWhole, takes, waiting}
+use Rattle.model_bus.specs.Assembly.{Name, is_name, SentPacket, Step, IsWhole, takes, waiting}
 use Rattle.model_bus.specs.BusState.{Frame, Content}
 use Rattle.model_bus.specs.Schedule.{IsLive as IsLiveThere}
-use Rattle.model_bus.specs.PacketBus.{PacketBus, Ends, PacketEvent, PacketReachesPort, OtherPacket, request_name, set_at, whole_comes, port_takes, packet_comes, packet_at_port, packet_happens}
+use Rattle.model_bus.specs.PacketBus.{PacketBus, BusEnds, PacketEvent, PacketReachesPort, OtherPacket, request_name, set_at, whole_comes, port_takes, packet_comes, packet_at_port, packet_happens}
 use Rattle.model_bus.specs.PacketSchedule.{RecentWhereWhole, MayJoin, PacketMayJoin, JoinsAtPort, IsPacketHonest}
 use Rattle.model_bus.specs.PacketEffect.{HasPacketEffect}
 use Rattle.model_bus.proofs.Cutting.{packets_cut}
 use Rattle.model_undo.specs.World.{States}
 use Rattle.model_undo.proofs.LineLaws.{effect}
-use Rattle.model_ports.specs.Seen.{seen, Agrees}
+use Rattle.model_ports.specs.Seen.{seen, AgreesWithJoin}
 use Rattle.model_ports.proofs.PacketSteps.{takes-agrees}
 use Rattle.undo_plans.specs.declared.names.Names.{Names}
 use Rattle.model_ports.specs.Values.{Part}
@@ -31,12 +31,12 @@ use Rattle.model_lab.specs.Own.{JoinsOwn}
 use Rattle.model_lab.specs.Lab.{LabFrame, Lab, opens}
 use Rattle.model_ports.proofs.PortEvents.{parts_leave_log}
 use Rattle.model_headline.specs.Tied.{own_plans, own_lines, smbus_bus, rules_on, HoldsAskedPart, IsTied, world_of}
-use Rattle.model_headline.specs.Follows.{Holds}
+use Rattle.model_headline.specs.Follows.{HoldsInWorld}
 use Rattle.model_headline.proofs.Sending.{from_zero}
 use Rattle.model_headline.proofs.Live.{smbus_holds}
 
 module _ (setup : BoardFile) (names : Names) (plan : List Op) (start : Records) where
-  module _ (x : Lab (own_plans setup names)) (on : States (own_lines setup names)) (tied : IsTied setup names x on) (h : Holds setup names plan start (world_of setup names x on)) (f : LabFrame) (hold : HoldsAskedPart setup names (on Smbus) f)
+  module _ (x : Lab (own_plans setup names)) (on : States (own_lines setup names)) (tied : IsTied setup names x on) (h : HoldsInWorld setup names plan start (world_of setup names x on)) (f : LabFrame) (hold : HoldsAskedPart setup names (on Smbus) f)
       (live : IsLiveThere (rules_on setup names Smbus) (on Smbus).bus hold.part.frame) (mine : JoinsOwn (own_plans setup names) x f.request (Part hold.packet)) where
     abbrev pub b : PacketBus
     b = smbus_bus setup names
@@ -47,7 +47,7 @@ module _ (setup : BoardFile) (names : Names) (plan : List Op) (start : Records) 
     abbrev pub g : Frame
     g = hold.part.frame
 
-    abbrev pub ends : Ends
+    abbrev pub ends : BusEnds
     ends = on Smbus
 
     abbrev pub cause : Option DropCause
@@ -63,26 +63,26 @@ module _ (setup : BoardFile) (names : Names) (plan : List Op) (start : Records) 
     abbrev pub others_event : PacketEvent
     others_event = OtherPacket (name_in p) (seen (piece p)) answer
 
-    abbrev pub sent : Sent
+    abbrev pub sent : SentPacket
     sent = record { request = g.request; idles = g.idles; packet = seen (piece p) }
 
-    abbrev pub taken : Step × List Sent
+    abbrev pub taken : Step × List SentPacket
     taken = takes (ends.port (name_in p)) sent
 
     -- what waits under the packet's name is of the requests under its tag
     pub tag_is : p.envelope.tag ≡ g.request % 8
     tag_is = ap (λ (n : Name). n.tag) hold.part.named ∙ ap (λ (n : ℕ). n % 8) (sym (from_zero g.request))
 
-    pub agrees : Agrees cause p.end (waiting (ends.port (name_in p)) sent ++ sent ∷ []) taken
+    pub agrees : AgreesWithJoin cause p.end (waiting (ends.port (name_in p)) sent ++ sent ∷ []) taken
     agrees = takes-agrees x.smbus.eid x.smbus.kept p sent (ends.port (name_in p)) refl (tied.smbus_port.waits _)
 
     -- ---- it may come
 
-    pub waits_of : (t : Sent) → In t (ends.port (name_in p)) → t.request ≡ x.opened p.envelope.tag
+    pub waits_of : (t : SentPacket) → In t (ends.port (name_in p)) → t.request ≡ x.opened p.envelope.tag
     waits_of t is =
         tied.opened g.request t (subst (λ (n : Name). In t (ends.port n)) hold.part.named is) ∙ ap x.opened (sym tag_is)
 
-    recent : cause ≡ None → (t : Sent) → In t (waiting (ends.port (name_in p)) sent) → length ends.bus.begun ≤ t.request + 8
+    recent : cause ≡ None → (t : SentPacket) → In t (waiting (ends.port (name_in p)) sent) → length ends.bus.begun ≤ t.request + 8
     recent none t is = by p.start refl is
       where
         by : (s : Bool) → p.start ≡ s → In t (cond s [] (ends.port (name_in p))) → length ends.bus.begun ≤ t.request + 8
@@ -92,14 +92,14 @@ module _ (setup : BoardFile) (names : Names) (plan : List Op) (start : Records) 
             let most = live.0 in
             omega (arith, same, most)
 
-    may_join : (c : Option DropCause) → cause ≡ c → (c ≡ Some NotOurs → ⊥) → (c ≡ Some NoSlot → ⊥) → Agrees c p.end (waiting (ends.port (name_in p)) sent ++ sent ∷ []) taken
+    may_join : (c : Option DropCause) → cause ≡ c → (c ≡ Some NotOurs → ⊥) → (c ≡ Some NoSlot → ⊥) → AgreesWithJoin c p.end (waiting (ends.port (name_in p)) sent ++ sent ∷ []) taken
         → MayJoin RecentWhereWhole (rules_on setup names Smbus) ends.bus (ends.port (name_in p)) sent
     may_join (Some NotOurs) e ours slot a whole = absurd (ours refl)
     may_join (Some NoSlot) e ours slot a whole = absurd (slot refl)
-    may_join (Some NoStart) e ours slot a whole = absurd (subst (λ (r : Step × List Sent). IsWhole r.0) a whole)
-    may_join (Some TooLong) e ours slot a whole = absurd (subst (λ (r : Step × List Sent). IsWhole r.0) a whole)
-    may_join (Some OutOfSequence) e ours slot a whole = absurd (subst (λ (r : Step × List Sent). IsWhole r.0) a whole)
-    may_join (Some UnitSize) e ours slot a whole = absurd (subst (λ (r : Step × List Sent). IsWhole r.0) a whole)
+    may_join (Some NoStart) e ours slot a whole = absurd (subst (λ (r : Step × List SentPacket). IsWhole r.0) a whole)
+    may_join (Some TooLong) e ours slot a whole = absurd (subst (λ (r : Step × List SentPacket). IsWhole r.0) a whole)
+    may_join (Some OutOfSequence) e ours slot a whole = absurd (subst (λ (r : Step × List SentPacket). IsWhole r.0) a whole)
+    may_join (Some UnitSize) e ours slot a whole = absurd (subst (λ (r : Step × List SentPacket). IsWhole r.0) a whole)
     may_join None e ours slot a whole = recent e
 
     pub honest_part : (cause ≡ Some NotOurs → ⊥) → (cause ≡ Some NoSlot → ⊥) → IsPacketHonest RecentWhereWhole b ends arrives
@@ -119,7 +119,7 @@ module _ (setup : BoardFile) (names : Names) (plan : List Op) (start : Records) 
     -- ---- what it leaves
 
     -- both ends after it, by what the port's end does with it
-    abbrev pub ends_by : Step × List Sent → Ends
+    abbrev pub ends_by : Step × List SentPacket → BusEnds
     ends_by r = record ends { bus = whole_comes (rules_on setup names Smbus) answer g.request r.0 ends.bus; port = set_at (name_in p) r.1 ends.port }
 
     pub happens_so : packet_happens b ends arrives ≡ ends_by taken
@@ -129,7 +129,7 @@ module _ (setup : BoardFile) (names : Names) (plan : List Op) (start : Records) 
         ∙ ap (λ o. port_takes b answer g.request g.idles o ends) hold.part.part
         ∙ ap (λ (n : Name).
         let r = takes (ends.port n) sent in
-        let y : Ends = record ends { bus = whole_comes (rules_on setup names Smbus) answer g.request r.0 ends.bus; port = set_at n r.1 ends.port } in y) (sym hold.part.named)
+        let y : BusEnds = record ends { bus = whole_comes (rules_on setup names Smbus) answer g.request r.0 ends.bus; port = set_at n r.1 ends.port } in y) (sym hold.part.named)
 
     -- the law of single packets
     pub leaves : PartsAreEvents setup x.smbus x.board p b ends
@@ -178,8 +178,8 @@ module _ (setup : BoardFile) (names : Names) (plan : List Op) (start : Records) 
         ∙ ap (λ (k : ℕ). n % 8 == k) (sym tag_is)
 
     -- what waits after it is of the requests that were opened
-    pub still_opened : (now : List Sent) → ((t : Sent) → In t now → t.request ≡ opened_after p.envelope.tag)
-        → (n : ℕ) (t : Sent) → In t (set_at (name_in p) now ends.port (request_name b n)) → t.request ≡ opened_after (n % 8)
+    pub still_opened : (now : List SentPacket) → ((t : SentPacket) → In t now → t.request ≡ opened_after p.envelope.tag)
+        → (n : ℕ) (t : SentPacket) → In t (set_at (name_in p) now ends.port (request_name b n)) → t.request ≡ opened_after (n % 8)
     still_opened now mine_now n t is = by (n % 8 == p.envelope.tag) refl (subst (λ (u : Bool). In t (cond u now (ends.port (request_name b n)))) (named_by_tag n) is)
       where
         by : (u : Bool) → (n % 8 == p.envelope.tag) ≡ u → In t (cond u now (ends.port (request_name b n))) → t.request ≡ opened_after (n % 8)
@@ -200,17 +200,17 @@ module _ (setup : BoardFile) (names : Names) (plan : List Op) (start : Records) 
         by true e = opened_at p.envelope.tag true true e ours ∙ ap (λ (u : Bool). cond u f.request (x.opened p.envelope.tag)) self
         by false e = opened_at p.envelope.tag false true e ours ∙ mine e none
 
-    in_more : (ss : List Sent) (s t : Sent) → In t (ss ++ s ∷ []) → In t ss ⊎ (s ≡ t)
+    in_more : (ss : List SentPacket) (s t : SentPacket) → In t (ss ++ s ∷ []) → In t ss ⊎ (s ≡ t)
     in_more [] s t (inl same) = inr same
     in_more [] s t (inr never_so) = absurd never_so
     in_more (q ∷ qs) s t (inl same) = inl (inl same)
     in_more (q ∷ qs) s t (inr later) = elim (in_more qs s t later) [ inl there ↦ inl (inr there) | inr same ↦ inr same ]
 
     -- what waits with it, where it waits
-    pub waiting_opened : cause ≡ None → (t : Sent) → In t (waiting (ends.port (name_in p)) sent ++ sent ∷ []) → t.request ≡ opened_after p.envelope.tag
+    pub waiting_opened : cause ≡ None → (t : SentPacket) → In t (waiting (ends.port (name_in p)) sent ++ sent ∷ []) → t.request ≡ opened_after p.envelope.tag
     waiting_opened none t is = elim (in_more (waiting (ends.port (name_in p)) sent) sent t is) [
       | inl there ↦ before p.start refl there
-      | inr same ↦ ap (λ (s : Sent). s.request) (sym same) ∙ hold.same_request ∙ own_opened none
+      | inr same ↦ ap (λ (s : SentPacket). s.request) (sym same) ∙ hold.same_request ∙ own_opened none
     ]
       where
         before : (s : Bool) → p.start ≡ s → In t (cond s [] (ends.port (name_in p))) → t.request ≡ opened_after p.envelope.tag

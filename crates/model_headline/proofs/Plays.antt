@@ -12,7 +12,7 @@ use Rattle.model_undo.proofs.Series.{all_answered_as}
 use Rattle.model_undo.specs.declared.phase.Why.TheVariants.{Stop, Refused, NotRestorable, GetRefused}
 use Rattle.model_undo.specs.declared.phase.Phase.{Phase}
 use Rattle.model_undo.specs.declared.phase.Phase.TheVariants.{Fresh, Getting, Setting, Done, Halted, Unsettled, Undoing, Undone, UndoRefused}
-use Rattle.model_undo.specs.Plan.{IsAfter, Stands}
+use Rattle.model_undo.specs.Plan.{IsAfter, PhaseMeans}
 use Rattle.model_undo.specs.Machine.{phase_of}
 use Rattle.model_undo.specs.Headline.{ShowsSame, PartsShowSame}
 use Rattle.model_lab.specs.Lab as lab
@@ -26,7 +26,7 @@ use Rattle.text_schedule.specs.declared.event.Event.TheVariants as event
 use Rattle.model_lab.specs.Meaning.{lab_names, event_of}
 use Rattle.model_lab.specs.Played.{plans, Ending, Whole, Stops, happens, after, AreTaken, told_of, IsPlayed}
 use Rattle.model_headline.specs.Tied.{own_family}
-use Rattle.model_headline.specs.Answers.{Answers, CausedBy}
+use Rattle.model_headline.specs.Answers.{AnswerGiven, CausedBy}
 use Rattle.model_headline.specs.Theorem as law
 use Rattle.model_headline.specs.Theorem.{IsHonestAndOwn}
 use Rattle.model_headline.specs.Plays.{taken_by, told_by, AllKeepPremise, AreOwn, GaveIn, ToldStands, PlaysStand}
@@ -136,8 +136,8 @@ module _ (file : BoardFile) where
           event = s.event;
           later = s.later;
           all = s.all;
-          answers = subst (λ (e : lab.Event). Answers file lab_names y (step plans file y e) asked a) (sym s.is)
-              (subst (λ (z : Lab plans). Answers file lab_names z (step plans file z g.event) asked a) there g.answers);
+          answers = subst (λ (e : lab.Event). AnswerGiven file lab_names y (step plans file y e) asked a) (sym s.is)
+              (subst (λ (z : Lab plans). AnswerGiven file lab_names z (step plans file z g.event) asked a) there g.answers);
           at = subst (λ (z : Lab plans). IsAfter (own_family file lab_names) plan first.board.records k z.board.records) there g.at;
         }
 
@@ -169,7 +169,7 @@ module _ (file : BoardFile) where
         let x = run plans file events first in
         subst (λ (y : Lab plans). ToldStands file plan retries es (told_of file first y)) (runs_so es first) (record {
           stands = here;
-          undone = λ at. subst (λ (p : Phase). Stands (own_family file lab_names) plan first.board.records p x.board.records) at here;
+          undone = λ at. subst (λ (p : Phase). PhaseMeans (own_family file lab_names) plan first.board.records p x.board.records) at here;
           for_good = λ before later rest split at.
               for_good before later (prefix_good (before ++ later) rest (subst (λ (all : List Event). Good (events_from all first)) split good)) at;
           halts = caused_so es (phase_of plans.words x.manager.machine) causes;

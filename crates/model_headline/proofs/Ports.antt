@@ -30,7 +30,7 @@ use Rattle.model_headline.specs.Each.{Each}
 use Rattle.model_headline.proofs.Each.{each_append}
 use Rattle.model_headline.specs.Frames.{Value, Asks, Tells, Part, envelope, packets_of, is_taken, waits_after, whole}
 use Rattle.model_headline.specs.Manager.{own_on}
-use Rattle.model_headline.specs.Lab.{Heard, Entry, Port, Outcome, Deed, is_above, repeated, requesters, is_ninth, busy_on, turn_where, turn, stays, heard_in, hears_request, hears_control, pldm_heard, hears_pldm, hears_typed, hears_packet, hears_packets, hears, Way, ToPort, ToManager, ToOthers}
+use Rattle.model_headline.specs.Lab.{Heard, Entry, Port, Outcome, StepResult, is_above, repeated, requesters, is_ninth, busy_on, turn_where, turn, stays, heard_in, hears_request, hears_control, pldm_heard, hears_pldm, hears_typed, hears_packet, hears_packets, hears, Way, ToPort, ToManager, ToOthers}
 use Rattle.model_headline.specs.Claim.{ours}
 use Rattle.model_headline.proofs.Packets.{Agrees, IsKept, is_kept}
 use Rattle.model_headline.proofs.Repeats.{repeats_alike, busy_alike}
@@ -86,7 +86,7 @@ module _ (names : Names) (setup : BoardFile) where
   -- ---- what comes
 
   -- the model's deed is this one, and what holds of the port still holds
-  pub record Does (on : Bus) (way : Way) (d : port.Deed) (t : Deed) : Type 0 where
+  pub record Does (on : Bus) (way : Way) (d : port.StepResult) (t : StepResult) : Type 0 where
     pub made : List ℕ
     pub is : d ≡ seen_deed on made t
     pub orderly : IsOrderly t.port.waits
@@ -143,7 +143,7 @@ module _ (names : Names) (setup : BoardFile) where
         let next : Port = record p { eid = eid_after p.eid r.command r.content } in
         record {
           made = made;
-          is = ap (λ (vs : List values.Value). let d : port.Deed = record { port = seen_port Smbus made next; board = before; sent = vs } in d) (sent_parts (envelope e.source p.wire e.source_eid next.eid false e.tag) (control_reply p.eid r) (control_reply p.eid r) refl);
+          is = ap (λ (vs : List values.Value). let d : port.StepResult = record { port = seen_port Smbus made next; board = before; sent = vs } in d) (sent_parts (envelope e.source p.wire e.source_eid next.eid false e.tag) (control_reply p.eid r) (control_reply p.eid r) refl);
           orderly = orderly;
           reads = reads;
           sent = parts_suit way (packets_of (envelope e.source p.wire e.source_eid next.eid false e.tag) (control_reply p.eid r));
@@ -208,7 +208,7 @@ module _ (names : Names) (setup : BoardFile) where
     next = record p { waits = waits_after p.eid q p.waits }
 
     -- what the packet does
-    abbrev does_then : Bool → Bool → Deed
+    abbrev does_then : Bool → Bool → StepResult
     does_then ends owner = cond (ends && owner) (hears_typed (ours setup) next before q.envelope (whole q p.waits)) (stays next before)
 
     by_owner : (body : List ℕ) → body ≡ whole q p.waits → (owner : Bool)
@@ -248,9 +248,9 @@ module _ (names : Names) (setup : BoardFile) where
       let rest = hears_packets (ours setup) first.port first.board qs in
       record {
         made = more.made;
-        is = ap (λ (d : port.Deed). let r = port.hears_parts setup d.port d.board qs in let both : port.Deed = record { port = r.port; board = r.board; sent = d.sent ++ r.sent } in both) one.is
-            ∙ ap (λ (r : port.Deed). let both : port.Deed = record { port = r.port; board = r.board; sent = map seen_value first.sent ++ r.sent } in both) more.is
-            ∙ ap (λ (vs : List values.Value). let both : port.Deed = record { port = seen_port Smbus more.made rest.port; board = rest.board; sent = vs } in both) (sym (map-append seen_value first.sent rest.sent));
+        is = ap (λ (d : port.StepResult). let r = port.hears_parts setup d.port d.board qs in let both : port.StepResult = record { port = r.port; board = r.board; sent = d.sent ++ r.sent } in both) one.is
+            ∙ ap (λ (r : port.StepResult). let both : port.StepResult = record { port = r.port; board = r.board; sent = map seen_value first.sent ++ r.sent } in both) more.is
+            ∙ ap (λ (vs : List values.Value). let both : port.StepResult = record { port = seen_port Smbus more.made rest.port; board = rest.board; sent = vs } in both) (sym (map-append seen_value first.sent rest.sent));
         orderly = more.orderly;
         reads = more.reads;
         sent = each_append (Suits names Smbus way) first.sent rest.sent one.sent more.sent;

@@ -11,7 +11,7 @@ use Rattle.model_undo.specs.declared.call.Call.TheVariants as call
 use Rattle.text_schedule.specs.declared.event.Event.{Event}
 use Rattle.text_schedule.specs.declared.event.Event.TheVariants.{Calls}
 use Rattle.bmc_board.specs.Decode.{sent_by}
-use Rattle.bmc_board.specs.Answer.{Given}
+use Rattle.bmc_board.specs.Answer.{AnswerAndState}
 use Rattle.bmc_board.proofs.OneAnswer.{has_one_answer}
 use Rattle.model_bus.specs.Repeat.{In}
 use Rattle.model_bus.specs.Answered.{Answered as UndoAnswered}
@@ -31,7 +31,7 @@ use Rattle.model_headline.proofs.Plays.{plays_stand}
 use Rattle.model_headline.proofs.Series.{of_is}
 use Rattle.model_headline.specs.Manager.{own_on, bus_of, by_manager}
 use Rattle.model_headline.specs.Claim.{IsAfter}
-use Rattle.model_headline.specs.Promise.{Says, Gave, IsWhy, Promise}
+use Rattle.model_headline.specs.Promise.{PhaseMeans, GaveAnswer, IsWhy, Promise}
 use Rattle.model_headline.specs.Keeps.{KeepsPromise}
 use Rattle.model_headline.proofs.ClaimSeries.{board_of, all_given}
 use Rattle.model_headline.proofs.Meaning.{after_so}
@@ -58,7 +58,7 @@ module _ (file : BoardFile) (plan : List Op) (start : Records) where
   swapped k m now (inl is) = inr (after_k k now is)
   swapped k m now (inr is) = inl (after_k m now is)
 
-  says : (phase : Phase) (now : Records) → plans.Stands (own_family file lab_names) plan start phase now → Says file plan start phase now
+  says : (phase : Phase) (now : Records) → plans.PhaseMeans (own_family file lab_names) plan start phase now → PhaseMeans file plan start phase now
   says Fresh now is = is
   says (Getting k) now is = after_k k now is
   says (Setting k) now is = both k (suc k) now is
@@ -74,14 +74,14 @@ module _ (file : BoardFile) (plan : List Op) (retries : ℕ) where
   first_records = (lab_after file plan retries []).board.records
 
   module _ (taken : List Event) (start : Records) (same : first_records ≡ start) where
-    gave : (k : ℕ) (asked : Asked) (from : ℕ) (a : UndoAnswered) → plays.GaveIn file plan retries taken k (sent_by from asked) a → Gave file plan start k asked (record { code = a.code; body = a.body })
+    gave : (k : ℕ) (asked : Asked) (from : ℕ) (a : UndoAnswered) → plays.GaveIn file plan retries taken k (sent_by from asked) a → GaveAnswer file plan start k asked (record { code = a.code; body = a.body })
     gave k asked from a g =
         let x = lab_after file plan retries g.before in
         record {
           before = x.board;
           from = from;
           at = subst (λ (r : Records). IsAfter file plan r k x.board.records) same (after_k file plan first_records k x.board.records g.at);
-          answers = ap (λ (given : Given). given.0) (sym (has_one_answer file x.board (sent_by from asked) (record { code = a.code; body = a.body }) (happens file g.event x).board g.answers.row));
+          answers = ap (λ (given : AnswerAndState). given.0) (sym (has_one_answer file x.board (sent_by from asked) (record { code = a.code; body = a.body }) (happens file g.event x).board g.answers.row));
         }
 
     module _ (k : ℕ) where
@@ -89,7 +89,7 @@ module _ (file : BoardFile) (plan : List Op) (retries : ℕ) where
       GaveThere = plays.GaveIn file plan retries taken k
 
       -- the manager asked
-      said : (asked : Asked) (a : UndoAnswered) → GaveThere (by_manager lab_names asked) a → Gave file plan start k asked (board_of a)
+      said : (asked : Asked) (a : UndoAnswered) → GaveThere (by_manager lab_names asked) a → GaveAnswer file plan start k asked (board_of a)
       said asked a = gave k asked (own_on (bus_of asked) lab_names) a
 
       why_so : (why : Why) → CausedBy file lab_names (plays.GaveIn file plan retries taken) (In (Calls call.Stop) taken) plan (Halted k why) → IsWhy file plan start taken k why
@@ -99,7 +99,7 @@ module _ (file : BoardFile) (plan : List Op) (retries : ℕ) where
       why_so (Refused code) was = let is = of_is (addresses lab_names) (sends was.0) was.1 was.4 in
           (was.0, is.0, was.2, was.3, said (request_after (sends was.0) is.0) (record { code = code; body = was.2 }) (subst (λ (q : Asked). GaveThere q (record { code = code; body = was.2 })) is.1 was.5), was.6)
       why_so NotRestorable was =
-          (was.0, was.1, was.2, all_given lab_names GaveThere (Gave file plan start k) (Reads (key_of was.0)) (λ asked body. said asked (record { code = success; body = body })) was.1 was.3, was.4)
+          (was.0, was.1, was.2, all_given lab_names GaveThere (GaveAnswer file plan start k) (Reads (key_of was.0)) (λ asked body. said asked (record { code = success; body = body })) was.1 was.3, was.4)
 
   -- what is told of the start is that of the lab that begins
   begins : (events : List Event) (ending : Ending) → IsPlayed file plan retries events ending → first_records ≡ (told_by ending).start

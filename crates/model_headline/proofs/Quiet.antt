@@ -11,11 +11,11 @@ use Rattle.record_base.specs.declared.op.Op.{Op}
 use Rattle.cfg_records.specs.declared.board_file.BoardFile.{BoardFile}
 use Rattle.cfg_records.specs.Records.{Records}
 use Rattle.model_bus.specs.Repeat.{In}
-use Rattle.model_bus.specs.Assembly.{Name, Sent, Step, takes}
+use Rattle.model_bus.specs.Assembly.{Name, SentPacket, Step, takes}
 use Rattle.model_bus.specs.BusState.{BusState, Frame, Content}
 use Rattle.model_bus.specs.Answering.{AreWritten}
 use Rattle.model_bus.specs.Schedule.{IsLive as IsLiveThere}
-use Rattle.model_bus.specs.PacketBus.{Ends, Closes, request_name, set_at, whole_comes, packet_happens}
+use Rattle.model_bus.specs.PacketBus.{BusEnds, Closes, request_name, set_at, whole_comes, packet_happens}
 use Rattle.model_bus.specs.PacketEffect.{step_of, whole_request, completed_request, carried_of}
 use Rattle.model_bus.proofs.Lists.{Grows}
 use Rattle.model_undo.specs.Machine.{count_of}
@@ -27,14 +27,14 @@ use Rattle.model_ports.specs.Seen.{WaitsAlike}
 use Rattle.model_ports.proofs.PacketSteps.{first_of}
 use Rattle.undo_plans.specs.declared.names.Names.{Names}
 use Rattle.model_ports.specs.Values.{Part}
-use Rattle.model_ports.specs.PortSteps.{Deed, PortState, hears_part, ends_message, stays}
+use Rattle.model_ports.specs.PortSteps.{StepResult, PortState, hears_part, ends_message, stays}
 use Rattle.model_ports.specs.PortEvents.{name_in, event_by, happens_if, IsPortOf}
 use Rattle.model_lab.specs.Own.{JoinsOwn}
 use Rattle.model_lab.specs.declared.way.Way.TheVariants.{ToManager}
 use Rattle.model_lab.specs.Lab.{LabFrame, Lab, with_port, frame_now, port_does}
 use Rattle.model_headline.specs.Each.{Each}
-use Rattle.model_headline.specs.Tied.{own_plans, own_family, own_lines, own_wires, rules_on, requests, HoldsAskedPart, IsHeld, EntryAnswers, IsTied, world_of, IsGiven, Goes}
-use Rattle.model_headline.specs.Follows.{Holds}
+use Rattle.model_headline.specs.Tied.{own_plans, own_family, own_lines, own_wires, rules_on, requests, HoldsAskedPart, IsHeld, EntryAnswers, IsTied, world_of, IsGivenAnswer, WorldFollows}
+use Rattle.model_headline.specs.Follows.{HoldsInWorld}
 use Rattle.model_headline.proofs.Each.{each_append}
 use Rattle.model_headline.proofs.Frames.{all_held}
 use Rattle.model_headline.proofs.Parts as part
@@ -54,12 +54,12 @@ is_not true h = absurd cc
 is_not false h = refl
 
 module _ (setup : BoardFile) (names : Names) (plan : List Op) (start : Records) where
-  module _ (x : Lab (own_plans setup names)) (on : States (own_lines setup names)) (tied : IsTied setup names x on) (h : Holds setup names plan start (world_of setup names x on)) (f : LabFrame) (hold : HoldsAskedPart setup names (on Smbus) f)
+  module _ (x : Lab (own_plans setup names)) (on : States (own_lines setup names)) (tied : IsTied setup names x on) (h : HoldsInWorld setup names plan start (world_of setup names x on)) (f : LabFrame) (hold : HoldsAskedPart setup names (on Smbus) f)
       (live : IsLiveThere (rules_on setup names Smbus) (on Smbus).bus hold.part.frame) (mine : JoinsOwn (own_plans setup names) x f.request (Part hold.packet)) where
     abbrev p : Packet
     p = hold.packet
 
-    abbrev ends : Ends
+    abbrev ends : BusEnds
     ends = on Smbus
 
     abbrev cause : Option DropCause
@@ -71,18 +71,18 @@ module _ (setup : BoardFile) (names : Names) (plan : List Op) (start : Records) 
     abbrev pub with_opened : Lab (own_plans setup names)
     with_opened = record x { opened = opened_after }
 
-    abbrev pub now : Ends → States (own_lines setup names)
+    abbrev pub now : BusEnds → States (own_lines setup names)
     now e = update (own_lines setup names) Smbus e on
 
     -- the lab after the deed, before the reply is sent, and then
-    abbrev pub unsent : Deed → Lab (own_plans setup names)
+    abbrev pub unsent : StepResult → Lab (own_plans setup names)
     unsent d = with_port (own_plans setup names) Smbus d.port (record with_opened { board = d.board })
 
-    abbrev pub done_by : Deed → Lab (own_plans setup names)
+    abbrev pub done_by : StepResult → Lab (own_plans setup names)
     done_by d = port_does (own_plans setup names) Smbus ToManager f.request d with_opened
 
     -- these ends are those of the lab after the deed
-    pub record Leaves (d : Deed) (e : Ends) : Type 0 where
+    pub record Leaves (d : StepResult) (e : BusEnds) : Type 0 where
       pub wire : d.port.wire ≡ x.smbus.wire
       pub port : IsPortOf e d.port
       pub manager : e.manager ≡ ends.manager
@@ -90,10 +90,10 @@ module _ (setup : BoardFile) (names : Names) (plan : List Op) (start : Records) 
       pub written : AreWritten Smbus (rules_on setup names Smbus) e.bus
       pub more : Grows ends.bus.frames e.bus.frames
       pub answered : Each (EntryAnswers setup names Smbus) e.bus.log
-      pub opened : (n : ℕ) (t : Sent) → In t (e.port (request_name (part.b setup names plan start x on tied h f hold live mine) n)) → t.request ≡ opened_after (n % 8)
+      pub opened : (n : ℕ) (t : SentPacket) → In t (e.port (request_name (part.b setup names plan start x on tied h f hold live mine) n)) → t.request ≡ opened_after (n % 8)
       pub held : Each (IsHeld setup names (now e)) (map (frame_now (own_plans setup names) Smbus ToManager f.request (unsent d)) d.sent)
 
-    pub leaves_tied : (d : Deed) (e : Ends) → Leaves d e → IsTied setup names (done_by d) (now e)
+    pub leaves_tied : (d : StepResult) (e : BusEnds) → Leaves d e → IsTied setup names (done_by d) (now e)
     leaves_tied d e l = record {
       named = tied.named;
       ipmb_wire = tied.ipmb_wire;
@@ -120,15 +120,15 @@ module _ (setup : BoardFile) (names : Names) (plan : List Op) (start : Records) 
     abbrev pub next : PortState
     next = record (x.smbus) { kept = kept_after x.smbus.eid x.smbus.kept p }
 
-    abbrev pub quiet : Deed
+    abbrev pub quiet : StepResult
     quiet = stays next x.board
 
     -- only what waits changes
-    abbrev waits_as : (Name → List Sent) → Ends
+    abbrev waits_as : (Name → List SentPacket) → BusEnds
     waits_as port = record ends { port = port }
 
-    quiet_leaves : (port : Name → List Sent) → IsPortOf (waits_as port) next
-        → ((n : ℕ) (t : Sent) → In t (port (request_name (part.b setup names plan start x on tied h f hold live mine) n)) → t.request ≡ opened_after (n % 8)) → Leaves quiet (waits_as port)
+    quiet_leaves : (port : Name → List SentPacket) → IsPortOf (waits_as port) next
+        → ((n : ℕ) (t : SentPacket) → In t (port (request_name (part.b setup names plan start x on tied h f hold live mine) n)) → t.request ≡ opened_after (n % 8)) → Leaves quiet (waits_as port)
     quiet_leaves port is opened = record {
       wire = refl;
       port = is;
@@ -161,8 +161,8 @@ module _ (setup : BoardFile) (names : Names) (plan : List Op) (start : Records) 
     deed_is c e = ap (ends_message setup next x.board p) e
 
     -- the port ends as the law of single packets says
-    quiet_port : (c : Option DropCause) → cause ≡ c → quiet ≡ ends_message setup next x.board p c → (e : Ends) → IsPortOf e (hears_part setup x.smbus x.board p).port → IsPortOf e next
-    quiet_port c e same y is = subst (λ (d : Deed). IsPortOf y d.port) (deed_is c e ∙ sym same) is
+    quiet_port : (c : Option DropCause) → cause ≡ c → quiet ≡ ends_message setup next x.board p c → (e : BusEnds) → IsPortOf e (hears_part setup x.smbus x.board p).port → IsPortOf e next
+    quiet_port c e same y is = subst (λ (d : StepResult). IsPortOf y d.port) (deed_is c e ∙ sym same) is
 
     other_after : (c : Option DropCause) → cause ≡ c → IsPortOf (happens_if (part.b setup names plan start x on tied h f hold live mine) (event_by c (name_in p) (part.others_event setup names plan start x on tied h f hold live mine)) ends) (hears_part setup x.smbus x.board p).port
     other_after c e = subst (λ (k : Option DropCause). IsPortOf (happens_if (part.b setup names plan start x on tied h f hold live mine) (event_by k (name_in p) (part.others_event setup names plan start x on tied h f hold live mine)) ends) (hears_part setup x.smbus x.board p).port) e
@@ -174,11 +174,11 @@ module _ (setup : BoardFile) (names : Names) (plan : List Op) (start : Records) 
         ((part.leaves setup names plan start x on tied h f hold live mine).managers hold.which hold.place hold.part (part.effect_of setup names plan start x on tied h f hold live mine ours slot))
 
     -- the lab goes on with nothing sent
-    pub finish : (d : Deed) → d ≡ hears_part setup x.smbus x.board p → Goes setup names x on (done_by d) → Goes setup names x on (done_by (hears_part setup x.smbus x.board p))
-    finish d same g = subst (λ (e : Deed). Goes setup names x on (done_by e)) same g
+    pub finish : (d : StepResult) → d ≡ hears_part setup x.smbus x.board p → WorldFollows setup names x on (done_by d) → WorldFollows setup names x on (done_by (hears_part setup x.smbus x.board p))
+    finish d same g = subst (λ (e : StepResult). WorldFollows setup names x on (done_by e)) same g
 
     -- another endpoint's packet, as it is once somebody set the controller's identifier
-    pub not_ours : cause ≡ Some NotOurs → Goes setup names x on (done_by (hears_part setup x.smbus x.board p))
+    pub not_ours : cause ≡ Some NotOurs → WorldFollows setup names x on (done_by (hears_part setup x.smbus x.board p))
     not_ours e = finish quiet (sym (deed_is (Some NotOurs) e)) (record {
       happenings = [];
       left = on;
@@ -213,7 +213,7 @@ module _ (setup : BoardFile) (names : Names) (plan : List Op) (start : Records) 
             by false = refl
 
     -- no slot is free
-    pub no_slot : cause ≡ Some NoSlot → Goes setup names x on (done_by (hears_part setup x.smbus x.board p))
+    pub no_slot : cause ≡ Some NoSlot → WorldFollows setup names x on (done_by (hears_part setup x.smbus x.board p))
     no_slot e = finish quiet (sym (deed_is (Some NoSlot) e)) (record {
       happenings = OnBus Smbus (Closes (name_in p)) x.board ∷ [];
       left = now (waits_as (set_at (name_in p) [] ends.port));
@@ -228,11 +228,11 @@ module _ (setup : BoardFile) (names : Names) (plan : List Op) (start : Records) 
     -- it is dropped, or waits
     pub kept_quiet : (c : Option DropCause) → cause ≡ c → (cause ≡ Some NotOurs → ⊥) → (cause ≡ Some NoSlot → ⊥) → quiet ≡ ends_message setup next x.board p c
         → event_by c (name_in p) (part.arrives setup names plan start x on tied h f hold live mine) ≡ Some (part.arrives setup names plan start x on tied h f hold live mine)
-        → (step : Step) (after : List Sent) → part.taken setup names plan start x on tied h f hold live mine ≡ (step, after)
+        → (step : Step) (after : List SentPacket) → part.taken setup names plan start x on tied h f hold live mine ≡ (step, after)
         → whole_request (rules_on setup names Smbus) hold.part.frame.request step ≡ None
         → whole_comes (rules_on setup names Smbus) (part.answer setup names plan start x on tied h f hold live mine) hold.part.frame.request step ends.bus ≡ ends.bus
-        → ((t : Sent) → In t after → t.request ≡ opened_after p.envelope.tag)
-        → Goes setup names x on (done_by (hears_part setup x.smbus x.board p))
+        → ((t : SentPacket) → In t after → t.request ≡ opened_after p.envelope.tag)
+        → WorldFollows setup names x on (done_by (hears_part setup x.smbus x.board p))
     kept_quiet c e ours slot same event step after taken none stays_so waits =
         let arrives = part.arrives setup names plan start x on tied h f hold live mine in
         let b = part.b setup names plan start x on tied h f hold live mine in
@@ -240,18 +240,18 @@ module _ (setup : BoardFile) (names : Names) (plan : List Op) (start : Records) 
         let happened : packet_happens b ends arrives ≡ left =
         part.happens_so setup names plan start x on tied h f hold live mine
         ∙ ap (part.ends_by setup names plan start x on tied h f hold live mine) taken
-        ∙ ap (λ (s : BusState). let y : Ends = record ends { bus = s; port = set_at (name_in p) after ends.port } in y) stays_so in
+        ∙ ap (λ (s : BusState). let y : BusEnds = record ends { bus = s; port = set_at (name_in p) after ends.port } in y) stays_so in
         let port : IsPortOf left next =
         subst (λ y. IsPortOf y next) happened
         (quiet_port c e same (packet_happens b ends arrives) (subst (λ o. IsPortOf (happens_if b o ends) (hears_part setup x.smbus x.board p).port) event (manager_after c e ours slot))) in
         let carried : ((own_lines setup names) Smbus).carries ends arrives ≡ None =
-        carried_so ∙ ap (λ (r : Step × List Sent). exchange (carried_of (rules_on setup names Smbus) (whole_request (rules_on setup names Smbus) hold.part.frame.request r.0) ends.bus) (part.answer setup names plan start x on tied h f hold live mine)) taken
+        carried_so ∙ ap (λ (r : Step × List SentPacket). exchange (carried_of (rules_on setup names Smbus) (whole_request (rules_on setup names Smbus) hold.part.frame.request r.0) ends.bus) (part.answer setup names plan start x on tied h f hold live mine)) taken
         ∙ ap (λ o. exchange (carried_of (rules_on setup names Smbus) o ends.bus) (part.answer setup names plan start x on tied h f hold live mine)) none in
         finish quiet (same ∙ sym (deed_is c e)) (record {
           happenings = OnBus Smbus arrives x.board ∷ [];
           left = now left;
           may = (((tt, part.honest_part setup names plan start x on tied h f hold live mine ours slot), refl, subst (λ o. world.BoardMay (own_family setup names) (own_lines setup names) (own_wires setup names) Smbus o x.board x.board) (sym carried) (refl, λ series bodies ready. ready)), tt);
-          reaches = ap (λ (y : Ends). let w : World (own_family setup names) (own_lines setup names) = record { machine = x.manager.machine; on = now y; board = x.board } in w) happened;
-          gives = subst (λ o. Each (IsGiven setup names x (done_by quiet)) (given_by (own_family setup names) (own_lines setup names) (own_wires setup names) Smbus o x.board x.board ++ [])) (sym carried) tt;
+          reaches = ap (λ (y : BusEnds). let w : World (own_family setup names) (own_lines setup names) = record { machine = x.manager.machine; on = now y; board = x.board } in w) happened;
+          gives = subst (λ o. Each (IsGivenAnswer setup names x (done_by quiet)) (given_by (own_family setup names) (own_lines setup names) (own_wires setup names) Smbus o x.board x.board ++ [])) (sym carried) tt;
           tied = leaves_tied quiet left (quiet_leaves (set_at (name_in p) after ends.port) port (part.still_opened setup names plan start x on tied h f hold live mine after waits));
         })

@@ -20,7 +20,7 @@ use Rattle.model_headline.specs.Frames.{Value, Asks, Tells, Part, span}
 use Rattle.model_headline.specs.Manager.{Start, Quiet, Stop, Again, Undo, Phase, Fresh, Open, Done, Halted, Undone, UndoRefused, asked_for, open_in}
 use Rattle.model_headline.specs.Lab.{Way, ToPort, ToManager, ToOthers, Frame, Event, Calls, ToBmc, ToMgr, OtherIpmb, OtherSmbus, Noise, Idles, OnBench, Lab, step}
 use Rattle.model_headline.specs.Claim.{ours, IsDelivered, JoinsLive, IsHonest, AllHonest, first}
-use Rattle.model_headline.specs.Seen.{seen_plans, seen_words, part_of, stage_of, machine_of, seen_as, seen_value, seen_way, seen_frame, seen_event, seen_lab, Made}
+use Rattle.model_headline.specs.Seen.{seen_plans, seen_words, part_of, stage_of, machine_of, seen_as, seen_value, seen_way, seen_frame, seen_event, seen_lab, SeenManager}
 use Rattle.model_headline.proofs.Holds.{Holds}
 use Rattle.model_headline.proofs.Packets.{Agrees, is_kept}
 use Rattle.model_headline.proofs.Sends.{idles_on_alike}
@@ -82,7 +82,7 @@ sent_here x place g e = at (slice_get x.frames place) refl (sym (slice_get-map s
     at (Some f) there e = record { frame = f; sent = there; same = same_Some (seen_frame f) g e }
 
 module _ (setup : BoardFile) (names : Names) where
-  module _ (made : Made) (x : Lab) (h : Holds names x) where
+  module _ (made : SeenManager) (x : Lab) (h : Holds names x) where
     delivered_here : (way : Way) (place : ℕ) → honest.IsDelivered (seen_plans names) (seen_way way) (seen_lab names made x) place → IsDelivered names way x place
     delivered_here way place is =
         let s = sent_here x place is.frame is.sent in
@@ -131,7 +131,7 @@ module _ (setup : BoardFile) (names : Names) where
     honest_here (Idles on requester) is live = λ own. none_here x.manager.phase (is tt own)
     honest_here (OnBench activity) is live = tt
 
-  all_honest : (events : List Event) (made : Made) (x : Lab) → Holds names x → honest.AllHonest (seen_plans names) setup (map seen_event events) (seen_lab names made x) → joins.AllJoinLive (seen_plans names) setup (map seen_event events) (seen_lab names made x) → AllHonest (ours setup) names events x
+  all_honest : (events : List Event) (made : SeenManager) (x : Lab) → Holds names x → honest.AllHonest (seen_plans names) setup (map seen_event events) (seen_lab names made x) → joins.AllJoinLive (seen_plans names) setup (map seen_event events) (seen_lab names made x) → AllHonest (ours setup) names events x
   all_honest [] made x h all live = tt
   all_honest (e ∷ es) made x h all live =
       let is = honest_here made x h e all.0 live.0 in

@@ -14,8 +14,8 @@ use Rattle.model_bus.specs.Answered.{Answered}
 use Rattle.model_undo.specs.declared.phase.Why.TheVariants.{Stop, Refused, NotRestorable, GetRefused}
 use Rattle.model_undo.specs.declared.phase.Phase.{Phase}
 use Rattle.model_undo.specs.declared.phase.Phase.TheVariants.{Fresh, Getting, Setting, Done, Halted, Unsettled, Undoing, Undone, UndoRefused}
-use Rattle.model_undo.specs.Plan.{IsAfter, Halts}
-use Rattle.model_undo.specs.Giving.{Giving, given_in, GaveIn as Gave, CausedIn}
+use Rattle.model_undo.specs.Plan.{IsAfter, HaltMeans}
+use Rattle.model_undo.specs.Giving.{GivenAnswer, given_in, GaveIn as Gave, CausedIn}
 use Rattle.model_undo.proofs.Giving.{halts_by_answers}
 use Rattle.model_undo.proofs.Series.{all_answered_as}
 use Rattle.model_undo.specs.Machine.{phase_of}
@@ -31,8 +31,8 @@ use Rattle.model_lab.specs.ManagerSteps.{addresses}
 use Rattle.model_lab.specs.Lab.{Event, Calls, Lab, step}
 use Rattle.model_headline.specs.Each.{Each}
 use Rattle.model_headline.specs.Answers.{CausedBy}
-use Rattle.model_headline.specs.Tied.{own_plans, own_family, own_lines, own_wires, IsTied, IsGiven, world_of, Goes}
-use Rattle.model_headline.specs.Follows.{Holds}
+use Rattle.model_headline.specs.Tied.{own_plans, own_family, own_lines, own_wires, IsTied, IsGivenAnswer, world_of, WorldFollows}
+use Rattle.model_headline.specs.Follows.{HoldsInWorld}
 use Rattle.model_headline.specs.Theorem.{first}
 use Rattle.model_headline.specs.Restarted.{Moment, Happens, Restarts, next, all_next, AllGood, after, phase_after, GaveIn, MakesStop, StandsOverRestarts}
 use Rattle.model_headline.proofs.Goes.{Went, Quietly, went_there, stays_there, given_on, goes_may, goes_reach, goes_on, gives_both}
@@ -43,17 +43,17 @@ use Rattle.model_headline.proofs.Theorem.{event_followed, still_holds, quiet, is
 
 module _ (setup : BoardFile) (names : Names) (plan : List Op) (start : Records) where
   -- the answer was given at an event among the moments
-  pub record GivenIn (ms : List Moment) (x : Lab (own_plans setup names)) (g : Giving (own_family setup names)) : Type 0 where
+  pub record GivenIn (ms : List Moment) (x : Lab (own_plans setup names)) (g : GivenAnswer (own_family setup names)) : Type 0 where
     pub before : List Moment
     pub event : Event
     pub later : List Moment
     pub all : ms ≡ before ++ (Happens event) ∷ later
-    pub given : IsGiven setup names (all_next setup names before x) (step (own_plans setup names) setup (all_next setup names before x) event) g
+    pub given : IsGivenAnswer setup names (all_next setup names before x) (step (own_plans setup names) setup (all_next setup names before x) event) g
 
-  given_first : (e : Event) (ms : List Moment) (x : Lab (own_plans setup names)) (g : Giving (own_family setup names)) → IsGiven setup names x (step (own_plans setup names) setup x e) g → GivenIn ((Happens e) ∷ ms) x g
+  given_first : (e : Event) (ms : List Moment) (x : Lab (own_plans setup names)) (g : GivenAnswer (own_family setup names)) → IsGivenAnswer setup names x (step (own_plans setup names) setup x e) g → GivenIn ((Happens e) ∷ ms) x g
   given_first e ms x g is = record { before = []; event = e; later = ms; all = refl; given = is }
 
-  given_later : (m : Moment) (ms : List Moment) (x : Lab (own_plans setup names)) (g : Giving (own_family setup names)) → GivenIn ms (next setup names x m) g → GivenIn (m ∷ ms) x g
+  given_later : (m : Moment) (ms : List Moment) (x : Lab (own_plans setup names)) (g : GivenAnswer (own_family setup names)) → GivenIn ms (next setup names x m) g → GivenIn (m ∷ ms) x g
   given_later m ms x g is = record { before = m ∷ is.before; event = is.event; later = is.later; all = ap (λ (l : List Moment). m ∷ l) is.all; given = is.given }
 
   -- the model's world goes on to the lab's after all moments, and gives no answer but those that are given at their events
@@ -61,20 +61,20 @@ module _ (setup : BoardFile) (names : Names) (plan : List Op) (start : Records) 
     pub went : Went setup names x on (all_next setup names ms x)
     pub gives : Each (GivenIn ms x) (given_on setup names x on (all_next setup names ms x) went)
 
-  all_followed : (ms : List Moment) (x : Lab (own_plans setup names)) (on : States (own_lines setup names)) → IsTied setup names x on → Holds setup names plan start (world_of setup names x on)
+  all_followed : (ms : List Moment) (x : Lab (own_plans setup names)) (on : States (own_lines setup names)) → IsTied setup names x on → HoldsInWorld setup names plan start (world_of setup names x on)
       → AllGood setup names ms x → Ran ms x on
   all_followed [] x on tied h good = record { went = stays_there setup names x on tied; gives = tt }
   all_followed (Happens e ∷ ms) x on tied h good =
       let y : Lab (own_plans setup names) = step (own_plans setup names) setup x e in
       let last : Lab (own_plans setup names) = all_next setup names ms y in
-      let one : Goes setup names x on y = event_followed setup names plan start x e good.0.0 good.0.1 on tied h in
+      let one : WorldFollows setup names x on y = event_followed setup names plan start x e good.0.0 good.0.1 on tied h in
       let first = went_there setup names x y on one in
       let rest = all_followed ms y one.left one.tied (still_holds setup names plan start x y on h first) good.1 in
       record {
         went = goes_on setup names x y last on first rest.went;
         gives = subst (Each (GivenIn ((Happens e) ∷ ms) x)) (gives_both setup names x y last on first rest.went)
             (each_append (GivenIn ((Happens e) ∷ ms) x) (given_on setup names x on y first) (given_on setup names y one.left last rest.went)
-            (each_imply (IsGiven setup names x y) (GivenIn ((Happens e) ∷ ms) x) (given_on setup names x on y first) (given_first e ms x) one.gives)
+            (each_imply (IsGivenAnswer setup names x y) (GivenIn ((Happens e) ∷ ms) x) (given_on setup names x on y first) (given_first e ms x) one.gives)
             (each_imply (GivenIn ms y) (GivenIn ((Happens e) ∷ ms) x) (given_on setup names y one.left last rest.went) (given_later (Happens e) ms x) rest.gives));
       }
   all_followed (Restarts ∷ ms) x on tied h good =
@@ -85,7 +85,7 @@ module _ (setup : BoardFile) (names : Names) (plan : List Op) (start : Records) 
       record {
         went = goes_on setup names x y last on one.went rest.went;
         gives = subst (Each (GivenIn (Restarts ∷ ms) x)) (gives_both setup names x y last on one.went rest.went)
-            (subst (λ (gs : List (Giving (own_family setup names))). Each (GivenIn (Restarts ∷ ms) x) (gs ++ given_on setup names y one.went.left last rest.went)) (sym one.none)
+            (subst (λ (gs : List (GivenAnswer (own_family setup names))). Each (GivenIn (Restarts ∷ ms) x) (gs ++ given_on setup names y one.went.left last rest.went)) (sym one.none)
             (each_imply (GivenIn ms y) (GivenIn (Restarts ∷ ms) x) (given_on setup names y one.went.left last rest.went) (given_later Restarts ms x) rest.gives));
       }
 
@@ -130,7 +130,7 @@ module _ (setup : BoardFile) (names : Names) (plan : List Op) (retries : ℕ) wh
   goes : (ms : List Moment) → AllGood setup names ms begun → Went setup names begun on_start (after setup names plan retries ms)
   goes ms good = (ran ms good).went
 
-  holds_after : (ms : List Moment) (good : AllGood setup names ms begun) → Holds setup names plan begun.board.records (world_of setup names (after setup names plan retries ms) (goes ms good).left)
+  holds_after : (ms : List Moment) (good : AllGood setup names ms begun) → HoldsInWorld setup names plan begun.board.records (world_of setup names (after setup names plan retries ms) (goes ms good).left)
   holds_after ms good = still_holds setup names plan begun.board.records begun (after setup names plan retries ms) on_start (first_holds setup names plan retries) (goes ms good)
 
   -- the board has the records of the start, and shows what it showed then
@@ -154,21 +154,21 @@ module _ (setup : BoardFile) (names : Names) (plan : List Op) (retries : ℕ) wh
   stopped_by : (ms : List Moment) (k : ℕ) → AllGood setup names ms begun → phase_after setup names plan retries ms ≡ Halted k Stop → In (Happens (Calls StopCall)) ms ⊎ In Restarts ms
   stopped_by ms k good halted =
       let y = after setup names plan retries ms in
-      let told : Halts (own_family setup names) y.manager.machine.stopped plan (Halted k Stop) y.board.records =
-      subst (λ (p : Phase). Halts (own_family setup names) y.manager.machine.stopped plan p y.board.records) halted
+      let told : HaltMeans (own_family setup names) y.manager.machine.stopped plan (Halted k Stop) y.board.records =
+      subst (λ (p : Phase). HaltMeans (own_family setup names) y.manager.machine.stopped plan p y.board.records) halted
       (halts_at (own_family setup names) (is_family setup (addresses names)) (own_lines setup names) (packet_lines (addresses names) packets_of packets_cut) (own_wires setup names) plan begun.board.records (world_of setup names y (goes ms good).left) (holds_after ms good)) in
       told_or_remade setup names plan begun.board.records ms begun refl told
 
   -- ---- causes of a halt
 
-  abbrev Given : (ms : List Moment) → Giving (own_family setup names) → Type 0
+  abbrev Given : (ms : List Moment) → GivenAnswer (own_family setup names) → Type 0
   Given ms g = GivenIn setup names plan begun.board.records ms begun g
 
   -- an answer that is one of a run's was given at an event among the moments
-  gave_in : (ms : List Moment) (given : List (Giving (own_family setup names))) → Each (Given ms) given
+  gave_in : (ms : List Moment) (given : List (GivenAnswer (own_family setup names))) → Each (Given ms) given
       → (k : ℕ) (asked : Asked) (a : Answered) → Gave (own_family setup names) (own_lines setup names) (own_wires setup names) given plan begun.board.records k asked a → GaveIn setup names plan retries ms k asked a
   gave_in ms given all k asked a g =
-      let one : Giving (own_family setup names) = record { before = g.before; asked = asked; answered = a; after = g.after } in
+      let one : GivenAnswer (own_family setup names) = record { before = g.before; asked = asked; answered = a; after = g.after } in
       let is = each_at (Given ms) given g.is_one.0 one all (slice_get_read given (length given) g.is_one.0 one refl g.is_one.1 (sym g.is_one.2)) in
       record {
         before = is.before;

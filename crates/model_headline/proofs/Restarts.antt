@@ -15,7 +15,7 @@ use Rattle.model_lab.specs.Lab.{Lab}
 use Rattle.model_headline.specs.Made.{MachineMade, StageMade}
 use Rattle.model_headline.specs.Each.{Each}
 use Rattle.model_headline.proofs.Frames.{all_held}
-use Rattle.model_headline.specs.Tied.{own_plans, own_lines, rules_on, requests, EntryAnswers, IsTied, Goes}
+use Rattle.model_headline.specs.Tied.{own_plans, own_lines, rules_on, requests, EntryAnswers, IsTied, WorldFollows}
 use Rattle.model_headline.proofs.Begun.{own, words}
 use Rattle.model_headline.proofs.Goes.{Quietly, goes_quietly}
 
@@ -72,5 +72,5 @@ module _ (setup : BoardFile) (names : Names) where
     pub restart_quietly : Quietly setup names x on made_again
     restart_quietly = record { went = record { happenings = Restart ∷ []; left = left; may = (tt, tt); reaches = refl; tied = tied_again }; none = refl }
 
-    pub restart_goes : Goes setup names x on made_again
+    pub restart_goes : WorldFollows setup names x on made_again
     restart_goes = goes_quietly setup names x made_again on restart_quietly

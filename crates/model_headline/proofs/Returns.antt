@@ -12,10 +12,10 @@ use Rattle.model_bus.specs.Request.{Kept}
 use Rattle.model_bus.specs.Answering.{AreWritten}
 use Rattle.model_bus.specs.BusState.{BusState, Event as BusEvent, ReachesManager, taken_now, takes_if as takes_reply}
 use Rattle.model_bus.specs.Schedule.{IsLive as IsLiveThere}
-use Rattle.model_bus.specs.PacketBus.{Ends, PacketEvent, PacketReachesManager, request_name, packet_happens}
+use Rattle.model_bus.specs.PacketBus.{BusEnds, PacketEvent, PacketReachesManager, request_name, packet_happens}
 use Rattle.model_bus.specs.PacketEffect.{HasPacketEffect}
 use Rattle.model_bus.specs.PacketSchedule.{RecentWhereWhole, IsPacketHonest}
-use Rattle.model_bus.specs.Effect.{SameRequests, IsTaken}
+use Rattle.model_bus.specs.Effect.{SameRequests, TakesReply}
 use Rattle.model_bus.specs.Packet.{packets_of}
 use Rattle.model_bus.proofs.Cutting.{packets_cut}
 use Rattle.model_bus.proofs.Lists.{Grows}
@@ -31,26 +31,26 @@ use Rattle.model_undo.proofs.TwoBuses.{packet_lines}
 use Rattle.model_ports.specs.Wires.{answered_from, bytes_of}
 use Rattle.model_ports.specs.Seen.{WaitsAlike}
 use Rattle.undo_plans.specs.declared.names.Names.{Names}
-use Rattle.model_lab.specs.ManagerSteps.{ManagerState, ManagerDeed, rests, taken_or, heeded_on, open_count, open_bytes, is_answer, is_part, joins, joins_for, goes_on, hears_response, hears_packet, manager_hears}
+use Rattle.model_lab.specs.ManagerSteps.{ManagerState, ManagerStepResult, rests, taken_or, heeded_on, open_count, open_bytes, is_answer, is_part, joins, joins_for, goes_on, hears_response, hears_packet, manager_hears}
 use Rattle.model_lab.specs.ManagerEvents.{takes_if, IsOpenOn, IsManagerOf, IsRepliesResponse, IsRepliesPart, BringsPart, name_awaited}
 use Rattle.model_lab.specs.Honest.{IsLive, IsDelivered}
 use Rattle.model_lab.specs.declared.way.Way.TheVariants.{ToManager as ToTheManager}
 use Rattle.model_lab.specs.Lab.{LabFrame, Lab, manager_does, returned}
 use Rattle.model_lab.proofs.ManagerEvents.{replies_are_brought}
-use Rattle.model_headline.specs.Tied.{own_plans, own_family, own_lines, own_wires, ipmb_bus, smbus_bus, rules_on, requests, HoldsTold, HoldsToldPart, ComesFromAnother, IsHeldBy, IsHeld, EntryAnswers, IsTied, world_of, Goes}
+use Rattle.model_headline.specs.Tied.{own_plans, own_family, own_lines, own_wires, ipmb_bus, smbus_bus, rules_on, requests, HoldsTold, HoldsToldPart, ComesFromAnother, IsHeldBy, IsHeld, EntryAnswers, IsTied, world_of, WorldFollows}
 use Rattle.model_headline.specs.Each.{Each}
 use Rattle.model_headline.proofs.Each.{each_at}
 use Rattle.model_headline.proofs.Frames.{all_held}
 use Rattle.model_headline.proofs.Sending.{from_zero}
 use Rattle.model_headline.proofs.Begun.{own, words}
-use Rattle.model_headline.specs.Follows.{Holds}
+use Rattle.model_headline.specs.Follows.{HoldsInWorld}
 use Rattle.model_headline.proofs.Calls.{are_closed}
 use Rattle.model_headline.proofs.Live.{smbus_holds, ipmb_agrees, smbus_agrees, live_there}
 use Rattle.model_headline.proofs.Only.{SameButTaken, taking, only_manager}
 use Rattle.model_headline.proofs.Taken.{Took, turn as taken_turn, taken_after, reply_is}
 
 module _ (setup : BoardFile) (names : Names) (plan : List Op) (start : Records) where
-  module _ (x : Lab (own_plans setup names)) (on : States (own_lines setup names)) (tied : IsTied setup names x on) (h : Holds setup names plan start (world_of setup names x on)) where
+  module _ (x : Lab (own_plans setup names)) (on : States (own_lines setup names)) (tied : IsTied setup names x on) (h : HoldsInWorld setup names plan start (world_of setup names x on)) where
     abbrev m : ManagerState (own_plans setup names)
     m = x.manager
 
@@ -58,10 +58,10 @@ module _ (setup : BoardFile) (names : Names) (plan : List Op) (start : Records) 
     w = world_of setup names x on
 
     -- nothing comes of it
-    rest_goes : (d : ManagerDeed (own_plans setup names)) → d ≡ rests (own_plans setup names) m → Goes setup names x on (manager_does (own_plans setup names) d x)
+    rest_goes : (d : ManagerStepResult (own_plans setup names)) → d ≡ rests (own_plans setup names) m → WorldFollows setup names x on (manager_does (own_plans setup names) d x)
     rest_goes d is =
-        subst (λ e. Goes setup names x on (manager_does (own_plans setup names) e x)) (sym is)
-        (let quiet : Goes setup names x on x = record { happenings = []; left = on; may = tt; reaches = refl; gives = tt; tied = tied } in quiet)
+        subst (λ e. WorldFollows setup names x on (manager_does (own_plans setup names) e x)) (sym is)
+        (let quiet : WorldFollows setup names x on x = record { happenings = []; left = on; may = tt; reaches = refl; gives = tt; tied = tied } in quiet)
 
     -- ---- a reply is taken
 
@@ -84,7 +84,7 @@ module _ (setup : BoardFile) (names : Names) (plan : List Op) (start : Records) 
           ∙ ap (λ (t : Bool). world.looks (own_family setup names) (own_lines setup names) (own_wires setup names) bus e t w) (same_bus-same bus (bus_at (words setup names) part) same)
 
       goes_taken : (reply : List ℕ) (joined : Assemblies) → ((own_lines setup names) bus).brings (on bus) e ≡ Some reply → Took setup names plan start x on now tied h bus reply joined
-          → Goes setup names x on (manager_does (own_plans setup names) (taken_or (own_plans setup names) (record m { joined = joined }) (reply_of (words setup names) (answered_from bus reply) m.machine)) x)
+          → WorldFollows setup names x on (manager_does (own_plans setup names) (taken_or (own_plans setup names) (record m { joined = joined }) (reply_of (words setup names) (answered_from bus reply) m.machine)) x)
       goes_taken reply joined brings took_here =
           let took = subst (λ (b : Bus). Took setup names plan start x on now tied h b reply joined) same took_here in
           let after = taken_after setup names plan start x on now tied h task part reply joined at took in
@@ -107,7 +107,7 @@ module _ (setup : BoardFile) (names : Names) (plan : List Op) (start : Records) 
             tied = subst (λ d. IsTied setup names (manager_does (own_plans setup names) d x) after.left) (sym deed) after.ties;
           }
 
-      effect_is : MatchOption (((own_lines setup names) bus).brings (on bus) e) (SameRequests (requests setup names on bus) (((own_lines setup names) bus).requests (((own_lines setup names) bus).happens (on bus) e))) (IsTaken (requests setup names on bus) (((own_lines setup names) bus).requests (((own_lines setup names) bus).happens (on bus) e)))
+      effect_is : MatchOption (((own_lines setup names) bus).brings (on bus) e) (SameRequests (requests setup names on bus) (((own_lines setup names) bus).requests (((own_lines setup names) bus).happens (on bus) e))) (TakesReply (requests setup names on bus) (((own_lines setup names) bus).requests (((own_lines setup names) bus).happens (on bus) e)))
       effect_is = (packet_lines (own setup names) packets_of packets_cut bus).to_manager (on bus) e (h.holds bus) outside told honest
 
     -- ---- what is heeded
@@ -155,7 +155,7 @@ module _ (setup : BoardFile) (names : Names) (plan : List Op) (start : Records) 
       honest_there : ((own_lines setup names) Ipmb).IsHonest (on Ipmb) comes
       honest_there = subst (λ o. IfSome o (IsLiveThere (ipmb_bus setup names) (on Ipmb))) (sym hold.is_of.sent) live
 
-      took_ipmb : (reply : List ℕ) → IsTaken (on Ipmb) after_it reply
+      took_ipmb : (reply : List ℕ) → TakesReply (on Ipmb) after_it reply
           → Took setup names plan start x on (update (own_lines setup names) Ipmb after_it on) tied h Ipmb reply m.joined
       took_ipmb reply taken =
           let s = takes_reply (taken_now (ipmb_bus setup names) (slice_get (on Ipmb).frames hold.which) (on Ipmb)) (on Ipmb) in
@@ -184,18 +184,18 @@ module _ (setup : BoardFile) (names : Names) (plan : List Op) (start : Records) 
           by Q here there Smbus = there
 
       by_brought : (task : Task (words setup names)) (part : TaskPart (words setup names)) → Opened true task part ≡ m.machine.stage → Ipmb ≡ bus_at (words setup names) part
-          → (o : Option (List ℕ)) → brings_whole (ipmb_bus setup names) (on Ipmb) comes ≡ o → Goes setup names x on (manager_does (own_plans setup names) (takes_if (own_plans setup names) Ipmb o m) x)
+          → (o : Option (List ℕ)) → brings_whole (ipmb_bus setup names) (on Ipmb) comes ≡ o → WorldFollows setup names x on (manager_does (own_plans setup names) (takes_if (own_plans setup names) Ipmb o m) x)
       by_brought task part at same None e = rest_goes (rests (own_plans setup names) m) refl
       by_brought task part at same (Some reply) e =
           goes_taken Ipmb comes task part at same tt refl honest_there reply m.joined e
-          (took_ipmb reply (subst (λ o. MatchOption o (SameRequests (on Ipmb) after_it) (IsTaken (on Ipmb) after_it)) e (effect_is Ipmb comes task part at same tt refl honest_there)))
+          (took_ipmb reply (subst (λ o. MatchOption o (SameRequests (on Ipmb) after_it) (TakesReply (on Ipmb) after_it)) e (effect_is Ipmb comes task part at same tt refl honest_there)))
 
-      by_stage : (stage : Stage (words setup names)) → stage ≡ m.machine.stage → Goes setup names x on (manager_does (own_plans setup names) (hears_response (own_plans setup names) hold.response m) x)
+      by_stage : (stage : Stage (words setup names)) → stage ≡ m.machine.stage → WorldFollows setup names x on (manager_does (own_plans setup names) (hears_response (own_plans setup names) hold.response m) x)
       by_stage (Opened true task part) at = elim (cases_bus Ipmb (bus_at (words setup names) part)) [
         | inl same ↦
             let opened : IsOpenOn (own_plans setup names) Ipmb m part (on Ipmb) = record { heeded = heeds Ipmb task part at same; opened = open_there Ipmb task part at same } in
             let is = (replies_are_brought (own_plans setup names)).responses m part (ipmb_bus setup names) (on Ipmb) hold.which hold.response (ipmb_agrees setup names plan start x on tied h) opened told_is in
-            subst (λ d. Goes setup names x on (manager_does (own_plans setup names) d x)) (sym is) (by_brought task part at same (brings_whole (ipmb_bus setup names) (on Ipmb) comes) refl)
+            subst (λ d. WorldFollows setup names x on (manager_does (own_plans setup names) d x)) (sym is) (by_brought task part at same (brings_whole (ipmb_bus setup names) (on Ipmb) comes) refl)
         | inr other ↦ rest_goes _ ((replies_are_brought (own_plans setup names)).unheeded_response m hold.response (heeds_not Ipmb task part at other))
       ]
       by_stage (Opened false task part) at = rest_goes _ ((replies_are_brought (own_plans setup names)).unheeded_response m hold.response (ap (heeded_on (own_plans setup names) Ipmb) (sym at)))
@@ -205,16 +205,16 @@ module _ (setup : BoardFile) (names : Names) (plan : List Op) (start : Records) 
       by_stage AtUndone at = rest_goes _ ((replies_are_brought (own_plans setup names)).unheeded_response m hold.response (ap (heeded_on (own_plans setup names) Ipmb) (sym at)))
       by_stage (AtRefused k code) at = rest_goes _ ((replies_are_brought (own_plans setup names)).unheeded_response m hold.response (ap (heeded_on (own_plans setup names) Ipmb) (sym at)))
 
-      pub told_goes : Goes setup names x on (manager_does (own_plans setup names) (manager_hears (own_plans setup names) f.value m) x)
-      told_goes = subst (λ v. Goes setup names x on (manager_does (own_plans setup names) (manager_hears (own_plans setup names) v m) x)) (sym hold.value) (by_stage m.machine.stage refl)
+      pub told_goes : WorldFollows setup names x on (manager_does (own_plans setup names) (manager_hears (own_plans setup names) f.value m) x)
+      told_goes = subst (λ v. WorldFollows setup names x on (manager_does (own_plans setup names) (manager_hears (own_plans setup names) v m) x)) (sym hold.value) (by_stage m.machine.stage refl)
 
     -- ---- SMBus
 
     -- a packet that isn't the controller's is nothing to the manager
-    others_part : (f : LabFrame) → ComesFromAnother setup names f → Goes setup names x on (manager_does (own_plans setup names) (manager_hears (own_plans setup names) f.value m) x)
+    others_part : (f : LabFrame) → ComesFromAnother setup names f → WorldFollows setup names x on (manager_does (own_plans setup names) (manager_hears (own_plans setup names) f.value m) x)
     unfolding hears_packet
     others_part f other =
-        subst (λ v. Goes setup names x on (manager_does (own_plans setup names) (manager_hears (own_plans setup names) v m) x)) (sym other.value)
+        subst (λ v. WorldFollows setup names x on (manager_does (own_plans setup names) (manager_hears (own_plans setup names) v m) x)) (sym other.value)
         (rest_goes (hears_packet (own_plans setup names) other.packet m) (by (heeded_on (own_plans setup names) Smbus m.machine.stage) refl))
       where
         middle : (a b c : Bool) → b ≡ false → (a && (b && c)) ≡ false
@@ -247,7 +247,7 @@ module _ (setup : BoardFile) (names : Names) (plan : List Op) (start : Records) 
       abbrev arrives : PacketEvent
       arrives = PacketReachesManager hold.which hold.place
 
-      abbrev ends_after : Ends
+      abbrev ends_after : BusEnds
       ends_after = packet_happens (smbus_bus setup names) (on Smbus) arrives
 
       abbrev moved : States (own_lines setup names)
@@ -276,7 +276,7 @@ module _ (setup : BoardFile) (names : Names) (plan : List Op) (start : Records) 
       still Smbus ne = absurd (ne refl)
 
       -- a reply is whole
-      took_part : (reply : List ℕ) (joined : Assemblies) → IsTaken (on Smbus).bus ends_after.bus reply → WaitsAlike ends_after.manager joined → joined.open_count ≡ 0
+      took_part : (reply : List ℕ) (joined : Assemblies) → TakesReply (on Smbus).bus ends_after.bus reply → WaitsAlike ends_after.manager joined → joined.open_count ≡ 0
           → Took setup names plan start x on moved tied h Smbus reply joined
       took_part reply joined taken waits none =
           let only = only_manager (smbus_bus setup names) (on Smbus) hold.which hold.place in
@@ -333,9 +333,9 @@ module _ (setup : BoardFile) (names : Names) (plan : List Op) (start : Records) 
 
       by_brought_part : (task : Task (words setup names)) (part : TaskPart (words setup names)) (at : Opened true task part ≡ m.machine.stage) (same : Smbus ≡ bus_at (words setup names) part)
           → (r : BringsPart (own_plans setup names) m (smbus_bus setup names) (on Smbus) hold.which hold.place hold.packet) → (o : Option (List ℕ)) → brings_packets (smbus_bus setup names) (on Smbus) arrives ≡ o
-          → Goes setup names x on (manager_does (own_plans setup names) (takes_if (own_plans setup names) Smbus o (record m { joined = r.joined })) x)
+          → WorldFollows setup names x on (manager_does (own_plans setup names) (takes_if (own_plans setup names) Smbus o (record m { joined = r.joined })) x)
       by_brought_part task part at same r None e =
-          let still = subst (λ o. MatchOption o (SameRequests (on Smbus).bus ends_after.bus) (IsTaken (on Smbus).bus ends_after.bus)) e (effect_is Smbus arrives task part at same tt refl honest_part) in
+          let still = subst (λ o. MatchOption o (SameRequests (on Smbus).bus ends_after.bus) (TakesReply (on Smbus).bus ends_after.bus)) e (effect_is Smbus arrives task part at same tt refl honest_part) in
           record {
             happenings = ToManager Smbus arrives ∷ [];
             left = moved;
@@ -345,16 +345,16 @@ module _ (setup : BoardFile) (names : Names) (plan : List Op) (start : Records) 
             tied = waits_tied r.joined still r.waits r.alone;
           }
       by_brought_part task part at same r (Some reply) e =
-          let taken = subst (λ o. MatchOption o (SameRequests (on Smbus).bus ends_after.bus) (IsTaken (on Smbus).bus ends_after.bus)) e (effect_is Smbus arrives task part at same tt refl honest_part) in
+          let taken = subst (λ o. MatchOption o (SameRequests (on Smbus).bus ends_after.bus) (TakesReply (on Smbus).bus ends_after.bus)) e (effect_is Smbus arrives task part at same tt refl honest_part) in
           let none = subst (λ o. IfSome o (λ reply. r.joined.open_count ≡ 0)) e r.none_left in
           goes_taken Smbus arrives task part at same tt refl honest_part reply r.joined e (took_part reply r.joined taken r.waits none)
 
-      part_by_stage : (stage : Stage (words setup names)) → stage ≡ m.machine.stage → Goes setup names x on (manager_does (own_plans setup names) (hears_packet (own_plans setup names) hold.packet m) x)
+      part_by_stage : (stage : Stage (words setup names)) → stage ≡ m.machine.stage → WorldFollows setup names x on (manager_does (own_plans setup names) (hears_packet (own_plans setup names) hold.packet m) x)
       part_by_stage (Opened true task part) at = elim (cases_bus Smbus (bus_at (words setup names) part)) [
         | inl same ↦
             let opened : IsOpenOn (own_plans setup names) Smbus m part (on Smbus).bus = record { heeded = heeds Smbus task part at same; opened = open_there Smbus task part at same } in
             let r = (replies_are_brought (own_plans setup names)).parts m part (smbus_bus setup names) (on Smbus) hold.which hold.place hold.packet (smbus_agrees setup names plan start x on tied h) effect_of_part opened manager_is part_is in
-            subst (λ d. Goes setup names x on (manager_does (own_plans setup names) d x)) (sym r.deed) (by_brought_part task part at same r (brings_packets (smbus_bus setup names) (on Smbus) arrives) refl)
+            subst (λ d. WorldFollows setup names x on (manager_does (own_plans setup names) d x)) (sym r.deed) (by_brought_part task part at same r (brings_packets (smbus_bus setup names) (on Smbus) arrives) refl)
         | inr other ↦ rest_goes _ ((replies_are_brought (own_plans setup names)).unheeded_part m hold.packet (heeds_not Smbus task part at other))
       ]
       part_by_stage (Opened false task part) at = rest_goes _ ((replies_are_brought (own_plans setup names)).unheeded_part m hold.packet (ap (heeded_on (own_plans setup names) Smbus) (sym at)))
@@ -364,19 +364,19 @@ module _ (setup : BoardFile) (names : Names) (plan : List Op) (start : Records) 
       part_by_stage AtUndone at = rest_goes _ ((replies_are_brought (own_plans setup names)).unheeded_part m hold.packet (ap (heeded_on (own_plans setup names) Smbus) (sym at)))
       part_by_stage (AtRefused k code) at = rest_goes _ ((replies_are_brought (own_plans setup names)).unheeded_part m hold.packet (ap (heeded_on (own_plans setup names) Smbus) (sym at)))
 
-      pub told_part_goes : Goes setup names x on (manager_does (own_plans setup names) (manager_hears (own_plans setup names) f.value m) x)
-      told_part_goes = subst (λ v. Goes setup names x on (manager_does (own_plans setup names) (manager_hears (own_plans setup names) v m) x)) (sym hold.value) (part_by_stage m.machine.stage refl)
+      pub told_part_goes : WorldFollows setup names x on (manager_does (own_plans setup names) (manager_hears (own_plans setup names) f.value m) x)
+      told_part_goes = subst (λ v. WorldFollows setup names x on (manager_does (own_plans setup names) (manager_hears (own_plans setup names) v m) x)) (sym hold.value) (part_by_stage m.machine.stage refl)
 
     -- ---- any frame to the manager
 
-    by_bus : (f : LabFrame) (bus : Bus) → f.on ≡ bus → IsLive (own_plans setup names) x f → IsHeldBy setup names ToTheManager bus on f → Goes setup names x on (manager_does (own_plans setup names) (manager_hears (own_plans setup names) f.value m) x)
+    by_bus : (f : LabFrame) (bus : Bus) → f.on ≡ bus → IsLive (own_plans setup names) x f → IsHeldBy setup names ToTheManager bus on f → WorldFollows setup names x on (manager_does (own_plans setup names) (manager_hears (own_plans setup names) f.value m) x)
     by_bus f Ipmb at live hold = told_goes f hold (live_there setup names plan start x on tied h f hold.frame Ipmb at live hold.is_of.request hold.is_of.idles)
     by_bus f Smbus at live (inl hold) = told_part_goes f hold (live_there setup names plan start x on tied h f hold.frame Smbus at live hold.is_of.request hold.is_of.idles)
     by_bus f Smbus at live (inr other) = others_part f other
 
     -- a frame comes to the manager
-    pub returned_goes : (number : ℕ) → IsDelivered (own_plans setup names) ToTheManager x number → Goes setup names x on (returned (own_plans setup names) setup (slice_get x.frames number) x)
+    pub returned_goes : (number : ℕ) → IsDelivered (own_plans setup names) ToTheManager x number → WorldFollows setup names x on (returned (own_plans setup names) setup (slice_get x.frames number) x)
     returned_goes number d =
         let held = each_at (IsHeld setup names on) x.frames number d.frame tied.frames d.sent in
         let here = subst (λ way. IsHeldBy setup names way d.frame.on on d.frame) d.meant held in
-        subst (λ o. Goes setup names x on (returned (own_plans setup names) setup o x)) (sym d.sent) (by_bus d.frame d.frame.on refl d.live here)
+        subst (λ o. WorldFollows setup names x on (returned (own_plans setup names) setup o x)) (sym d.sent) (by_bus d.frame d.frame.on refl d.live here)

@@ -14,18 +14,18 @@ use Rattle.bmc_board.specs.Sensing.{bench_of}
 use Rattle.bmc_board.proofs.SensingFacts.{benched_so as bench_leaves}
 use Rattle.model_bus.specs.Request.{Entry}
 use Rattle.model_ports.specs.Values.{Value, Asks, Tells, Part}
-use Rattle.model_ports.specs.PortSteps.{PortState, Deed, idles, hears, hears_all}
+use Rattle.model_ports.specs.PortSteps.{PortState, StepResult, idles, hears, hears_all}
 use Rattle.text_schedule.specs.declared.event.Event.{Event}
 use Rattle.text_schedule.specs.declared.event.Event.TheVariants as event
 use Rattle.model_lab.specs.declared.way.Way.{Way}
 use Rattle.model_lab.specs.declared.way.Way.TheVariants.{ToManager, ToOthers}
-use Rattle.model_lab.specs.ManagerSteps.{ManagerDeed, Sent, called, manager_hears}
+use Rattle.model_lab.specs.ManagerSteps.{ManagerStepResult, Sent, called, manager_hears}
 use Rattle.model_lab.specs.Lab.{LabFrame, Lab, port_on, with_port, sends, manager_does, call_does, port_does, opens, delivered, returned, step}
 use Rattle.model_lab.specs.Meaning.{lab_names, request_of, message_of, on_board}
 use Rattle.model_lab.specs.Played.{plans, happens, after}
 use Rattle.bmc_history.specs.declared.event.Call.{Call}
 use Rattle.bmc_history.specs.declared.event.Event.{Event as BoardEvent}
-use Rattle.bmc_history.specs.Replay.{calls_of, Replays}
+use Rattle.bmc_history.specs.Replay.{calls_of, IsReplay}
 use Rattle.model_headline.specs.Histories.{all_carried, CarriesOut, benched, on_bench, IsDone, HasHistory}
 use Rattle.model_headline.proofs.Lists.{carries_none, carries_both, replays_both, calls_both, at_seat, own, none_of, all_seated}
 use Rattle.model_headline.proofs.Carrying.{DidAt}
@@ -43,7 +43,7 @@ module _ (file : BoardFile) where
   record Stepped (e : Event) (x y : Lab plans) : Type 0 where
     pub done : List BoardEvent
     pub is : IsDone file e x y done
-    pub replays : Replays file x.board done y.board
+    pub replays : IsReplay file x.board done y.board
 
   -- ---- where the board does nothing
 
@@ -71,10 +71,10 @@ module _ (file : BoardFile) where
   sent None x = leaves_all x
   sent (Some s) x = record { board = refl; ipmb = refl; smbus = refl }
 
-  managed : (d : ManagerDeed plans) (x : Lab plans) → Leaves x (manager_does plans d x)
+  managed : (d : ManagerStepResult plans) (x : Lab plans) → Leaves x (manager_does plans d x)
   managed d x = let y : Lab plans = record x { manager = d.manager } in let it = sent d.sent y in record { board = it.board; ipmb = it.ipmb; smbus = it.smbus }
 
-  calls_it : (o : Option (ManagerDeed plans)) (x : Lab plans) → Leaves x (call_does plans o x)
+  calls_it : (o : Option (ManagerStepResult plans)) (x : Lab plans) → Leaves x (call_does plans o x)
   calls_it None x = leaves_all x
   calls_it (Some d) x = managed d x
 
@@ -88,7 +88,7 @@ module _ (file : BoardFile) where
 
   -- ---- where a port does
 
-  ported : (e : Event) (on : Bus) (way : Way) (request : ℕ) (d : Deed) (x y : Lab plans) → on_bench file x.board e ≡ [] → y.ipmb ≡ x.ipmb → y.smbus ≡ x.smbus
+  ported : (e : Event) (on : Bus) (way : Way) (request : ℕ) (d : StepResult) (x y : Lab plans) → on_bench file x.board e ≡ [] → y.ipmb ≡ x.ipmb → y.smbus ≡ x.smbus
       → DidAt file (port_on plans on x) x.board d → Stepped e x (port_does plans on way request d y)
   ported e Ipmb way request d x y none first second did = record {
     done = at_seat 0 did.calls;

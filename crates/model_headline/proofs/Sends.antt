@@ -21,7 +21,7 @@ use Rattle.model_headline.specs.Manager.{Call, Phase, Fresh, Open, Done, Halted,
 use Rattle.model_headline.specs.Lab.{Entry, Carried, Idled, Way, ToPort, Frame, Lab, idles_of, idles_on, with_frames, sends, goes_on}
 use Rattle.model_headline.proofs.Cuts.{cuts_alike}
 use Rattle.model_headline.proofs.Machine.{sends_of, turns_at, IsTurn, call_turn}
-use Rattle.model_headline.specs.Seen.{seen_log, seen_plans, spell, seen_value, seen_way, seen_frame, seen_call, seen_manager, seen_lab, Made, stage_of, counts_of, machine_of}
+use Rattle.model_headline.specs.Seen.{seen_log, seen_plans, spell, seen_value, seen_way, seen_frame, seen_call, seen_manager, seen_lab, SeenManager, stage_of, counts_of, machine_of}
 use Rattle.model_lab.specs.declared.way.Way.TheVariants as lab_way
 
 -- ---- packets
@@ -48,7 +48,7 @@ module _ (names : Names) where
   idles_alike on q (Carried r a ∷ log) = idles_alike on q log
   idles_alike on q (Idled p ∷ log) = ap (λ n. cond (p == q) (n + 1) n) (idles_alike on q log)
 
-  pub idles_on_alike : (on : Bus) (made : Made) (x : Lab) → lab.idles_on (seen_plans names) on (seen_lab names made x) ≡ idles_on names on x
+  pub idles_on_alike : (on : Bus) (made : SeenManager) (x : Lab) → lab.idles_on (seen_plans names) on (seen_lab names made x) ≡ idles_on names on x
   idles_on_alike Ipmb made x = idles_alike Ipmb names.own_address x.ipmb.log
   idles_on_alike Smbus made x = idles_alike Smbus names.own_eid x.smbus.log
 
@@ -58,7 +58,7 @@ module _ (names : Names) where
   frames_so on way request m n e [] = refl
   frames_so on way request m n e (v ∷ vs) = λ i. record { on = on; way = seen_way way; request = request; idles = e i; value = seen_value v } ∷ frames_so on way request m n e vs i
 
-  pub frames_alike : (on : Bus) (way : Way) (request : ℕ) (vs : List Value) (made : Made) (x : Lab)
+  pub frames_alike : (on : Bus) (way : Way) (request : ℕ) (vs : List Value) (made : SeenManager) (x : Lab)
       → lab.with_frames (seen_plans names) on (seen_way way) request (map seen_value vs) (seen_lab names made x) ≡ seen_lab names made (with_frames names on way request vs x)
   frames_alike on way request vs made x =
       ap (λ (fs : List lab.LabFrame). record (seen_lab names made x) { frames = fs })
@@ -72,10 +72,10 @@ module _ (names : Names) where
   count_so Smbus answered = refl
 
   -- the deed of the model that a turn is
-  abbrev pub seen_deed : (made : List ℕ) → Turn → manager.ManagerDeed (seen_plans names)
+  abbrev pub seen_deed : (made : List ℕ) → Turn → manager.ManagerStepResult (seen_plans names)
   seen_deed made t = record { manager = seen_manager names made t.manager; sent = option_map (manager.sent_of (seen_plans names) names) (sends_of names t) }
 
-  pub turn_lands : (t : Turn) (made : Made) (x : Lab) → lab.manager_does (seen_plans names) (seen_deed made.manager t) (seen_lab names made x) ≡ seen_lab names made (goes_on names t x)
+  pub turn_lands : (t : Turn) (made : SeenManager) (x : Lab) → lab.manager_does (seen_plans names) (seen_deed made.manager t) (seen_lab names made x) ≡ seen_lab names made (goes_on names t x)
   turn_lands t made x = at t.sends t.manager.phase
     where
       sent : (asked : Asked) → (count : ℕ) → count ≡ t.manager.answered (bus_of asked)
@@ -101,10 +101,10 @@ module _ (names : Names) where
 
   -- the model's lab is this one
   pub record IsSeen (y : lab.Lab (seen_plans names)) (x : Lab) : Type 0 where
-    pub made : Made
+    pub made : SeenManager
     pub is : y ≡ seen_lab names made x
 
-  pub call_lands : (call : Call) (made : Made) (x : Lab)
+  pub call_lands : (call : Call) (made : SeenManager) (x : Lab)
       → IsSeen (lab.call_does (seen_plans names) (manager.called (seen_plans names) (seen_call call) (seen_manager names made.manager x.manager)) (seen_lab names made x)) (goes_on names (called call x.manager.phase x.manager) x)
   unfolding manager.called
   call_lands call made x =
@@ -117,7 +117,7 @@ module _ (names : Names) where
       at None e = record { made = made; is = ap (λ (t : Turn). seen_lab names made (goes_on names t x)) (sym e) }
       at (Some T) e =
           let t = called call x.manager.phase x.manager in
-          let then : Made = record made { manager = e.1.made_then } in
+          let then : SeenManager = record made { manager = e.1.made_then } in
           record {
             made = then;
             is = (λ i. lab.manager_does (seen_plans names) (manager.goes_on (seen_plans names) (record (seen_manager names made.manager x.manager) { joined = e.1.is i }) (e.0 i)) (seen_lab names made x))

@@ -8,8 +8,8 @@ use Rattle.cfg_records.specs.declared.board_file.BoardFile.{BoardFile}
 use Rattle.model_bus.specs.Request.{Kept, idles_of}
 use Rattle.model_bus.specs.BusState.{BusState, Frame, Ask}
 use Rattle.model_bus.specs.Repeat.{In}
-use Rattle.model_bus.specs.Assembly.{Sent}
-use Rattle.model_bus.specs.PacketBus.{Ends, request_name}
+use Rattle.model_bus.specs.Assembly.{SentPacket}
+use Rattle.model_bus.specs.PacketBus.{BusEnds, request_name}
 use Rattle.model_ports.specs.Seen.{WaitsAlike}
 use Rattle.model_bus.specs.Answering.{AreWritten}
 use Rattle.model_bus.specs.Bytes.{IsRequestOn}
@@ -72,7 +72,7 @@ module _ (setup : BoardFile) (names : Names) where
   idles_alike Ipmb x on tied = ap (idles_of names.own_address) tied.ipmb_log ∙ ap (λ n. idles_of (own_on Ipmb n) x.ipmb.log) (sym tied.named)
   idles_alike Smbus x on tied = ap (idles_of names.own_eid) tied.smbus_port.log ∙ ap (λ n. idles_of (own_on Smbus n) x.smbus.log) (sym tied.named)
 
-  waits_put : (bus : Bus) (s : BusState) (on : States (own_lines setup names)) (Q : Ends → Type 0) → ((e : Ends) (b : BusState) → Q e → Q (record e { bus = b })) → Q (on Smbus) → Q (put bus s on Smbus)
+  waits_put : (bus : Bus) (s : BusState) (on : States (own_lines setup names)) (Q : BusEnds → Type 0) → ((e : BusEnds) (b : BusState) → Q e → Q (record e { bus = b })) → Q (on Smbus) → Q (put bus s on Smbus)
   waits_put Ipmb s on Q keeps q = q
   waits_put Smbus s on Q keeps q = keeps (on Smbus) s q
 
@@ -104,6 +104,6 @@ module _ (setup : BoardFile) (names : Names) where
         frames = each_append (IsHeld setup names now) x.frames _ (all_held setup names on now x.frames sends tied.frames)
             (request_held setup names now (length old.frames) count (idles_on (own_plans setup names) bus x) g asked made there refl (idles_alike bus x on tied) refl);
         opened = waits_put bus s on
-            (λ e. (n : ℕ) (t : Sent) → In t (e.port (request_name (smbus_bus setup names) n)) → t.request ≡ x.opened (n % 8))
+            (λ e. (n : ℕ) (t : SentPacket) → In t (e.port (request_name (smbus_bus setup names) n)) → t.request ≡ x.opened (n % 8))
             (λ e b q. q) tied.opened;
       }

@@ -16,7 +16,7 @@ use Rattle.bios_attr.specs.EntryParts.{entry_in, is_in_parts, set_part, part_at,
 use Rattle.record_kinds.specs.Limits.{get_asked}
 use Rattle.record_kinds.specs.Series.{Series, Reads, Sends, set_whole, first_of, next_after, request_after}
 use Rattle.model_bus.specs.Addresses.{Addresses}
-use Rattle.model_undo.specs.Words.{IsNext, IsOf, IsSeries, IsMade}
+use Rattle.model_undo.specs.Words.{IsNext, IsOneOf, IsSeries, IsMade}
 use Rattle.model_lab.specs.ManagerWords.{from_manager, manager_words}
 
 -- ---- the requests that carry a request out
@@ -73,7 +73,7 @@ module _ (at : Bus → Addresses) (Q : Asked → Type 0) (of_all : IsOfAll Q) wh
   pub made_so : ((asked : Asked) → Q asked → Q (from_manager at asked)) → (asked : Asked) → IsMade (manager_words at) asked → Q asked
   made_so keeps asked made = by made.0 made.1 made.2
     where
-      by : (series : Series) → IsSeries (manager_words at) series → IsOf (manager_words at) series asked → Q asked
+      by : (series : Series) → IsSeries (manager_words at) series → IsOneOf (manager_words at) series asked → Q asked
       by series is (inl same) = subst Q (sym same) (keeps (first_of series) (first_so series is))
       by series is (inr one) = let raw = mapped (from_manager at) (next_after series one.0) asked one.1 in subst Q raw.2 (keeps raw.0 (next_so series one.0 raw.0 is raw.1))
 
@@ -99,7 +99,7 @@ module _ (at : Bus → Addresses) where
       sym raw.2 ∙ ap (λ (o : Option Asked). from_manager at (unwrap_or o (first_of series))) (sym raw.1)
 
   -- a request of a series is the one after some replies
-  pub of_is : (series : Series) (asked : Asked) → IsOf (manager_words at) series asked → (bodies : List (List ℕ)) × (asked ≡ from_manager at (request_after series bodies))
+  pub of_is : (series : Series) (asked : Asked) → IsOneOf (manager_words at) series asked → (bodies : List (List ℕ)) × (asked ≡ from_manager at (request_after series bodies))
   of_is series asked (inl same) = ([], same)
   of_is series asked (inr one) = by one.0 one.1
     where

@@ -17,7 +17,7 @@ use Rattle.model_ports.specs.Values.{Asks}
 use Rattle.model_ports.specs.PortSteps.{hears, hears_all, idles}
 use Rattle.model_lab.specs.declared.way.Way.TheVariants.{ToOthers}
 use Rattle.model_lab.specs.Lab.{Calls, ToBmc, ToMgr, OtherIpmb, OtherSmbus, Noise, Idles, OnBench, Lab, step, call_does, port_does, with_port, port_on, delivered, returned}
-use Rattle.model_headline.specs.Tied.{own_plans, Goes}
+use Rattle.model_headline.specs.Tied.{own_plans, WorldFollows}
 use Rattle.model_headline.specs.Follows.{CallsAreFollowed, RepliesAreFollowed, RequestsAreFollowed, OthersAreFollowed}
 use Rattle.model_headline.proofs.Calls.{call_goes}
 use Rattle.model_headline.proofs.Returns.{returned_goes}
@@ -60,19 +60,19 @@ module _ (setup : BoardFile) (names : Names) where
   bench_step x activity = refl
 
 pub calls_followed : (setup : BoardFile) (names : Names) (plan : List Op) (start : Records) → CallsAreFollowed setup names plan start
-calls_followed setup names plan start x call on tied h = subst (Goes setup names x on) (call_step setup names x call) (call_goes setup names plan start x on tied h call)
+calls_followed setup names plan start x call on tied h = subst (WorldFollows setup names x on) (call_step setup names x call) (call_goes setup names plan start x on tied h call)
 
 pub replies_followed : (setup : BoardFile) (names : Names) (plan : List Op) (start : Records) → RepliesAreFollowed setup names plan start
-replies_followed setup names plan start x number d on tied h = subst (Goes setup names x on) (return_step setup names x number) (returned_goes setup names plan start x on tied h number d)
+replies_followed setup names plan start x number d on tied h = subst (WorldFollows setup names x on) (return_step setup names x number) (returned_goes setup names plan start x on tied h number d)
 
 pub requests_followed : (setup : BoardFile) (names : Names) (plan : List Op) (start : Records) → RequestsAreFollowed setup names plan start
-requests_followed setup names plan start x number d own on tied h = subst (Goes setup names x on) (deliver_step setup names x number) (delivered_goes setup names plan start x on tied h number d own)
+requests_followed setup names plan start x number d own on tied h = subst (WorldFollows setup names x on) (deliver_step setup names x number) (delivered_goes setup names plan start x on tied h number d own)
 
 pub others_followed : (setup : BoardFile) (names : Names) (plan : List Op) (start : Records) → OthersAreFollowed setup names plan start
 others_followed setup names plan start = record {
-  requests = λ x r honest on tied h. subst (Goes setup names x on) (other_step setup names x r) (other_goes setup names plan start x on tied h r honest.0 honest.1);
-  messages = λ x m honest on tied h. subst (Goes setup names x on) (message_step setup names x m) (message_goes setup names x on tied m honest.0 honest.1);
-  noise = λ x bus bytes on tied h. subst (Goes setup names x on) (noise_step setup names x bus bytes) (noise_goes setup names plan start x on tied h);
-  idles = λ x bus requester honest on tied h. subst (Goes setup names x on) (idle_step setup names x bus requester) (idle_goes setup names plan start x on tied h bus requester honest);
-  bench = λ x activity on tied h. subst (Goes setup names x on) (bench_step setup names x activity) (bench_goes setup names plan start x on tied h activity);
+  requests = λ x r honest on tied h. subst (WorldFollows setup names x on) (other_step setup names x r) (other_goes setup names plan start x on tied h r honest.0 honest.1);
+  messages = λ x m honest on tied h. subst (WorldFollows setup names x on) (message_step setup names x m) (message_goes setup names x on tied m honest.0 honest.1);
+  noise = λ x bus bytes on tied h. subst (WorldFollows setup names x on) (noise_step setup names x bus bytes) (noise_goes setup names plan start x on tied h);
+  idles = λ x bus requester honest on tied h. subst (WorldFollows setup names x on) (idle_step setup names x bus requester) (idle_goes setup names plan start x on tied h bus requester honest);
+  bench = λ x activity on tied h. subst (WorldFollows setup names x on) (bench_step setup names x activity) (bench_goes setup names plan start x on tied h activity);
 }

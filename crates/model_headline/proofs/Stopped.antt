@@ -18,10 +18,10 @@ use Rattle.model_undo.specs.Machine.{Stage, AtStart, Opened, AtEnd, AtHalt, AtUn
 use Rattle.model_ports.specs.Wires.{answered_from}
 use Rattle.model_ports.specs.Values.{Value, Asks, Tells, Part}
 use Rattle.model_ports.specs.Bytes.{response_bytes}
-use Rattle.model_ports.specs.PortSteps.{PortState, Deed, hears, hears_all, idles}
+use Rattle.model_ports.specs.PortSteps.{PortState, StepResult, hears, hears_all, idles}
 use Rattle.model_undo.specs.declared.call.Call.{Call}
 use Rattle.model_undo.specs.declared.call.Call.TheVariants.{Start, Quiet, Stop, Again, Undo}
-use Rattle.model_lab.specs.ManagerSteps.{Plans, ManagerState, ManagerDeed, Sent, rests, goes_on, waits_after, called, heeded_on, open_bytes, taken_or, tested, hears_reply, hears_response, ends_reply, joins, joins_for, hears_packet, manager_hears, is_answer, is_part, open_count}
+use Rattle.model_lab.specs.ManagerSteps.{Plans, ManagerState, ManagerStepResult, Sent, rests, goes_on, waits_after, called, heeded_on, open_bytes, taken_or, tested, hears_reply, hears_response, ends_reply, joins, joins_for, hears_packet, manager_hears, is_answer, is_part, open_count}
 use Rattle.model_lab.specs.declared.way.Way.{Way}
 use Rattle.model_lab.specs.declared.way.Way.TheVariants.{ToManager, ToOthers}
 use Rattle.model_lab.specs.Lab.{LabFrame, Event, Calls, ToBmc, ToMgr, OtherIpmb, OtherSmbus, Noise, Idles, OnBench, Lab, step, run, sends, manager_does, call_does, port_does, with_port, port_on, opens, delivered, returned}
@@ -86,7 +86,7 @@ module _ (M : Words) where
 -- ---- a manager
 
 module _ (P : Plans) where
-  abbrev Same : ManagerState P → ManagerDeed P → Type 0
+  abbrev Same : ManagerState P → ManagerStepResult P → Type 0
   Same m d = d.manager.machine.stopped ≡ m.machine.stopped
 
   taken_same : (m : ManagerState P) (o : Option (Turn P.words)) → Keeps P.words m.machine o → Same m (taken_or P m o)
@@ -143,7 +143,7 @@ module _ (P : Plans) where
   sends_same None x = refl
   sends_same (Some s) x = refl
 
-  does_same : (d : ManagerDeed P) (x : Lab P) → Same x.manager d → Unstopped x (manager_does P d x)
+  does_same : (d : ManagerStepResult P) (x : Lab P) → Same x.manager d → Unstopped x (manager_does P d x)
   does_same d x same = sends_same d.sent (record x { manager = d.manager }) ∙ same
 
   port_same : (on : Bus) (port : PortState) (x : Lab P) → Unstopped x (with_port P on port x)
@@ -159,7 +159,7 @@ module _ (P : Plans) where
       by true = refl
       by false = refl
 
-  deed_same : (on : Bus) (way : Way) (request : ℕ) (d : Deed) (x : Lab P) → Unstopped x (port_does P on way request d x)
+  deed_same : (on : Bus) (way : Way) (request : ℕ) (d : StepResult) (x : Lab P) → Unstopped x (port_does P on way request d x)
   deed_same on way request d x = port_same on d.port (record x { board = d.board })
 
   -- a call but `stop`

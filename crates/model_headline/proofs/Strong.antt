@@ -13,7 +13,7 @@ use Rattle.record_kinds.specs.Limits.{key_of, limits_at, conf}
 use Rattle.bmc_board.specs.Request.{asked_by}
 use Rattle.bmc_board.specs.State.{State}
 use Rattle.bmc_board.specs.Row.{Row}
-use Rattle.bmc_board.specs.Answer.{Given, answer_of}
+use Rattle.bmc_board.specs.Answer.{AnswerAndState, answer_of}
 use Rattle.bmc_board.proofs.OneAnswer.{has_answer, has_one_answer}
 use Rattle.undo_plans.specs.declared.names.Names.{Names}
 use Rattle.model_bus.specs.Request as bus
@@ -35,7 +35,7 @@ use Rattle.model_headline.specs.Answers as answers
 use Rattle.model_headline.specs.Theorem as law
 use Rattle.model_headline.specs.Manager.{Stop, Why, Stopped, GetRefused, SetRefused, NotRestorable, Gets, Sets, Undoes, Phase, Fresh, Open, Done, Halted, Undone, UndoRefused, Reads, sends, request_after, by_manager}
 use Rattle.model_headline.specs.Lab.{Event, Calls, Carried, Lab, port_on, step}
-use Rattle.model_headline.specs.Claim.{ours, SetsTo, IsAfter, Stands, ShowsSame, AllHonest, first, after, GaveIn, IsCause, Claim}
+use Rattle.model_headline.specs.Claim.{ours, SetsTo, IsAfter, PhaseMeans, ShowsSame, AllHonest, first, after, GaveIn, IsCause, Claim}
 use Rattle.model_headline.specs.Seen.{seen_plans, seen_words, spell, seen_log, bare, seen_event, seen_lab, stage_of}
 use Rattle.model_headline.proofs.Holds.{Reads as EntryReads}
 use Rattle.model_headline.proofs.Labs.{step_so}
@@ -72,7 +72,7 @@ module _ (setup : BoardFile) (names : Names) where
     swapped k m r (inl is) = inr (after_back k r is)
     swapped k m r (inr is) = inl (after_back m r is)
 
-    stands_back : (phase : Phase) (r : Records) → Stands setup plan start phase r → plans.Stands (own_family setup names) plan start (machine.phase_at (seen_words names) (stage_of names phase)) r
+    stands_back : (phase : Phase) (r : Records) → PhaseMeans setup plan start phase r → plans.PhaseMeans (own_family setup names) plan start (machine.phase_at (seen_words names) (stage_of names phase)) r
     stands_back Fresh r is = is
     stands_back (Open true (Gets k op) bodies) r is = after_back k r is
     stands_back (Open false (Gets k op) bodies) r is = both k (suc k) r is
@@ -93,7 +93,7 @@ module _ (setup : BoardFile) (names : Names) where
 
   -- an answer of the relation is that of the function
   is_given : (before : State) (asked : Asked) (a : Answered) (after : State) → Row setup before asked a after → (answer_of setup before asked).0 ≡ a
-  is_given before asked a after row = ap (λ (g : Given). g.0) (sym (has_one_answer setup before asked a after row))
+  is_given before asked a after row = ap (λ (g : AnswerAndState). g.0) (sym (has_one_answer setup before asked a after row))
 
   shows_back : (b c : State) → ShowsSame setup (ours setup) b c → undo_headline.ShowsSame (own_family setup names) b c
   shows_back b c same key one other gets again_gets shown again left left_again row again_row =
@@ -126,7 +126,7 @@ module _ (setup : BoardFile) (names : Names) (plan : List Op) (retries : ℕ) wh
       let after_is : lab.step (seen_plans names) setup (law.after setup names plan retries (map seen_event g.before)) (seen_event g.event) ≡ seen_lab names one.made y =
       ap (λ (l : lab.Lab (seen_plans names)). lab.step (seen_plans names) setup l (seen_event g.event)) f.is ∙ one.is in
       let reads : Each (EntryReads names g.bus) (Carried g.heard (board_of a) ∷ (port_on g.bus x).log) = subst (Each (EntryReads names g.bus)) g.carried (holds_reads setup names plan retries g.bus y one.holds) in
-      let was : answers.Answers setup names (seen_lab names f.made_then x) (seen_lab names one.made y) (by_manager names asked) a = record {
+      let was : answers.AnswerGiven setup names (seen_lab names f.made_then x) (seen_lab names one.made y) (by_manager names asked) a = record {
         bus = g.bus;
         kept = record { request = bare g.heard; reply = spell g.bus g.heard.bytes (board_of a) };
         carried = port_log setup names plan retries g.bus one.made y ∙ ap (seen_log (spell g.bus)) g.carried
@@ -135,15 +135,15 @@ module _ (setup : BoardFile) (names : Names) (plan : List Op) (retries : ℕ) wh
         asks = reads.0 g.from_manager ∙ g.asks;
         replies = refl;
         row = subst (λ (q : Asked). Row setup x.board q (board_of a) y.board) g.asks
-            (subst (λ (given : Given). Row setup x.board g.heard.asked given.0 given.1) g.gives (has_answer setup x.board g.heard.asked));
+            (subst (λ (given : AnswerAndState). Row setup x.board g.heard.asked given.0 given.1) g.gives (has_answer setup x.board g.heard.asked));
       } in
       record {
         before = map seen_event g.before;
         event = seen_event g.event;
         later = map seen_event g.later;
         all = ap (map seen_event) g.all ∙ map-append seen_event g.before (g.event ∷ g.later);
-        answers = subst (λ (l : lab.Lab (seen_plans names)). answers.Answers setup names l (lab.step (seen_plans names) setup (law.after setup names plan retries (map seen_event g.before)) (seen_event g.event)) (by_manager names asked) a) (sym f.is)
-            (subst (λ (l : lab.Lab (seen_plans names)). answers.Answers setup names (seen_lab names f.made_then x) l (by_manager names asked) a) (sym after_is) was);
+        answers = subst (λ (l : lab.Lab (seen_plans names)). answers.AnswerGiven setup names l (lab.step (seen_plans names) setup (law.after setup names plan retries (map seen_event g.before)) (seen_event g.event)) (by_manager names asked) a) (sym f.is)
+            (subst (λ (l : lab.Lab (seen_plans names)). answers.AnswerGiven setup names (seen_lab names f.made_then x) l (by_manager names asked) a) (sym after_is) was);
         at = subst (λ (l : lab.Lab (seen_plans names)). plans.IsAfter (own_family setup names) plan start.board.records k l.board.records) (sym f.is) (after_back setup names plan start.board.records k x.board.records g.at);
       }
 
@@ -160,7 +160,7 @@ module _ (setup : BoardFile) (names : Names) (plan : List Op) (retries : ℕ) wh
     stands_there : (events : List Event) → Trusted (map seen_event events) → law.StandsAfter setup names plan retries (map seen_event events)
     stands_there events trusted =
         let all = honest_of events trusted in
-        subst (λ (l : lab.Lab (seen_plans names)). plans.Stands (own_family setup names) plan start.board.records (machine.phase_of (seen_words names) l.manager.machine) l.board.records) (sym (ran setup names plan retries events all).is)
+        subst (λ (l : lab.Lab (seen_plans names)). plans.PhaseMeans (own_family setup names) plan start.board.records (machine.phase_of (seen_words names) l.manager.machine) l.board.records) (sym (ran setup names plan retries events all).is)
         (stands_back setup names plan start.board.records (after setup (ours setup) names plan retries events).manager.phase (after setup (ours setup) names plan retries events).board.records (claim.stands events all))
 
     caused : (events : List Event) → AllHonest (ours setup) names events start → (phase : Phase) → ((k : ℕ) (why : Why) → phase ≡ Halted k why → IsCause setup (ours setup) names plan retries events k why) → Caused events (machine.phase_at (seen_words names) (stage_of names phase))

@@ -12,7 +12,7 @@ use Rattle.mctp_net.specs.Assembly.{Assemblies, open_beside}
 use Rattle.model_bus.specs.Request.{Kept}
 use Rattle.model_bus.specs.Repeat.{In}
 use Rattle.model_bus.specs.PacketBus.{request_name}
-use Rattle.model_bus.specs.Effect.{IsTaken}
+use Rattle.model_bus.specs.Effect.{TakesReply}
 use Rattle.model_bus.proofs.Lists.{length_more}
 use Rattle.model_bus.specs.Answered.{Answered}
 use Rattle.model_undo.specs.Words.{is_busy}
@@ -36,14 +36,14 @@ use Rattle.model_headline.proofs.Made.{takes_made}
 use Rattle.model_headline.specs.Tied.{own_plans, own_family, own_lines, own_wires, smbus_bus, requests, EntryAnswers, IsTied, world_of}
 use Rattle.model_headline.proofs.Frames.{Sends, all_held}
 use Rattle.model_headline.proofs.Begun.{own, words, NoneOpen, enter_tied, same_world}
-use Rattle.model_headline.specs.Follows.{Holds}
+use Rattle.model_headline.specs.Follows.{HoldsInWorld}
 use Rattle.model_headline.proofs.Calls.{managed, are_closed}
 
 module _ (setup : BoardFile) (names : Names) (plan : List Op) (start : Records) where
-  module _ (x : Lab (own_plans setup names)) (on now : States (own_lines setup names)) (tied : IsTied setup names x on) (h : Holds setup names plan start (world_of setup names x on)) where
+  module _ (x : Lab (own_plans setup names)) (on now : States (own_lines setup names)) (tied : IsTied setup names x on) (h : HoldsInWorld setup names plan start (world_of setup names x on)) where
     -- what the model's event leaves: the open request's reply was taken on this bus, and these packets wait at the manager
     pub record Took (bus : Bus) (reply : List ℕ) (joined : Assemblies) : Type 0 where
-      pub taken : IsTaken (requests setup names on bus) (requests setup names now bus) reply
+      pub taken : TakesReply (requests setup names on bus) (requests setup names now bus) reply
       pub still : OthersStill bus (requests setup names on) (requests setup names now)
       pub logs : (any : Bus) → (requests setup names now any).log ≡ (requests setup names on any).log
       pub frames : (any : Bus) → (requests setup names now any).frames ≡ (requests setup names on any).frames

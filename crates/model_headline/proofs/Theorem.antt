@@ -4,7 +4,7 @@ use Rattle.std.proofs.lemmas.Option.{none-some, slice_get_read}
 use Rattle.two_wire.specs.declared.Bus.{Bus}
 use Rattle.two_wire.specs.declared.Bus.TheVariants.{Ipmb, Smbus}
 use Rattle.mctp_net.specs.Assembly.{nothing}
-use Rattle.mctp_net.specs.Sound.{IsSound}
+use Rattle.mctp_net.specs.Sound.{AreSoundAssemblies}
 use Rattle.record_base.specs.declared.message.Asked.{Asked}
 use Rattle.record_base.specs.declared.op.Op.{Op}
 use Rattle.cfg_records.specs.declared.board_file.BoardFile.{BoardFile}
@@ -21,8 +21,8 @@ use Rattle.model_bus.specs.Answered.{Answered}
 use Rattle.model_undo.specs.declared.phase.Why.TheVariants.{Stop, Refused, NotRestorable, GetRefused}
 use Rattle.model_undo.specs.declared.phase.Phase.{Phase}
 use Rattle.model_undo.specs.declared.phase.Phase.TheVariants.{Fresh, Getting, Setting, Done, Halted, Unsettled, Undoing, Undone, UndoRefused}
-use Rattle.model_undo.specs.Plan.{IsAfter, Halts}
-use Rattle.model_undo.specs.Giving.{Giving, given_in, GaveIn as Gave, CausedIn}
+use Rattle.model_undo.specs.Plan.{IsAfter, HaltMeans}
+use Rattle.model_undo.specs.Giving.{GivenAnswer, given_in, GaveIn as Gave, CausedIn}
 use Rattle.model_undo.proofs.Giving.{halts_by_answers}
 use Rattle.model_undo.proofs.Series.{all_answered_as}
 use Rattle.model_undo.specs.Machine.{count_of, phase_of}
@@ -44,8 +44,8 @@ use Rattle.model_lab.specs.Own.{IsOwn, AllOwn}
 use Rattle.model_lab.specs.Joins.{IsJoinLive, AllJoinLive}
 use Rattle.model_lab.proofs.Breaches.{faults_are_breaches}
 use Rattle.model_headline.specs.Each.{Each}
-use Rattle.model_headline.specs.Tied.{own_plans, own_family, own_lines, own_wires, rules_on, requests, EntryAnswers, IsTied, IsGiven, world_of, Goes}
-use Rattle.model_headline.specs.Follows.{Holds, IsFollowed}
+use Rattle.model_headline.specs.Tied.{own_plans, own_family, own_lines, own_wires, rules_on, requests, EntryAnswers, IsTied, IsGivenAnswer, world_of, WorldFollows}
+use Rattle.model_headline.specs.Follows.{HoldsInWorld, IsFollowed}
 use Rattle.model_headline.specs.Answers.{CausedBy}
 use Rattle.model_headline.specs.Theorem.{first, after, phase_after, IsTrusted, IsHonestAndOwn, IsTakenAndOwn, AlwaysStands, UndoneForGood, GaveIn, HaltsByAnswers, Headline, PremisesAgree}
 use Rattle.model_headline.proofs.Each.{each_at, each_imply, each_append}
@@ -79,63 +79,63 @@ module _ (setup : BoardFile) (names : Names) (plan : List Op) (start : Records) 
   more_events e es x = refl
 
   -- where the world holds, it holds after what the lab does
-  pub still_holds : (x y : Lab (own_plans setup names)) (on : States (own_lines setup names)) → Holds setup names plan start (world_of setup names x on) → (g : Went setup names x on y) → Holds setup names plan start (world_of setup names y g.left)
-  still_holds x y on h g = subst (Holds setup names plan start) g.reaches
+  pub still_holds : (x y : Lab (own_plans setup names)) (on : States (own_lines setup names)) → HoldsInWorld setup names plan start (world_of setup names x on) → (g : Went setup names x on y) → HoldsInWorld setup names plan start (world_of setup names y g.left)
+  still_holds x y on h g = subst (HoldsInWorld setup names plan start) g.reaches
       (run_holds (own_family setup names) (is_family setup (addresses names)) (own_lines setup names) (packet_lines (addresses names) packets_of packets_cut) (own_wires setup names) (λ bus. 0) plan start g.happenings (world_of setup names x on) h g.may)
 
   -- the answer was given at an event
-  pub record GivenIn (es : List Event) (x : Lab (own_plans setup names)) (g : Giving (own_family setup names)) : Type 0 where
+  pub record GivenIn (es : List Event) (x : Lab (own_plans setup names)) (g : GivenAnswer (own_family setup names)) : Type 0 where
     pub before : List Event
     pub event : Event
     pub later : List Event
     pub all : es ≡ before ++ event ∷ later
-    pub given : IsGiven setup names (run (own_plans setup names) setup before x) (step (own_plans setup names) setup (run (own_plans setup names) setup before x) event) g
+    pub given : IsGivenAnswer setup names (run (own_plans setup names) setup before x) (step (own_plans setup names) setup (run (own_plans setup names) setup before x) event) g
 
   -- the model's world goes on to the lab's after all events, and gives no answer but those that are given at them
   pub record Ran (es : List Event) (x : Lab (own_plans setup names)) (on : States (own_lines setup names)) : Type 0 where
     pub went : Went setup names x on (run (own_plans setup names) setup es x)
     pub gives : Each (GivenIn es x) (given_on setup names x on (run (own_plans setup names) setup es x) went)
 
-  given_first : (e : Event) (es : List Event) (x : Lab (own_plans setup names)) (g : Giving (own_family setup names)) → IsGiven setup names x (step (own_plans setup names) setup x e) g → GivenIn (e ∷ es) x g
+  given_first : (e : Event) (es : List Event) (x : Lab (own_plans setup names)) (g : GivenAnswer (own_family setup names)) → IsGivenAnswer setup names x (step (own_plans setup names) setup x e) g → GivenIn (e ∷ es) x g
   given_first e es x g is = record {
     before = [];
     event = e;
     later = es;
     all = refl;
-    given = subst (λ (y : Lab (own_plans setup names)). IsGiven setup names y (step (own_plans setup names) setup y e) g) (no_events x) is;
+    given = subst (λ (y : Lab (own_plans setup names)). IsGivenAnswer setup names y (step (own_plans setup names) setup y e) g) (no_events x) is;
   }
 
-  given_later : (e : Event) (es : List Event) (x : Lab (own_plans setup names)) (g : Giving (own_family setup names)) → GivenIn es (step (own_plans setup names) setup x e) g → GivenIn (e ∷ es) x g
+  given_later : (e : Event) (es : List Event) (x : Lab (own_plans setup names)) (g : GivenAnswer (own_family setup names)) → GivenIn es (step (own_plans setup names) setup x e) g → GivenIn (e ∷ es) x g
   given_later e es x g is = record {
     before = e ∷ is.before;
     event = is.event;
     later = is.later;
     all = ap (λ (l : List Event). e ∷ l) is.all;
-    given = subst (λ (y : Lab (own_plans setup names)). IsGiven setup names y (step (own_plans setup names) setup y is.event) g) (more_events e is.before x) is.given;
+    given = subst (λ (y : Lab (own_plans setup names)). IsGivenAnswer setup names y (step (own_plans setup names) setup y is.event) g) (more_events e is.before x) is.given;
   }
 
-  pub all_followed : (events : List Event) (x : Lab (own_plans setup names)) (on : States (own_lines setup names)) → IsTied setup names x on → Holds setup names plan start (world_of setup names x on)
+  pub all_followed : (events : List Event) (x : Lab (own_plans setup names)) (on : States (own_lines setup names)) → IsTied setup names x on → HoldsInWorld setup names plan start (world_of setup names x on)
       → AllHonest (own_plans setup names) setup events x → AllOwn (own_plans setup names) setup events x → Ran events x on
   unfolding run
   all_followed [] x on tied h honest own = record { went = stays_there setup names x on tied; gives = tt }
   all_followed (e ∷ es) x on tied h honest own =
       let next : Lab (own_plans setup names) = step (own_plans setup names) setup x e in
       let last : Lab (own_plans setup names) = run (own_plans setup names) setup es next in
-      let one : Goes setup names x on next = event_followed x e honest.0 own.0 on tied h in
+      let one : WorldFollows setup names x on next = event_followed x e honest.0 own.0 on tied h in
       let first = went_there setup names x next on one in
       let rest = all_followed es next one.left one.tied (still_holds x next on h first) honest.1 own.1 in
       record {
         went = goes_on setup names x next last on first rest.went;
         gives = subst (Each (GivenIn (e ∷ es) x)) (gives_both setup names x next last on first rest.went)
             (each_append (GivenIn (e ∷ es) x) (given_on setup names x on next first) (given_on setup names next one.left last rest.went)
-            (each_imply (IsGiven setup names x next) (GivenIn (e ∷ es) x) (given_on setup names x on next first) (given_first e es x) one.gives)
+            (each_imply (IsGivenAnswer setup names x next) (GivenIn (e ∷ es) x) (given_on setup names x on next first) (given_first e es x) one.gives)
             (each_imply (GivenIn es next) (GivenIn (e ∷ es) x) (given_on setup names next one.left last rest.went) (given_later e es x) rest.gives));
       }
 
   -- ---- one premise for another
 
   -- what an honest event joins
-  event_own : (x : Lab (own_plans setup names)) (on : States (own_lines setup names)) → IsTied setup names x on → Holds setup names plan start (world_of setup names x on)
+  event_own : (x : Lab (own_plans setup names)) (on : States (own_lines setup names)) → IsTied setup names x on → HoldsInWorld setup names plan start (world_of setup names x on)
       → (e : Event) → (HasBytes (own_plans setup names) e → IsHonest (own_plans setup names) x e) → IsJoinLive (own_plans setup names) x e → IsOwn (own_plans setup names) x e
   event_own x on tied h (ToBmc number) honest joins = is_own setup names plan start x on tied h number (honest tt) joins
   event_own x on tied h (Calls call) honest joins = tt
@@ -146,7 +146,7 @@ module _ (setup : BoardFile) (names : Names) (plan : List Op) (start : Records) 
   event_own x on tied h (Idles bus requester) honest joins = tt
   event_own x on tied h (OnBench activity) honest joins = tt
 
-  event_live : (x : Lab (own_plans setup names)) (on : States (own_lines setup names)) → IsTied setup names x on → Holds setup names plan start (world_of setup names x on)
+  event_live : (x : Lab (own_plans setup names)) (on : States (own_lines setup names)) → IsTied setup names x on → HoldsInWorld setup names plan start (world_of setup names x on)
       → (e : Event) → (HasBytes (own_plans setup names) e → IsHonest (own_plans setup names) x e) → IsOwn (own_plans setup names) x e → IsJoinLive (own_plans setup names) x e
   event_live x on tied h (ToBmc number) honest joins = is_live setup names plan start x on tied h number (honest tt) joins
   event_live x on tied h (Calls call) honest joins = tt
@@ -157,21 +157,21 @@ module _ (setup : BoardFile) (names : Names) (plan : List Op) (start : Records) 
   event_live x on tied h (Idles bus requester) honest joins = tt
   event_live x on tied h (OnBench activity) honest joins = tt
 
-  pub all_own : (events : List Event) (x : Lab (own_plans setup names)) (on : States (own_lines setup names)) → IsTied setup names x on → Holds setup names plan start (world_of setup names x on)
+  pub all_own : (events : List Event) (x : Lab (own_plans setup names)) (on : States (own_lines setup names)) → IsTied setup names x on → HoldsInWorld setup names plan start (world_of setup names x on)
       → AllHonest (own_plans setup names) setup events x → AllJoinLive (own_plans setup names) setup events x → AllOwn (own_plans setup names) setup events x
   all_own [] x on tied h honest joins = tt
   all_own (e ∷ es) x on tied h honest joins =
       let next : Lab (own_plans setup names) = step (own_plans setup names) setup x e in
       let own = event_own x on tied h e honest.0 joins.0 in
-      let one : Goes setup names x on next = event_followed x e honest.0 own on tied h in
+      let one : WorldFollows setup names x on next = event_followed x e honest.0 own on tied h in
       (own, all_own es next one.left one.tied (still_holds x next on h (went_there setup names x next on one)) honest.1 joins.1)
 
-  pub all_live : (events : List Event) (x : Lab (own_plans setup names)) (on : States (own_lines setup names)) → IsTied setup names x on → Holds setup names plan start (world_of setup names x on)
+  pub all_live : (events : List Event) (x : Lab (own_plans setup names)) (on : States (own_lines setup names)) → IsTied setup names x on → HoldsInWorld setup names plan start (world_of setup names x on)
       → AllHonest (own_plans setup names) setup events x → AllOwn (own_plans setup names) setup events x → AllJoinLive (own_plans setup names) setup events x
   all_live [] x on tied h honest own = tt
   all_live (e ∷ es) x on tied h honest own =
       let next : Lab (own_plans setup names) = step (own_plans setup names) setup x e in
-      let one : Goes setup names x on next = event_followed x e honest.0 own.0 on tied h in
+      let one : WorldFollows setup names x on next = event_followed x e honest.0 own.0 on tied h in
       (event_live x on tied h e honest.0 own.0, all_live es next one.left one.tied (still_holds x next on h (went_there setup names x next on one)) honest.1 own.1)
 
   -- what a lab takes is honest
@@ -190,7 +190,7 @@ module _ (setup : BoardFile) (names : Names) (plan : List Op) (retries : ℕ) wh
   nothing_yet : NothingUnderWay (opening_bus [])
   nothing_yet = record { begun = refl; carried = refl; taken = refl; frames = refl }
 
-  nothing_sound : IsSound nothing
+  nothing_sound : AreSoundAssemblies nothing
   nothing_sound = record { fronts = λ n. tt; few = λ n. omega arith; slots = omega arith }
 
   nothing_counted : (bus : Bus) → count_of bus (first setup names plan retries).manager.machine.counts ≡ length (requests setup names quiet bus).taken
@@ -229,7 +229,7 @@ module _ (setup : BoardFile) (names : Names) (plan : List Op) (retries : ℕ) wh
   pub is_start : IsStart (own_family setup names) (own_lines setup names) (own_wires setup names) quiet (first setup names plan retries).board
   is_start = record { on_bus = starts; valid = (starts_valid setup (addresses names)).opened_valid; ready = starts_ready setup (addresses names) }
 
-  pub first_holds : Holds setup names plan (first setup names plan retries).board.records (world_of setup names (first setup names plan retries) quiet)
+  pub first_holds : HoldsInWorld setup names plan (first setup names plan retries).board.records (world_of setup names (first setup names plan retries) quiet)
   first_holds = opening_holds (own_family setup names) (is_family setup (addresses names)) (own_lines setup names) (packet_lines (addresses names) packets_of packets_cut) (own_wires setup names) plan retries quiet (first setup names plan retries).board is_start
 
   -- ---- the theorem
@@ -298,17 +298,17 @@ module _ (setup : BoardFile) (names : Names) (plan : List Op) (retries : ℕ) wh
       let y = after setup names plan retries events in
       let g = (goes events good).went in
       let h = still_holds setup names plan x0.board.records x0 y quiet first_holds g in
-      let told : Halts (own_family setup names) y.manager.machine.stopped plan (Halted k Stop) y.board.records =
-      subst (λ (p : Phase). Halts (own_family setup names) y.manager.machine.stopped plan p y.board.records) halted
+      let told : HaltMeans (own_family setup names) y.manager.machine.stopped plan (Halted k Stop) y.board.records =
+      subst (λ (p : Phase). HaltMeans (own_family setup names) y.manager.machine.stopped plan p y.board.records) halted
       (halts_at (own_family setup names) (is_family setup (addresses names)) (own_lines setup names) (packet_lines (addresses names) packets_of packets_cut) (own_wires setup names) plan x0.board.records (world_of setup names y g.left) h) in
       told_to_stop (own_plans setup names) setup events x0 refl told
 
   -- an answer that is one of a run's was given at an event of it
-  gave_in : (events : List Event) (given : List (Giving (own_family setup names))) → Each (GivenIn setup names plan (first setup names plan retries).board.records events (first setup names plan retries)) given
+  gave_in : (events : List Event) (given : List (GivenAnswer (own_family setup names))) → Each (GivenIn setup names plan (first setup names plan retries).board.records events (first setup names plan retries)) given
       → (k : ℕ) (asked : Asked) (a : Answered) → Gave (own_family setup names) (own_lines setup names) (own_wires setup names) given plan (first setup names plan retries).board.records k asked a → GaveIn setup names plan retries events k asked a
   gave_in events given all k asked a g =
       let x0 = first setup names plan retries in
-      let one : Giving (own_family setup names) = record { before = g.before; asked = asked; answered = a; after = g.after } in
+      let one : GivenAnswer (own_family setup names) = record { before = g.before; asked = asked; answered = a; after = g.after } in
       let is = each_at (GivenIn setup names plan x0.board.records events x0) given g.is_one.0 one all (slice_get_read given (length given) g.is_one.0 one refl g.is_one.1 (sym g.is_one.2)) in
       record {
         before = is.before;

@@ -21,11 +21,11 @@ use Rattle.bmc_board.proofs.OneAnswer.{has_answer}
 use Rattle.model_bus.specs.Request.{Request as Heard, Kept, Entry, Carried, idles_of}
 use Rattle.model_bus.specs.Numbering.{Rules, is_above}
 use Rattle.model_bus.specs.Carried.{Outcome, Repeats, IsBusy, IsNew, outcome, log_after, reply_after, carried_after}
-use Rattle.model_bus.specs.Assembly.{Name, Sent, Step, Waits, Whole, Drops, takes, waiting, first_request, message_of as model_message_of}
+use Rattle.model_bus.specs.Assembly.{Name, SentPacket, Step, Waits, Whole, Drops, takes, waiting, first_request, message_of as model_message_of}
 use Rattle.model_bus.specs.BusState.{Frame, Content, Ask, Reply, request_of, hears as model_hears, new_bytes}
 use Rattle.model_bus.specs.Bytes.{is_busy_code, IsReplyOn}
 use Rattle.model_bus.specs.Schedule.{IsLive as IsLiveThere}
-use Rattle.model_bus.specs.PacketBus.{PacketBus, Ends, request_name, set_at, packet_happens}
+use Rattle.model_bus.specs.PacketBus.{PacketBus, BusEnds, request_name, set_at, packet_happens}
 use Rattle.model_bus.specs.PacketEffect.{step_of, whole_request, completed_request, carried_of, FrameAtPort, PortEffect, HoldsRequest}
 use Rattle.model_bus.proofs.Lists.{grows, at_end, one_more}
 use Rattle.model_bus.specs.Answered.{Answered}
@@ -35,12 +35,12 @@ use Rattle.model_undo.specs.World as world
 use Rattle.model_undo.specs.World.{States, World, OnBus}
 use Rattle.model_ports.specs.Wires.{family_answer, reply_to, asked_from}
 use Rattle.model_family.proofs.IsFamily.{is_family}
-use Rattle.model_ports.specs.Seen.{seen_name, Agrees}
+use Rattle.model_ports.specs.Seen.{seen_name, AgreesWithJoin}
 use Rattle.model_ports.proofs.WholeBytes.{whole-bytes}
 use Rattle.undo_plans.specs.declared.names.Names.{Names}
 use Rattle.model_ports.specs.Values.{Value, Part, parts_of}
 use Rattle.model_ports.specs.Bytes.{pldm_heard_in, said, busy_on}
-use Rattle.model_ports.specs.PortSteps.{Deed, PortState, spelled, left_by, pldm_asked, reply_envelope, replies, hears_pldm, hears_typed, hears_message, hears_part, ends_message, stays, hears, turn}
+use Rattle.model_ports.specs.PortSteps.{StepResult, PortState, spelled, left_by, pldm_asked, reply_envelope, replies, hears_pldm, hears_typed, hears_message, hears_part, ends_message, stays, hears, turn}
 use Rattle.model_ports.specs.PortEvents.{name_in, event_by, message_answer_to, pldm_answer_to, IsPortOf}
 use Rattle.model_lab.specs.ManagerSteps.{addresses, own_on}
 use Rattle.model_lab.specs.ManagerEvents.{HoldsPart}
@@ -49,8 +49,8 @@ use Rattle.model_lab.specs.declared.way.Way.TheVariants.{ToManager}
 use Rattle.model_lab.specs.Lab.{LabFrame, Lab, frame_now, port_does, opens}
 use Rattle.model_ports.proofs.Spelling.{are_the_models}
 use Rattle.model_headline.specs.Each.{Each}
-use Rattle.model_headline.specs.Tied.{own_plans, own_family, own_lines, own_wires, rules_on, HoldsAskedPart, IsHeld, IsHeldBy, EntryAnswers, IsTied, world_of, IsGiven, Goes}
-use Rattle.model_headline.specs.Follows.{Holds}
+use Rattle.model_headline.specs.Tied.{own_plans, own_family, own_lines, own_wires, rules_on, HoldsAskedPart, IsHeld, IsHeldBy, EntryAnswers, IsTied, world_of, IsGivenAnswer, WorldFollows}
+use Rattle.model_headline.specs.Follows.{HoldsInWorld}
 use Rattle.model_headline.proofs.Each.{each_map, each_by_place}
 use Rattle.model_headline.proofs.Sending.{from_zero, part_seen, part_envelope}
 use Rattle.model_headline.proofs.Begun.{own}
@@ -58,7 +58,7 @@ use Rattle.model_headline.proofs.Parts as part
 use Rattle.model_headline.proofs.Quiet as quiet
 
 module _ (setup : BoardFile) (names : Names) (plan : List Op) (start : Records) where
-  module _ (x : Lab (own_plans setup names)) (on : States (own_lines setup names)) (tied : IsTied setup names x on) (h : Holds setup names plan start (world_of setup names x on)) (f : LabFrame) (hold : HoldsAskedPart setup names (on Smbus) f)
+  module _ (x : Lab (own_plans setup names)) (on : States (own_lines setup names)) (tied : IsTied setup names x on) (h : HoldsInWorld setup names plan start (world_of setup names x on)) (f : LabFrame) (hold : HoldsAskedPart setup names (on Smbus) f)
       (live : IsLiveThere (rules_on setup names Smbus) (on Smbus).bus hold.part.frame) (mine : JoinsOwn (own_plans setup names) x f.request (Part hold.packet)) where
     abbrev b : PacketBus
     b = part.b setup names plan start x on tied h f hold live mine
@@ -69,7 +69,7 @@ module _ (setup : BoardFile) (names : Names) (plan : List Op) (start : Records) 
     abbrev g : Frame
     g = hold.part.frame
 
-    abbrev ends : Ends
+    abbrev ends : BusEnds
     ends = on Smbus
 
     abbrev rules : Rules
@@ -78,10 +78,10 @@ module _ (setup : BoardFile) (names : Names) (plan : List Op) (start : Records) 
     abbrev cause : Option DropCause
     cause = drop_cause x.smbus.eid x.smbus.kept p
 
-    abbrev sent : Sent
+    abbrev sent : SentPacket
     sent = part.sent setup names plan start x on tied h f hold live mine
 
-    abbrev all : List Sent
+    abbrev all : List SentPacket
     all = waiting (ends.port (name_in p)) sent ++ sent ∷ []
 
     abbrev next : PortState
@@ -116,7 +116,7 @@ module _ (setup : BoardFile) (names : Names) (plan : List Op) (start : Records) 
       slot e = none-some NoSlot (sym none ∙ e)
 
       taken_whole : part.taken setup names plan start x on tied h f hold live mine ≡ (Whole all, [])
-      taken_whole = subst (λ (t : Bool). Agrees None t all (part.taken setup names plan start x on tied h f hold live mine)) last (subst (λ (c : Option DropCause). Agrees c p.end all (part.taken setup names plan start x on tied h f hold live mine)) none (part.agrees setup names plan start x on tied h f hold live mine))
+      taken_whole = subst (λ (t : Bool). AgreesWithJoin None t all (part.taken setup names plan start x on tied h f hold live mine)) last (subst (λ (c : Option DropCause). AgreesWithJoin c p.end all (part.taken setup names plan start x on tied h f hold live mine)) none (part.agrees setup names plan start x on tied h f hold live mine))
 
       -- what is whole is what was sent
       abbrev IsSent : Step → Type 0
@@ -131,7 +131,7 @@ module _ (setup : BoardFile) (names : Names) (plan : List Op) (start : Records) 
           subst (λ (c : Content). IfSome (completed_request b ends hold.place g.request g.idles c) (HoldsRequest rules g.request c)) hold.part.asks at_frame.as_sent in
           let of_part = subst (λ o. IsSent (step_of ends.port (request_name b g.request) g.request g.idles o)) hold.part.part of_bytes in
           let named = subst (λ (n : Name). IsSent (takes (ends.port n) sent).0) (sym hold.part.named) of_part in
-          subst (λ (y : Step × List Sent). IsSent y.0) taken_whole named
+          subst (λ (y : Step × List SentPacket). IsSent y.0) taken_whole named
 
       body_is : whole.body ≡ hold.part.bytes
       body_is = sym (whole-bytes x.smbus.eid x.smbus.kept p sent (ends.port (name_in p)) refl (tied.smbus_port.waits _) none last) ∙ ap (λ (y : Heard). y.bytes) as_sent
@@ -147,7 +147,7 @@ module _ (setup : BoardFile) (names : Names) (plan : List Op) (start : Records) 
 
       -- ---- what the lab's port does
 
-      abbrev deed_by : ℕ → List Entry → Deed
+      abbrev deed_by : ℕ → List Entry → StepResult
       deed_by from log =
           let s = pldm_heard_in from q in
           let a = answer_of setup x.board (pldm_asked from q) in
@@ -155,11 +155,11 @@ module _ (setup : BoardFile) (names : Names) (plan : List Op) (start : Records) 
           let o = outcome (is_above 32) s log in
           record { port = record next { log = log_after o k log }; board = left_by o a.1 x.board; sent = replies next whole (said Smbus s (reply_after o k)) }
 
-      abbrev deed : Deed
+      abbrev deed : StepResult
       deed = deed_by names.own_eid ends.bus.log
 
       -- the same, by what is done with the request
-      abbrev deed_as : Outcome → Deed
+      abbrev deed_as : Outcome → StepResult
       deed_as o = record { port = record next { log = log_after o kept ends.bus.log }; board = left_by o given.1 x.board; sent = replies next whole (said Smbus r (reply_after o kept)) }
 
       asked_so : hears_pldm setup next x.board whole (Some q) ≡ deed_by p.envelope.source_eid x.smbus.log
@@ -183,15 +183,15 @@ module _ (setup : BoardFile) (names : Names) (plan : List Op) (start : Records) 
 
       -- ---- what the model's does
 
-      abbrev left : Ends
+      abbrev left : BusEnds
       left = record ends { bus = model_hears rules g.request kept ends.bus; port = set_at (name_in p) [] ends.port }
 
       happened : packet_happens b ends (part.arrives setup names plan start x on tied h f hold live mine) ≡ left
       happened =
           part.happens_so setup names plan start x on tied h f hold live mine
           ∙ ap (part.ends_by setup names plan start x on tied h f hold live mine) taken_whole
-          ∙ ap (λ (s : Heard). let y : Ends = record ends { bus = model_hears rules g.request (record { request = s; reply = part.answer setup names plan start x on tied h f hold live mine }) ends.bus; port = set_at (name_in p) [] ends.port } in y) (as_sent ∙ sym hold.heard)
-          ∙ ap (λ (a : List ℕ). let y : Ends = record ends { bus = model_hears rules g.request (record { request = r; reply = a }) ends.bus; port = set_at (name_in p) [] ends.port } in y) answer_is
+          ∙ ap (λ (s : Heard). let y : BusEnds = record ends { bus = model_hears rules g.request (record { request = s; reply = part.answer setup names plan start x on tied h f hold live mine }) ends.bus; port = set_at (name_in p) [] ends.port } in y) (as_sent ∙ sym hold.heard)
+          ∙ ap (λ (a : List ℕ). let y : BusEnds = record ends { bus = model_hears rules g.request (record { request = r; reply = a }) ends.bus; port = set_at (name_in p) [] ends.port } in y) answer_is
 
       not_busy : is_busy_code given.0.code ≡ false
       not_busy = (is_family setup (own setup names)).never_busy x.board given.1 (pldm_asked names.own_eid q) (family_answer given.0) (has_answer setup x.board (pldm_asked names.own_eid q))
@@ -262,7 +262,7 @@ module _ (setup : BoardFile) (names : Names) (plan : List Op) (start : Records) 
       leaves : quiet.Leaves setup names plan start x on tied h f hold live mine deed left
       leaves = record {
         wire = refl;
-        port = subst (λ (d : Deed). IsPortOf left d.port) deed_so (subst (λ (y : Ends). IsPortOf y (hears_part setup x.smbus x.board p).port) happened (quiet.manager_after setup names plan start x on tied h f hold live mine None none ours slot));
+        port = subst (λ (d : StepResult). IsPortOf left d.port) deed_so (subst (λ (y : BusEnds). IsPortOf y (hears_part setup x.smbus x.board p).port) happened (quiet.manager_after setup names plan start x on tied h f hold live mine None none ours slot));
         manager = refl;
         taken = refl;
         written = record { requests = (tied.written Smbus).requests; replies = replies_in done };
@@ -286,12 +286,12 @@ module _ (setup : BoardFile) (names : Names) (plan : List Op) (start : Records) 
       carried : ((own_lines setup names) Smbus).carries ends (part.arrives setup names plan start x on tied h f hold live mine) ≡ exchange (new_bytes done r.bytes) kept.reply
       carried =
           quiet.carried_so setup names plan start x on tied h f hold live mine
-          ∙ ap (λ (y : Step × List Sent). exchange (carried_of rules (whole_request rules g.request y.0) ends.bus) (part.answer setup names plan start x on tied h f hold live mine)) taken_whole
+          ∙ ap (λ (y : Step × List SentPacket). exchange (carried_of rules (whole_request rules g.request y.0) ends.bus) (part.answer setup names plan start x on tied h f hold live mine)) taken_whole
           ∙ ap (λ (y : Heard). exchange (carried_of rules (Some y) ends.bus) (part.answer setup names plan start x on tied h f hold live mine)) (as_sent ∙ sym hold.heard)
           ∙ ap (λ (a : List ℕ). exchange (new_bytes done r.bytes) a) answer_is
 
       -- the answer is the lab's
-      gave : (o : Outcome) → Each (IsGiven setup names x (quiet.done_by setup names plan start x on tied h f hold live mine (deed_as o)))
+      gave : (o : Outcome) → Each (IsGivenAnswer setup names x (quiet.done_by setup names plan start x on tied h f hold live mine (deed_as o)))
           (given_by (own_family setup names) (own_lines setup names) (own_wires setup names) Smbus (exchange (new_bytes o r.bytes) kept.reply) x.board (left_by o given.1 x.board) ++ [])
       gave (Repeats reply) = tt
       gave IsBusy = tt
@@ -311,31 +311,31 @@ module _ (setup : BoardFile) (names : Names) (plan : List Op) (start : Records) 
         tt,
       )
 
-      pub whole_goes : Goes setup names x on (quiet.done_by setup names plan start x on tied h f hold live mine (hears_part setup x.smbus x.board p))
+      pub whole_goes : WorldFollows setup names x on (quiet.done_by setup names plan start x on tied h f hold live mine (hears_part setup x.smbus x.board p))
       whole_goes = quiet.finish setup names plan start x on tied h f hold live mine deed (sym deed_so) (record {
         happenings = OnBus Smbus (part.arrives setup names plan start x on tied h f hold live mine) (left_by done given.1 x.board) ∷ [];
         left = quiet.now setup names plan start x on tied h f hold live mine left;
         may = (((tt, part.honest_part setup names plan start x on tied h f hold live mine ours slot), refl, subst (λ o. world.BoardMay (own_family setup names) (own_lines setup names) (own_wires setup names) Smbus o x.board (left_by done given.1 x.board)) (sym carried) (board_may done)), tt);
-        reaches = ap (λ (y : Ends). let w : World (own_family setup names) (own_lines setup names) = record { machine = x.manager.machine; on = quiet.now setup names plan start x on tied h f hold live mine y; board = left_by done given.1 x.board } in w) happened;
-        gives = subst (λ o. Each (IsGiven setup names x (quiet.done_by setup names plan start x on tied h f hold live mine deed)) (given_by (own_family setup names) (own_lines setup names) (own_wires setup names) Smbus o x.board (left_by done given.1 x.board) ++ [])) (sym carried) (gave done);
+        reaches = ap (λ (y : BusEnds). let w : World (own_family setup names) (own_lines setup names) = record { machine = x.manager.machine; on = quiet.now setup names plan start x on tied h f hold live mine y; board = left_by done given.1 x.board } in w) happened;
+        gives = subst (λ o. Each (IsGivenAnswer setup names x (quiet.done_by setup names plan start x on tied h f hold live mine deed)) (given_by (own_family setup names) (own_lines setup names) (own_wires setup names) Smbus o x.board (left_by done given.1 x.board) ++ [])) (sym carried) (gave done);
         tied = quiet.leaves_tied setup names plan start x on tied h f hold live mine deed left leaves;
       })
 
     -- ---- every packet
 
-    by_end : (t : Bool) → p.end ≡ t → cause ≡ None → Goes setup names x on (quiet.done_by setup names plan start x on tied h f hold live mine (hears_part setup x.smbus x.board p))
+    by_end : (t : Bool) → p.end ≡ t → cause ≡ None → WorldFollows setup names x on (quiet.done_by setup names plan start x on tied h f hold live mine (hears_part setup x.smbus x.board p))
     by_end true e none = whole_goes none e
     by_end false e none =
         quiet.kept_quiet setup names plan start x on tied h f hold live mine None none (λ m. none-some NotOurs (sym none ∙ m)) (λ m. none-some NoSlot (sym none ∙ m))
         (sym (ap (λ (t : Bool). cond t (hears_message setup next x.board whole) (stays next x.board)) e)) refl Waits all
-        (subst (λ (t : Bool). Agrees None t all (part.taken setup names plan start x on tied h f hold live mine)) e (subst (λ (c : Option DropCause). Agrees c p.end all (part.taken setup names plan start x on tied h f hold live mine)) none (part.agrees setup names plan start x on tied h f hold live mine))) refl refl (part.waiting_opened setup names plan start x on tied h f hold live mine none)
+        (subst (λ (t : Bool). AgreesWithJoin None t all (part.taken setup names plan start x on tied h f hold live mine)) e (subst (λ (c : Option DropCause). AgreesWithJoin c p.end all (part.taken setup names plan start x on tied h f hold live mine)) none (part.agrees setup names plan start x on tied h f hold live mine))) refl refl (part.waiting_opened setup names plan start x on tied h f hold live mine none)
 
     dropped : (c : DropCause) → cause ≡ Some c → (Some c ≡ Some NotOurs → ⊥) → (Some c ≡ Some NoSlot → ⊥) → quiet.quiet setup names plan start x on tied h f hold live mine ≡ ends_message setup next x.board p (Some c)
         → event_by (Some c) (name_in p) (part.arrives setup names plan start x on tied h f hold live mine) ≡ Some (part.arrives setup names plan start x on tied h f hold live mine) → part.taken setup names plan start x on tied h f hold live mine ≡ (Drops, [])
-        → Goes setup names x on (quiet.done_by setup names plan start x on tied h f hold live mine (hears_part setup x.smbus x.board p))
+        → WorldFollows setup names x on (quiet.done_by setup names plan start x on tied h f hold live mine (hears_part setup x.smbus x.board p))
     dropped c e ours slot same event drops = quiet.kept_quiet setup names plan start x on tied h f hold live mine (Some c) e (λ m. ours (sym e ∙ m)) (λ m. slot (sym e ∙ m)) same event Drops [] drops refl refl (λ t is. absurd is)
 
-    by_cause : (c : Option DropCause) → cause ≡ c → Agrees c p.end all (part.taken setup names plan start x on tied h f hold live mine) → Goes setup names x on (quiet.done_by setup names plan start x on tied h f hold live mine (hears_part setup x.smbus x.board p))
+    by_cause : (c : Option DropCause) → cause ≡ c → AgreesWithJoin c p.end all (part.taken setup names plan start x on tied h f hold live mine) → WorldFollows setup names x on (quiet.done_by setup names plan start x on tied h f hold live mine (hears_part setup x.smbus x.board p))
     by_cause (Some NotOurs) e a = quiet.not_ours setup names plan start x on tied h f hold live mine e
     by_cause (Some NoSlot) e a = quiet.no_slot setup names plan start x on tied h f hold live mine e
     by_cause (Some NoStart) e a = dropped NoStart e (λ m. absurd cc) (λ m. absurd cc) refl refl a
@@ -345,8 +345,8 @@ module _ (setup : BoardFile) (names : Names) (plan : List Op) (start : Records) 
     by_cause None e a = by_end p.end refl e
 
     -- a packet of the manager comes to the port
-    pub part_goes : Goes setup names x on (port_does (own_plans setup names) Smbus ToManager f.request (hears setup x.smbus x.board (Part p)) (opens (own_plans setup names) (Part p) f.request x))
+    pub part_goes : WorldFollows setup names x on (port_does (own_plans setup names) Smbus ToManager f.request (hears setup x.smbus x.board (Part p)) (opens (own_plans setup names) (Part p) f.request x))
     part_goes =
         let there : (p.envelope.destination == x.smbus.wire) ≡ true = eq-eqb _ _ (hold.to_port ∙ sym tied.smbus_wire) in
-        subst (λ (t : Bool). Goes setup names x on (port_does (own_plans setup names) Smbus ToManager f.request (cond t (hears_part setup x.smbus x.board p) (stays x.smbus x.board)) (opens (own_plans setup names) (Part p) f.request x))) (sym there)
-        (subst (λ (y : Lab (own_plans setup names)). Goes setup names x on (port_does (own_plans setup names) Smbus ToManager f.request (hears_part setup x.smbus x.board p) y)) (sym (part.opens_is setup names plan start x on tied h f hold live mine)) (by_cause cause refl (part.agrees setup names plan start x on tied h f hold live mine)))
+        subst (λ (t : Bool). WorldFollows setup names x on (port_does (own_plans setup names) Smbus ToManager f.request (cond t (hears_part setup x.smbus x.board p) (stays x.smbus x.board)) (opens (own_plans setup names) (Part p) f.request x))) (sym there)
+        (subst (λ (y : Lab (own_plans setup names)). WorldFollows setup names x on (port_does (own_plans setup names) Smbus ToManager f.request (hears_part setup x.smbus x.board p) y)) (sym (part.opens_is setup names plan start x on tied h f hold live mine)) (by_cause cause refl (part.agrees setup names plan start x on tied h f hold live mine)))

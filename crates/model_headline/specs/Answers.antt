@@ -7,7 +7,7 @@ use Rattle.record_base.specs.declared.op.Op.{Op}
 use Rattle.cfg_records.specs.declared.board_file.BoardFile.{BoardFile}
 use Rattle.model_bus.specs.Request.{Kept, Carried}
 use Rattle.model_bus.specs.Answered.{Answered}
-use Rattle.model_undo.specs.Words.{IsOf, AllAnswered}
+use Rattle.model_undo.specs.Words.{IsOneOf, AllAnswered}
 use Rattle.model_undo.specs.declared.phase.Why.TheVariants.{Stop, Refused, NotRestorable, GetRefused}
 use Rattle.model_undo.specs.declared.phase.Phase.{Phase}
 use Rattle.model_undo.specs.declared.phase.Phase.TheVariants.{Halted}
@@ -24,7 +24,7 @@ module _ (setup : BoardFile) (names : Names) where
 
   -- As a lab goes from one to the other, a port carries out a request of the manager that asks this. The board answers it so by the
   -- command relation, and the reply is kept.
-  pub record Answers (lab next : Lab (board_plans names)) (asked : Asked) (answered : Answered) : Type 0 where
+  pub record AnswerGiven (lab next : Lab (board_plans names)) (asked : Asked) (answered : Answered) : Type 0 where
     pub bus : Bus
     pub kept : Kept
     pub carried : (port_on (board_plans names) bus next).log ≡ Carried kept ∷ (port_on (board_plans names) bus lab).log
@@ -38,10 +38,10 @@ module _ (setup : BoardFile) (names : Names) where
   abbrev pub CausedBy : (Gave : ℕ → Asked → Answered → Type 0) → (stopped : Type 0) → List Op → Phase → Type 0
   CausedBy Gave stopped plan (Halted step Stop) = stopped
   CausedBy Gave stopped plan (Halted step (Refused code)) =
-      (op : Op) × (asked : Asked) × (body : List ℕ) × (slice_get plan step ≡ Some op) × IsOf Board.words (Board.words.setting op) asked
+      (op : Op) × (asked : Asked) × (body : List ℕ) × (slice_get plan step ≡ Some op) × IsOneOf Board.words (Board.words.setting op) asked
       × Gave step asked (record { code = code; body = body }) × (code ≢ success)
   CausedBy Gave stopped plan (Halted step (GetRefused code)) =
-      (op : Op) × (asked : Asked) × (body : List ℕ) × (slice_get plan step ≡ Some op) × IsOf Board.words (Board.words.getting (Board.words.key_of op)) asked
+      (op : Op) × (asked : Asked) × (body : List ℕ) × (slice_get plan step ≡ Some op) × IsOneOf Board.words (Board.words.getting (Board.words.key_of op)) asked
       × Gave step asked (record { code = code; body = body }) × (code ≢ success)
   CausedBy Gave stopped plan (Halted step NotRestorable) =
       (op : Op) × (bodies : List (List ℕ)) × (slice_get plan step ≡ Some op) × AllAnswered Board.words (Gave step) (Board.words.getting (Board.words.key_of op)) bodies

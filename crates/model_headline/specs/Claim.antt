@@ -34,24 +34,24 @@ module _ (setup : BoardFile) where
     pub changed : new ≡ with_record old (key_of op) after
 
   -- A Get is answered with 00h and a view of its record's value (of a long attribute's, the first part), or refused where there is none.
-  abbrev pub Shows : Option Limits → Option (List ℕ) → State → Answered → Type 0
-  Shows (Some limits) (Some value) before answered = answered ≡ record { code = success; body = first_shown limits (view limits value before.activity.live) }
-  Shows limits value before answered = answered.code ≢ success
+  abbrev pub AnswersGet : Option Limits → Option (List ℕ) → State → Answered → Type 0
+  AnswersGet (Some limits) (Some value) before answered = answered ≡ record { code = success; body = first_shown limits (view limits value before.activity.live) }
+  AnswersGet limits value before answered = answered.code ≢ success
 
   -- What is asked for is answered so, and leaves such a board. A Set changes its own record alone, or can't be accepted and is refused. A part of a Set
   -- leaves every record, or is carried out as such a Set. No honest event has a request that sets two. Any other leaves every record, whatever its answer.
-  abbrev pub IsServed : Result Request ℕ → (before : State) → Answered → (after : State) → Type 0
-  IsServed (Ok (Get key)) before answered after = (after.records ≡ before.records) × Shows (limits_at setup key) (before.records key) before answered
-  IsServed (Ok (Set op)) before answered after = ((answered.code ≡ success) × SetsTo op before.records after.records)
+  abbrev pub IsAnsweredRequest : Result Request ℕ → (before : State) → Answered → (after : State) → Type 0
+  IsAnsweredRequest (Ok (Get key)) before answered after = (after.records ≡ before.records) × AnswersGet (limits_at setup key) (before.records key) before answered
+  IsAnsweredRequest (Ok (Set op)) before answered after = ((answered.code ≡ success) × SetsTo op before.records after.records)
       ⊎ ((answered.code ≢ success) × (after.records ≡ before.records) × ((other : Records) → ¬ SetsTo op before.records other))
-  IsServed (Ok (PartOfSet from part)) before answered after = (after.records ≡ before.records) ⊎ ((answered.code ≡ success) × (op : Op) × SetsTo op before.records after.records)
-  IsServed (Ok (SetStores first second)) before answered after = answered.code ≢ success → after.records ≡ before.records
-  IsServed request before answered after = after.records ≡ before.records
+  IsAnsweredRequest (Ok (PartOfSet from part)) before answered after = (after.records ≡ before.records) ⊎ ((answered.code ≡ success) × (op : Op) × SetsTo op before.records after.records)
+  IsAnsweredRequest (Ok (SetStores first second)) before answered after = answered.code ≢ success → after.records ≡ before.records
+  IsAnsweredRequest request before answered after = after.records ≡ before.records
 
   -- it begins with the file's records and nothing staged, and serves each request so
   pub record IsController (controller : Controller) : Type 0 where
     pub begins : (controller.begins.records ≡ records_of (pairs_of setup)) × (controller.begins.activity.stagings ≡ [])
-    pub serves : (before : State) (asked : Asked) → IsServed (asked_by asked) before (controller.answer before asked).0 (controller.answer before asked).1
+    pub serves : (before : State) (asked : Asked) → IsAnsweredRequest (asked_by asked) before (controller.answer before asked).0 (controller.answer before asked).1
 
   -- The controller that the claim is of. Its board is as above, which is all that needs to be known of its answers.
   abbrev pub ours : Controller
@@ -65,16 +65,16 @@ module _ (setup : BoardFile) where
   IsAfter plan start (suc steps) now = (before : Records) × (op : Op) × IsAfter plan start steps before × (slice_get plan steps ≡ Some op) × SetsTo op before now
 
   -- what the phase says of the records
-  abbrev pub Stands : List Op → (start : Records) → Phase → Records → Type 0
-  Stands plan start Fresh now = now ≡ start
-  Stands plan start (Open true (Gets steps op) bodies) now = IsAfter plan start steps now
-  Stands plan start (Open false (Gets steps op) bodies) now = IsAfter plan start steps now ⊎ IsAfter plan start (suc steps) now
-  Stands plan start (Open heeded (Sets steps op back) bodies) now = IsAfter plan start steps now ⊎ IsAfter plan start (suc steps) now
-  Stands plan start (Open heeded (Undoes back rest) bodies) now = IsAfter plan start (length rest) now ⊎ IsAfter plan start (suc (length rest)) now
-  Stands plan start Done now = IsAfter plan start (length plan) now
-  Stands plan start (Halted steps why) now = IsAfter plan start steps now
-  Stands plan start Undone now = now ≡ start
-  Stands plan start (UndoRefused steps code) now = ⊥
+  abbrev pub PhaseMeans : List Op → (start : Records) → Phase → Records → Type 0
+  PhaseMeans plan start Fresh now = now ≡ start
+  PhaseMeans plan start (Open true (Gets steps op) bodies) now = IsAfter plan start steps now
+  PhaseMeans plan start (Open false (Gets steps op) bodies) now = IsAfter plan start steps now ⊎ IsAfter plan start (suc steps) now
+  PhaseMeans plan start (Open heeded (Sets steps op back) bodies) now = IsAfter plan start steps now ⊎ IsAfter plan start (suc steps) now
+  PhaseMeans plan start (Open heeded (Undoes back rest) bodies) now = IsAfter plan start (length rest) now ⊎ IsAfter plan start (suc (length rest)) now
+  PhaseMeans plan start Done now = IsAfter plan start (length plan) now
+  PhaseMeans plan start (Halted steps why) now = IsAfter plan start steps now
+  PhaseMeans plan start Undone now = now ≡ start
+  PhaseMeans plan start (UndoRefused steps code) now = ⊥
 
   -- Any two Gets of a record, whoever asks them, one of the first board and one of the second, are answered with the same code, and where
   -- that is 00h they show the same configuration (of a long attribute, in its first part).
@@ -192,7 +192,7 @@ module _ (setup : BoardFile) (controller : Controller) (names : Names) (plan : L
   -- that comes then, every record is what it was, and each Get, also one in parts, is answered with the same code and shows the same configuration.
   -- A plan that halted has its cause in the schedule.
   pub record Claim : Type 0 where
-    pub stands : (events : List Event) → AllHonest controller names events first → Stands setup plan first.board.records (after events).manager.phase (after events).board.records
+    pub stands : (events : List Event) → AllHonest controller names events first → PhaseMeans setup plan first.board.records (after events).manager.phase (after events).board.records
     pub undone : (events later : List Event) → AllHonest controller names (events ++ later) first → (after events).manager.phase ≡ Undone
         → let now = (after (events ++ later)).board in (now.records ≡ first.board.records) × ShowsSame setup controller first.board now × ShowsSameParts setup controller first.board now
     pub halts : (events : List Event) (steps : ℕ) (why : Why) → AllHonest controller names events first → (after events).manager.phase ≡ Halted steps why → IsCause events steps why

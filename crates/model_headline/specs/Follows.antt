@@ -20,16 +20,16 @@ use Rattle.model_lab.specs.Own.{IsOwn}
 use Rattle.model_lab.specs.Honest.{IsDelivered, IsHonest}
 use Rattle.model_lab.specs.declared.way.Way.TheVariants.{ToPort, ToManager}
 use Rattle.model_lab.specs.Lab.{Event, Calls, ToBmc, ToMgr, OtherIpmb, OtherSmbus, Noise, Idles, OnBench, Lab, step}
-use Rattle.model_headline.specs.Tied.{own_plans, own_family, own_lines, own_wires, IsTied, world_of, Goes}
+use Rattle.model_headline.specs.Tied.{own_plans, own_family, own_lines, own_wires, IsTied, world_of, WorldFollows}
 
 module _ (setup : BoardFile) (names : Names) (plan : List Op) (start : Records) where
   -- what holds of the model's world at every moment
-  abbrev pub Holds : World (own_family setup names) (own_lines setup names) → Type 0
-  Holds world = WorldHolds (own_family setup names) (is_family setup (addresses names)) (own_lines setup names) (packet_lines (addresses names) packets_of packets_cut) (own_wires setup names) (λ bus. 0) plan start world
+  abbrev pub HoldsInWorld : World (own_family setup names) (own_lines setup names) → Type 0
+  HoldsInWorld world = WorldHolds (own_family setup names) (is_family setup (addresses names)) (own_lines setup names) (packet_lines (addresses names) packets_of packets_cut) (own_wires setup names) (λ bus. 0) plan start world
 
   -- The premises on an event are enough: where a lab shows a world, the lab after the event shows a world to which that world goes.
   abbrev pub IsFollowed : Lab (own_plans setup names) → Event → Type 0
-  IsFollowed lab event = (on : States (own_lines setup names)) → IsTied setup names lab on → Holds (world_of setup names lab on) → Goes setup names lab on (step (own_plans setup names) setup lab event)
+  IsFollowed lab event = (on : States (own_lines setup names)) → IsTied setup names lab on → HoldsInWorld (world_of setup names lab on) → WorldFollows setup names lab on (step (own_plans setup names) setup lab event)
 
   -- each call of the manager is followed
   abbrev pub CallsAreFollowed : Type 0
@@ -38,7 +38,7 @@ module _ (setup : BoardFile) (names : Names) (plan : List Op) (start : Records) 
   -- a restart of the manager, at any moment, is followed
   abbrev pub RestartsAreFollowed : Type 0
   RestartsAreFollowed = (lab : Lab (own_plans setup names)) (on : States (own_lines setup names)) → IsTied setup names lab on
-      → Goes setup names lab on (record lab { manager = remade (own_plans setup names) lab.manager })
+      → WorldFollows setup names lab on (record lab { manager = remade (own_plans setup names) lab.manager })
 
   -- each live frame that comes to the manager is followed
   abbrev pub RepliesAreFollowed : Type 0

@@ -17,7 +17,7 @@ use Rattle.model_bus.specs.Answered.{Answered}
 use Rattle.model_undo.specs.declared.call.Call.TheVariants.{Stop}
 use Rattle.model_undo.specs.declared.phase.Phase.TheVariants.{Undone}
 use Rattle.model_undo.specs.Family.{AllValid, IsReady}
-use Rattle.model_undo.specs.Plan.{IsAfter, Stands}
+use Rattle.model_undo.specs.Plan.{IsAfter, PhaseMeans}
 use Rattle.model_undo.specs.Machine.{phase_of}
 use Rattle.model_undo.specs.Headline.{ShowsSame, PartsShowSame}
 use Rattle.undo_plans.specs.declared.names.Names.{Names}
@@ -26,7 +26,7 @@ use Rattle.model_lab.specs.Honest.{AllHonest}
 use Rattle.model_lab.specs.Joins.{AllJoinLive}
 use Rattle.model_headline.specs.Each.{Each}
 use Rattle.model_headline.specs.Tied.{own_plans, own_family, rules_on, EntryAnswers}
-use Rattle.model_headline.specs.Answers.{Answers, CausedBy}
+use Rattle.model_headline.specs.Answers.{AnswerGiven, CausedBy}
 use Rattle.model_headline.specs.Theorem.{first}
 
 module _ (setup : BoardFile) (names : Names) (plan : List Op) (retries : ℕ) where
@@ -54,14 +54,14 @@ module _ (setup : BoardFile) (names : Names) (plan : List Op) (retries : ℕ) wh
     pub event : Event
     pub later : List Event
     pub all : events ≡ before ++ event ∷ later
-    pub answers : Answers setup names (run (own_plans setup names) setup before start) (step (own_plans setup names) setup (run (own_plans setup names) setup before start) event) asked answered
+    pub answers : AnswerGiven setup names (run (own_plans setup names) setup before start) (step (own_plans setup names) setup (run (own_plans setup names) setup before start) event) asked answered
     pub at : IsAfter (own_family setup names) plan start.board.records place (run (own_plans setup names) setup before start).board.records
 
   -- the phase says what the records are, a plan that halted has its cause in its own schedule, and once the plan is undone, all is for good as it was at this start
   pub record StandsFrom (start : Lab (own_plans setup names)) : Type 0 where
     pub stands : (events : List Event) → IsTrustedFrom start events
         → let now = run (own_plans setup names) setup events start in
-        Stands (own_family setup names) plan start.board.records (phase_of (own_family setup names).words now.manager.machine) now.board.records
+        PhaseMeans (own_family setup names) plan start.board.records (phase_of (own_family setup names).words now.manager.machine) now.board.records
     pub halts : (events : List Event) → IsTrustedFrom start events
         → CausedBy setup names (GaveFrom start events) (In (Calls Stop) events) plan (phase_of (own_family setup names).words (run (own_plans setup names) setup events start).manager.machine)
     pub undone : (events later : List Event) → IsTrustedFrom start (events ++ later)

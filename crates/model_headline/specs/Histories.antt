@@ -20,7 +20,7 @@ use Rattle.model_lab.specs.Played.{plans, happens, after}
 use Rattle.bmc_history.specs.declared.event.Call.{Call}
 use Rattle.bmc_history.specs.declared.event.Call.TheVariants.{Exchanged, Benched}
 use Rattle.bmc_history.specs.declared.event.Event.{Event as BoardEvent}
-use Rattle.bmc_history.specs.Replay.{calls_of, Replays}
+use Rattle.bmc_history.specs.Replay.{calls_of, IsReplay}
 
 -- ---- what a port carried out, by its log
 
@@ -31,15 +31,15 @@ all_carried (Carried kept ∷ log) = all_carried log ++ kept ∷ []
 all_carried (Idled requester ∷ log) = all_carried log
 
 -- the bytes are those of the request under this number, on IPMB from some logical unit of the requester
-abbrev pub Spells : (number : ℕ) → List ℕ → Asked → Type 0
-Spells number bytes (Ipmi from net_fn lun command body) =
+abbrev pub SpellsAsked : (number : ℕ) → List ℕ → Asked → Type 0
+SpellsAsked number bytes (Ipmi from net_fn lun command body) =
     (own_lun : ℕ) × (bytes ≡ ipmb_request (record { net_fn = net_fn; responder_lun = lun; requester_lun = own_lun; command = command }) number body)
-Spells number bytes (Pldm from kind command body) = bytes ≡ pldm_request (record { pldm_type = kind; command = command }) number body
+SpellsAsked number bytes (Pldm from kind command body) = bytes ≡ pldm_request (record { pldm_type = kind; command = command }) number body
 
 -- what is kept is the exchange: its requester asked this, in its bytes under its number, and its reply gives this answer
 pub record IsExchange (kept : Kept) (asked : Asked) (answered : Answered) : Type 0 where
   pub from : sent_by kept.request.requester asked ≡ asked
-  pub request : Spells kept.request.number kept.request.bytes asked
+  pub request : SpellsAsked kept.request.number kept.request.bytes asked
   pub reply : kept.reply ≡ reply_to (bus_of asked) kept.request.bytes (family_answer answered)
 
 -- what is kept is the call of the board
@@ -84,6 +84,6 @@ IsHistoryOf file (event ∷ later) lab history =
 pub record HasHistory (file : BoardFile) (events : List Event) (lab : Lab plans) : Type 0 where
   pub history : List BoardEvent
   pub is : IsHistoryOf file events lab history
-  pub replays : Replays file lab.board history (after file events lab).board
+  pub replays : IsReplay file lab.board history (after file events lab).board
   pub ipmb : CarriesOut (calls_of 0 history) lab.ipmb.log (after file events lab).ipmb.log
   pub smbus : CarriesOut (calls_of 1 history) lab.smbus.log (after file events lab).smbus.log

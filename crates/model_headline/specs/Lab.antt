@@ -85,13 +85,13 @@ unfoldable pub turn : Bus → Heard → Controller → List Entry → State → 
 turn on request controller log before = turn_where (repeated on request [] log) (is_ninth request.requester (requesters log)) on request controller log before
 
 -- the port and the board after something came, and what is sent
-pub record Deed : Type 0 where
+pub record StepResult : Type 0 where
   pub port : Port
   pub board : State
   pub sent : List Value
 
 -- nothing changes, and nothing is sent
-abbrev pub stays : Port → State → Deed
+abbrev pub stays : Port → State → StepResult
 stays port before = record { port = port; board = before; sent = [] }
 
 -- a request on IPMB
@@ -100,7 +100,7 @@ heard_in request =
     let asked = Ipmi request.header.requester.address request.header.net_fn request.header.responder.lun request.header.command request.body in
     record { requester = request.header.requester.address; number = request.header.sequence; bytes = request_bytes request; asked = asked }
 
-abbrev pub hears_request : Controller → Port → State → Request → Deed
+abbrev pub hears_request : Controller → Port → State → Request → StepResult
 hears_request controller port before request =
     let outcome = turn Ipmb (heard_in request) controller port.log before in
     record { port = record port { log = outcome.log }; board = outcome.board; sent = Tells (record { header = request.header; code = outcome.answer.code; body = outcome.answer.body }) ∷ [] }
@@ -110,7 +110,7 @@ abbrev pub replies : Port → Envelope → List ℕ → List Value
 replies port asking body = map Part (packets_of (envelope asking.source port.wire asking.source_eid port.eid false asking.tag) body)
 
 -- a control message: the endpoint has this identifier then, from which it replies so
-abbrev pub hears_control : Port → State → Envelope → Option (ℕ × List ℕ) → Deed
+abbrev pub hears_control : Port → State → Envelope → Option (ℕ × List ℕ) → StepResult
 hears_control port before asking None = stays port before
 hears_control port before asking (Some effect) =
     let next : Port = record port { eid = effect.0 } in record { port = next; board = before; sent = replies next asking effect.1 }
@@ -119,7 +119,7 @@ hears_control port before asking (Some effect) =
 abbrev pub pldm_heard : ℕ → PldmRequest → Heard
 pldm_heard from request = record { requester = from; number = request.header.instance; bytes = 1 ∷ pldm_bytes request; asked = Pldm from request.header.pldm_type request.header.command request.body }
 
-abbrev pub hears_pldm : Controller → Port → State → Envelope → Option PldmRequest → Deed
+abbrev pub hears_pldm : Controller → Port → State → Envelope → Option PldmRequest → StepResult
 hears_pldm controller port before asking None = stays port before
 hears_pldm controller port before asking (Some request) =
     let outcome = turn Smbus (pldm_heard asking.source_eid request) controller port.log before in
@@ -127,21 +127,21 @@ hears_pldm controller port before asking (Some request) =
     record { port = record port { log = outcome.log }; board = outcome.board; sent = sent }
 
 -- a whole message, by its type: 00h control, 01h PLDM
-abbrev pub hears_typed : Controller → Port → State → Envelope → List ℕ → Deed
+abbrev pub hears_typed : Controller → Port → State → Envelope → List ℕ → StepResult
 hears_typed controller port before asking [] = stays port before
 hears_typed controller port before asking (kind ∷ rest) =
     if kind == 0 then hears_control port before asking (controller.control port.eid (kind ∷ rest))
     else if kind == 1 then hears_pldm controller port before asking (pldm_in rest) else stays port before
 
 -- a packet; a message whose sender doesn't own its tag is a reply, and nothing to a port
-unfoldable pub hears_packet : Controller → Port → State → Packet → Deed
+unfoldable pub hears_packet : Controller → Port → State → Packet → StepResult
 hears_packet controller port before packet =
     let next : Port = record port { waits = waits_after port.eid packet port.waits } in
     if is_taken port.eid packet port.waits && (packet.end && packet.envelope.tag_owner) then hears_typed controller next before packet.envelope (whole packet port.waits)
     else stays next before
 
 -- packets, one after another
-abbrev pub hears_packets : Controller → Port → State → List Packet → Deed
+abbrev pub hears_packets : Controller → Port → State → List Packet → StepResult
 hears_packets controller port before [] = stays port before
 hears_packets controller port before (packet ∷ packets) =
     let first = hears_packet controller port before packet in
@@ -149,7 +149,7 @@ hears_packets controller port before (packet ∷ packets) =
     record { port = rest.port; board = rest.board; sent = first.sent ++ rest.sent }
 
 -- any frame, if it goes to the port's address; a response is nothing to it
-abbrev pub hears : Controller → Port → State → Value → Deed
+abbrev pub hears : Controller → Port → State → Value → StepResult
 hears controller port before (Asks request) = if request.header.responder.address == port.wire then hears_request controller port before request else stays port before
 hears controller port before (Tells request) = stays port before
 hears controller port before (Part packet) = if packet.envelope.destination == port.wire then hears_packet controller port before packet else stays port before
@@ -228,7 +228,7 @@ module _ (names : Names) where
   goes_on turn lab = let next : Lab = record lab { manager = turn.manager } in if turn.sends then sends (open_in names turn.manager.phase) next else next
 
   -- what a port did, and the frames that it sent
-  abbrev pub port_does : Bus → Way → ℕ → Deed → Lab → Lab
+  abbrev pub port_does : Bus → Way → ℕ → StepResult → Lab → Lab
   port_does on way request deed lab = with_frames on way request deed.sent (with_port on deed.port (record lab { board = deed.board }))
 
 -- a frame of a request comes to the port
@@ -248,7 +248,7 @@ module _ (controller : Controller) (names : Names) where
   returned (Some frame) lab = goes_on names (manager_hears names frame.value lab.manager.phase lab.manager) lab
 
   -- all packets of a message come, if it goes to the port's address
-  abbrev pub hears_all : Message → Port → State → Deed
+  abbrev pub hears_all : Message → Port → State → StepResult
   hears_all message port before = if message.envelope.destination == port.wire then hears_packets controller port before (packets_of message.envelope message.body) else stays port before
 
   -- the lab after an event

@@ -7,7 +7,7 @@ use Rattle.model_bus.specs.Repeat.{In}
 use Rattle.model_bus.specs.Answered.{Answered}
 use Rattle.model_undo.specs.declared.phase.Phase.{Phase}
 use Rattle.model_undo.specs.declared.phase.Phase.TheVariants.{Undone}
-use Rattle.model_undo.specs.Plan.{IsAfter, Stands}
+use Rattle.model_undo.specs.Plan.{IsAfter, PhaseMeans}
 use Rattle.model_undo.specs.Machine.{phase_of}
 use Rattle.model_undo.specs.Headline.{ShowsSame, PartsShowSame}
 use Rattle.model_lab.specs.Lab.{Lab, opening}
@@ -18,7 +18,7 @@ use Rattle.text_schedule.specs.declared.event.Event.{Event}
 use Rattle.text_schedule.specs.declared.event.Event.TheVariants.{Calls}
 use Rattle.model_lab.specs.Meaning.{lab_names, event_of}
 use Rattle.model_lab.specs.Played.{plans, Told, Ending, Whole, Stops, happens, after, IsPlayed}
-use Rattle.model_headline.specs.Answers.{Answers, CausedBy}
+use Rattle.model_headline.specs.Answers.{AnswerGiven, CausedBy}
 use Rattle.model_headline.specs.Tied.{own_family}
 
 -- the events that a play took: all, or the events before the first that has a fault
@@ -74,14 +74,14 @@ module _ (file : BoardFile) (plan : List Op) (retries : ℕ) where
     pub event : Event
     pub later : List Event
     pub all : taken ≡ before ++ event ∷ later
-    pub answers : Answers file lab_names (lab_after before) (happens file event (lab_after before)) asked answered
+    pub answers : AnswerGiven file lab_names (lab_after before) (happens file event (lab_after before)) asked answered
     pub at : IsAfter (own_family file lab_names) plan (lab_after []).board.records step (lab_after before).board.records
 
   -- The phase says what the records are, so an undone plan leaves those of the start, and UndoRefused isn't told. So it does at each
   -- event from the one on at which the plan was undone. A plan that halted has its cause in the events that were taken: the answer that
   -- was given there, or a call of `stop`.
   pub record ToldStands (taken : List Event) (told : Told) : Type 0 where
-    pub stands : Stands (own_family file lab_names) plan told.start told.phase told.records
+    pub stands : PhaseMeans (own_family file lab_names) plan told.start told.phase told.records
     pub undone : told.phase ≡ Undone → told.records ≡ told.start
     pub for_good : UndoneForGood taken
     pub halts : CausedBy file lab_names (GaveIn taken) (In (Calls Stop) taken) plan told.phase

@@ -25,19 +25,19 @@ use Rattle.model_headline.specs.Claim.{IsAfter, AreGiven}
 
 module _ (file : BoardFile) (plan : List Op) (start : Records) where
   -- what the phase says of the records: those after so many of the plan's steps, which count from 0
-  abbrev pub Says : Phase → Records → Type 0
-  Says Fresh now = now ≡ start
-  Says (Getting steps) now = IsAfter file plan start steps now
-  Says (Setting steps) now = IsAfter file plan start steps now ⊎ IsAfter file plan start (suc steps) now
-  Says Done now = IsAfter file plan start (length plan) now
-  Says (Halted steps why) now = IsAfter file plan start steps now
-  Says (Unsettled steps) now = IsAfter file plan start steps now ⊎ IsAfter file plan start (suc steps) now
-  Says (Undoing steps) now = IsAfter file plan start steps now ⊎ IsAfter file plan start (suc steps) now
-  Says Undone now = now ≡ start
-  Says (UndoRefused steps code) now = ⊥
+  abbrev pub PhaseMeans : Phase → Records → Type 0
+  PhaseMeans Fresh now = now ≡ start
+  PhaseMeans (Getting steps) now = IsAfter file plan start steps now
+  PhaseMeans (Setting steps) now = IsAfter file plan start steps now ⊎ IsAfter file plan start (suc steps) now
+  PhaseMeans Done now = IsAfter file plan start (length plan) now
+  PhaseMeans (Halted steps why) now = IsAfter file plan start steps now
+  PhaseMeans (Unsettled steps) now = IsAfter file plan start steps now ⊎ IsAfter file plan start (suc steps) now
+  PhaseMeans (Undoing steps) now = IsAfter file plan start steps now ⊎ IsAfter file plan start (suc steps) now
+  PhaseMeans Undone now = now ≡ start
+  PhaseMeans (UndoRefused steps code) now = ⊥
 
   -- with the records after so many of the plan's first steps, the board answered the request so, whoever asked it
-  pub record Gave (steps : ℕ) (asked : Asked) (answered : Answered) : Type 0 where
+  pub record GaveAnswer (steps : ℕ) (asked : Asked) (answered : Answered) : Type 0 where
     pub before : State
     pub from : ℕ
     pub at : IsAfter file plan start steps before.records
@@ -49,15 +49,15 @@ module _ (file : BoardFile) (plan : List Op) (start : Records) where
   abbrev pub IsWhy : List Event → ℕ → Why → Type 0
   IsWhy events steps Stop = (before : List Event) × (later : List Event) × (events ≡ before ++ Calls call.Stop ∷ later)
   IsWhy events steps (GetRefused code) = (op : Op) × (bodies : List (List ℕ)) × (body : List ℕ) × (slice_get plan steps ≡ Some op)
-      × Gave steps (request_after (Reads (key_of op)) bodies) (record { code = code; body = body }) × (code ≢ success)
+      × GaveAnswer steps (request_after (Reads (key_of op)) bodies) (record { code = code; body = body }) × (code ≢ success)
   IsWhy events steps (Refused code) = (op : Op) × (bodies : List (List ℕ)) × (body : List ℕ) × (slice_get plan steps ≡ Some op)
-      × Gave steps (request_after (sends op) bodies) (record { code = code; body = body }) × (code ≢ success)
+      × GaveAnswer steps (request_after (sends op) bodies) (record { code = code; body = body }) × (code ≢ success)
   IsWhy events steps NotRestorable = (op : Op) × (bodies : List (List ℕ)) × (slice_get plan steps ≡ Some op)
-      × AreGiven (Gave steps) (Reads (key_of op)) [] (Some (first_of (Reads (key_of op)))) bodies × (¬ restorable op (joined bodies))
+      × AreGiven (GaveAnswer steps) (Reads (key_of op)) [] (Some (first_of (Reads (key_of op)))) bodies × (¬ restorable op (joined bodies))
 
 -- In each phase, that says what the records are. Where the plan is undone, every record is what it was at the start. Where it halted, there is
 -- a reason.
 pub record Promise (file : BoardFile) (plan : List Op) (events : List Event) (told : Told) : Type 0 where
-  pub says : Says file plan told.start told.phase told.records
+  pub says : PhaseMeans file plan told.start told.phase told.records
   pub undone : told.phase ≡ Undone → told.records ≡ told.start
   pub why : (steps : ℕ) (why : Why) → told.phase ≡ Halted steps why → IsWhy file plan told.start events steps why

@@ -11,8 +11,8 @@ use Rattle.undo_plans.specs.declared.names.Names.{Names}
 use Rattle.model_lab.specs.Lab as lab
 use Rattle.model_headline.specs.Theorem as law
 use Rattle.model_headline.specs.Lab.{Event}
-use Rattle.model_headline.specs.Claim.{IsServed, ours, AllHonest, first, after, Claim}
-use Rattle.model_headline.specs.Seen.{seen_event, Made, seen_lab}
+use Rattle.model_headline.specs.Claim.{IsAnsweredRequest, ours, AllHonest, first, after, Claim}
+use Rattle.model_headline.specs.Seen.{seen_event, SeenManager, seen_lab}
 
 -- Each schedule of the machinery's lab is one of the statement's. It is honest there, and joins no stale packets, exactly where it is honest
 -- here; and then both labs are alike after it, and at the start. The machinery's headline follows from the claim. The board's command relation is
@@ -21,6 +21,6 @@ pub record Refines (setup : BoardFile) (names : Names) (plan : List Op) (retries
   pub every : (events : List lab.Event) → (same : List Event) × (events ≡ map seen_event same)
   pub honest : (events : List Event) → AllHonest (ours setup) names events (first setup (ours setup) names plan retries) ↔ law.IsTrusted setup names plan retries (map seen_event events)
   pub alike : (events : List Event) → AllHonest (ours setup) names events (first setup (ours setup) names plan retries)
-      → (made : Made) × (law.after setup names plan retries (map seen_event events) ≡ seen_lab names made (after setup (ours setup) names plan retries events))
-  pub rows : (before : State) (asked : Asked) (answered : Answered) (after : State) → Row setup before asked answered after → IsServed setup (asked_by asked) before answered after
+      → (made : SeenManager) × (law.after setup names plan retries (map seen_event events) ≡ seen_lab names made (after setup (ours setup) names plan retries events))
+  pub rows : (before : State) (asked : Asked) (answered : Answered) (after : State) → Row setup before asked answered after → IsAnsweredRequest setup (asked_by asked) before answered after
   pub strong : Claim setup (ours setup) names plan retries → law.Headline setup names plan retries (law.IsTrusted setup names plan retries)

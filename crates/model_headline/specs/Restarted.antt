@@ -7,7 +7,7 @@ use Rattle.model_bus.specs.Repeat.{In}
 use Rattle.model_bus.specs.Answered.{Answered}
 use Rattle.model_undo.specs.declared.phase.Phase.{Phase}
 use Rattle.model_undo.specs.declared.phase.Phase.TheVariants.{Undone}
-use Rattle.model_undo.specs.Plan.{IsAfter, Stands}
+use Rattle.model_undo.specs.Plan.{IsAfter, PhaseMeans}
 use Rattle.model_undo.specs.Machine.{phase_of}
 use Rattle.model_undo.specs.Headline.{ShowsSame, PartsShowSame}
 use Rattle.undo_plans.specs.declared.names.Names.{Names}
@@ -16,7 +16,7 @@ use Rattle.model_lab.specs.ManagerSteps.{remade}
 use Rattle.model_lab.specs.Lab.{Event, Calls, Lab, step}
 use Rattle.model_lab.specs.Honest.{HasBytes, IsHonest}
 use Rattle.model_lab.specs.Own.{IsOwn}
-use Rattle.model_headline.specs.Answers.{Answers, CausedBy}
+use Rattle.model_headline.specs.Answers.{AnswerGiven, CausedBy}
 use Rattle.model_headline.specs.Tied.{own_plans, own_family}
 use Rattle.model_headline.specs.Theorem.{first}
 
@@ -60,7 +60,7 @@ module _ (setup : BoardFile) (names : Names) (plan : List Op) (retries : ℕ) wh
     pub event : Event
     pub later : List Moment
     pub all : moments ≡ before ++ (Happens event) ∷ later
-    pub answers : Answers setup names (after before) (step (own_plans setup names) setup (after before) event) asked answered
+    pub answers : AnswerGiven setup names (after before) (step (own_plans setup names) setup (after before) event) asked answered
     pub at : IsAfter (own_family setup names) plan (first setup names plan retries).board.records place (after before).board.records
 
   -- the manager was called to stop, or it was made again
@@ -70,7 +70,7 @@ module _ (setup : BoardFile) (names : Names) (plan : List Op) (retries : ℕ) wh
   pub record StandsOverRestarts : Type 0 where
     -- the phase says what the records are
     pub stands : (moments : List Moment) → AllGood setup names moments (first setup names plan retries)
-        → Stands (own_family setup names) plan (first setup names plan retries).board.records (phase_after moments) (after moments).board.records
+        → PhaseMeans (own_family setup names) plan (first setup names plan retries).board.records (phase_after moments) (after moments).board.records
     -- once the plan is undone, and after all that comes then, every record is what it was at the start, and each Get shows so
     pub undone : (moments later : List Moment) → AllGood setup names (moments ++ later) (first setup names plan retries) → phase_after moments ≡ Undone
         → let begun = (first setup names plan retries).board in let now = (after (moments ++ later)).board in

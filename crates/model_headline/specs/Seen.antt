@@ -21,7 +21,7 @@ use Rattle.model_lab.specs.ManagerSteps.{Plans, board_plans}
 use Rattle.model_lab.specs.Lab as lab
 use Rattle.model_headline.specs.Frames.{Value, Asks, Tells, Part}
 use Rattle.model_headline.specs.Manager.{Call, Start, Quiet, Stop, Again, Undo, Why, Stopped, GetRefused, SetRefused, NotRestorable, Task, Gets, Sets, Undoes, Phase, Fresh, Open, Done, Halted, Undone, UndoRefused, Manager, sends, asked_for}
-use Rattle.model_headline.specs.Lab.{Heard, Entry, Carried, Idled, Port, Deed, Way, ToPort, ToManager, ToOthers, Frame, Event, Calls, ToBmc, ToMgr, OtherIpmb, OtherSmbus, Noise, Idles, OnBench, Lab}
+use Rattle.model_headline.specs.Lab.{Heard, Entry, Carried, Idled, Port, StepResult, Way, ToPort, ToManager, ToOthers, Frame, Event, Calls, ToBmc, ToMgr, OtherIpmb, OtherSmbus, Noise, Idles, OnBench, Lab}
 use Rattle.model_lab.specs.declared.way.Way.TheVariants as lab_way
 use Rattle.model_lab.specs.declared.way.Way.{Way as LabWay}
 use Rattle.model_undo.specs.declared.call.Call.TheVariants as lab_call
@@ -107,11 +107,11 @@ spell on bytes answered = reply_to on bytes (words_of answered)
 abbrev pub seen_port : Bus → (made : List ℕ) → Port → port.PortState
 seen_port on made at = record { wire = at.wire; eid = at.eid; kept = seen_as at.waits made; log = seen_log (spell on) at.log }
 
-abbrev pub seen_deed : Bus → (made : List ℕ) → Deed → port.Deed
+abbrev pub seen_deed : Bus → (made : List ℕ) → StepResult → port.StepResult
 seen_deed on made deed = record { port = seen_port on made deed.port; board = deed.board; sent = map seen_value deed.sent }
 
 -- the bytes that an assembler made last, at both ports and at the manager
-pub record Made : Type 0 where
+pub record SeenManager : Type 0 where
   pub ipmb : List ℕ
   pub smbus : List ℕ
   pub manager : List ℕ
@@ -167,7 +167,7 @@ module _ (names : Names) where
 
   -- ---- the lab
 
-  abbrev pub seen_lab : Made → Lab → lab.Lab seen_plans
+  abbrev pub seen_lab : SeenManager → Lab → lab.Lab seen_plans
   seen_lab made here = record {
     board = here.board;
     ipmb = seen_port Ipmb made.ipmb here.ipmb;

@@ -7,7 +7,7 @@ use Rattle.model_bus.specs.Repeat.{In}
 use Rattle.model_bus.specs.Answered.{Answered}
 use Rattle.model_undo.specs.declared.phase.Phase.{Phase}
 use Rattle.model_undo.specs.declared.phase.Phase.TheVariants.{Undone}
-use Rattle.model_undo.specs.Plan.{IsAfter, Stands}
+use Rattle.model_undo.specs.Plan.{IsAfter, PhaseMeans}
 use Rattle.model_undo.specs.Machine.{phase_of}
 use Rattle.model_undo.specs.Headline.{ShowsSame, PartsShowSame}
 use Rattle.undo_plans.specs.declared.names.Names.{Names}
@@ -17,7 +17,7 @@ use Rattle.model_lab.specs.Faults.{AllTaken}
 use Rattle.model_lab.specs.Honest.{AllHonest}
 use Rattle.model_lab.specs.Own.{AllOwn}
 use Rattle.model_lab.specs.Joins.{AllJoinLive}
-use Rattle.model_headline.specs.Answers.{Answers, CausedBy}
+use Rattle.model_headline.specs.Answers.{AnswerGiven, CausedBy}
 use Rattle.model_headline.specs.Tied.{own_plans, own_family}
 
 module _ (setup : BoardFile) (names : Names) (plan : List Op) (retries : ℕ) where
@@ -48,7 +48,7 @@ module _ (setup : BoardFile) (names : Names) (plan : List Op) (retries : ℕ) wh
 
   -- the phase says what the records are
   abbrev pub StandsAfter : List Event → Type 0
-  StandsAfter events = Stands (own_family setup names) plan first.board.records (phase_after events) (after events).board.records
+  StandsAfter events = PhaseMeans (own_family setup names) plan first.board.records (phase_after events) (after events).board.records
 
   -- at an event of the schedule the board answered the manager so, at the records after so many of the plan's first steps
   pub record GaveIn (events : List Event) (place : ℕ) (asked : Asked) (answered : Answered) : Type 0 where
@@ -56,7 +56,7 @@ module _ (setup : BoardFile) (names : Names) (plan : List Op) (retries : ℕ) wh
     pub event : Event
     pub later : List Event
     pub all : events ≡ before ++ event ∷ later
-    pub answers : Answers setup names (after before) (step (own_plans setup names) setup (after before) event) asked answered
+    pub answers : AnswerGiven setup names (after before) (step (own_plans setup names) setup (after before) event) asked answered
     pub at : IsAfter (own_family setup names) plan first.board.records place (after before).board.records
 
   -- what holds of every schedule that keeps the premises

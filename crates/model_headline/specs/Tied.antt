@@ -12,9 +12,9 @@ use Rattle.cfg_records.specs.declared.board_file.BoardFile.{BoardFile}
 use Rattle.model_bus.specs.Numbering.{Rules, ipmb}
 use Rattle.model_bus.specs.Repeat.{In}
 use Rattle.model_bus.specs.Packet.{packets_of}
-use Rattle.model_bus.specs.Assembly.{Sent}
+use Rattle.model_bus.specs.Assembly.{SentPacket}
 use Rattle.model_bus.specs.BusState.{BusState, Frame, Ask, request_of}
-use Rattle.model_bus.specs.PacketBus.{PacketBus, rules_of, request_name, reply_name, Ends}
+use Rattle.model_bus.specs.PacketBus.{PacketBus, rules_of, request_name, reply_name, BusEnds}
 use Rattle.model_bus.specs.Answering.{AreWritten}
 use Rattle.model_bus.specs.Request.{Kept, Entry, Carried, Idled}
 use Rattle.model_bus.specs.Bytes.{IsRequestOn}
@@ -25,7 +25,7 @@ use Rattle.model_undo.specs.Line.{Line}
 use Rattle.model_undo.specs.Wires.{Wires}
 use Rattle.model_undo.specs.TwoBuses.{with_packets}
 use Rattle.model_undo.specs.World.{States, World, Happening, AllMay, run}
-use Rattle.model_undo.specs.Giving.{Giving, given_in}
+use Rattle.model_undo.specs.Giving.{GivenAnswer, given_in}
 use Rattle.model_family.specs.Family.{family}
 use Rattle.model_ports.specs.Wires.{asked_from, reply_to}
 use Rattle.model_lab.specs.ManagerWires.{wires}
@@ -41,7 +41,7 @@ use Rattle.model_ports.specs.PortEvents.{name_in, IsPortOf, IsManagersPart}
 use Rattle.model_lab.specs.ManagerEvents.{HoldsReply, HoldsPart, name_awaited}
 use Rattle.model_headline.specs.Each.{Each}
 use Rattle.model_headline.specs.Made.{MachineMade}
-use Rattle.model_headline.specs.Answers.{Answers}
+use Rattle.model_headline.specs.Answers.{AnswerGiven}
 use Rattle.model_lab.specs.declared.way.Way.{Way}
 use Rattle.model_lab.specs.declared.way.Way.TheVariants.{ToPort, ToManager, ToOthers}
 use Rattle.model_lab.specs.Lab.{LabFrame, Lab}
@@ -78,7 +78,7 @@ module _ (setup : BoardFile) (names : Names) where
   -- ---- frames
 
   -- the model's frame `which` is of the same request, and was sent as many idles after the start
-  pub record IsOf (frames : List Frame) (lab_frame : LabFrame) (which : ℕ) (frame : Frame) : Type 0 where
+  pub record IsFrameOf (frames : List Frame) (lab_frame : LabFrame) (which : ℕ) (frame : Frame) : Type 0 where
     pub sent : slice_get frames which ≡ Some frame
     pub request : frame.request ≡ lab_frame.request
     pub idles : frame.idles ≡ lab_frame.idles
@@ -87,7 +87,7 @@ module _ (setup : BoardFile) (names : Names) where
   pub record HoldsAsked (frames : List Frame) (lab_frame : LabFrame) : Type 0 where
     pub which : ℕ
     pub frame : Frame
-    pub is_of : IsOf frames lab_frame which frame
+    pub is_of : IsFrameOf frames lab_frame which frame
     pub request : Request
     pub value : lab_frame.value ≡ Asks request
     pub bytes : List ℕ
@@ -105,14 +105,14 @@ module _ (setup : BoardFile) (names : Names) where
   pub record HoldsTold (frames : List Frame) (lab_frame : LabFrame) : Type 0 where
     pub which : ℕ
     pub frame : Frame
-    pub is_of : IsOf frames lab_frame which frame
+    pub is_of : IsFrameOf frames lab_frame which frame
     pub response : Response
     pub value : lab_frame.value ≡ Tells response
     pub held : HoldsReply Ipmb (response_bytes response) frame.content
     pub answers : is_answer names response ≡ true
 
   -- the value is a packet of a request of the manager on SMBus, which the model's frame holds
-  pub record HoldsAskedPart (ends : Ends) (frame : LabFrame) : Type 0 where
+  pub record HoldsAskedPart (ends : BusEnds) (frame : LabFrame) : Type 0 where
     pub which : ℕ
     pub place : ℕ
     pub packet : Packet
@@ -138,7 +138,7 @@ module _ (setup : BoardFile) (names : Names) where
     pub which : ℕ
     pub place : ℕ
     pub frame : Frame
-    pub is_of : IsOf frames lab_frame which frame
+    pub is_of : IsFrameOf frames lab_frame which frame
     pub packet : Packet
     pub value : lab_frame.value ≡ Part packet
     pub held : HoldsPart smbus_bus place packet frame.content
@@ -190,22 +190,22 @@ module _ (setup : BoardFile) (names : Names) where
     pub made : MachineMade (addresses names) lab.manager.machine
     pub frames : Each (IsHeld on) lab.frames
     -- the manager's packets that wait at the port are of the request whose start came last under their tag
-    pub opened : (count : ℕ) (sent : Sent) → In sent ((on Smbus).port (request_name smbus_bus count)) → sent.request ≡ lab.opened (count % tags)
+    pub opened : (count : ℕ) (sent : SentPacket) → In sent ((on Smbus).port (request_name smbus_bus count)) → sent.request ≡ lab.opened (count % tags)
 
   -- the model's world of a lab
   abbrev pub world_of : Lab own_plans → States own_lines → World own_family own_lines
   world_of lab on = record { machine = lab.manager.machine; on = on; board = lab.board }
 
   -- the lab gave the manager the answer as it went from the one state to the other
-  pub record IsGiven (lab next : Lab own_plans) (given : Giving own_family) : Type 0 where
+  pub record IsGivenAnswer (lab next : Lab own_plans) (given : GivenAnswer own_family) : Type 0 where
     pub before : given.before ≡ lab.board
-    pub answers : Answers setup names lab next given.asked given.answered
+    pub answers : AnswerGiven setup names lab next given.asked given.answered
 
   -- the model's world does in these steps what the lab does, and gives no answer but the lab's
-  pub record Goes (lab : Lab own_plans) (on : States own_lines) (next : Lab own_plans) : Type 0 where
+  pub record WorldFollows (lab : Lab own_plans) (on : States own_lines) (next : Lab own_plans) : Type 0 where
     pub happenings : List (Happening own_family own_lines)
     pub left : States own_lines
     pub may : AllMay own_family own_lines own_wires happenings (world_of lab on)
     pub reaches : run own_family own_lines own_wires happenings (world_of lab on) ≡ world_of next left
-    pub gives : Each (IsGiven lab next) (given_in own_family own_lines own_wires happenings (world_of lab on))
+    pub gives : Each (IsGivenAnswer lab next) (given_in own_family own_lines own_wires happenings (world_of lab on))
     pub tied : IsTied next left

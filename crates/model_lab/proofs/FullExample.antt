@@ -6,7 +6,7 @@ use Rattle.std.proofs.lemmas.List.{length-map}
 use Rattle.two_wire.specs.declared.Bus.TheVariants.{Ipmb}
 use Rattle.undo_plans.specs.declared.names.Names.{Names}
 use Rattle.model_ports.specs.Values.{Asks}
-use Rattle.model_ports.specs.PortSteps.{Deed, stays, hears, hears_request}
+use Rattle.model_ports.specs.PortSteps.{StepResult, stays, hears, hears_request}
 use Rattle.model_lab.specs.declared.way.Way.TheVariants.{ToOthers}
 use Rattle.model_lab.specs.Lab.{Lab, frame_now, with_port, port_does, step, run}
 use Rattle.model_lab.specs.declared.fault.Fault.{Fault}
@@ -21,7 +21,7 @@ record Has (n : ℕ) (x : Lab plans) : Type 0 where
   named : x.manager.names ≡ names
   frames : length x.frames ≡ n
 
-abbrev asked : Lab plans → Deed
+abbrev asked : Lab plans → StepResult
 asked x = hears_request board_file x.ipmb x.board (other_request 0x40 10 0x42 [])
 
 heard-here : (x : Lab plans) → x.ipmb.wire ≡ 0x20 → hears board_file x.ipmb x.board (Asks (other_request 0x40 10 0x42 [])) ≡ asked x
@@ -42,12 +42,12 @@ step-is x = refl
 -- one more is sent
 one-more : (n : ℕ) (x : Lab plans) → Has n x → Has (n + 1) (step plans board_file x reserves)
 one-more n x h =
-    let d : Deed = hears board_file x.ipmb x.board (Asks (other_request 0x40 10 0x42 [])) in
+    let d : StepResult = hears board_file x.ipmb x.board (Asks (other_request 0x40 10 0x42 [])) in
     let e : d ≡ asked x = heard-here x h.wire in
-    let one : length d.sent ≡ 1 = ap (λ (f : Deed). length f.sent) e ∙ one-sent x in
+    let one : length d.sent ≡ 1 = ap (λ (f : StepResult). length f.sent) e ∙ one-sent x in
     let next : step plans board_file x reserves ≡ port_does plans Ipmb ToOthers 0 d x = step-is x in
     subst (Has (n + 1)) (sym next) (record {
-      wire = ap (λ (f : Deed). f.port.wire) e ∙ same-wire x ∙ h.wire;
+      wire = ap (λ (f : StepResult). f.port.wire) e ∙ same-wire x ∙ h.wire;
       named = h.named;
       frames = length-append x.frames (map (frame_now plans Ipmb ToOthers 0 (with_port plans Ipmb d.port (record x { board = d.board }))) d.sent)
           ∙ ap (λ k. length x.frames + k) (length-map d.sent (frame_now plans Ipmb ToOthers 0 (with_port plans Ipmb d.port (record x { board = d.board }))) ∙ one)

@@ -14,22 +14,22 @@ use Rattle.mctp_net.specs.declared.taken.DropCause.TheVariants.{NotOurs, NoStart
 use Rattle.mctp_net.specs.Grammar.{bit}
 use Rattle.mctp_net.specs.Cut.{Piece, piece}
 use Rattle.mctp_net.specs.Assembly.{Assemblies, name_of, is_open as is_open_list, joined_to, open_beside, is_ours, fails, drop_cause, with_under, after, after_where, ended, kept_with, message_of}
-use Rattle.mctp_net.specs.Sound.{Fits}
+use Rattle.mctp_net.specs.Sound.{FitsAssembly}
 use Rattle.mctp_net.proofs.Causes.{passes_back}
 use Rattle.mctp_net.proofs.Names.{name-self}
 use Rattle.model_bus.specs.Numbering.{Rules, tag_of}
 use Rattle.model_bus.specs.BusState.{BusState, Frame, Content, Ask, Reply, ReachesManager, is_open, taken_content, taken_now}
 use Rattle.model_bus.specs.Bytes.{answers}
 use Rattle.model_bus.specs.Answering.{taken_by_test, TestsAgree}
-use Rattle.model_bus.specs.Assembly.{Name as ModelName, Sent, Step, takes, waiting, message_of as model_message_of}
-use Rattle.model_bus.specs.PacketBus.{PacketBus, rules_of, reply_name, is_awaited, set_at, Ends, PacketEvent, PacketReachesManager, whole_returns, manager_takes, packet_returns, packet_at_manager, packet_happens}
+use Rattle.model_bus.specs.Assembly.{Name as ModelName, SentPacket, Step, takes, waiting, message_of as model_message_of}
+use Rattle.model_bus.specs.PacketBus.{PacketBus, rules_of, reply_name, is_awaited, set_at, BusEnds, PacketEvent, PacketReachesManager, whole_returns, manager_takes, packet_returns, packet_at_manager, packet_happens}
 use Rattle.model_bus.specs.PacketEffect.{step_of, whole_reply, completed_reply, taken_of, ManagerEffect, FrameAtManager, HasPacketEffect}
 use Rattle.model_bus.specs.Packet.{Packet as ModelPacket}
 use Rattle.model_bus.proofs.Answering.{busy_fails}
 use Rattle.model_undo.specs.Machine.{Part as TaskPart, reply_of}
 use Rattle.model_undo.specs.Line.{brings_whole, brings_packets, brought_at}
 use Rattle.model_ports.specs.Wires.{answered_from}
-use Rattle.model_ports.specs.Seen.{seen, WaitsAlike, Agrees, model_after}
+use Rattle.model_ports.specs.Seen.{seen, WaitsAlike, AgreesWithJoin, model_after}
 use Rattle.model_ports.proofs.PacketSteps.{first_of, takes-agrees}
 use Rattle.model_ports.proofs.Waiting.{waits-alike}
 use Rattle.model_ports.proofs.WholeBytes.{whole-bytes}
@@ -167,7 +167,7 @@ part_fields false v w o t h = absurd cc
 tag_alone : (u v w o t : Bool) → u ≡ true → v ≡ true → w ≡ true → o ≡ false → ((u && v) && (w && (not o && t))) ≡ t
 tag_alone u v w o t a b c d = rw (a, b, c, d) refl
 
-module _ (P : Plans) (m : ManagerState P) (open_part : TaskPart P.words) (b : PacketBus) (x : Ends) (which place : ℕ) (p : Packet) (agree : TestsAgree Smbus (rules_of b) x.bus)
+module _ (P : Plans) (m : ManagerState P) (open_part : TaskPart P.words) (b : PacketBus) (x : BusEnds) (which place : ℕ) (p : Packet) (agree : TestsAgree Smbus (rules_of b) x.bus)
     (effect : HasPacketEffect b x (PacketReachesManager which place)) (at : IsOpenOn P Smbus m open_part x.bus) (is : IsManagerOf P m b x) (r : IsRepliesPart m.names b x which place p) where
   abbrev event : PacketEvent
   event = PacketReachesManager which place
@@ -212,12 +212,12 @@ module _ (P : Plans) (m : ManagerState P) (open_part : TaskPart P.words) (b : Pa
   ends-by : (c : Content) → r.frame.content ≡ c → packet_happens b x event ≡ packet_returns b place n r.frame.idles c x
   ends-by c e = ap (λ (o : Option Frame). packet_at_manager b place o x) r.sent ∙ ap (λ (d : Content). packet_returns b place n r.frame.idles d x) e
 
-  built : (joined : Assemblies) (y : Ends) (o : Option (List ℕ)) → packet_happens b x event ≡ y → brings_packets b x event ≡ o → hears_packet P p m ≡ takes_if P Smbus o (record m { joined = joined })
+  built : (joined : Assemblies) (y : BusEnds) (o : Option (List ℕ)) → packet_happens b x event ≡ y → brings_packets b x event ≡ o → hears_packet P p m ≡ takes_if P Smbus o (record m { joined = joined })
       → WaitsAlike y.manager joined → open_beside (name_awaited m.names count) joined ≡ 0 → IfSome o (λ reply. joined.open_count ≡ 0) → BringsPart P m b x which place p
   built joined y o ends brings deed waits alone none_left = record {
     joined = joined;
     deed = deed ∙ ap (λ (q : Option (List ℕ)). takes_if P Smbus q (record m { joined = joined })) (sym brings);
-    waits = subst (λ (z : Ends). WaitsAlike z.manager joined) (sym ends) waits;
+    waits = subst (λ (z : BusEnds). WaitsAlike z.manager joined) (sym ends) waits;
     alone = alone;
     none_left = subst (λ (q : Option (List ℕ)). IfSome q (λ reply. joined.open_count ≡ 0)) (sym brings) none_left;
   }
@@ -230,7 +230,7 @@ module _ (P : Plans) (m : ManagerState P) (open_part : TaskPart P.words) (b : Pa
   unawaited other (Ask asked) e held = absurd held
   unawaited other (Reply number None) e held =
       built m.joined x None
-      (ends-by (Reply number None) e ∙ ap (λ (t : Bool). let y : Ends = record x { manager = set_at (reply_name b n) [] x.manager } in cond t y x) (awaited-is ∙ other))
+      (ends-by (Reply number None) e ∙ ap (λ (t : Bool). let y : BusEnds = record x { manager = set_at (reply_name b n) [] x.manager } in cond t y x) (awaited-is ∙ other))
       (brings-by (Reply number None) e)
       (heard-is ∙ ap (λ (t : Bool). cond t (joins P p m) (rests P m)) other) is.waits is.alone tt
   unawaited other (Reply number (Some reply)) e held =
@@ -264,16 +264,16 @@ module _ (P : Plans) (m : ManagerState P) (open_part : TaskPart P.words) (b : Pa
     none-open : cause ≡ None → p.end ≡ true → kept.open_count ≡ 0
     none-open none ends = ended-count m.names.own_eid m.joined p none ends ∙ alone-before
 
-    abbrev sent_as : Sent
+    abbrev sent_as : SentPacket
     sent_as = record { request = n; idles = r.frame.idles; packet = seen (piece p) }
 
-    abbrev taken : Step × List Sent
+    abbrev taken : Step × List SentPacket
     taken = takes (x.manager (name_in p)) sent_as
 
-    abbrev all : List Sent
+    abbrev all : List SentPacket
     all = waiting (x.manager (name_in p)) sent_as ++ sent_as ∷ []
 
-    agrees : Agrees cause p.end all taken
+    agrees : AgreesWithJoin cause p.end all taken
     agrees = takes-agrees m.names.own_eid m.joined p sent_as (x.manager (name_in p)) refl (is.waits _)
 
     alike : WaitsAlike (model_after cause (name_in p) sent_as x.manager) kept
@@ -289,7 +289,7 @@ module _ (P : Plans) (m : ManagerState P) (open_part : TaskPart P.words) (b : Pa
         let ends : p.end ≡ true = held.1 in
         let none_joined : joined_to p m.joined ≡ [] = rw start refl in
         let long : length (joined_to p m.joined) ≡ 0 = ap length none_joined in
-        let fits : Fits m.joined p = record {
+        let fits : FitsAssembly m.joined p = record {
           few = omega (arith, long);
           numbered = held.2 ∙ sym long;
           started = start ∙ sym (ap (λ k. k == 0) long);
@@ -298,19 +298,19 @@ module _ (P : Plans) (m : ManagerState P) (open_part : TaskPart P.words) (b : Pa
         } in
         let none : cause ≡ None = passes_back m.names.own_eid m.joined p r.ours fits in
         let body : (message_of kept p).body ≡ p.payload = ap (λ (t : Bool). cond t p.payload kept.made) start in
-        let left : taken.1 ≡ [] = by_end p.end ends (subst (λ (d : Option DropCause). Agrees d p.end all taken) none agrees) in
+        let left : taken.1 ≡ [] = by_end p.end ends (subst (λ (d : Option DropCause). AgreesWithJoin d p.end all taken) none agrees) in
         built kept (record x { manager = set_at (reply_name b n) [] x.manager }) None
-        (ends-by (Reply number None) e ∙ ap (λ (t : Bool). let y : Ends = record x { manager = set_at (reply_name b n) [] x.manager } in cond t y x) awaited)
+        (ends-by (Reply number None) e ∙ ap (λ (t : Bool). let y : BusEnds = record x { manager = set_at (reply_name b n) [] x.manager } in cond t y x) awaited)
         (brings-by (Reply number None) e)
         (joined-is None none
         ∙ ap (λ (t : Bool). cond t (hears_reply P Smbus (message_of kept p).body next) (rests P next)) ends
         ∙ ap (λ (bytes : List ℕ). hears_reply P Smbus bytes next) body
         ∙ heard-busy P next open_part Smbus p.payload at.heeded held.3)
-        (subst (λ (name : ModelName). WaitsAlike (set_at name [] x.manager) kept) r.named (subst (λ (ss : List Sent). WaitsAlike (set_at (name_in p) ss x.manager) kept) left (alike-by None none)))
+        (subst (λ (name : ModelName). WaitsAlike (set_at name [] x.manager) kept) r.named (subst (λ (ss : List SentPacket). WaitsAlike (set_at (name_in p) ss x.manager) kept) left (alike-by None none)))
         alone-after tt
       where
-        by_end : (t : Bool) → t ≡ true → Agrees None t all taken → taken.1 ≡ []
-        by_end true e h = ap (λ (q : Step × List Sent). q.1) h
+        by_end : (t : Bool) → t ≡ true → AgreesWithJoin None t all taken → taken.1 ≡ []
+        by_end true e h = ap (λ (q : Step × List SentPacket). q.1) h
         by_end false e h = absurd cc
 
     -- a packet of a reply
@@ -322,7 +322,7 @@ module _ (P : Plans) (m : ManagerState P) (open_part : TaskPart P.words) (b : Pa
       abbrev complete : ModelName → Option ModelPacket → Option Content
       complete name o = whole_reply number (step_of x.manager name n r.frame.idles o)
 
-      abbrev taken_ends : Ends
+      abbrev taken_ends : BusEnds
       taken_ends = record x { bus = whole_returns (rules_of b) number taken.0 x.bus; manager = set_at (name_in p) taken.1 x.manager }
 
       ends-are : packet_happens b x event ≡ taken_ends
@@ -332,7 +332,7 @@ module _ (P : Plans) (m : ManagerState P) (open_part : TaskPart P.words) (b : Pa
           ∙ ap (λ (o : Option ModelPacket). manager_takes b number n r.frame.idles o x) part
           ∙ ap (λ (name : ModelName).
           let q = takes (x.manager name) sent_as in
-          let y : Ends = record x { bus = whole_returns (rules_of b) number q.0 x.bus; manager = set_at name q.1 x.manager } in y) (sym r.named)
+          let y : BusEnds = record x { bus = whole_returns (rules_of b) number q.0 x.bus; manager = set_at name q.1 x.manager } in y) (sym r.named)
 
       brings-are : brings_packets b x event ≡ taken_of (rules_of b) (whole_reply number taken.0) x.bus
       brings-are =
@@ -363,16 +363,16 @@ module _ (P : Plans) (m : ManagerState P) (open_part : TaskPart P.words) (b : Pa
           subst (λ (c : Content). taken_content (rules_of b) c x.bus ≡ taken_by_test Smbus (open_bytes P Smbus m open_part) c) held_is
           (agree which r.frame (open_bytes P Smbus m open_part) r.sent r.live at.opened)
 
-      abbrev brought : Step × List Sent → Option (List ℕ)
+      abbrev brought : Step × List SentPacket → Option (List ℕ)
       brought q = taken_of (rules_of b) (whole_reply number q.0) x.bus
 
       -- nothing is whole
       rested : (c : Option DropCause) → cause ≡ c → ends_reply P p c next ≡ rests P next → brought taken ≡ None → WaitsAlike (set_at (name_in p) taken.1 x.manager) kept → BringsPart P m b x which place p
       rested c e lab none waits = built kept taken_ends None ends-are (brings-are ∙ none) (joined-is c e ∙ lab) waits alone-after tt
 
-      ends_part : (t : Bool) → p.end ≡ t → cause ≡ None → Agrees None t all taken → BringsPart P m b x which place p
+      ends_part : (t : Bool) → p.end ≡ t → cause ≡ None → AgreesWithJoin None t all taken → BringsPart P m b x which place p
       ends_part true ends none h =
-          let whole_is : Reply number (Some (model_message_of all)) ≡ content = subst (λ (q : Step × List Sent). IsSent (whole_reply number q.0)) h as-sent in
+          let whole_is : Reply number (Some (model_message_of all)) ≡ content = subst (λ (q : Step × List SentPacket). IsSent (whole_reply number q.0)) h as-sent in
           let bytes_are : model_message_of all ≡ reply = cc in
           let body : (message_of kept p).body ≡ reply = sym (whole-bytes m.names.own_eid m.joined p sent_as (x.manager (name_in p)) refl (is.waits _) none ends) ∙ bytes_are in
           let test : Option (List ℕ) = (let none_taken : Option (List ℕ) = None in cond (answers Smbus (open_bytes P Smbus m open_part) reply) (Some reply) none_taken) in
@@ -390,7 +390,7 @@ module _ (P : Plans) (m : ManagerState P) (open_part : TaskPart P.words) (b : Pa
       ends_part false more none h =
           rested None none (ap (λ (t : Bool). cond t (hears_reply P Smbus (message_of kept p).body next) (rests P next)) more) (ap brought h) (alike-by None none)
 
-      by_cause : (c : Option DropCause) → cause ≡ c → Agrees c p.end all taken → BringsPart P m b x which place p
+      by_cause : (c : Option DropCause) → cause ≡ c → AgreesWithJoin c p.end all taken → BringsPart P m b x which place p
       by_cause (Some NotOurs) e h = absurd (ours-not m.names.own_eid m.joined p r.ours e)
       by_cause (Some NoSlot) e h = absurd (slot-is m.names.own_eid m.joined p alone-before e)
       by_cause (Some NoStart) e h = rested (Some NoStart) e refl (ap brought h) (alike-by (Some NoStart) e)

@@ -7,13 +7,13 @@ use Rattle.ipmb_frame.specs.declared.message.Request.{Request}
 use Rattle.record_base.specs.declared.key.Key.TheVariants as key
 use Rattle.record_base.specs.declared.op.Op.{Op}
 use Rattle.record_base.specs.declared.op.Op.TheVariants as op
-use Rattle.record_base.specs.declared.thresholds.ThresholdMasks.{ThresholdMasks}
+use Rattle.record_base.specs.declared.threshold_masks.ThresholdMasks.{ThresholdMasks}
 use Rattle.cfg_records.specs.declared.board_file.BoardFile.{BoardFile}
 use Rattle.record_base.specs.declared.sensor.Sensor.{Sensor}
 use Rattle.record_base.specs.declared.numeric_effecter.NumericEffecter.{NumericEffecter}
 use Rattle.record_base.specs.declared.state_effecter.StateEffecter.{StateEffecter}
 use Rattle.record_base.specs.declared.user.UserAccess.{UserAccess}
-use Rattle.record_base.specs.declared.lan_item.Lan.{Lan}
+use Rattle.record_base.specs.declared.lan.Lan.{Lan}
 use Rattle.record_base.specs.declared.channel.Channel.{Channel}
 use Rattle.record_base.specs.Numbers.{ChannelNumber, number_on}
 use Rattle.record_base.specs.declared.event_enable.EventMasks.{EventMasks}

@@ -13,10 +13,10 @@ use Rattle.model_undo.specs.Machine.{opened as opened_machine}
 use Rattle.model_lab.specs.declared.way.Way.{Way}
 use Rattle.model_lab.specs.declared.way.Way.TheVariants.{ToPort, ToManager, ToOthers}
 use Rattle.model_ports.specs.Values.{Value, Asks, Tells, Part}
-use Rattle.model_ports.specs.PortSteps.{PortState, Deed, hears, hears_all, idles, quiet_port}
+use Rattle.model_ports.specs.PortSteps.{PortState, StepResult, hears, hears_all, idles, quiet_port}
 use Rattle.undo_plans.specs.declared.names.Names.{Names}
 use Rattle.model_undo.specs.declared.call.Call.{Call}
-use Rattle.model_lab.specs.ManagerSteps.{own_on, Plans, ManagerState, ManagerDeed, Sent, called, manager_hears}
+use Rattle.model_lab.specs.ManagerSteps.{own_on, Plans, ManagerState, ManagerStepResult, Sent, called, manager_hears}
 
 -- A frame that was sent. `request` is the count of the manager's request that the frame carries; a reply has the request of the frame whose
 -- delivery brought it. `idles` counts how often the port had forgotten the manager's window on the frame's bus when the frame was sent.
@@ -86,18 +86,18 @@ module _ (plans : Plans) where
   sends (Some sent) lab = with_frames sent.on ToPort sent.request sent.values lab
 
   -- the manager went on
-  abbrev pub manager_does : ManagerDeed plans → Lab → Lab
+  abbrev pub manager_does : ManagerStepResult plans → Lab → Lab
   manager_does deed lab = sends deed.sent (record lab { manager = deed.manager })
 
   -- the manager was called, in a phase for the call or not
-  abbrev pub call_does : Option (ManagerDeed plans) → Lab → Lab
+  abbrev pub call_does : Option (ManagerStepResult plans) → Lab → Lab
   call_does None lab = lab
   call_does (Some deed) lab = manager_does deed lab
 
   -- ---- the port
 
   -- what a port did, and the frames that it sent
-  abbrev pub port_does : Bus → Way → ℕ → Deed → Lab → Lab
+  abbrev pub port_does : Bus → Way → ℕ → StepResult → Lab → Lab
   port_does on way request deed lab = with_frames on way request deed.sent (with_port on deed.port (record lab { board = deed.board }))
 
   -- a packet of a request comes: a start makes its request the last under the packet's tag

@@ -13,7 +13,7 @@ use Rattle.model_bus.specs.Schedule.{IsLive}
 use Rattle.model_bus.specs.BusState.{BusState, Frame, Content, Ask, Reply, ReachesManager}
 use Rattle.model_bus.specs.Bytes.{is_busy_code, IsReplyOn}
 use Rattle.model_bus.specs.Answering.{TestsAgree}
-use Rattle.model_bus.specs.PacketBus.{PacketBus, rules_of, reply_name, Ends, PacketReachesManager, packet_happens}
+use Rattle.model_bus.specs.PacketBus.{PacketBus, rules_of, reply_name, BusEnds, PacketReachesManager, packet_happens}
 use Rattle.model_bus.specs.PacketEffect.{HasPacketEffect}
 use Rattle.model_undo.specs.Machine.{Part as TaskPart, reply_of}
 use Rattle.model_undo.specs.Line.{brings_whole, brings_packets}
@@ -21,7 +21,7 @@ use Rattle.model_ports.specs.Wires.{answered_from}
 use Rattle.model_ports.specs.Seen.{seen, WaitsAlike}
 use Rattle.undo_plans.specs.declared.names.Names.{Names}
 use Rattle.model_ports.specs.Bytes.{response_bytes}
-use Rattle.model_lab.specs.ManagerSteps.{Plans, ManagerState, ManagerDeed, is_answer, rests, taken_or, heeded_on, open_count, open_bytes, hears_response, hears_packet}
+use Rattle.model_lab.specs.ManagerSteps.{Plans, ManagerState, ManagerStepResult, is_answer, rests, taken_or, heeded_on, open_count, open_bytes, hears_response, hears_packet}
 use Rattle.model_ports.specs.PortEvents.{name_in}
 
 -- the bytes are a reply which says that the port is busy
@@ -53,7 +53,7 @@ pub record IsRepliesResponse (names : Names) (rules : Rules) (state : BusState) 
   pub answers : is_answer names response ≡ true
 
 -- the packet stands at this place of frame `which`, which is live, and goes from the controller to the manager
-pub record IsRepliesPart (names : Names) (bus : PacketBus) (ends : Ends) (which place : ℕ) (packet : Packet) : Type 0 where
+pub record IsRepliesPart (names : Names) (bus : PacketBus) (ends : BusEnds) (which place : ℕ) (packet : Packet) : Type 0 where
   pub frame : Frame
   pub sent : slice_get ends.bus.frames which ≡ Some frame
   pub live : IsLive (rules_of bus) ends.bus frame
@@ -65,7 +65,7 @@ pub record IsRepliesPart (names : Names) (bus : PacketBus) (ends : Ends) (which 
 
 module _ (plans : Plans) where
   -- the manager takes the reply of these bytes, if there is one
-  abbrev pub takes_if : Bus → Option (List ℕ) → ManagerState plans → ManagerDeed plans
+  abbrev pub takes_if : Bus → Option (List ℕ) → ManagerState plans → ManagerStepResult plans
   takes_if on None manager = rests plans manager
   takes_if on (Some reply) manager = taken_or plans manager (reply_of plans.words (answered_from on reply) manager.machine)
 
@@ -76,7 +76,7 @@ module _ (plans : Plans) where
 
   -- Under every name the packets that wait at the model's manager wait at the lab's. All of them are of the open request, which has the model's count
   -- and controller.
-  pub record IsManagerOf (manager : ManagerState plans) (bus : PacketBus) (ends : Ends) : Type 0 where
+  pub record IsManagerOf (manager : ManagerState plans) (bus : PacketBus) (ends : BusEnds) : Type 0 where
     pub waits : WaitsAlike ends.manager manager.joined
     pub alone : open_beside (name_awaited manager.names (open_count plans Smbus manager)) manager.joined ≡ 0
     pub counted : open_count plans Smbus manager ≡ bus.first + length ends.bus.taken
@@ -88,7 +88,7 @@ module _ (plans : Plans) where
 
   -- The manager takes the reply that the model's event of a packet brings, if it brings one. Then the same packets wait at both, of the open request
   -- alone; or no packet waits, where the event brought a reply.
-  pub record BringsPart (manager : ManagerState plans) (bus : PacketBus) (ends : Ends) (which place : ℕ) (packet : Packet) : Type 0 where
+  pub record BringsPart (manager : ManagerState plans) (bus : PacketBus) (ends : BusEnds) (which place : ℕ) (packet : Packet) : Type 0 where
     pub joined : Assemblies
     pub deed : hears_packet plans packet manager ≡ takes_if Smbus (brings_packets bus ends (PacketReachesManager which place)) (record manager { joined = joined })
     pub waits : WaitsAlike (packet_happens bus ends (PacketReachesManager which place)).manager joined
@@ -100,7 +100,7 @@ module _ (plans : Plans) where
   pub record RepliesAreBrought : Type 0 where
     pub responses : (manager : ManagerState plans) (open_part : TaskPart plans.words) (rules : Rules) (state : BusState) (which : ℕ) (response : Response) → TestsAgree Ipmb rules state
         → IsOpenOn Ipmb manager open_part state → IsRepliesResponse manager.names rules state which response → BringsResponse manager rules state which response
-    pub parts : (manager : ManagerState plans) (open_part : TaskPart plans.words) (bus : PacketBus) (ends : Ends) (which place : ℕ) (packet : Packet) → TestsAgree Smbus (rules_of bus) ends.bus
+    pub parts : (manager : ManagerState plans) (open_part : TaskPart plans.words) (bus : PacketBus) (ends : BusEnds) (which place : ℕ) (packet : Packet) → TestsAgree Smbus (rules_of bus) ends.bus
         → HasPacketEffect bus ends (PacketReachesManager which place) → IsOpenOn Smbus manager open_part ends.bus → IsManagerOf manager bus ends → IsRepliesPart manager.names bus ends which place packet
         → BringsPart manager bus ends which place packet
     pub unheeded_response : (manager : ManagerState plans) (response : Response) → heeded_on plans Ipmb manager.machine.stage ≡ None → hears_response plans response manager ≡ rests plans manager

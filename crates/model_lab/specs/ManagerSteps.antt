@@ -99,12 +99,12 @@ module _ (plans : Plans) where
     pub joined : Assemblies
 
   -- the manager after a call or a frame, and the frames that it sends then
-  pub record ManagerDeed : Type 0 where
+  pub record ManagerStepResult : Type 0 where
     pub manager : ManagerState
     pub sent : Option Sent
 
   -- the manager sends nothing
-  abbrev pub rests : ManagerState → ManagerDeed
+  abbrev pub rests : ManagerState → ManagerStepResult
   rests manager = record { manager = manager; sent = None }
 
   -- the frames of a request
@@ -112,7 +112,7 @@ module _ (plans : Plans) where
   sent_of names sending = record { on = sending.bus; request = sending.count; values = values_of names sending.count (plans.asked sending.asked) }
 
   -- the machine goes on
-  abbrev pub goes_on : ManagerState → Turn plans.words → ManagerDeed
+  abbrev pub goes_on : ManagerState → Turn plans.words → ManagerStepResult
   goes_on manager turn = record { manager = record manager { machine = turn.machine }; sent = option_map (sent_of manager.names) turn.sends }
 
   -- ---- calls
@@ -123,7 +123,7 @@ module _ (plans : Plans) where
   waits_after _ joined = joined
 
   -- the manager is called: none where the phase isn't one for the call, and then nothing changes
-  unfoldable pub called : Call → ManagerState → Option ManagerDeed
+  unfoldable pub called : Call → ManagerState → Option ManagerStepResult
   called call manager = option_map (goes_on (record manager { joined = waits_after call manager.joined })) (call_of plans.words call manager.machine)
 
   -- the manager's process ended, and it is made again of what it wrote down: nothing waits at it
@@ -146,12 +146,12 @@ module _ (plans : Plans) where
   open_bytes on manager part = bytes_of (number_of on (open_count on manager)) (plans.asked part.asked)
 
   -- the machine takes a reply, or ignores it
-  abbrev pub taken_or : ManagerState → Option (Turn plans.words) → ManagerDeed
+  abbrev pub taken_or : ManagerState → Option (Turn plans.words) → ManagerStepResult
   taken_or manager None = rests manager
   taken_or manager (Some turn) = goes_on manager turn
 
   -- the bytes of a reply come while this request is open, if one is: the machine takes them where they pass the test
-  abbrev pub tested : Bus → List ℕ → ManagerState → Option (TaskPart plans.words) → ManagerDeed
+  abbrev pub tested : Bus → List ℕ → ManagerState → Option (TaskPart plans.words) → ManagerStepResult
   tested on reply manager None = rests manager
   tested on reply manager (Some part) =
       if answers on (open_bytes on manager part) reply
@@ -159,33 +159,33 @@ module _ (plans : Plans) where
       else rests manager
 
   -- the bytes of a reply from the controller come
-  abbrev pub hears_reply : Bus → List ℕ → ManagerState → ManagerDeed
+  abbrev pub hears_reply : Bus → List ℕ → ManagerState → ManagerStepResult
   hears_reply on reply manager = tested on reply manager (heeded_on on manager.machine.stage)
 
   -- a response comes
-  unfoldable pub hears_response : Response → ManagerState → ManagerDeed
+  unfoldable pub hears_response : Response → ManagerState → ManagerStepResult
   hears_response response manager = if is_answer manager.names response then hears_reply Ipmb (response_bytes response) manager else rests manager
 
   -- the manager has taken a packet: it dropped the packet for the cause, or the packet ended a message, or others are to come
-  abbrev pub ends_reply : Packet → Option DropCause → ManagerState → ManagerDeed
+  abbrev pub ends_reply : Packet → Option DropCause → ManagerState → ManagerStepResult
   ends_reply packet (Some cause) manager = rests manager
   ends_reply packet None manager = if packet.end then hears_reply Smbus (message_of manager.joined packet).body manager else rests manager
 
   -- the manager joins a packet to those that wait, and the packet ends a reply or not
-  abbrev pub joins : Packet → ManagerState → ManagerDeed
+  abbrev pub joins : Packet → ManagerState → ManagerStepResult
   joins packet manager = ends_reply packet (drop_cause manager.names.own_eid manager.joined packet) (record manager { joined = kept_after manager.names.own_eid manager.joined packet })
 
   -- a packet comes while the request is open, if one is
-  abbrev pub joins_for : Packet → ManagerState → Option (TaskPart plans.words) → ManagerDeed
+  abbrev pub joins_for : Packet → ManagerState → Option (TaskPart plans.words) → ManagerStepResult
   joins_for packet manager None = rests manager
   joins_for packet manager (Some part) = if is_part manager.names (open_count Smbus manager) packet then joins packet manager else rests manager
 
   -- a packet comes
-  unfoldable pub hears_packet : Packet → ManagerState → ManagerDeed
+  unfoldable pub hears_packet : Packet → ManagerState → ManagerStepResult
   hears_packet packet manager = joins_for packet manager (heeded_on Smbus manager.machine.stage)
 
   -- a frame comes; a request is nothing to the manager
-  abbrev pub manager_hears : Value → ManagerState → ManagerDeed
+  abbrev pub manager_hears : Value → ManagerState → ManagerStepResult
   manager_hears (Asks request) manager = rests manager
   manager_hears (Tells response) manager = hears_response response manager
   manager_hears (Part packet) manager = hears_packet packet manager

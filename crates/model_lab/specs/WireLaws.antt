@@ -13,7 +13,7 @@ use Rattle.bmc_board.proofs.Decoded.{sets_are_read}
 use Rattle.bmc_board.proofs.SeriesFacts.{series_are_from_nobody}
 use Rattle.model_bus.specs.Answered.{Answered}
 use Rattle.model_bus.specs.Addresses.{Addresses}
-use Rattle.model_undo.specs.Wires.{IsSeries, IsOf, IsMade}
+use Rattle.model_undo.specs.Wires.{IsSeries, IsOneOf, IsMade}
 use Rattle.model_ports.specs.Wires.{bus_of, bytes_of, asked_from, reply_to, answered_from}
 use Rattle.model_lab.specs.ManagerWords.{from_manager, manager_words}
 
@@ -36,7 +36,7 @@ later_so : (at : Bus → Addresses) (next : Option Asked) (asked : Asked) → ((
 later_so at None asked from is = absurd (none-some asked is)
 later_so at (Some next) asked from is = subst (IsManagers at) (same_Some _ _ is) (of_nobody at next (from next refl))
 
-one_of : (at : Bus → Addresses) (series : Series) (asked : Asked) → AreFromNobody series → IsOf (manager_words at) series asked → IsManagers at asked
+one_of : (at : Bus → Addresses) (series : Series) (asked : Asked) → AreFromNobody series → IsOneOf (manager_words at) series asked → IsManagers at asked
 one_of at series asked from (inl same) = subst (IsManagers at) (sym same) (of_nobody at (first_of series) from.first)
 one_of at series asked from (inr another) = later_so at (next_after series another.0) asked (from.next another.0) another.1
 

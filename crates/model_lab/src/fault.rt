@@ -12,7 +12,7 @@ pub enum Fault {
     Aged,
     /// Another requester's command sets the configuration.
     Changing,
-    /// It comes from the manager's or the controller's address.
+    /// The frame comes from the manager's or the controller's address.
     Impersonates,
     /// The noise reads as a frame.
     Forged,

@@ -12,7 +12,7 @@ use Rattle.mctp_net.specs.declared.message.Message.{Message}
 use Rattle.mctp_net.specs.declared.taken.DropCause.{DropCause}
 use Rattle.mctp_net.specs.Cut.{piece, IsPiece, EachFrom, IsCutOf}
 use Rattle.mctp_net.proofs.NamesAlone.{own-name}
-use Rattle.mctp_net.specs.Assembly.{Assemblies, name_of, taken_under, open_beside, is_ours, named_where, drop_cause, after, after_where, ended, kept_with, message_of, ComesBack, MakesWhole, IsTaken}
+use Rattle.mctp_net.specs.Assembly.{Assemblies, name_of, taken_under, open_beside, is_ours, named_where, drop_cause, after, after_where, ended, kept_with, message_of, ComesBack, MakesWhole, IsPieceTaken}
 use Rattle.mctp_net.specs.Pieces.{pieces_of, count_of}
 use Rattle.mctp_net.proofs.Cuts.{is_cut}
 use Rattle.mctp_net.proofs.ComingBack.{cut-comes_back}
@@ -23,7 +23,7 @@ use Rattle.model_bus.specs.Packet.{Packet as ModelPacket, packets_of}
 use Rattle.model_ports.specs.Seen.{seen}
 use Rattle.model_ports.proofs.Cutting.{packets-agree}
 use Rattle.model_ports.specs.Values.{Value, parts_of}
-use Rattle.model_ports.specs.PortSteps.{PortState, Deed, stays, hears_message, hears_part, hears_parts, ends_message}
+use Rattle.model_ports.specs.PortSteps.{PortState, StepResult, stays, hears_message, hears_part, hears_parts, ends_message}
 use Rattle.model_ports.specs.Cuts.{PartsAreCuts, kept_after_parts, kept_with_parts, is_for, has_slot, PartsAreHeard}
 
 -- ---- cuts
@@ -68,7 +68,7 @@ module _ (setup : BoardFile) (before : State) where
   unfolding hears_part
   part_taken port p none = ap (ends_message setup (with_kept port (after port.eid port.kept p)) before p) none
 
-  abbrev then_parts : List Packet → Deed → Deed
+  abbrev then_parts : List Packet → StepResult → StepResult
   then_parts ps first = let rest = hears_parts setup first.port first.board ps in record { port = rest.port; board = rest.board; sent = first.sent ++ rest.sent }
 
   parts_step : (port : PortState) (p : Packet) (ps : List Packet) → hears_parts setup port before (p ∷ ps) ≡ then_parts ps (hears_part setup port before p)
@@ -80,7 +80,7 @@ module _ (setup : BoardFile) (before : State) where
   parts_none port board = refl
 
   -- a packet that waits is no end
-  waits : (port : PortState) (p : Packet) → IsTaken port.eid port.kept p → hears_part setup port before p ≡ stays (with_kept port (after port.eid port.kept p)) before
+  waits : (port : PortState) (p : Packet) → IsPieceTaken port.eid port.kept p → hears_part setup port before p ≡ stays (with_kept port (after port.eid port.kept p)) before
   waits port p taken =
       let next = with_kept port (after port.eid port.kept p) in
       part_taken port p taken.kept_on ∙ ap (λ (t : Bool). cond t (hears_message setup next before (message_of next.kept p)) (stays next before)) taken.more
@@ -98,9 +98,9 @@ module _ (setup : BoardFile) (before : State) where
       ∙ ap (λ (t : Bool). cond t (hears_message setup next before (message_of next.kept p)) (stays next before)) ends
       ∙ ap (hears_message setup next before) made
 
-  alone : (d : Deed) → then_parts [] d ≡ d
+  alone : (d : StepResult) → then_parts [] d ≡ d
   alone d =
-      ap (λ (rest : Deed). let all : Deed = record { port = rest.port; board = rest.board; sent = d.sent ++ rest.sent } in all) (parts_none d.port d.board)
+      ap (λ (rest : StepResult). let all : StepResult = record { port = rest.port; board = rest.board; sent = d.sent ++ rest.sent } in all) (parts_none d.port d.board)
       ∙ (λ i. record { port = d.port; board = d.board; sent = no_more d.sent i })
 
   -- after a packet of which nothing comes

@@ -11,7 +11,7 @@ use Rattle.mctp_net.specs.declared.taken.DropCause.TheVariants.{NotOurs, NoStart
 use Rattle.mctp_net.specs.Sizes.{unit_size}
 use Rattle.mctp_net.specs.Cut.{Piece, EachFrom, piece, carried}
 use Rattle.mctp_net.specs.Assembly.{Assemblies, joined_to, drop_cause, after, after_where, ended, kept_with, message_of}
-use Rattle.mctp_net.specs.Sound.{IsWaitingAt, IsSound, Fits}
+use Rattle.mctp_net.specs.Sound.{IsWaitingAt, AreSoundAssemblies, FitsAssembly}
 use Rattle.mctp_net.proofs.Causes.{passes}
 use Rattle.mctp_net.proofs.Soundness.{joined-waiting, sound-after}
 use Rattle.mctp_net.proofs.Wholes.{ended-body}
@@ -21,16 +21,16 @@ use Rattle.model_bus.specs.Numbering.{Rules, ipmb, is_above}
 use Rattle.model_bus.specs.Carried.{outcome, log_after}
 use Rattle.model_bus.specs.BusState.{BusState, Frame, Ask, Content, request_of, comes, at_port}
 use Rattle.model_bus.specs.Bytes.{request_in}
-use Rattle.model_bus.specs.Assembly.{Name, Sent, Step, Whole, takes, waiting, first_request, message_of as model_message_of}
-use Rattle.model_bus.specs.PacketBus.{PacketBus, rules_of, request_name, set_at, Ends, PacketEvent, OtherPacket, PacketReachesPort, whole_comes, other_request, hears_other, packet_comes, port_takes, packet_at_port, packet_happens}
+use Rattle.model_bus.specs.Assembly.{Name, SentPacket, Step, Whole, takes, waiting, first_request, message_of as model_message_of}
+use Rattle.model_bus.specs.PacketBus.{PacketBus, rules_of, request_name, set_at, BusEnds, PacketEvent, OtherPacket, PacketReachesPort, whole_comes, other_request, hears_other, packet_comes, port_takes, packet_at_port, packet_happens}
 use Rattle.model_bus.specs.PacketEffect.{step_of, whole_request, completed_request, HasPacketEffect, FrameAtPort, PortEffect, HoldsRequest}
 use Rattle.bmc_board.specs.State.{State}
-use Rattle.model_ports.specs.Seen.{seen, WaitsAlike, Agrees, model_after}
+use Rattle.model_ports.specs.Seen.{seen, WaitsAlike, AgreesWithJoin, model_after}
 use Rattle.model_ports.proofs.PacketSteps.{takes-agrees}
 use Rattle.model_ports.proofs.Waiting.{waits-alike}
 use Rattle.model_ports.proofs.WholeBytes.{whole-bytes}
 use Rattle.model_ports.specs.Bytes.{heard_in}
-use Rattle.model_ports.specs.PortSteps.{PortState, Deed, turn, stays, hears_request, hears_message, hears_part, ends_message}
+use Rattle.model_ports.specs.PortSteps.{PortState, StepResult, turn, stays, hears_request, hears_message, hears_part, ends_message}
 use Rattle.model_ports.specs.PortEvents.{answer_to, RequestsAreEvents, RequestsLeaveLog, part_answer_to, name_in, event_by, happens_if, IsPortOf, IsManagersPart, PartsAreEvents, PartsLeaveLog}
 use Rattle.model_ports.proofs.PortPart.{log_if, read_in, Leaves, message-leaves}
 
@@ -76,10 +76,10 @@ carried-few from [] h = omega arith
 carried-few from (p ∷ ps) h = let one : length p.payload ≡ 64 = h.0.full in omega (arith, length-append p.payload (carried ps), one, carried-few (from + 1) ps h.1)
 
 -- a message that a packet of at most 64 bytes ends has at most 256
-pub whole-few : (own : ℕ) (a : Assemblies) (p : Packet) → IsSound a → length p.payload ≤ unit_size → drop_cause own a p ≡ None → p.end ≡ true
+pub whole-few : (own : ℕ) (a : Assemblies) (p : Packet) → AreSoundAssemblies a → length p.payload ≤ unit_size → drop_cause own a p ≡ None → p.end ≡ true
     → length (message_of (after own a p) p).body ≤ 256
 whole-few own a p sound most none ends =
-    let fits : Fits a p = (passes own a p none).1 in
+    let fits : FitsAssembly a p = (passes own a p none).1 in
     let front : List Piece = joined_to p a in
     let kept : after own a p ≡ ended p a = ap (λ (c : Option DropCause). after_where c p a) none ∙ ap (λ t. cond t (ended p a) (kept_with p a)) ends in
     let body : length (message_of (after own a p) p).body ≡ length (carried (front ++ piece p ∷ [])) =
@@ -91,7 +91,7 @@ whole-few own a p sound most none ends =
     let few : length front < 4 = fits.few in
     omega (arith, body, parts, last, before, few, most)
 
-module _ (setup : BoardFile) (port : PortState) (before : State) (p : Packet) (b : PacketBus) (x : Ends) (most : length p.payload ≤ unit_size) (is : IsPortOf x port) where
+module _ (setup : BoardFile) (port : PortState) (before : State) (p : Packet) (b : PacketBus) (x : BusEnds) (most : length p.payload ≤ unit_size) (is : IsPortOf x port) where
   abbrev cause : Option DropCause
   cause = drop_cause port.eid port.kept p
 
@@ -107,7 +107,7 @@ module _ (setup : BoardFile) (port : PortState) (before : State) (p : Packet) (b
   abbrev next : PortState
   next = record port { kept = kept }
 
-  abbrev deed : Deed
+  abbrev deed : StepResult
   deed = hears_part setup port before p
 
   deed-is : (c : Option DropCause) → cause ≡ c → deed ≡ ends_message setup next before p c
@@ -119,27 +119,27 @@ module _ (setup : BoardFile) (port : PortState) (before : State) (p : Packet) (b
   ends-log none ends = message-leaves setup next before whole (whole-few port.eid port.kept p is.sound most none ends)
 
   -- what the model takes as a packet of a request
-  abbrev sent_as : ℕ → ℕ → Sent
+  abbrev sent_as : ℕ → ℕ → SentPacket
   sent_as n idles = record { request = n; idles = idles; packet = seen (piece p) }
 
   -- by the cause: what is to be shown of the port after it, where these are the model's ends
-  port-after : (y : Ends) (d : Deed) → d ≡ deed → (n idles : ℕ) → y.port ≡ model_after cause (name_in p) (sent_as n idles) x.port → y.bus.log ≡ d.port.log → d.port.kept ≡ kept → IsPortOf y deed.port
+  port-after : (y : BusEnds) (d : StepResult) → d ≡ deed → (n idles : ℕ) → y.port ≡ model_after cause (name_in p) (sent_as n idles) x.port → y.bus.log ≡ d.port.log → d.port.kept ≡ kept → IsPortOf y deed.port
   port-after y d same n idles waits log keeps =
       let alike : WaitsAlike (model_after cause (name_in p) (sent_as n idles) x.port) kept = waits-alike port.eid port.kept p (sent_as n idles) x.port refl is.waits in
       let ok : IsPortOf y d.port = record {
         log = log;
-        waits = subst (λ (w : Name → List Sent). WaitsAlike w d.port.kept) (sym waits) (subst (λ (a : Assemblies). WaitsAlike (model_after cause (name_in p) (sent_as n idles) x.port) a) (sym keeps) alike);
-        sound = subst IsSound (sym keeps) (sound-after port.eid port.kept p is.sound);
+        waits = subst (λ (w : Name → List SentPacket). WaitsAlike w d.port.kept) (sym waits) (subst (λ (a : Assemblies). WaitsAlike (model_after cause (name_in p) (sent_as n idles) x.port) a) (sym keeps) alike);
+        sound = subst AreSoundAssemblies (sym keeps) (sound-after port.eid port.kept p is.sound);
       } in
-      subst (λ (e : Deed). IsPortOf y e.port) same ok
+      subst (λ (e : StepResult). IsPortOf y e.port) same ok
 
-  abbrev taken : ℕ → ℕ → Step × List Sent
+  abbrev taken : ℕ → ℕ → Step × List SentPacket
   taken n idles = takes (x.port (name_in p)) (sent_as n idles)
 
-  abbrev all : ℕ → ℕ → List Sent
+  abbrev all : ℕ → ℕ → List SentPacket
   all n idles = waiting (x.port (name_in p)) (sent_as n idles) ++ sent_as n idles ∷ []
 
-  agrees : (n idles : ℕ) → Agrees cause p.end (all n idles) (taken n idles)
+  agrees : (n idles : ℕ) → AgreesWithJoin cause p.end (all n idles) (taken n idles)
   agrees n idles = takes-agrees port.eid port.kept p (sent_as n idles) (x.port (name_in p)) refl (is.waits _)
 
   -- the model's bytes of the message that the packet ends
@@ -158,7 +158,7 @@ module _ (setup : BoardFile) (port : PortState) (before : State) (p : Packet) (b
 
   -- ---- any requester's packet
 
-  abbrev other_log : Step × List Sent → List Entry
+  abbrev other_log : Step × List SentPacket → List Entry
   other_log r = (hears_other (rules_of b) part_answer (other_request (name_in p) r.0) x.bus).log
 
   hears-log : (o : Option Heard) → (hears_other (rules_of b) part_answer o x.bus).log ≡ log_if part_answer o x.bus.log
@@ -168,7 +168,7 @@ module _ (setup : BoardFile) (port : PortState) (before : State) (p : Packet) (b
   abbrev other : PacketEvent
   other = OtherPacket (name_in p) (seen (piece p)) part_answer
 
-  other-ends : (ends : Bool) → p.end ≡ ends → cause ≡ None → Agrees None ends (all 0 0) (taken 0 0) → IsPortOf (happens_if b (event_by None (name_in p) other) x) deed.port
+  other-ends : (ends : Bool) → p.end ≡ ends → cause ≡ None → AgreesWithJoin None ends (all 0 0) (taken 0 0) → IsPortOf (happens_if b (event_by None (name_in p) other) x) deed.port
   other-ends true e none h =
       let left = ends-log none e in
       let read : (hears_other (rules_of b) part_answer (other_request (name_in p) (Whole (all 0 0))) x.bus).log ≡ log_if part_answer (read_in whole) x.bus.log =
@@ -179,10 +179,10 @@ module _ (setup : BoardFile) (port : PortState) (before : State) (p : Packet) (b
   other-ends false e none h =
       port-after (happens_if b (event_by None (name_in p) other) x) (stays next before) (waits-deed none e) 0 0 (waits-by None none 0 0) (ap other_log h ∙ is.log) refl
 
-  other-dropped : (c : Option DropCause) → cause ≡ c → stays next before ≡ ends_message setup next before p c → (y : Ends) → y.port ≡ model_after c (name_in p) (sent_as 0 0) x.port → y.bus.log ≡ port.log → IsPortOf y deed.port
+  other-dropped : (c : Option DropCause) → cause ≡ c → stays next before ≡ ends_message setup next before p c → (y : BusEnds) → y.port ≡ model_after c (name_in p) (sent_as 0 0) x.port → y.bus.log ≡ port.log → IsPortOf y deed.port
   other-dropped c e same y waits log = port-after y (stays next before) (same ∙ sym (deed-is c e)) 0 0 (waits ∙ waits-by c e 0 0) log refl
 
-  others : (c : Option DropCause) → cause ≡ c → Agrees c p.end (all 0 0) (taken 0 0) → IsPortOf (happens_if b (event_by c (name_in p) other) x) deed.port
+  others : (c : Option DropCause) → cause ≡ c → AgreesWithJoin c p.end (all 0 0) (taken 0 0) → IsPortOf (happens_if b (event_by c (name_in p) other) x) deed.port
   others (Some NotOurs) e h = other-dropped (Some NotOurs) e refl x refl is.log
   others (Some NoSlot) e h = other-dropped (Some NoSlot) e refl (happens_if b (event_by (Some NoSlot) (name_in p) other) x) refl is.log
   others (Some NoStart) e h = other-dropped (Some NoStart) e refl (happens_if b (event_by (Some NoStart) (name_in p) other) x) refl (ap other_log h ∙ is.log)
@@ -198,7 +198,7 @@ module _ (setup : BoardFile) (port : PortState) (before : State) (p : Packet) (b
     arrives = PacketReachesPort which place part_answer
 
     -- both ends after it, where it's taken
-    abbrev taken_ends : Ends
+    abbrev taken_ends : BusEnds
     taken_ends = record x {
       bus = whole_comes (rules_of b) part_answer m.frame.request (taken m.frame.request m.frame.idles).0 x.bus;
       port = set_at (name_in p) (taken m.frame.request m.frame.idles).1 x.port;
@@ -211,7 +211,7 @@ module _ (setup : BoardFile) (port : PortState) (before : State) (p : Packet) (b
         ∙ ap (λ o. port_takes b part_answer m.frame.request m.frame.idles o x) m.part
         ∙ ap (λ (name : Name).
         let r = takes (x.port name) (sent_as m.frame.request m.frame.idles) in
-        let y : Ends = record x { bus = whole_comes (rules_of b) part_answer m.frame.request r.0 x.bus; port = set_at name r.1 x.port } in y) (sym m.named)
+        let y : BusEnds = record x { bus = whole_comes (rules_of b) part_answer m.frame.request r.0 x.bus; port = set_at name r.1 x.port } in y) (sym m.named)
 
     abbrev IsSent : Step → Type 0
     IsSent step = IfSome (whole_request (rules_of b) m.frame.request step) (λ r. r ≡ request_of (rules_of b) m.frame.request m.bytes)
@@ -228,7 +228,7 @@ module _ (setup : BoardFile) (port : PortState) (before : State) (p : Packet) (b
         subst (λ o. IsSent (step_of x.port (request_name b m.frame.request) m.frame.request m.frame.idles o)) m.part of_bytes in
         subst (λ (name : Name). IsSent (takes (x.port name) (sent_as m.frame.request m.frame.idles)).0) (sym m.named) of_part
 
-    abbrev model_log : Step × List Sent → List Entry
+    abbrev model_log : Step × List SentPacket → List Entry
     model_log r = (whole_comes (rules_of b) part_answer m.frame.request r.0 x.bus).log
 
     -- the port reads the request in the bytes that were sent
@@ -240,12 +240,12 @@ module _ (setup : BoardFile) (port : PortState) (before : State) (p : Packet) (b
         ∙ ap (request_in b.manager) same
         ∙ m.read
 
-    managers-ends : (ends : Bool) → p.end ≡ ends → cause ≡ None → Agrees None ends (all m.frame.request m.frame.idles) (taken m.frame.request m.frame.idles)
+    managers-ends : (ends : Bool) → p.end ≡ ends → cause ≡ None → AgreesWithJoin None ends (all m.frame.request m.frame.idles) (taken m.frame.request m.frame.idles)
         → IsSent (taken m.frame.request m.frame.idles).0 → IsPortOf taken_ends deed.port
     managers-ends true e none h sent =
         let left = ends-log none e in
         let whole_is : request_of (rules_of b) (first_request m.frame.request (all m.frame.request m.frame.idles)) (model_message_of (all m.frame.request m.frame.idles)) ≡ request_of (rules_of b) m.frame.request m.bytes =
-        subst (λ (r : Step × List Sent). IsSent r.0) h sent in
+        subst (λ (r : Step × List SentPacket). IsSent r.0) h sent in
         let same : whole.body ≡ m.bytes = sym (bytes-are none e m.frame.request m.frame.idles) ∙ ap (λ (q : Heard). q.bytes) whole_is in
         port-after taken_ends (hears_message setup next before whole) (whole-deed none e) m.frame.request m.frame.idles (waits-by None none m.frame.request m.frame.idles)
         (ap model_log h
@@ -257,18 +257,18 @@ module _ (setup : BoardFile) (port : PortState) (before : State) (p : Packet) (b
     managers-ends false e none h sent =
         port-after taken_ends (stays next before) (waits-deed none e) m.frame.request m.frame.idles (waits-by None none m.frame.request m.frame.idles) (ap model_log h ∙ is.log) refl
 
-    managers-dropped : (c : Option DropCause) → cause ≡ c → stays next before ≡ ends_message setup next before p c → (y : Ends)
+    managers-dropped : (c : Option DropCause) → cause ≡ c → stays next before ≡ ends_message setup next before p c → (y : BusEnds)
         → y.port ≡ model_after c (name_in p) (sent_as m.frame.request m.frame.idles) x.port → y.bus.log ≡ port.log → IsPortOf y deed.port
     managers-dropped c e same y waits log = port-after y (stays next before) (same ∙ sym (deed-is c e)) m.frame.request m.frame.idles (waits ∙ waits-by c e m.frame.request m.frame.idles) log refl
 
-    abbrev after_arrival : Option DropCause → Ends
+    abbrev after_arrival : Option DropCause → BusEnds
     after_arrival c = happens_if b (event_by c (name_in p) arrives) x
 
     -- where it's taken
     by_taken : IsPortOf taken_ends deed.port → IsPortOf (packet_happens b x arrives) deed.port
-    by_taken ok = subst (λ (y : Ends). IsPortOf y deed.port) (sym happens-is) ok
+    by_taken ok = subst (λ (y : BusEnds). IsPortOf y deed.port) (sym happens-is) ok
 
-    managers : (c : Option DropCause) → cause ≡ c → Agrees c p.end (all m.frame.request m.frame.idles) (taken m.frame.request m.frame.idles)
+    managers : (c : Option DropCause) → cause ≡ c → AgreesWithJoin c p.end (all m.frame.request m.frame.idles) (taken m.frame.request m.frame.idles)
         → IsSent (taken m.frame.request m.frame.idles).0 → IsPortOf (after_arrival c) deed.port
     managers (Some NotOurs) e h sent = managers-dropped (Some NotOurs) e refl x refl is.log
     managers (Some NoSlot) e h sent = managers-dropped (Some NoSlot) e refl (after_arrival (Some NoSlot)) refl is.log

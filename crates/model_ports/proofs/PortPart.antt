@@ -14,7 +14,7 @@ use Rattle.model_bus.specs.Carried.{log_with, HeardRequest}
 use Rattle.model_bus.specs.Bytes.{request_in, pldm_request}
 use Rattle.bmc_board.specs.State.{State}
 use Rattle.model_ports.specs.Bytes.{pldm_heard_in}
-use Rattle.model_ports.specs.PortSteps.{PortState, Deed, turn, stays, hears_control, hears_pldm, hears_typed, hears_message}
+use Rattle.model_ports.specs.PortSteps.{PortState, StepResult, turn, stays, hears_control, hears_pldm, hears_typed, hears_message}
 use Rattle.model_ports.specs.PortEvents.{pldm_answer_to, message_answer_to}
 
 -- ---- what a message is read as
@@ -62,7 +62,7 @@ log_if answer (Some r) log = log_with (is_above 32) (HeardRequest (record { requ
 
 module _ (setup : BoardFile) (port : PortState) (before : State) (m : Message) where
   -- the log is this, and what waits is what waited
-  pub record Leaves (log : List Entry) (d : Deed) : Type 0 where
+  pub record Leaves (log : List Entry) (d : StepResult) : Type 0 where
     pub logged : d.port.log ≡ log
     pub kept : d.port.kept ≡ port.kept
 

@@ -7,7 +7,7 @@ use Rattle.record_base.specs.declared.message.Asked.TheVariants.{Ipmi, Pldm}
 use Rattle.model_bus.specs.Bytes.{ipmb_reply, pldm_reply, IsRequestOn, IsReplyOn, IsIpmbRequest, IsIpmbReply, IsPldmRequest, IsPldmReply}
 use Rattle.model_bus.specs.Answered.{Answered}
 use Rattle.model_ports.specs.Wires.{bus_of, bytes_of, reply_to}
-use Rattle.model_ports.specs.Bytes.{Fits, IsNumber, AreTheModels}
+use Rattle.model_ports.specs.Bytes.{UnitFits, IsNumber, AreTheModels}
 
 high : (n lun : ℕ) → lun < 4 → (4 * n + lun) / 4 ≡ n
 high n lun below = omega (arith, below)
@@ -18,7 +18,7 @@ low n lun below = omega (arith, below)
 instance_back : (number : ℕ) → number < 32 → (128 + number) % 32 ≡ number
 instance_back number below = omega (arith, below)
 
-request : (number : ℕ) (asked : Asked) → Fits asked → IsNumber (bus_of asked) number → IsRequestOn (bus_of asked) number (bytes_of number asked)
+request : (number : ℕ) (asked : Asked) → UnitFits asked → IsNumber (bus_of asked) number → IsRequestOn (bus_of asked) number (bytes_of number asked)
 request number (Ipmi from net_fn lun command body) fits is = record {
   header = record { net_fn = net_fn; responder_lun = lun; requester_lun = 0; command = command };
   is_header = record { responder = fits; requester = lit< tt };

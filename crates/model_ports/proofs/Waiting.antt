@@ -12,8 +12,8 @@ use Rattle.mctp_net.specs.Cut.{Piece, piece}
 use Rattle.mctp_net.specs.Assembly.{Assemblies, name_of, is_name, taken_under, joined_to, fails, drop_cause, after, named_where}
 use Rattle.mctp_net.proofs.Names.{name-one, name-self}
 use Rattle.mctp_net.proofs.NamesAlone.{own-name, other-name}
-use Rattle.model_bus.specs.Assembly.{Name as ModelName, is_name as is_model_name, Sent, Step, takes, waiting}
-use Rattle.model_ports.specs.Seen.{seen, seen_name, AreSeen, WaitsAlike, Agrees, model_after}
+use Rattle.model_bus.specs.Assembly.{Name as ModelName, is_name as is_model_name, SentPacket, Step, takes, waiting}
+use Rattle.model_ports.specs.Seen.{seen, seen_name, AreSeen, WaitsAlike, AgreesWithJoin, model_after}
 use Rattle.model_bus.specs.PacketBus.{set_at}
 use Rattle.model_ports.proofs.PacketSteps.{first_of, joins-same, takes-agrees}
 
@@ -42,7 +42,7 @@ none-under a [] h = refl
 none-under true (p ∷ ps) h = absurd (let no : (length (p ∷ ps) == 0) ≡ false = grind (arith, nat_tests) in let bad : true ≡ false = sym h ∙ no in cc)
 none-under false (p ∷ ps) h = absurd cc
 
-module _ (own : ℕ) (a : Assemblies) (p : Packet) (s : Sent) (port : ModelName → List Sent) (is : s.packet ≡ seen (piece p)) (alike : WaitsAlike port a) where
+module _ (own : ℕ) (a : Assemblies) (p : Packet) (s : SentPacket) (port : ModelName → List SentPacket) (is : s.packet ≡ seen (piece p)) (alike : WaitsAlike port a) where
   abbrev mine : ModelName
   mine = seen_name (name_of p.envelope)
 
@@ -51,35 +51,35 @@ module _ (own : ℕ) (a : Assemblies) (p : Packet) (s : Sent) (port : ModelName 
 
   joined-alike : AreSeen (waiting (port mine) s ++ s ∷ []) (joined_to p a ++ piece p ∷ [])
   joined-alike =
-      map-append (λ (s : Sent). s.packet) (waiting (port mine) s) (s ∷ [])
+      map-append (λ (s : SentPacket). s.packet) (waiting (port mine) s) (s ∷ [])
       ∙ (λ i. joins-same own a p s (port mine) is same i ++ is i ∷ [])
       ∙ sym (map-append seen (joined_to p a) (piece p ∷ []))
 
-  at-own : (ss : List Sent) → set_at mine ss port mine ≡ ss
+  at-own : (ss : List SentPacket) → set_at mine ss port mine ≡ ss
   at-own ss = ap (λ (b : Bool). cond b ss (port mine)) (names-alike (name_of p.envelope) (name_of p.envelope) ∙ name-self (name_of p.envelope))
 
   -- where nothing is left
-  none-left : (ss : List Sent) → ss ≡ [] → AreSeen (set_at mine ss port mine) []
-  none-left ss e = subst (λ (ts : List Sent). AreSeen ts []) (sym (at-own ss ∙ e)) refl
+  none-left : (ss : List SentPacket) → ss ≡ [] → AreSeen (set_at mine ss port mine) []
+  none-left ss e = subst (λ (ts : List SentPacket). AreSeen ts []) (sym (at-own ss ∙ e)) refl
 
-  by_end : (b : Bool) → Agrees None b (waiting (port mine) s ++ s ∷ []) (takes (port mine) s) → AreSeen (set_at mine (takes (port mine) s).1 port mine) (cond b [] (joined_to p a ++ piece p ∷ []))
-  by_end true h = none-left (takes (port mine) s).1 (ap (λ (r : Step × List Sent). r.1) h)
-  by_end false h = subst (λ (ts : List Sent). AreSeen ts (joined_to p a ++ piece p ∷ [])) (sym (at-own (takes (port mine) s).1 ∙ ap (λ (r : Step × List Sent). r.1) h)) joined-alike
+  by_end : (b : Bool) → AgreesWithJoin None b (waiting (port mine) s ++ s ∷ []) (takes (port mine) s) → AreSeen (set_at mine (takes (port mine) s).1 port mine) (cond b [] (joined_to p a ++ piece p ∷ []))
+  by_end true h = none-left (takes (port mine) s).1 (ap (λ (r : Step × List SentPacket). r.1) h)
+  by_end false h = subst (λ (ts : List SentPacket). AreSeen ts (joined_to p a ++ piece p ∷ [])) (sym (at-own (takes (port mine) s).1 ∙ ap (λ (r : Step × List SentPacket). r.1) h)) joined-alike
 
-  own-alike : (cause : Option DropCause) → drop_cause own a p ≡ cause → Agrees cause p.end (waiting (port mine) s ++ s ∷ []) (takes (port mine) s) → AreSeen (model_after cause mine s port mine) (named_where cause p a)
+  own-alike : (cause : Option DropCause) → drop_cause own a p ≡ cause → AgreesWithJoin cause p.end (waiting (port mine) s ++ s ∷ []) (takes (port mine) s) → AreSeen (model_after cause mine s port mine) (named_where cause p a)
   own-alike (Some NotOurs) e h = same
   own-alike (Some NoStart) e h =
       subst (λ (ps : List Piece). AreSeen (set_at mine (takes (port mine) s).1 port mine) ps)
       (none-under (not p.start) (taken_under p a) (found_none (fails own a p NotOurs) (fails own a p NoStart) (fails own a p TooLong) (fails own a p OutOfSequence) (fails own a p UnitSize) (fails own a p NoSlot) e))
-      (none-left (takes (port mine) s).1 (ap (λ (r : Step × List Sent). r.1) h))
-  own-alike (Some TooLong) e h = none-left (takes (port mine) s).1 (ap (λ (r : Step × List Sent). r.1) h)
-  own-alike (Some OutOfSequence) e h = none-left (takes (port mine) s).1 (ap (λ (r : Step × List Sent). r.1) h)
-  own-alike (Some UnitSize) e h = none-left (takes (port mine) s).1 (ap (λ (r : Step × List Sent). r.1) h)
+      (none-left (takes (port mine) s).1 (ap (λ (r : Step × List SentPacket). r.1) h))
+  own-alike (Some TooLong) e h = none-left (takes (port mine) s).1 (ap (λ (r : Step × List SentPacket). r.1) h)
+  own-alike (Some OutOfSequence) e h = none-left (takes (port mine) s).1 (ap (λ (r : Step × List SentPacket). r.1) h)
+  own-alike (Some UnitSize) e h = none-left (takes (port mine) s).1 (ap (λ (r : Step × List SentPacket). r.1) h)
   own-alike (Some NoSlot) e h = none-left [] refl
   own-alike None e h = by_end p.end h
 
   -- what waits under another name stays
-  stays : (n : Name) (ss : List Sent) → is_name n (name_of p.envelope) ≡ false → set_at mine ss port (seen_name n) ≡ port (seen_name n)
+  stays : (n : Name) (ss : List SentPacket) → is_name n (name_of p.envelope) ≡ false → set_at mine ss port (seen_name n) ≡ port (seen_name n)
   stays n ss e = ap (λ (b : Bool). cond b ss (port (seen_name n))) (names-alike n (name_of p.envelope) ∙ e)
 
   other-stays : (n : Name) (cause : Option DropCause) → is_name n (name_of p.envelope) ≡ false → model_after cause mine s port (seen_name n) ≡ port (seen_name n)
@@ -98,8 +98,8 @@ module _ (own : ℕ) (a : Assemblies) (p : Packet) (s : Sent) (port : ModelName 
       (own-alike (drop_cause own a p) refl (takes-agrees own a p s (port mine) is same)))
   by_name n false e =
       subst (λ (ps : List Piece). AreSeen (model_after (drop_cause own a p) mine s port (seen_name n)) ps) (sym (other-name own a p n e))
-      (subst (λ (ts : List Sent). AreSeen ts (a.under n)) (sym (other-stays n (drop_cause own a p) e)) (alike n))
+      (subst (λ (ts : List SentPacket). AreSeen ts (a.under n)) (sym (other-stays n (drop_cause own a p) e)) (alike n))
 
-pub waits-alike : (own : ℕ) (a : Assemblies) (p : Packet) (s : Sent) (port : ModelName → List Sent) → s.packet ≡ seen (piece p)
+pub waits-alike : (own : ℕ) (a : Assemblies) (p : Packet) (s : SentPacket) (port : ModelName → List SentPacket) → s.packet ≡ seen (piece p)
     → WaitsAlike port a → WaitsAlike (model_after (drop_cause own a p) (seen_name (name_of p.envelope)) s port) (after own a p)
 waits-alike own a p s port is alike n = by_name own a p s port is alike n (is_name n (name_of p.envelope)) refl

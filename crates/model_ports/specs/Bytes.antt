@@ -24,9 +24,9 @@ abbrev pub asked_by_bytes : ℕ → Bus → List ℕ → Asked
 asked_by_bytes from on bytes = sent_by from (asked_from (λ other. record { manager = from; controller = from }) on bytes)
 
 -- a logical unit is below 4
-abbrev pub Fits : Asked → Type 0
-Fits (Ipmi from net_fn lun command body) = lun < 4
-Fits (Pldm from kind command body) = Unit {0}
+abbrev pub UnitFits : Asked → Type 0
+UnitFits (Ipmi from net_fn lun command body) = lun < 4
+UnitFits (Pldm from kind command body) = Unit {0}
 
 -- the number is one of the bus's numbers
 abbrev pub IsNumber : Bus → ℕ → Type 0
@@ -68,17 +68,17 @@ response_of request bytes = response_to request (answered_from Ipmb bytes)
 
 -- a reader gives the request of a request's bytes, whoever sent it, and the answer of a reply's bytes
 pub record AreReadBack : Type 0 where
-  pub request : (from number : ℕ) (asked : Asked) → Fits asked → asked_by_bytes from (bus_of asked) (bytes_of number asked) ≡ sent_by from asked
+  pub request : (from number : ℕ) (asked : Asked) → UnitFits asked → asked_by_bytes from (bus_of asked) (bytes_of number asked) ≡ sent_by from asked
   pub reply : (on : Bus) (bytes : List ℕ) (answered : Answered) → answered_from on (reply_to on bytes answered) ≡ answered
 
 -- the bytes are a request's and a reply's of the model
 pub record AreTheModels : Type 0 where
-  pub request : (number : ℕ) (asked : Asked) → Fits asked → IsNumber (bus_of asked) number → IsRequestOn (bus_of asked) number (bytes_of number asked)
+  pub request : (number : ℕ) (asked : Asked) → UnitFits asked → IsNumber (bus_of asked) number → IsRequestOn (bus_of asked) number (bytes_of number asked)
   pub reply : (on : Bus) (number : ℕ) (bytes : List ℕ) (answered : Answered) → IsRequestOn on number bytes → IsReplyOn on answered.code bytes (reply_to on bytes answered)
 
 -- the reply to a request passes the manager's test against it, unless its code is one of a busy port
-abbrev pub Accepts : Type 0
-Accepts = (on : Bus) (number : ℕ) (bytes : List ℕ) (answered : Answered) → IsRequestOn on number bytes → is_busy_code answered.code ≡ false
+abbrev pub AcceptsFrames : Type 0
+AcceptsFrames = (on : Bus) (number : ℕ) (bytes : List ℕ) (answered : Answered) → IsRequestOn on number bytes → is_busy_code answered.code ≡ false
     → answers on bytes (reply_to on bytes answered) ≡ true
 
 -- a reply that passes the manager's test has the open request's number

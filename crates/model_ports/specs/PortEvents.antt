@@ -8,7 +8,7 @@ use Rattle.mctp_net.specs.declared.taken.DropCause.TheVariants.{NotOurs, NoStart
 use Rattle.mctp_net.specs.Sizes.{unit_size}
 use Rattle.mctp_net.specs.Cut.{piece}
 use Rattle.mctp_net.specs.Assembly.{name_of, drop_cause, after as kept_after, message_of}
-use Rattle.mctp_net.specs.Sound.{IsSound}
+use Rattle.mctp_net.specs.Sound.{AreSoundAssemblies}
 use Rattle.pldm_base.specs.declared.message.PldmRequest.{PldmRequest}
 use Rattle.pldm_base.specs.Message.{request_in as pldm_request_in}
 use Rattle.cfg_records.specs.declared.board_file.BoardFile.{BoardFile}
@@ -16,7 +16,7 @@ use Rattle.model_bus.specs.Numbering.{Rules, ipmb}
 use Rattle.model_bus.specs.BusState.{BusState, Frame, Ask, OtherAsks, ReachesPort, request_of, happens}
 use Rattle.model_bus.specs.Bytes.{request_in}
 use Rattle.model_bus.specs.Assembly.{Name}
-use Rattle.model_bus.specs.PacketBus.{PacketBus, rules_of, request_name, Ends, PacketEvent, PacketReachesPort, OtherPacket, Closes, packet_happens}
+use Rattle.model_bus.specs.PacketBus.{PacketBus, rules_of, request_name, BusEnds, PacketEvent, PacketReachesPort, OtherPacket, Closes, packet_happens}
 use Rattle.model_bus.specs.PacketEffect.{HasPacketEffect}
 use Rattle.bmc_board.specs.State.{State}
 use Rattle.bmc_board.specs.Answer.{answer_of}
@@ -74,22 +74,22 @@ event_by (Some UnitSize) name taken = Some taken
 event_by None name taken = Some taken
 
 -- both ends after the event, if there is one
-abbrev pub happens_if : PacketBus → Option PacketEvent → Ends → Ends
+abbrev pub happens_if : PacketBus → Option PacketEvent → BusEnds → BusEnds
 happens_if bus None ends = ends
 happens_if bus (Some event) ends = packet_happens bus ends event
 
 -- both ends after a packet that came to the port, where this event would take it
-abbrev pub after_part : PacketBus → PortState → Packet → PacketEvent → Ends → Ends
+abbrev pub after_part : PacketBus → PortState → Packet → PacketEvent → BusEnds → BusEnds
 after_part bus port packet taken ends = happens_if bus (event_by (drop_cause port.eid port.kept packet) (name_in packet) taken) ends
 
 -- the model's port is the lab's: both did the same, and the same packets wait at both
-pub record IsPortOf (ends : Ends) (port : PortState) : Type 0 where
+pub record IsPortOf (ends : BusEnds) (port : PortState) : Type 0 where
   pub log : ends.bus.log ≡ port.log
   pub waits : WaitsAlike ends.port port.kept
-  pub sound : IsSound port.kept
+  pub sound : AreSoundAssemblies port.kept
 
 -- The packet is the one at this place of frame `which`, a frame of the manager that holds a PLDM request under its number.
-pub record IsManagersPart (bus : PacketBus) (ends : Ends) (which place : ℕ) (packet : Packet) : Type 0 where
+pub record IsManagersPart (bus : PacketBus) (ends : BusEnds) (which place : ℕ) (packet : Packet) : Type 0 where
   pub frame : Frame
   pub bytes : List ℕ
   pub sent : slice_get ends.bus.frames which ≡ Some frame
@@ -100,12 +100,12 @@ pub record IsManagersPart (bus : PacketBus) (ends : Ends) (which place : ℕ) (p
 
 -- The model's event leaves at its port what a packet of at most 64 bytes leaves at the lab's port: the log, and the packets that wait. The packet is
 -- another requester's, or the manager's, where the event does what it does in each honest schedule.
-pub record PartsAreEvents (setup : BoardFile) (port : PortState) (before : State) (packet : Packet) (bus : PacketBus) (ends : Ends) : Type 0 where
+pub record PartsAreEvents (setup : BoardFile) (port : PortState) (before : State) (packet : Packet) (bus : PacketBus) (ends : BusEnds) : Type 0 where
   pub others : IsPortOf (after_part bus port packet (OtherPacket (name_in packet) (seen (piece packet)) (part_answer_to setup port before packet)) ends) (hears_part setup port before packet).port
   pub managers : (which place : ℕ) → let event = PacketReachesPort which place (part_answer_to setup port before packet) in
       IsManagersPart bus ends which place packet → HasPacketEffect bus ends event → IsPortOf (after_part bus port packet event ends) (hears_part setup port before packet).port
 
 -- so it is with every packet
 abbrev pub PartsLeaveLog : Type 0
-PartsLeaveLog = (setup : BoardFile) (port : PortState) (before : State) (packet : Packet) (bus : PacketBus) (ends : Ends) → length packet.payload ≤ unit_size → IsPortOf ends port
+PartsLeaveLog = (setup : BoardFile) (port : PortState) (before : State) (packet : Packet) (bus : PacketBus) (ends : BusEnds) → length packet.payload ≤ unit_size → IsPortOf ends port
     → PartsAreEvents setup port before packet bus ends

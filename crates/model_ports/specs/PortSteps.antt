@@ -65,13 +65,13 @@ turn above heard spell setup asked log before =
     record { outcome = done; log = log_after done kept log; left = left_by done given.1 before; replied = reply_after done kept }
 
 -- a port and the board after something came, and what the port sends
-pub record Deed : Type 0 where
+pub record StepResult : Type 0 where
   pub port : PortState
   pub board : State
   pub sent : List Value
 
 -- nothing changes, and the port sends nothing
-abbrev pub stays : PortState → State → Deed
+abbrev pub stays : PortState → State → StepResult
 stays port before = record { port = port; board = before; sent = [] }
 
 -- ---- IPMB
@@ -89,7 +89,7 @@ abbrev pub response_after : Request → Option (List ℕ) → Value
 response_after request replied = Tells (response_of request (said Ipmb (heard_in request) replied))
 
 -- a request on IPMB comes
-unfoldable pub hears_request : BoardFile → PortState → State → Request → Deed
+unfoldable pub hears_request : BoardFile → PortState → State → Request → StepResult
 hears_request setup port before request =
     let done = request_turn setup port before request in
     record { port = record port { log = done.log }; board = done.left; sent = response_after request done.replied ∷ [] }
@@ -113,7 +113,7 @@ abbrev pub replies : PortState → Message → List ℕ → List Value
 replies port message body = map Part (parts_of (record { envelope = reply_envelope port message.envelope; body = body }))
 
 -- a port hears a control message: it sends the endpoint's reply, from the identifier that the endpoint has then
-abbrev pub hears_control : PortState → State → Message → Option ControlRequest → Deed
+abbrev pub hears_control : PortState → State → Message → Option ControlRequest → StepResult
 hears_control port before message None = stays port before
 hears_control port before message (Some request) =
     let next = record port { eid = eid_after port.eid request.command request.content } in
@@ -129,7 +129,7 @@ pldm_turn setup port before from request =
     turn (is_above instances) (pldm_heard_in from request) (spelled Smbus (pldm_heard_in from request)) setup (pldm_asked from request) port.log before
 
 -- a port hears a PLDM message
-abbrev pub hears_pldm : BoardFile → PortState → State → Message → Option PldmRequest → Deed
+abbrev pub hears_pldm : BoardFile → PortState → State → Message → Option PldmRequest → StepResult
 hears_pldm setup port before message None = stays port before
 hears_pldm setup port before message (Some request) =
     let from = message.envelope.source_eid in
@@ -137,7 +137,7 @@ hears_pldm setup port before message (Some request) =
     record { port = record port { log = done.log }; board = done.left; sent = replies port message (said Smbus (pldm_heard_in from request) done.replied) }
 
 -- a port hears a message whose sender owns its tag, by the message's type: control, or PLDM
-abbrev pub hears_typed : BoardFile → PortState → State → Message → List ℕ → Deed
+abbrev pub hears_typed : BoardFile → PortState → State → Message → List ℕ → StepResult
 hears_typed setup port before message [] = stays port before
 hears_typed setup port before message (kind ∷ rest) =
     if kind == control_message_type then hears_control port before message (control_request_of message.body)
@@ -145,22 +145,22 @@ hears_typed setup port before message (kind ∷ rest) =
     else stays port before
 
 -- a port hears a whole message; a reply is nothing to it
-unfoldable pub hears_message : BoardFile → PortState → State → Message → Deed
+unfoldable pub hears_message : BoardFile → PortState → State → Message → StepResult
 hears_message setup port before message = if message.envelope.tag_owner then hears_typed setup port before message message.body else stays port before
 
 -- ---- SMBus: packets
 
 -- a port has taken a packet: it dropped the packet for the cause, or the packet ended a message, or others are to come
-abbrev pub ends_message : BoardFile → PortState → State → Packet → Option DropCause → Deed
+abbrev pub ends_message : BoardFile → PortState → State → Packet → Option DropCause → StepResult
 ends_message setup port before packet (Some cause) = stays port before
 ends_message setup port before packet None = if packet.end then hears_message setup port before (message_of port.kept packet) else stays port before
 
 -- a packet comes: the port drops or keeps it first
-unfoldable pub hears_part : BoardFile → PortState → State → Packet → Deed
+unfoldable pub hears_part : BoardFile → PortState → State → Packet → StepResult
 hears_part setup port before packet = ends_message setup (record port { kept = kept_after port.eid port.kept packet }) before packet (drop_cause port.eid port.kept packet)
 
 -- packets come, one after another
-unfoldable pub hears_parts : BoardFile → PortState → State → List Packet → Deed
+unfoldable pub hears_parts : BoardFile → PortState → State → List Packet → StepResult
 hears_parts setup port before [] = stays port before
 hears_parts setup port before (packet ∷ packets) =
     let first = hears_part setup port before packet in
@@ -168,13 +168,13 @@ hears_parts setup port before (packet ∷ packets) =
     record { port = rest.port; board = rest.board; sent = first.sent ++ rest.sent }
 
 -- all packets of a message come, one after another, if they go to the port's address
-abbrev pub hears_all : BoardFile → PortState → State → Message → Deed
+abbrev pub hears_all : BoardFile → PortState → State → Message → StepResult
 hears_all setup port before message = if message.envelope.destination == port.wire then hears_parts setup port before (parts_of message) else stays port before
 
 -- ---- any frame
 
 -- the port hears the frames to its address, and a response is nothing to it
-abbrev pub hears : BoardFile → PortState → State → Value → Deed
+abbrev pub hears : BoardFile → PortState → State → Value → StepResult
 hears setup port before (Asks request) = if request.header.responder.address == port.wire then hears_request setup port before request else stays port before
 hears setup port before (Tells response) = stays port before
 hears setup port before (Part packet) = if packet.envelope.destination == port.wire then hears_part setup port before packet else stays port before

@@ -6,7 +6,7 @@ ghost use Rattle.record_base.specs.declared.message.Answered.{Answered};
 ghost use Rattle.cfg_records.specs.declared.board_file.BoardFile.{BoardFile};
 ghost use Rattle.model_bus.specs.Request.{Request as Heard, Entry};
 ghost use Rattle.bmc_board.specs.State.{State};
-ghost use Rattle.model_ports.specs.Bytes.{AreReadBack, AreTheModels, Accepts, IsNumbered};
+ghost use Rattle.model_ports.specs.Bytes.{AreReadBack, AreTheModels, AcceptsFrames, IsNumbered};
 ghost use Rattle.model_ports.specs.Turns.{TurnsBy};
 ghost use Rattle.model_ports.specs.Cuts.{PartsAreCuts, PartsAreHeard};
 ghost use Rattle.model_ports.specs.PortEvents.{RequestsLeaveLog, PartsLeaveLog};
@@ -23,7 +23,7 @@ pub fn bytes_are_the_models()
 
 /// The manager's test against a request takes the reply to it, unless that has a code of a busy port. A taken reply has the request's number.
 pub fn test_takes_the_reply()
-    ensures accepts { Accepts }
+    ensures accepts { AcceptsFrames }
     ensures numbered { IsNumbered }
 {}
 

@@ -6,11 +6,11 @@ use Rattle.std.proofs.lemmas.Option.{slice_get_within}
 use Rattle.two_wire.specs.Codes.{success}
 use Rattle.model_bus.specs.Answered.{Answered}
 use Rattle.model_undo.specs.Words.{IsNext, AllAnswered}
-use Rattle.model_undo.specs.Family.{Family, AllValid, IsReady, Gave, SetsTo}
+use Rattle.model_undo.specs.Family.{Family, AllValid, IsReady, GaveAnswer, SetsTo}
 use Rattle.model_undo.specs.IsFamily.{AnswersSet, IsFamily}
 use Rattle.model_undo.specs.declared.phase.Why.{Why}
 use Rattle.model_undo.specs.declared.phase.Why.TheVariants.{Stop, Refused, NotRestorable, GetRefused}
-use Rattle.model_undo.specs.Plan.{Because}
+use Rattle.model_undo.specs.Plan.{HaltCause}
 use Rattle.model_undo.specs.Machine.{Task, Gets, Sets, Undoes, Stage, AtStart, Opened, AtEnd, AtHalt, AtUndone, AtRefused, Part, first_stage, undo_stage, next_stage, set_stage, goes_on, told_stage, bodies_with, next_asked, stage_after, undo_with, undo_after}
 use Rattle.model_undo.specs.Undoable.{CanUndo}
 use Rattle.model_undo.proofs.Undoable.{past_none, LeadsHome, length_of, sets_to_one, sets_to_valid, sets_back, ready}
@@ -152,7 +152,7 @@ module _ (F : Family) (laws : IsFamily F) (plan : List F.words.Op) (start : F.Re
 
   -- all requests of a step's Get were answered
   abbrev AllGot : F.words.Op → List (List ℕ) → F.Records → Type 0
-  AllGot op bodies r = AllAnswered F.words (Gave F r) (F.words.getting (F.words.key_of op)) bodies
+  AllGot op bodies r = AllAnswered F.words (GaveAnswer F r) (F.words.getting (F.words.key_of op)) bodies
 
   set_good : (stopped : Bool) (k : ℕ) (op : F.words.Op) (o : Option F.words.Op) (bodies : List (List ℕ)) (undo : List F.words.Series) (b : F.Board) → OfPlan F plan start own k op → CanUndo F plan start k undo (F.records b)
       → AllGot op bodies (F.records b) → AllValid F (F.records b) → IsReady F b → F.words.inverse op (F.words.joined (F.words.getting (F.words.key_of op)) bodies) ≡ o → Good (set_stage F.words stopped k op o) None stopped undo b
@@ -182,8 +182,8 @@ module _ (F : Family) (laws : IsFamily F) (plan : List F.words.Op) (start : F.Re
   got_more : (part : Part F.words) (a : Answered) (k : ℕ) (op : F.words.Op) (undo : List F.words.Series) (b : F.Board) → Sound (Gets k op) part (Some a) undo b → IsPart F plan start (Gets k op) part → a.code ≡ success
       → Got F plan start (F.words.key_of op) (bodies_with F.words a part) (F.records b)
   got_more part a k op undo b t is e =
-      let gave : Gave F (F.records b) part.asked (record { code = success; body = a.body }) = subst (λ (c : ℕ). Gave F (F.records b) part.asked (record { code = c; body = a.body })) e t.3 in
-      one_more F.words (F.words.getting (F.words.key_of op)) (Gave F (F.records b)) [] part.before part.asked a.body t.2 is gave
+      let gave : GaveAnswer F (F.records b) part.asked (record { code = success; body = a.body }) = subst (λ (c : ℕ). GaveAnswer F (F.records b) part.asked (record { code = c; body = a.body })) e t.3 in
+      one_more F.words (F.words.getting (F.words.key_of op)) (GaveAnswer F (F.records b)) [] part.before part.asked a.body t.2 is gave
 
   -- a Get goes on, unless the plan is to stop
   get_goes_on : (stopped : Bool) (k : ℕ) (op : F.words.Op) (part : Part F.words) (undo : List F.words.Series) (b : F.Board) → Sound (Gets k op) part None undo b → IsPart F plan start (Gets k op) part
@@ -253,7 +253,7 @@ module _ (F : Family) (laws : IsFamily F) (plan : List F.words.Op) (start : F.Re
 
   -- ---- it is to stop
 
-  because_stopped : (stopped : Bool) (k : ℕ) (why : Why) (r : F.Records) → Because F stopped plan k why r → Because F true plan k why r
+  because_stopped : (stopped : Bool) (k : ℕ) (why : Why) (r : F.Records) → HaltCause F stopped plan k why r → HaltCause F true plan k why r
   because_stopped stopped k Stop r h = refl
   because_stopped stopped k (Refused code) r h = h
   because_stopped stopped k NotRestorable r h = h

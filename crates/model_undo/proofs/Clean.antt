@@ -13,9 +13,9 @@ use Rattle.model_undo.specs.declared.phase.Phase.{Phase}
 use Rattle.model_undo.specs.declared.phase.Phase.TheVariants.{Undone}
 use Rattle.model_undo.specs.Plan.{IsAfter}
 use Rattle.model_undo.specs.Machine.{Turn, enters, first_stage, undo_of, opened}
-use Rattle.model_undo.specs.Clean.{Moment, AnswersByRow, clean, got, Goes, GoAll, Sticks, EndsIn, IsAtRest, RunsClean, AlwaysRunsClean}
+use Rattle.model_undo.specs.Clean.{Moment, AnswersByRow, clean, got, CarriesStep, GoAll, HaltsStep, EndsIn, IsAtRest, RunsClean, AlwaysRunsClean}
 use Rattle.model_undo.specs.CleanSeries as series
-use Rattle.model_undo.specs.CleanSeries.{AreFinite, Answers, AnswersAll, RefusesOne, AnswersEach, RunsThrough}
+use Rattle.model_undo.specs.CleanSeries.{AreFinite, SeriesAnswered, AnswersAll, RefusesOne, AnswersEach, RunsThrough}
 use Rattle.model_undo.proofs.CleanSeries.{always_runs_through}
 
 pub are_finite : (M : Words) → AreSingle M → AreFinite M
@@ -50,7 +50,7 @@ module _ (F : Family) (single : AreSingle F.words) (answer : F.Board → F.words
     fault : code ≢ success
     count : requests ≡ 1
 
-  refusal_where : (series : F.words.Series) (code requests : ℕ) (b : F.Board) (h : RefusesOne F answer series code requests b) (bodies : List (List ℕ)) → Answers F answer series [] bodies b h.mid → IsNext F.words series bodies h.asked
+  refusal_where : (series : F.words.Series) (code requests : ℕ) (b : F.Board) (h : RefusesOne F answer series code requests b) (bodies : List (List ℕ)) → SeriesAnswered F answer series [] bodies b h.mid → IsNext F.words series bodies h.asked
       → requests ≡ length bodies + 1 → OneRefusal series code requests b
   refusal_where series code requests b h [] at is count = record {
     refused = subst (λ (asked : F.words.Asked). (answer b asked).0.code ≡ code) is (subst (λ (c : F.Board). (answer c h.asked).0.code ≡ code) at h.refused);
@@ -76,7 +76,7 @@ module _ (F : Family) (single : AreSingle F.words) (answer : F.Board → F.words
       let one = one_reply (F.words.getting (F.words.key_of op)) bodies b mid h in
       record { read = one.read; shows = one.shows; left = one.left; count = one.count }
 
-  goes : (b : F.Board) (op : F.words.Op) (n : ℕ) (after : F.Board) → series.Goes F answer b op n after → Goes F answer b op after × (n ≡ 2)
+  goes : (b : F.Board) (op : F.words.Op) (n : ℕ) (after : F.Board) → series.CarriesSeries F answer b op n after → CarriesStep F answer b op after × (n ≡ 2)
   goes b op n after g =
       let r = read_by op g.got b g.mid g.read in
       let d = one_reply (F.words.setting op) g.put (got F answer b op).1 after (subst (λ (c : F.Board). AnswersAll F answer (F.words.setting op) g.put c after) r.left g.done) in
@@ -91,7 +91,7 @@ module _ (F : Family) (single : AreSingle F.words) (answer : F.Board → F.words
       let one = first.1 in let more = rest.1 in let all = g.5 in
       ((g.0, first.0, rest.0), omega arith)
 
-  stuck : (b : F.Board) (op : F.words.Op) (why : Why) (n : ℕ) → series.Sticks F answer b op why n → Sticks F answer b op why n
+  stuck : (b : F.Board) (op : F.words.Op) (why : Why) (n : ℕ) → series.HaltsSeries F answer b op why n → HaltsStep F answer b op why n
   stuck b op Stop n s = absurd s
   stuck b op (GetRefused code) n s = let one = one_refusal (F.words.getting (F.words.key_of op)) code n b s in (one.refused, one.fault, one.count)
   stuck b op NotRestorable n s =

@@ -9,7 +9,7 @@ use Rattle.two_wire.specs.declared.Bus.TheVariants.{Ipmb, Smbus}
 use Rattle.model_bus.specs.Request.{Kept}
 use Rattle.model_bus.specs.BusState.{BusState}
 use Rattle.model_bus.specs.Start.{NothingUnderWay}
-use Rattle.model_bus.specs.Effect.{SameRequests, IsBegun, IsCarried, IsTaken}
+use Rattle.model_bus.specs.Effect.{SameRequests, BeginsRequest, CarriesOpen, TakesReply}
 use Rattle.model_bus.proofs.Lists.{length_more}
 use Rattle.model_bus.specs.Answered.{Answered}
 use Rattle.model_undo.specs.Words.{is_busy, AreSingle}
@@ -47,7 +47,7 @@ same_bus-itself Ipmb = refl
 same_bus-itself Smbus = refl
 
 -- no request moves, and then a reply is taken
-taken_after : (old mid new : BusState) (reply : List ℕ) → SameRequests old mid → IsTaken mid new reply → IsTaken old new reply
+taken_after : (old mid new : BusState) (reply : List ℕ) → SameRequests old mid → TakesReply mid new reply → TakesReply old new reply
 taken_after old mid new reply s t =
     let place : length mid.taken ≡ length old.taken = ap (λ (x : List (List ℕ)). length x) s.taken in
     let all : length mid.begun ≡ length old.begun = ap (λ (x : List (List ℕ)). length x) s.begun in
@@ -147,8 +147,8 @@ module _ (F : Family) (laws : IsFamily F) (L : Bus → Line) (lines : (bus : Bus
   reaches bus (e ∷ []) x after w held h may =
       let s = w.on bus in
       let t = (L bus).happens s e in
-      let effect : IsCarried ((L bus).requests s) ((L bus).requests t) x.bytes x.reply =
-      subst (λ (o : Option Exchange). MatchOption o (SameRequests ((L bus).requests s) ((L bus).requests t)) (λ y. IsCarried ((L bus).requests s) ((L bus).requests t) y.bytes y.reply)) h.3 ((lines bus).on_bus s e held h.0 h.1 h.2) in (
+      let effect : CarriesOpen ((L bus).requests s) ((L bus).requests t) x.bytes x.reply =
+      subst (λ (o : Option Exchange). MatchOption o (SameRequests ((L bus).requests s) ((L bus).requests t)) (λ y. CarriesOpen ((L bus).requests s) ((L bus).requests t) y.bytes y.reply)) h.3 ((lines bus).on_bus s e held h.0 h.1 h.2) in (
         (((h.0, h.2), h.1, subst (λ (o : Option Exchange). BoardMay F L W bus o w.board after) (sym h.3) may), tt),
         record {
           now = update L bus t w.on;
@@ -162,7 +162,7 @@ module _ (F : Family) (laws : IsFamily F) (L : Bus → Line) (lines : (bus : Bus
       let s = w.on bus in
       let t = (L bus).happens s e in
       let effect : SameRequests ((L bus).requests s) ((L bus).requests t) =
-      subst (λ (o : Option Exchange). MatchOption o (SameRequests ((L bus).requests s) ((L bus).requests t)) (λ y. IsCarried ((L bus).requests s) ((L bus).requests t) y.bytes y.reply)) h.3 ((lines bus).on_bus s e held h.0 h.1 h.2) in
+      subst (λ (o : Option Exchange). MatchOption o (SameRequests ((L bus).requests s) ((L bus).requests t)) (λ y. CarriesOpen ((L bus).requests s) ((L bus).requests t) y.bytes y.reply)) h.3 ((lines bus).on_bus s e held h.0 h.1 h.2) in
       let next = world_of w.machine (update L bus t w.on) w.board in
       let r = reaches bus (f ∷ es) x after next (subst (lines bus).Holds (sym (is_here bus t w.on)) ((lines bus).keeps s e held h.2))
       (subst (λ (y : (L bus).State). HasCarried (L bus) (f ∷ es) y x (λ z. (clean_lines bus).Answered z x.reply)) (sym (is_here bus t w.on)) h.4) may in (
@@ -184,7 +184,7 @@ module _ (F : Family) (laws : IsFamily F) (L : Bus → Line) (lines : (bus : Bus
     is : let t = takes F.words (W.answered_from bus reply) task part w.machine in v ≡ world_of t.machine (begins F L W t.sends mid) w.board
     place : (D bus).HasPlace (mid bus)
     held : (lines bus).Holds (mid bus)
-    taken : IsTaken (request_on w.on bus) (request_on mid bus) reply
+    taken : TakesReply (request_on w.on bus) (request_on mid bus) reply
     others : (other : Bus) → (other ≡ bus → ⊥) → mid other ≡ w.on other
 
   comes : (bus : Bus) (e : (L bus).Event) (task : Task F.words) (part : Part F.words) (w : World F L) → w.machine.stage ≡ Opened true task part → bus ≡ bus_at F.words part → happens F L W w (ToManager bus e) ≡ world.brought F L W bus e ((L bus).brings (w.on bus) e) w
@@ -202,8 +202,8 @@ module _ (F : Family) (laws : IsFamily F) (L : Bus → Line) (lines : (bus : Bus
       let t = (L bus).happens s e in
       let a = W.answered_from bus reply in
       let turn = takes F.words a task part w.machine in
-      let effect : IsTaken ((L bus).requests s) ((L bus).requests t) reply =
-      subst (λ (o : Option (List ℕ)). MatchOption o (SameRequests ((L bus).requests s) ((L bus).requests t)) (IsTaken ((L bus).requests s) ((L bus).requests t))) h.3 ((lines bus).to_manager s e held h.0 h.1 h.2) in
+      let effect : TakesReply ((L bus).requests s) ((L bus).requests t) reply =
+      subst (λ (o : Option (List ℕ)). MatchOption o (SameRequests ((L bus).requests s) ((L bus).requests t)) (TakesReply ((L bus).requests s) ((L bus).requests t))) h.3 ((lines bus).to_manager s e held h.0 h.1 h.2) in
       let heard : reply_of F.words a w.machine ≡ Some turn = ap (λ (y : Stage F.words). machine_replies F.words a y w.machine) at ∙ ap (λ (b : Bool). if b then None else Some turn) free in
       let becomes : happens F L W w (ToManager bus e) ≡ world_of turn.machine (begins F L W turn.sends (moved F L W bus e w)) w.board =
       comes bus e task part w at is ∙ ap (λ (o : Option (List ℕ)). world.brought F L W bus e o w) h.3 ∙ ap (λ (o : Option (Turn F.words)). world.answered F L W bus e o w) heard in (
@@ -213,7 +213,7 @@ module _ (F : Family) (laws : IsFamily F) (L : Bus → Line) (lines : (bus : Bus
           is = becomes;
           place = subst (D bus).HasPlace (sym (is_here bus t w.on)) h.4;
           held = subst (lines bus).Holds (sym (is_here bus t w.on)) ((lines bus).keeps s e held h.2);
-          taken = subst (λ (y : (L bus).State). IsTaken ((L bus).requests s) ((L bus).requests y) reply) (sym (is_here bus t w.on)) effect;
+          taken = subst (λ (y : (L bus).State). TakesReply ((L bus).requests s) ((L bus).requests y) reply) (sym (is_here bus t w.on)) effect;
           others = λ other ne. is_there bus other t w.on ne;
         },
       )
@@ -221,7 +221,7 @@ module _ (F : Family) (laws : IsFamily F) (L : Bus → Line) (lines : (bus : Bus
       let s = w.on bus in
       let t = (L bus).happens s e in
       let effect : SameRequests ((L bus).requests s) ((L bus).requests t) =
-      subst (λ (o : Option (List ℕ)). MatchOption o (SameRequests ((L bus).requests s) ((L bus).requests t)) (IsTaken ((L bus).requests s) ((L bus).requests t))) h.3 ((lines bus).to_manager s e held h.0 h.1 h.2) in
+      subst (λ (o : Option (List ℕ)). MatchOption o (SameRequests ((L bus).requests s) ((L bus).requests t)) (TakesReply ((L bus).requests s) ((L bus).requests t))) h.3 ((lines bus).to_manager s e held h.0 h.1 h.2) in
       let next = world_of w.machine (update L bus t w.on) w.board in
       let becomes : happens F L W w (ToManager bus e) ≡ next = comes bus e task part w at is ∙ ap (λ (o : Option (List ℕ)). world.brought F L W bus e o w) h.3 in
       let all = map (λ (y : (L bus).Event). ToManager bus y) (f ∷ es) in
@@ -275,7 +275,7 @@ module _ (F : Family) (laws : IsFamily F) (L : Bus → Line) (lines : (bus : Bus
       let s = (L bus).happens (on bus) ((L bus).begins bytes) in
       let made = task_made F plan start m.plan m.undo b task part good.sound.0 good.sound.2 in
       let asked = (clean_lines bus).begun (on bus) bytes (r.held bus) (r.closed bus) (r.place bus) (can.requests (number_of bus (count_of bus m.counts)) part.asked made) in
-      let begun : IsBegun (request_on on bus) ((L bus).requests s) bytes = (lines bus).begun (on bus) bytes (r.held bus) (r.closed bus) in (
+      let begun : BeginsRequest (request_on on bus) ((L bus).requests s) bytes = (lines bus).begun (on bus) bytes (r.held bus) (r.closed bus) in (
         (subst (λ (y : (L bus).State). (clean_lines bus).Asked y bytes) (sym (is_here bus s on)) asked, λ other ne. subst (D other).HasPlace (sym (is_there bus other s on ne)) (r.place other)),
         each_bus (λ any. length (request_on (update L bus s on) any).taken ≡ count_of any m.counts) bus
             (ap (λ (y : (L bus).State). length ((L bus).requests y).taken) (is_here bus s on) ∙ ap (λ (l : List (List ℕ)). length l) begun.taken ∙ r.exact bus)

@@ -8,8 +8,8 @@ use Rattle.two_wire.specs.Codes.{success}
 use Rattle.model_bus.proofs.Lists.{length_more}
 use Rattle.model_bus.specs.Answered.{Answered}
 use Rattle.model_undo.specs.Words.{IsNext, AreAnswered}
-use Rattle.model_undo.specs.Family.{Family, AllValid, IsReady, Gave}
-use Rattle.model_undo.specs.IsFamily.{Showed, IsFamily}
+use Rattle.model_undo.specs.Family.{Family, AllValid, IsReady, GaveAnswer}
+use Rattle.model_undo.specs.IsFamily.{ShownRecord, IsFamily}
 use Rattle.model_undo.specs.declared.phase.Why.{Why}
 use Rattle.model_undo.specs.declared.phase.Why.TheVariants.{Refused, NotRestorable, GetRefused}
 use Rattle.model_undo.specs.declared.phase.Phase.{Phase}
@@ -17,7 +17,7 @@ use Rattle.model_undo.specs.declared.phase.Phase.TheVariants.{Done, Halted, Undo
 use Rattle.model_undo.specs.Plan.{IsAfter}
 use Rattle.model_undo.specs.Machine.{Task, Part, Gets, Sets, Undoes, Stage, AtStart, Opened, AtEnd, AtHalt, AtUndone, AtRefused, Machine, Turn, series_of, first_part, begun, bus_at, enters, first_stage, undo_stage, next_stage, set_stage, refused, goes_on, told_stage, finished, bodies_with, next_asked, stage_after, phase_at, undoes, undo_of, opened}
 use Rattle.model_undo.specs.Clean.{Moment, answered_in_all, AnswersByRow, one, clean, IsAtRest}
-use Rattle.model_undo.specs.CleanSeries.{AreFinite, Answers, AnswersAll, RefusesOne, shown, Goes, GoAll, Sticks, EndsIn, AnswersEach, AlwaysRunsThrough}
+use Rattle.model_undo.specs.CleanSeries.{AreFinite, SeriesAnswered, AnswersAll, RefusesOne, shown, CarriesSeries, GoAll, HaltsSeries, EndsIn, AnswersEach, AlwaysRunsThrough}
 use Rattle.model_undo.specs.Undoable.{CanUndo}
 use Rattle.model_undo.proofs.Undoable.{past_none, after_of, length_of}
 use Rattle.model_undo.proofs.Series.{not_empty, is_of}
@@ -57,7 +57,7 @@ module _ (F : Family) (laws : IsFamily F) (finite : AreFinite F.words) (answer :
     all_are : all ≡ part.before ++ bodies
     at : F.Board
     next : Machine F.words
-    replied : Answers F answer (series_of F.words task) part.before bodies b at
+    replied : SeriesAnswered F answer (series_of F.words task) part.before bodies b at
     some : bodies ≢ []
     no_more : F.words.next (series_of F.words task) all ≡ None
     ends : clean F answer (length bodies) (at_stage (Opened true task part) m b) ≡ at_stage (finished F.words m.stopped m.plan (F.words.joined (series_of F.words task) all) task) next at
@@ -74,7 +74,7 @@ module _ (F : Family) (laws : IsFamily F) (finite : AreFinite F.words) (answer :
     at : F.Board
     after : F.Board
     next : Machine F.words
-    replied : Answers F answer (series_of F.words task) part.before bodies b at
+    replied : SeriesAnswered F answer (series_of F.words task) part.before bodies b at
     asked : F.words.Asked
     is_next : IsNext F.words (series_of F.words task) all asked
     code : ℕ
@@ -246,7 +246,7 @@ module _ (F : Family) (laws : IsFamily F) (finite : AreFinite F.words) (answer :
   -- ---- what a Get shows
 
   -- its requests change no record
-  gave_all : (key : F.words.Key) (r : F.Records) (before bodies : List (List ℕ)) (b at : F.Board) → F.records b ≡ r → Answers F answer (F.words.getting key) before bodies b at → AreAnswered F.words (Gave F r) (F.words.getting key) before bodies
+  gave_all : (key : F.words.Key) (r : F.Records) (before bodies : List (List ℕ)) (b at : F.Board) → F.records b ≡ r → SeriesAnswered F answer (F.words.getting key) before bodies b at → AreAnswered F.words (GaveAnswer F r) (F.words.getting key) before bodies
   gave_all key r before [] b at same h = tt
   gave_all key r before (body ∷ bodies) b at same h =
       let next = (answer b h.0).1 in
@@ -254,7 +254,7 @@ module _ (F : Family) (laws : IsFamily F) (finite : AreFinite F.words) (answer :
       let kept : F.records next ≡ r = laws.parts_keep b next key h.0 (record { code = success; body = body }) (is_of F.words (F.words.getting key) before h.0 h.1) row ∙ same in
       (h.0, h.1, (b, next, same, row), gave_all key r (before ++ body ∷ []) bodies next at kept h.3)
 
-  shows : (op : F.words.Op) (bodies : List (List ℕ)) (b at : F.Board) → AllValid F (F.records b) → AnswersAll F answer (F.words.getting (F.words.key_of op)) bodies b at → Showed F (F.words.key_of op) (shown F answer op bodies) (F.records b)
+  shows : (op : F.words.Op) (bodies : List (List ℕ)) (b at : F.Board) → AllValid F (F.records b) → AnswersAll F answer (F.words.getting (F.words.key_of op)) bodies b at → ShownRecord F (F.words.key_of op) (shown F answer op bodies) (F.records b)
   shows op bodies b at valid h =
       let key = F.words.key_of op in
       laws.parts_show (F.records b) key bodies valid (record { in_order = gave_all key (F.records b) [] bodies b at refl h.replied; some = h.some; no_more = h.no_more })
@@ -340,7 +340,7 @@ module _ (F : Family) (laws : IsFamily F) (finite : AreFinite F.words) (answer :
     here : (n : ℕ) → slice_get m.plan (k + n) ≡ slice_get ops n
 
   -- it sticks at the first of them
-  sticks : (op : F.words.Op) (ops : List F.words.Op) (k : ℕ) (m : Machine F.words) (b : F.Board) (stage : Stage F.words) (why : Why) (more : ℕ) (last : Machine F.words) (board : F.Board) → Sticks F answer b op why more
+  sticks : (op : F.words.Op) (ops : List F.words.Op) (k : ℕ) (m : Machine F.words) (b : F.Board) (stage : Stage F.words) (why : Why) (more : ℕ) (last : Machine F.words) (board : F.Board) → HaltsSeries F answer b op why more
       → clean F answer more (at_stage stage m b) ≡ at_stage (AtHalt k why) last board → Good (AtHalt k why) last board → answered_in_all last.counts ≡ answered_in_all m.counts + more
       → Runs (op ∷ ops) k m b stage
   sticks op ops k m b stage why more last board stuck ends good count =
@@ -369,7 +369,7 @@ module _ (F : Family) (laws : IsFamily F) (finite : AreFinite F.words) (answer :
       }
 
   -- the first goes by so many requests, and then the others
-  goes_first : (op : F.words.Op) (ops : List F.words.Op) (k : ℕ) (m : Machine F.words) (b : F.Board) (stage next_one : Stage F.words) (next : Machine F.words) (mid : F.Board) (n : ℕ) → Goes F answer b op n mid
+  goes_first : (op : F.words.Op) (ops : List F.words.Op) (k : ℕ) (m : Machine F.words) (b : F.Board) (stage next_one : Stage F.words) (next : Machine F.words) (mid : F.Board) (n : ℕ) → CarriesSeries F answer b op n mid
       → clean F answer n (at_stage stage m b) ≡ at_stage next_one next mid → answered_in_all next.counts ≡ answered_in_all m.counts + n → Runs ops (suc k) next mid next_one → Runs (op ∷ ops) k m b stage
   goes_first op ops k m b stage next_one next mid n goes there sum r =
       let far : suc k + length r.steps ≡ k + suc (length r.steps) = omega arith in

@@ -9,14 +9,14 @@ use Rattle.two_wire.specs.declared.Bus.TheVariants.{Ipmb, Smbus}
 use Rattle.model_bus.specs.Numbering.{Rules, ipmb, smbus}
 use Rattle.model_bus.specs.BusState.{BusState, Event, Begins, SendsAgain, ReachesPort, ReachesManager, OtherAsks, OtherReplies, IsIdle, Resumes}
 use Rattle.model_bus.specs.Packet.{packets_of}
-use Rattle.model_bus.specs.PacketBus.{PacketBus, Ends, PacketEvent, Plain, PacketReachesPort, PacketReachesManager, OtherPacket, OtherReplyPacket, Closes, Clears, PacketResumes}
+use Rattle.model_bus.specs.PacketBus.{PacketBus, BusEnds, PacketEvent, Plain, PacketReachesPort, PacketReachesManager, OtherPacket, OtherReplyPacket, Closes, Clears, PacketResumes}
 use Rattle.model_bus.specs.PacketSchedule.{LiveWhereJoined}
 use Rattle.model_bus.proofs.Decides.{is_honest, is_honest-tells}
 use Rattle.model_bus.proofs.PacketDecides.{is_packet_honest, all_packet_honest-tells}
 use Rattle.model_bus.proofs.PacketLaws.{event_implies, live_is_recent}
 use Rattle.model_undo.specs.Wires.{Wires}
 use Rattle.model_undo.specs.Line.{Exchange, Line, whole, packets, IsOutsideWhole, IsOutsidePackets}
-use Rattle.model_undo.specs.World.{World, Happening, Calls, Resume, Restart, ToManager, OnBus, OnBench, BoardMay, May, AllMay, happens, opening}
+use Rattle.model_undo.specs.World.{World, Happening, Calls, Resume, Restart, ToManager, OnBus, OnBench, BoardMay, MayHappen, AllMay, happens, opening}
 use Rattle.model_undo.specs.Registers.{Halves, Asked, Board, answer, register_words, registers, wires}
 use Rattle.model_undo.specs.Example.{EndsUndone, board, plan, messages, quiet_messages, by_message, mixed, quiet_mixed, long_wires, by_packet, run_and_undo, run_resume_undo, run_restart_undo, restarted_first, undo_of_first, HaltsThenUndone}
 
@@ -61,7 +61,7 @@ record Tests (L : Bus → Line) : Type 0 where
 whole_tells : (b : Rules) (s : BusState) (e : Event) → (is_outside e && is_honest b s e) ≡ true → (whole b).IsOutside e × (whole b).IsHonest s e
 whole_tells b s e t = let parts = and_parts _ _ t in (outside_tells e parts.0, is_honest-tells b s e parts.1)
 
-packets_tell : (b : PacketBus) (x : Ends) (e : PacketEvent) → (is_outside_packets e && is_packet_honest false b x e) ≡ true → (packets b).IsOutside e × (packets b).IsHonest x e
+packets_tell : (b : PacketBus) (x : BusEnds) (e : PacketEvent) → (is_outside_packets e && is_packet_honest false b x e) ≡ true → (packets b).IsOutside e × (packets b).IsHonest x e
 packets_tell b x e t =
     let parts = and_parts _ _ t in
     (outside_packets_tells e parts.0, event_implies LiveWhereJoined live_is_recent b x e (all_packet_honest-tells false b (e ∷ []) x (and_from (is_packet_honest false b x e) true parts.1 refl)).0)
@@ -120,7 +120,7 @@ module _ (L : Bus → Line) (T : Tests L) (W : Wires register_words) where
   may w (Resume retries) = true
   may w Restart = true
 
-  may-tells : (w : World registers L) (e : Happening registers L) → may w e ≡ true → May registers L W w e
+  may-tells : (w : World registers L) (e : Happening registers L) → may w e ≡ true → MayHappen registers L W w e
   may-tells w (ToManager bus e) t = let parts = and_parts _ _ t in (T.tells bus (w.on bus) e parts.0, parts.1)
   may-tells w (OnBus bus e after) t =
       let parts = and_parts _ _ t in

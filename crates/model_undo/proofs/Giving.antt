@@ -8,29 +8,29 @@ use Rattle.model_bus.specs.Answered.{Answered}
 use Rattle.model_undo.specs.declared.phase.Why.TheVariants.{Stop, Refused, NotRestorable, GetRefused}
 use Rattle.model_undo.specs.declared.phase.Phase.{Phase}
 use Rattle.model_undo.specs.declared.phase.Phase.TheVariants.{Fresh, Getting, Setting, Done, Halted, Unsettled, Undoing, Undone, UndoRefused}
-use Rattle.model_undo.specs.Family.{Family, Gave, SetsTo}
-use Rattle.model_undo.specs.IsFamily.{Showed, AnswersSet, AreKinds, IsFamily}
-use Rattle.model_undo.specs.Plan.{IsAfter, Stands, GaveGet, GaveSet, GaveUnrestorable, Halts}
+use Rattle.model_undo.specs.Family.{Family, GaveAnswer, SetsTo}
+use Rattle.model_undo.specs.IsFamily.{ShownRecord, AnswersSet, AreKinds, IsFamily}
+use Rattle.model_undo.specs.Plan.{IsAfter, PhaseMeans, GaveGet, GaveSet, GaveUnrestorable, HaltMeans}
 use Rattle.model_undo.specs.Machine.{Stage, AtStart, Opened, AtEnd, AtHalt, AtUndone, AtRefused, Turn, bus_at, same_bus, start_of, quiet_of, stop_of, again_of, undo_of, reply_of, phase_of}
 use Rattle.model_undo.specs.Wires.{Wires}
 use Rattle.model_undo.specs.Line.{Exchange, Line}
 use Rattle.model_undo.specs.declared.call.Call.TheVariants.{Start, Quiet, Stop as StopCall, Again, Undo}
 use Rattle.model_undo.specs.World as world
-use Rattle.model_undo.specs.World.{World, Happening, Calls, Resume, Restart, ToManager, OnBus, OnBench, BoardMay, happens, run, May, AllMay, opening}
+use Rattle.model_undo.specs.World.{World, Happening, Calls, Resume, Restart, ToManager, OnBus, OnBench, BoardMay, happens, run, MayHappen, AllMay, opening}
 use Rattle.model_undo.specs.Headline.{IsStart}
-use Rattle.model_undo.specs.Giving.{Giving, given_by, given_at, given_in, GaveIn, GaveGetIn, GaveSetIn, GaveUnrestorableIn, CausedIn, HaltsByAnswers}
+use Rattle.model_undo.specs.Giving.{GivenAnswer, given_by, given_at, given_in, GaveIn, GaveGetIn, GaveSetIn, GaveUnrestorableIn, CausedIn, HaltsByAnswers}
 use Rattle.model_undo.proofs.Series.{all_answered_as}
 use Rattle.model_undo.proofs.LineLaws.{IsLine}
 use Rattle.model_undo.proofs.Headline.{always_stands, may_prefix, stops_only_if_told}
 
 -- the family whose board answers by the command relation, and gives no answer but these
-abbrev pub giving : (F : Family) → List (Giving F) → Family
+abbrev pub giving : (F : Family) → List (GivenAnswer F) → Family
 giving F given = record F { Row = λ b asked a after. F.Row b asked a after × Contains given (record { before = b; asked = asked; answered = a; after = after }) }
 
-module _ (F : Family) (laws : IsFamily F) (given : List (Giving F)) where
+module _ (F : Family) (laws : IsFamily F) (given : List (GivenAnswer F)) where
   -- ---- it meets the laws
 
-  showed : (key : F.words.Key) (body : List ℕ) (r : F.Records) → Showed F key body r → Showed (giving F given) key body r
+  showed : (key : F.words.Key) (body : List ℕ) (r : F.Records) → ShownRecord F key body r → ShownRecord (giving F given) key body r
   showed key body r s = record { value = s.value; found = s.found; shows = s.shows }
 
   does : (op : F.words.Op) (old new : F.Records) → SetsTo F op old new → SetsTo (giving F given) op old new
@@ -42,7 +42,7 @@ module _ (F : Family) (laws : IsFamily F) (given : List (Giving F)) where
   set_by : (b after : F.Board) (op : F.words.Op) (bodies : List (List ℕ)) (a : Answered) → AnswersSet (giving F given) op bodies b a after → AnswersSet F op bodies b a after
   set_by b after op bodies a set = record { asked = set.asked; is_next = set.is_next; ready = set.ready; row = set.row.0 }
 
-  gave_by : (r : F.Records) (asked : F.words.Asked) (a : Answered) → Gave (giving F given) r asked a → Gave F r asked a
+  gave_by : (r : F.Records) (asked : F.words.Asked) (a : Answered) → GaveAnswer (giving F given) r asked a → GaveAnswer F r asked a
   gave_by r asked a gave = (gave.0, gave.1, gave.2, gave.3.0)
 
   giving_kinds : AreKinds (giving F given)
@@ -67,7 +67,7 @@ module _ (F : Family) (laws : IsFamily F) (given : List (Giving F)) where
     parts_keep = λ b after key asked a is row. laws.parts_keep b after key asked a is row.0;
     parts_show = λ r key bodies valid all.
         let get = F.words.getting key in
-        showed key (F.words.joined get bodies) r (laws.parts_show r key bodies valid (all_answered_as F.words get (Gave (giving F given) r) (Gave F r) (gave_by r) bodies all));
+        showed key (F.words.joined get bodies) r (laws.parts_show r key bodies valid (all_answered_as F.words get (GaveAnswer (giving F given) r) (GaveAnswer F r) (gave_by r) bodies all));
     sets_go_on = λ b after op bodies a asked set carried is. laws.sets_go_on b after op bodies a asked (set_by b after op bodies a set) carried is;
     sets_do = λ b after op bodies a set carried is. does op (F.records b) (F.records after) (laws.sets_do b after op bodies a (set_by b after op bodies a set) carried is);
     refusals_keep = λ b after op bodies a set ne. laws.refusals_keep b after op bodies a (set_by b after op bodies a set) ne;
@@ -149,17 +149,17 @@ module _ (F : Family) (laws : IsFamily F) (given : List (Giving F)) where
 
     -- ---- it may happen there too, where its answers are among those that are given
 
-    board_may : (bus : Bus) (o : Option Exchange) (board after : F.Board) → ((g : Giving F) → Contains (given_by F L W bus o board after) g → Contains given g) → BoardMay F L W bus o board after → BoardMay (giving F given) L W bus o board after
+    board_may : (bus : Bus) (o : Option Exchange) (board after : F.Board) → ((g : GivenAnswer F) → Contains (given_by F L W bus o board after) g → Contains given g) → BoardMay F L W bus o board after → BoardMay (giving F given) L W bus o board after
     board_may bus None board after all may = may
     board_may bus (Some x) board after all may =
         let a = may.0 in
         let asked = W.asked_from bus x.bytes in
         let told : W.answered_from bus x.reply ≡ a = ap (W.answered_from bus) may.1 ∙ W.same_reply bus x.bytes a in
-        let g : Giving F = record { before = board; asked = asked; answered = W.answered_from bus x.reply; after = after } in
+        let g : GivenAnswer F = record { before = board; asked = asked; answered = W.answered_from bus x.reply; after = after } in
         let is_one : Contains given g = all g (0, lit< tt, refl) in
         (a, may.1, (may.2, subst (λ (y : Answered). Contains given (record { before = board; asked = asked; answered = y; after = after })) told is_one))
 
-    may_given : (w : World F L) (e : Happening F L) → ((g : Giving F) → Contains (given_at F L W w e) g → Contains given g) → May F L W w e → May (giving F given) L W (as_given w) (event_given e)
+    may_given : (w : World F L) (e : Happening F L) → ((g : GivenAnswer F) → Contains (given_at F L W w e) g → Contains given g) → MayHappen F L W w e → MayHappen (giving F given) L W (as_given w) (event_given e)
     may_given w (Calls call) all may = tt
     may_given w (Resume retries) all may = tt
     may_given w Restart all may = tt
@@ -167,7 +167,7 @@ module _ (F : Family) (laws : IsFamily F) (given : List (Giving F)) where
     may_given w (OnBus bus e after) all may = (may.0, may.1, board_may bus ((L bus).carries (w.on bus) e) w.board after all may.2)
     may_given w (OnBench after) all may = may
 
-    all_may_given : (events : List (Happening F L)) (w : World F L) → ((g : Giving F) → Contains (given_in F L W events w) g → Contains given g) → AllMay F L W events w → AllMay (giving F given) L W (all_given events) (as_given w)
+    all_may_given : (events : List (Happening F L)) (w : World F L) → ((g : GivenAnswer F) → Contains (given_in F L W events w) g → Contains given g) → AllMay F L W events w → AllMay (giving F given) L W (all_given events) (as_given w)
     all_may_given [] w all may = tt
     all_may_given (e ∷ es) w all may = (
       may_given w e (λ g one. all g (Contains-append_left (given_at F L W w e) (given_in F L W es (happens F L W w e)) g one)) may.0,
@@ -181,7 +181,7 @@ module _ (F : Family) (laws : IsFamily F) (given : List (Giving F)) where
     after_same plan start zero r h = h
     after_same plan start (suc k) r h = (h.0, h.1, after_same plan start k h.0 h.2, h.3, did h.1 h.0 r h.4)
 
-    gave_one : (plan : List F.words.Op) (start : F.Records) (k : ℕ) (r : F.Records) → IsAfter F plan start k r → (asked : F.words.Asked) (a : Answered) → Gave (giving F given) r asked a → GaveIn F L W given plan start k asked a
+    gave_one : (plan : List F.words.Op) (start : F.Records) (k : ℕ) (r : F.Records) → IsAfter F plan start k r → (asked : F.words.Asked) (a : Answered) → GaveAnswer (giving F given) r asked a → GaveIn F L W given plan start k asked a
     gave_one plan start k r at asked a gave = record { before = gave.0; after = gave.1; is_one = gave.3.1; row = gave.3.0; at = subst (IsAfter F plan start k) (sym gave.2) at }
 
     gave_get : (plan : List F.words.Op) (start : F.Records) (k : ℕ) (a : Answered) (r : F.Records) → IsAfter F plan start k r → GaveGet (giving F given) plan k a r → GaveGetIn F L W given plan start k a
@@ -194,7 +194,7 @@ module _ (F : Family) (laws : IsFamily F) (given : List (Giving F)) where
     gave_all plan start k bodies r at g = record {
       op = g.op;
       step = g.step;
-      gave = all_answered_as F.words (F.words.getting (F.words.key_of g.op)) (Gave (giving F given) r) (GaveIn F L W given plan start k) (gave_one plan start k r at) bodies g.gave;
+      gave = all_answered_as F.words (F.words.getting (F.words.key_of g.op)) (GaveAnswer (giving F given) r) (GaveIn F L W given plan start k) (gave_one plan start k r at) bodies g.gave;
       not_restorable = g.not_restorable;
     }
 
@@ -202,7 +202,7 @@ module _ (F : Family) (laws : IsFamily F) (L : Bus → Line) (lines : (bus : Bus
   -- a halt, by what holds of the run in which the board gives these answers alone
   caused : (events : List (Happening F L)) (w : World F L) (plan : List F.words.Op) (start : F.Records) (stopped : Bool) (phase : Phase) (r : F.Records)
       → ((k : ℕ) → phase ≡ Halted k Stop → CausedIn F L W events w plan start (Halted k Stop))
-      → Stands (giving F (given_in F L W events w)) plan start phase r → Halts (giving F (given_in F L W events w)) stopped plan phase r
+      → PhaseMeans (giving F (given_in F L W events w)) plan start phase r → HaltMeans (giving F (given_in F L W events w)) stopped plan phase r
       → CausedIn F L W events w plan start phase
   caused events w plan start stopped (Halted k Stop) r told at h = told k refl
   caused events w plan start stopped (Halted k (Refused code)) r told at h =
@@ -235,7 +235,7 @@ module _ (F : Family) (laws : IsFamily F) (L : Bus → Line) (lines : (bus : Bus
       let stands = always_stands G (giving_is_family F laws given) L lines W plan retries on board there (all_given F laws given L W events) []
       (subst (λ (es : List (Happening G L)). AllMay G L W es (opening G L plan retries on board)) (sym ends) may_there) in
       let same = run_same F laws given L W events w0 in
-      let here = subst (λ (w : World G L). Stands G plan (F.records board) (phase_of F.words w.machine) (F.records w.board) × Halts G w.machine.stopped plan (phase_of F.words w.machine) (F.records w.board)) (sym same) stands in
+      let here = subst (λ (w : World G L). PhaseMeans G plan (F.records board) (phase_of F.words w.machine) (F.records w.board) × HaltMeans G w.machine.stopped plan (phase_of F.words w.machine) (F.records w.board)) (sym same) stands in
       let w = run F L W events w0 in
       caused events w0 plan (F.records board) w.machine.stopped (phase_of F.words w.machine) (F.records w.board)
       (λ k halted. stops_only_if_told F laws L lines W plan retries k on board start events may halted) here.0 here.1

@@ -14,7 +14,7 @@ use Rattle.model_undo.specs.IsFamily.{IsFamily}
 use Rattle.model_undo.specs.declared.phase.Why.TheVariants.{Stop}
 use Rattle.model_undo.specs.declared.phase.Phase.{Phase}
 use Rattle.model_undo.specs.declared.phase.Phase.TheVariants.{Halted, Undone}
-use Rattle.model_undo.specs.Plan.{Stands, Halts}
+use Rattle.model_undo.specs.Plan.{PhaseMeans, HaltMeans}
 use Rattle.model_undo.specs.Machine.{count_of, Gets, Sets, Undoes, Stage, AtStart, Opened, AtEnd, AtHalt, AtUndone, AtRefused, Machine, Turn, phase_at, phase_of, bus_at, sending, starts, undoes, quiets, agains, stops, replies, takes, reply_of, same_bus}
 use Rattle.model_undo.specs.Restart.{restarts}
 use Rattle.model_undo.specs.Wires.{number_of, Wires}
@@ -238,10 +238,10 @@ module _ (F : Family) (laws : IsFamily F) (L : Bus → Line) (lines : (bus : Bus
   holds_after plan retries on board start events may =
       run_holds F laws L lines W first plan (F.records board) events (opening F L plan retries on board) (opening_holds plan retries on board start) may
 
-  pub stands_at : (plan : List F.words.Op) (start : F.Records) (w : World F L) → Holds plan start w → Stands F plan start (phase_of F.words w.machine) (F.records w.board)
+  pub stands_at : (plan : List F.words.Op) (start : F.Records) (w : World F L) → Holds plan start w → PhaseMeans F plan start (phase_of F.words w.machine) (F.records w.board)
   stands_at plan start w h = joined_stands F laws W first plan start w.machine.plan w.machine.stage w.machine.stopped w.machine.undo (λ bus. (L bus).requests (w.on bus)) w.board h.joined
 
-  pub halts_at : (plan : List F.words.Op) (start : F.Records) (w : World F L) → Holds plan start w → Halts F w.machine.stopped plan (phase_of F.words w.machine) (F.records w.board)
+  pub halts_at : (plan : List F.words.Op) (start : F.Records) (w : World F L) → Holds plan start w → HaltMeans F w.machine.stopped plan (phase_of F.words w.machine) (F.records w.board)
   halts_at plan start w h = joined_halts F laws W first plan start w.machine.plan w.machine.stage w.machine.stopped w.machine.undo (λ bus. (L bus).requests (w.on bus)) w.board h.joined
 
   pub always_stands : AlwaysStands F L W
@@ -259,7 +259,7 @@ module _ (F : Family) (laws : IsFamily F) (L : Bus → Line) (lines : (bus : Bus
       let h = holds_after plan retries on board start (events ++ later) may in
       let stands = stands_at plan (F.records board) (run F L W (events ++ later) w0) h in
       let same : F.records (run F L W (events ++ later) w0).board ≡ F.records board =
-      subst (λ (s : Stage F.words). Stands F plan (F.records board) (phase_at F.words s) (F.records (run F L W (events ++ later) w0).board)) still stands in
+      subst (λ (s : Stage F.words). PhaseMeans F plan (F.records board) (phase_at F.words s) (F.records (run F L W (events ++ later) w0).board)) still stands in
       let w = run F L W (events ++ later) w0 in
       (same, shows_same F laws board w.board start.valid same, parts_show_same F laws board w.board start.valid same)
 
@@ -267,6 +267,6 @@ module _ (F : Family) (laws : IsFamily F) (L : Bus → Line) (lines : (bus : Bus
   stops_only_if_told plan retries k on board start events may halted =
       let h = holds_after plan retries on board start events may in
       let w = run F L W events (opening F L plan retries on board) in
-      let told : Halts F w.machine.stopped plan (Halted k Stop) (F.records w.board) =
-      subst (λ (p : Phase). Halts F w.machine.stopped plan p (F.records w.board)) halted (halts_at plan (F.records board) w h) in
+      let told : HaltMeans F w.machine.stopped plan (Halted k Stop) (F.records w.board) =
+      subst (λ (p : Phase). HaltMeans F w.machine.stopped plan p (F.records w.board)) halted (halts_at plan (F.records board) w h) in
       any_stop F L W events (opening F L plan retries on board) refl told

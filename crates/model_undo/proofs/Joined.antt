@@ -4,15 +4,15 @@ use Rattle.std.specs.Prelude.{slice_get}
 use Rattle.std.proofs.lemmas.Option.{same_Some}
 use Rattle.two_wire.specs.declared.Bus.{Bus}
 use Rattle.model_bus.specs.BusState.{BusState}
-use Rattle.model_bus.specs.Effect.{SameRequests, IsCarried, IsTaken}
+use Rattle.model_bus.specs.Effect.{SameRequests, CarriesOpen, TakesReply}
 use Rattle.model_bus.specs.Answered.{Answered}
 use Rattle.model_undo.specs.Words.{is_busy}
-use Rattle.model_undo.specs.Family.{Family, AllValid, IsReady, Keeps}
+use Rattle.model_undo.specs.Family.{Family, AllValid, IsReady, KeepsRecords}
 use Rattle.model_undo.specs.IsFamily.{IsFamily}
-use Rattle.model_undo.specs.Plan.{Stands, Halts}
+use Rattle.model_undo.specs.Plan.{PhaseMeans, HaltMeans}
 use Rattle.model_undo.specs.Machine.{Task, Part, Stage, AtStart, Opened, AtEnd, AtHalt, AtUndone, AtRefused, bus_at, phase_at, stage_after, undo_after}
 use Rattle.model_undo.specs.Wires.{IsMade, Wires}
-use Rattle.model_undo.specs.Joined.{OthersStill, IsClosed, request_bytes, Orderly, IsOpen, AreOpen, answer_in, answer_on, answer_at, Enters}
+use Rattle.model_undo.specs.Joined.{OthersStill, IsClosed, request_bytes, Orderly, IsOpen, AreOpen, answer_in, answer_on, answer_at, EntersStage}
 use Rattle.model_undo.proofs.StageSound.{TaskSound, IsPart, StageSound, task_made, stage_kept, stage_stands, stage_halts}
 use Rattle.model_undo.proofs.Calls.{carried_sound, carried_valid, carried_ready, taken_good}
 use Rattle.model_undo.proofs.Buses.{cases_bus, each_bus}
@@ -66,7 +66,7 @@ module _ (F : Family) (laws : IsFamily F) (W : Wires F.words) (first : Bus → �
 
     -- what happens elsewhere changes no record, and the board stays ready
     pub elsewhere : (stage : Stage F.words) (stopped : Bool) (undo : List F.words.Series) (on : Bus → BusState) (board after : F.Board) → Joined own stage stopped undo on board
-        → Keeps F board after → Joined own stage stopped undo on after
+        → KeepsRecords F board after → Joined own stage stopped undo on after
     elsewhere stage stopped undo on board after h keeps = record {
       orderly = h.orderly;
       are_open = h.are_open;
@@ -78,7 +78,7 @@ module _ (F : Family) (laws : IsFamily F) (W : Wires F.words) (first : Bus → �
     -- ---- the open request is carried out
 
     open_carries : (heeded : Bool) (task : Task F.words) (part : Part F.words) (stopped : Bool) (undo : List F.words.Series) (on now : Bus → BusState) (board after : F.Board) (bytes : List ℕ) (a : Answered) (bus : Bus) → bus_at F.words part ≡ bus
-        → Joined own (Opened heeded task part) stopped undo on board → IsCarried (on bus) (now bus) bytes (W.reply_to bus bytes a) → OthersStill bus on now → F.Row board (W.asked_from bus bytes) a after
+        → Joined own (Opened heeded task part) stopped undo on board → CarriesOpen (on bus) (now bus) bytes (W.reply_to bus bytes a) → OthersStill bus on now → F.Row board (W.asked_from bus bytes) a after
         → Joined own (Opened heeded task part) stopped undo now after
     open_carries heeded task part stopped undo on now board after bytes a bus is h c others row =
         let asked = part.asked in
@@ -107,7 +107,7 @@ module _ (F : Family) (laws : IsFamily F) (W : Wires F.words) (first : Bus → �
         }
 
     pub carries : (stage : Stage F.words) (stopped : Bool) (undo : List F.words.Series) (on now : Bus → BusState) (board after : F.Board) (bytes : List ℕ) (a : Answered) (bus : Bus)
-        → Joined own stage stopped undo on board → IsCarried (on bus) (now bus) bytes (W.reply_to bus bytes a) → OthersStill bus on now → F.Row board (W.asked_from bus bytes) a after
+        → Joined own stage stopped undo on board → CarriesOpen (on bus) (now bus) bytes (W.reply_to bus bytes a) → OthersStill bus on now → F.Row board (W.asked_from bus bytes) a after
         → Joined own stage stopped undo now after
     carries (Opened heeded task part) stopped undo on now board after bytes a bus h c others row =
         elim (cases_bus (bus_at F.words part) bus) [
@@ -123,7 +123,7 @@ module _ (F : Family) (laws : IsFamily F) (W : Wires F.words) (first : Bus → �
     -- ---- no request is open, and a stage is entered
 
     begins : (heeded : Bool) (task : Task F.words) (part : Part F.words) (stopped : Bool) (undo : List F.words.Series) (on now : Bus → BusState) (board : F.Board) → Closed own (Opened heeded task part) stopped undo on board
-        → Enters F W first (Opened heeded task part) on now → Joined own (Opened heeded task part) stopped undo now board
+        → EntersStage F W first (Opened heeded task part) on now → Joined own (Opened heeded task part) stopped undo now board
     begins heeded task part stopped undo on now board h e =
         let asked = part.asked in
         let bus = bus_at F.words part in
@@ -145,7 +145,7 @@ module _ (F : Family) (laws : IsFamily F) (W : Wires F.words) (first : Bus → �
     all_closed on now h same bus = closed_still (on bus) (now bus) (same bus) (h bus)
 
     pub enters_joined : (stage : Stage F.words) (stopped : Bool) (undo : List F.words.Series) (on now : Bus → BusState) (board : F.Board) → Closed own stage stopped undo on board
-        → Enters F W first stage on now → Joined own stage stopped undo now board
+        → EntersStage F W first stage on now → Joined own stage stopped undo now board
     enters_joined (Opened heeded task part) stopped undo on now board h e = begins heeded task part stopped undo on now board h e
     enters_joined AtStart stopped undo on now board h e = record { orderly = all_orderly on now h.orderly e; are_open = all_closed on now h.closed e; sound = h.sound; valid = h.valid; free = h.free }
     enters_joined AtEnd stopped undo on now board h e = record { orderly = all_orderly on now h.orderly e; are_open = all_closed on now h.closed e; sound = h.sound; valid = h.valid; free = h.free }
@@ -158,7 +158,7 @@ module _ (F : Family) (laws : IsFamily F) (W : Wires F.words) (first : Bus → �
     -- it is the one that is kept, and isn't busy
     pub told : (heeded : Bool) (task : Task F.words) (part : Part F.words) (stopped : Bool) (undo : List F.words.Series) (on : Bus → BusState) (board : F.Board) (s : BusState) (reply : List ℕ)
         → let bus = bus_at F.words part in
-        Joined own (Opened heeded task part) stopped undo on board → IsTaken (on bus) s reply
+        Joined own (Opened heeded task part) stopped undo on board → TakesReply (on bus) s reply
         → TaskSound F plan start own task part (Some (W.answered_from bus reply)) undo board × (is_busy (W.answered_from bus reply).code ≡ false) × IsPart F plan start task part
     told heeded task part stopped undo on board s reply h t =
         let bus = bus_at F.words part in
@@ -167,7 +167,7 @@ module _ (F : Family) (laws : IsFamily F) (W : Wires F.words) (first : Bus → �
     pub takes_closed : (heeded : Bool) (task : Task F.words) (part : Part F.words) (stopped : Bool) (undo : List F.words.Series) (on now : Bus → BusState) (board : F.Board) (reply : List ℕ)
         → let bus = bus_at F.words part in
         let a = W.answered_from bus reply in
-        Joined own (Opened heeded task part) stopped undo on board → IsTaken (on bus) (now bus) reply → OthersStill bus on now
+        Joined own (Opened heeded task part) stopped undo on board → TakesReply (on bus) (now bus) reply → OthersStill bus on now
         → Closed own (stage_after F.words stopped own a task part) stopped (undo_after F.words a task part undo) now board
     takes_closed heeded task part stopped undo on now board reply h t others =
         let bus = bus_at F.words part in
@@ -185,9 +185,9 @@ module _ (F : Family) (laws : IsFamily F) (W : Wires F.words) (first : Bus → �
     -- ---- what holds of the records
 
     pub joined_stands : (stage : Stage F.words) (stopped : Bool) (undo : List F.words.Series) (on : Bus → BusState) (board : F.Board) → Joined own stage stopped undo on board
-        → Stands F plan start (phase_at F.words stage) (F.records board)
+        → PhaseMeans F plan start (phase_at F.words stage) (F.records board)
     joined_stands stage stopped undo on board h = stage_stands F plan start own undo board stage (answer_at F W first stage on) stopped h.sound
 
     pub joined_halts : (stage : Stage F.words) (stopped : Bool) (undo : List F.words.Series) (on : Bus → BusState) (board : F.Board) → Joined own stage stopped undo on board
-        → Halts F stopped plan (phase_at F.words stage) (F.records board)
+        → HaltMeans F stopped plan (phase_at F.words stage) (F.records board)
     joined_halts stage stopped undo on board h = stage_halts F plan start own undo board stage (answer_at F W first stage on) stopped h.sound

@@ -10,7 +10,7 @@ use Rattle.model_undo.specs.Resume.{list_of, resumed}
 use Rattle.model_undo.specs.Restart.{restarts}
 use Rattle.model_undo.specs.declared.call.Call.TheVariants.{Start, Quiet, Stop, Again, Undo}
 use Rattle.model_undo.specs.RecordsRun as desk
-use Rattle.model_undo.specs.RecordsRun.{Desk, DeskEvent, Calls, Resumes, Restarts, Carries, Takes, Elsewhere, May, AllMay, run, happens, Answers, at_desk, RecordsStand}
+use Rattle.model_undo.specs.RecordsRun.{Desk, DeskEvent, Calls, Resumes, Restarts, Carries, Takes, Elsewhere, MayHappen, AllMay, run, happens, StageAnswered, at_desk, RecordsStand}
 use Rattle.model_undo.specs.Undoable.{CanUndo}
 use Rattle.model_undo.proofs.Undoable.{length_of}
 use Rattle.model_undo.proofs.StageSound.{StageSound, stage_kept, stage_stands, stage_halts}
@@ -118,7 +118,7 @@ module _ (F : Family) (laws : IsFamily F) (plan : List F.words.Op) (start : F.Re
   restarts_sound AtUndone m reply b e h = subst (λ (s : Stage F.words). SoundAt s m reply b) e h
   restarts_sound (AtRefused k code) m reply b e h = subst (λ (s : Stage F.words). SoundAt s m reply b) e h
 
-  carries_hold : (stage : Stage F.words) (reply : Option Answered) (a : Answered) (after : F.Board) (w : Desk F) → stage ≡ w.machine.stage → SoundAt stage w.machine reply w.board → Holds w → Answers F stage w.board a after
+  carries_hold : (stage : Stage F.words) (reply : Option Answered) (a : Answered) (after : F.Board) (w : Desk F) → stage ≡ w.machine.stage → SoundAt stage w.machine reply w.board → Holds w → StageAnswered F stage w.board a after
       → Holds (desk.carries F stage reply a after w)
   carries_hold (Opened heeded task part) None a after w e s h row =
       record {
@@ -138,7 +138,7 @@ module _ (F : Family) (laws : IsFamily F) (plan : List F.words.Op) (start : F.Re
   takes_hold None w s h = h
   takes_hold (Some a) w s h = opened_holds (reply_of F.words a w.machine) w h (replies_sound w.machine.stage w.machine a w.board s h.valid h.free)
 
-  happens_holds : (w : Desk F) (e : DeskEvent F) → Holds w → May F w e → Holds (happens F w e)
+  happens_holds : (w : Desk F) (e : DeskEvent F) → Holds w → MayHappen F w e → Holds (happens F w e)
   happens_holds w (Calls Start) h may = opened_holds (start_of F.words w.machine) w h (starts_sound w.machine.stage w.machine w.reply w.board h.sound)
   happens_holds w (Calls Quiet) h may = stayed_holds (quiet_of F.words w.machine) w h (quiets_sound w.machine.stage w.machine w.reply w.board refl h.sound)
   happens_holds w (Calls Stop) h may = stayed_holds (stop_of F.words w.machine) w h (stops_sound w.machine.stage w.machine w.reply w.board refl h.sound)

@@ -7,7 +7,7 @@ use Rattle.two_wire.specs.Codes.{success, not_present, invalid_data_field}
 use Rattle.model_bus.specs.Answered.{Answered}
 use Rattle.model_undo.specs.Words.{is_busy}
 use Rattle.model_undo.specs.Family.{AllValid, SetsTo}
-use Rattle.model_undo.specs.IsFamily.{Showed, IsFamily, IsSingleFamily}
+use Rattle.model_undo.specs.IsFamily.{ShownRecord, IsFamily, IsSingleFamily}
 use Rattle.model_undo.proofs.Single.{single_family}
 use Rattle.model_undo.specs.Registers.{Halves, Write, Asked, AskGet, AskSet, Board, IsValid, is_valid, written, shown, configuration, back, inverse, inverse_of_high, IsRestorable, replied, get_answer, set_answer, answer, Row, registers}
 
@@ -99,7 +99,7 @@ code_of a code body e = ap (λ (a : Answered). a.code) e
 registers_after : (after : Board) (r : List Halves) (n : ℕ) → after ≡ record { registers = r; requests = n } → after.registers ≡ r
 registers_after after r n e = ap (λ (b : Board). b.registers) e
 
-get_shows : (b : Board) (key : ℕ) (a : Answered) (o : Option Halves) → slice_get b.registers key ≡ o → a ≡ get_answer key o b.requests → a.code ≡ success → Showed registers key a.body b.registers
+get_shows : (b : Board) (key : ℕ) (a : Answered) (o : Option Halves) → slice_get b.registers key ≡ o → a ≡ get_answer key o b.requests → a.code ≡ success → ShownRecord registers key a.body b.registers
 get_shows b key a None at e zero_code = absurd (let c = code_of a not_present [] e in omega arith)
 get_shows b key a (Some v) at e zero_code = record { value = v; found = at; shows = (b.requests, ap (λ (a : Answered). a.body) e) }
 

@@ -5,7 +5,7 @@ use Rattle.std.proofs.lemmas.Bool.{cond_both}
 use Rattle.model_undo.specs.Words.{Words}
 use Rattle.model_undo.specs.Machine.{Gets, Sets, Undoes, Stage, AtStart, Opened, AtEnd, AtHalt, AtUndone, AtRefused, Machine, Turn, sending, sends_at, quiets, agains, stops}
 use Rattle.model_undo.specs.Resume.{after, list_of}
-use Rattle.model_undo.specs.Restart.{restarts, restarted, open_request, IsKept}
+use Rattle.model_undo.specs.Restart.{restarts, restarted, open_request, KeepsPlace}
 
 module _ (M : Words) where
   -- what holds of the machine with this stage holds of one that is at this stage
@@ -75,7 +75,7 @@ module _ (M : Words) where
   twice_kept AtUndone m at = ap (λ (s : Stage M). restarts M s m) at
   twice_kept (AtRefused k code) m at = ap (λ (s : Stage M). restarts M s m) at
 
-  pub is_kept : IsKept M
+  pub is_kept : KeepsPlace M
   is_kept = record {
     same_request = λ m. request_kept m.stage m refl;
     same_list = λ m. list_kept m.stage m;

@@ -3,14 +3,14 @@ use Rattle.std.proofs.Common.{◌≡◌, ◌≢◌, ℕ, List, [], ◌∷◌, �
 use Rattle.std.proofs.lemmas.List.{append_assoc}
 use Rattle.two_wire.specs.Codes.{success}
 use Rattle.model_bus.specs.Answered.{Answered}
-use Rattle.model_undo.specs.Words.{Words, IsNext, IsOf, IsSeries, IsMade, AreAnswered, AllAnswered}
+use Rattle.model_undo.specs.Words.{Words, IsNext, IsOneOf, IsSeries, IsMade, AreAnswered, AllAnswered}
 
 pub not_empty : (bodies : List (List ℕ)) (body : List ℕ) → bodies ++ body ∷ [] ≢ []
 not_empty [] body e = absurd (let n : 1 ≡ 0 = ap (λ (l : List (List ℕ)). length l) e in omega arith)
 not_empty (x ∷ xs) body e = absurd (let n : length (x ∷ xs ++ body ∷ []) ≡ 0 = ap (λ (l : List (List ℕ)). length l) e in omega arith)
 
 module _ (M : Words) (series : M.Series) where
-  pub is_of : (bodies : List (List ℕ)) (asked : M.Asked) → IsNext M series bodies asked → IsOf M series asked
+  pub is_of : (bodies : List (List ℕ)) (asked : M.Asked) → IsNext M series bodies asked → IsOneOf M series asked
   is_of [] asked is = inl is
   is_of (body ∷ bodies) asked is = inr (body ∷ bodies, is)
 

@@ -5,8 +5,8 @@ use Rattle.std.proofs.lemmas.Bool.{leb-true, le-leb, lt-ltb, cond_both, false≢
 use Rattle.std.proofs.lemmas.Option.{same_Some, none-some}
 use Rattle.two_wire.specs.Codes.{success, invalid_data_field}
 use Rattle.model_bus.specs.Answered.{Answered}
-use Rattle.model_undo.specs.Words.{is_busy, IsOf, AllAnswered}
-use Rattle.model_undo.specs.Family.{Gave, SetsTo}
+use Rattle.model_undo.specs.Words.{is_busy, IsOneOf, AllAnswered}
+use Rattle.model_undo.specs.Family.{GaveAnswer, SetsTo}
 use Rattle.model_undo.specs.IsFamily.{AnswersSet, AreKinds, IsFamily}
 use Rattle.model_undo.specs.CleanSeries.{AreFinite}
 use Rattle.model_undo.specs.SeriesExample.{Pair, Asked, GetLow, GetHigh, GetAll, SetLow, SetHigh, Both, GetBoth, SetBoth, next, joined, inverse, pairs, Board, IsValid, replied, low_answer, high_answer, answer, Row, Ready, IsRestorable, pair_family, GoesOver}
@@ -47,18 +47,18 @@ no_third : (x y : List ℕ) → next GetBoth (x ∷ y ∷ []) ≡ None
 no_third [] y = refl
 no_third (byte ∷ rest) y = refl
 
-gets_keep : (b after : Board) (asked : Asked) (a : Answered) → IsOf pairs GetBoth asked → Row b asked a after → after.pair ≡ b.pair
+gets_keep : (b after : Board) (asked : Asked) (a : Answered) → IsOneOf pairs GetBoth asked → Row b asked a after → after.pair ≡ b.pair
 gets_keep b after asked a (inl is) row = ap (λ (c : Board). c.pair) (row.1 ∙ ap (λ (x : Asked). (answer b x).1) is)
 gets_keep b after asked a (inr is) row = ap (λ (c : Board). c.pair) (row.1 ∙ ap (λ (x : Asked). (answer b x).1) (high_next is.0 asked is.1))
 
 -- what was given shows the byte
-low_given : (r : Pair) (asked : Asked) (body : List ℕ) → asked ≡ GetLow → Gave pair_family r asked (replied success body) → body ≡ r.low ∷ []
+low_given : (r : Pair) (asked : Asked) (body : List ℕ) → asked ≡ GetLow → GaveAnswer pair_family r asked (replied success body) → body ≡ r.low ∷ []
 low_given r asked body is gave = ap (λ (a : Answered). a.body) (gave.3.0 ∙ ap (λ (x : Asked). (answer gave.0 x).0) is) ∙ ap (λ (p : Pair). p.low ∷ []) gave.2
 
-high_given : (r : Pair) (asked : Asked) (body : List ℕ) → asked ≡ GetHigh → Gave pair_family r asked (replied success body) → body ≡ r.high ∷ []
+high_given : (r : Pair) (asked : Asked) (body : List ℕ) → asked ≡ GetHigh → GaveAnswer pair_family r asked (replied success body) → body ≡ r.high ∷ []
 high_given r asked body is gave = ap (λ (a : Answered). a.body) (gave.3.0 ∙ ap (λ (x : Asked). (answer gave.0 x).0) is) ∙ ap (λ (p : Pair). p.high ∷ []) gave.2
 
-gets_show : (r : Pair) (bodies : List (List ℕ)) → AllAnswered pairs (Gave pair_family r) GetBoth bodies → joined GetBoth bodies ≡ r.low ∷ r.high ∷ []
+gets_show : (r : Pair) (bodies : List (List ℕ)) → AllAnswered pairs (GaveAnswer pair_family r) GetBoth bodies → joined GetBoth bodies ≡ r.low ∷ r.high ∷ []
 gets_show r [] h = absurd (h.some refl)
 gets_show r (x ∷ []) h =
     let one = h.in_order in

@@ -3,9 +3,9 @@ use Rattle.std.proofs.Common.{◌≡◌, ℕ, List, [], ◌∷◌, ◌++◌, Som
 use Rattle.std.proofs.lemmas.Option.{none-some, same_Some}
 use Rattle.two_wire.specs.Codes.{success}
 use Rattle.model_bus.specs.Answered.{Answered}
-use Rattle.model_undo.specs.Words.{Words, IsNext, IsOf, AreSingle, AllAnswered, get_asked, set_asked}
-use Rattle.model_undo.specs.Family.{Family, AllValid, Gave}
-use Rattle.model_undo.specs.IsFamily.{Showed, AnswersSet, IsFamily, IsSingleFamily}
+use Rattle.model_undo.specs.Words.{Words, IsNext, IsOneOf, AreSingle, AllAnswered, get_asked, set_asked}
+use Rattle.model_undo.specs.Family.{Family, AllValid, GaveAnswer}
+use Rattle.model_undo.specs.IsFamily.{ShownRecord, AnswersSet, IsFamily, IsSingleFamily}
 
 module _ (M : Words) (single : AreSingle M) where
   -- each request of a series is its first
@@ -13,7 +13,7 @@ module _ (M : Words) (single : AreSingle M) where
   one_next series [] asked is = is
   one_next series (body ∷ bodies) asked is = absurd (none-some asked (sym (single.none_next series (body ∷ bodies)) ∙ is))
 
-  pub one_of : (series : M.Series) (asked : M.Asked) → IsOf M series asked → asked ≡ M.first series
+  pub one_of : (series : M.Series) (asked : M.Asked) → IsOneOf M series asked → asked ≡ M.first series
   one_of series asked (inl is) = is
   one_of series asked (inr is) = absurd (none-some asked (sym (single.none_next series is.0) ∙ is.1))
 
@@ -37,10 +37,10 @@ module _ (F : Family) (laws : IsSingleFamily F) where
   set_row : (b after : F.Board) (op : F.words.Op) (bodies : List (List ℕ)) (a : Answered) → AnswersSet F op bodies b a after → F.Row b (set_asked F.words op) a after
   set_row b after op bodies a set = subst (λ (asked : F.words.Asked). F.Row b asked a after) (one_next F.words laws.single (F.words.setting op) bodies set.asked set.is_next) set.row
 
-  one_shown : (key : F.words.Key) (body : List ℕ) (r : F.Records) → Gave F r (get_asked F.words key) (record { code = success; body = body }) → Showed F key body r
+  one_shown : (key : F.words.Key) (body : List ℕ) (r : F.Records) → GaveAnswer F r (get_asked F.words key) (record { code = success; body = body }) → ShownRecord F key body r
   one_shown key body r gave =
       let shown = laws.gets_show gave.0 gave.1 (get_asked F.words key) key (record { code = success; body = body }) (laws.gets_are key) gave.3 refl in
-      subst (Showed F key body) gave.2 shown
+      subst (ShownRecord F key body) gave.2 shown
 
   -- two Gets that are carried out where the records are the same show one configuration
   one_configuration : (b after c later : F.Board) (asked other : F.words.Asked) (key : F.words.Key) (a d : Answered) → F.IsGet asked key → F.IsGet other key → F.records c ≡ F.records b → AllValid F (F.records b)
@@ -60,8 +60,8 @@ module _ (F : Family) (laws : IsSingleFamily F) where
     parts_keep = λ b after key asked a is row.
         laws.gets_keep b after asked key a (subst (λ (x : F.words.Asked). F.IsGet x key) (sym (one_of F.words laws.single (F.words.getting key) asked is)) (laws.gets_are key)) row;
     parts_show = λ r key bodies valid all.
-        let one = one_answer F.words laws.single (Gave F r) (F.words.getting key) bodies all in
-        subst (λ (body : List ℕ). Showed F key body r) (sym one.joined_is) (one_shown key one.body r one.given);
+        let one = one_answer F.words laws.single (GaveAnswer F r) (F.words.getting key) bodies all in
+        subst (λ (body : List ℕ). ShownRecord F key body r) (sym one.joined_is) (one_shown key one.body r one.given);
     sets_go_on = λ b after op bodies a asked set e is. absurd (none-some asked (sym (laws.single.none_next (F.words.setting op) (bodies ++ a.body ∷ [])) ∙ is));
     sets_do = λ b after op bodies a set e is. laws.sets_do b after op a (set_row b after op bodies a set) e;
     refusals_keep = λ b after op bodies a set ne. laws.refusals_keep b after op a (set_row b after op bodies a set) ne;

@@ -5,8 +5,8 @@ use Rattle.std.proofs.lemmas.Bool.{cases_eq}
 use Rattle.two_wire.specs.Codes.{success}
 use Rattle.model_bus.specs.Answered.{Answered}
 use Rattle.model_undo.specs.Words.{is_busy, IsNext, IsSeries, IsMade, AreAnswered}
-use Rattle.model_undo.specs.Family.{Family, Keeps, Gave}
-use Rattle.model_undo.specs.Plan.{IsAfter, Stands, Because, Halts}
+use Rattle.model_undo.specs.Family.{Family, KeepsRecords, GaveAnswer}
+use Rattle.model_undo.specs.Plan.{IsAfter, PhaseMeans, HaltCause, HaltMeans}
 use Rattle.model_undo.specs.Machine.{Task, Gets, Sets, Undoes, Stage, AtStart, Opened, AtEnd, AtHalt, AtUndone, AtRefused, Part, series_of, bodies_with, next_asked, phase_at}
 use Rattle.model_undo.specs.Undoable.{CanUndo}
 use Rattle.model_undo.proofs.Undoable.{after_of, LeadsHome}
@@ -22,7 +22,7 @@ module _ (F : Family) (plan : List F.words.Op) (start : F.Records) where
 
   -- the board gave the replies to the requests of a record's Get so far, at the records that it has
   abbrev pub Got : F.words.Key → List (List ℕ) → F.Records → Type 0
-  Got key bodies r = AreAnswered F.words (Gave F r) (F.words.getting key) [] bodies
+  Got key bodies r = AreAnswered F.words (GaveAnswer F r) (F.words.getting key) [] bodies
 
   -- where the next request of a step's Set is this one, or none is next
   abbrev pub SetSound : ℕ → F.words.Op → F.words.Op → List (List ℕ) → List F.words.Series → F.Board → Option F.words.Asked → Type 0
@@ -37,11 +37,11 @@ module _ (F : Family) (plan : List F.words.Op) (start : F.Records) where
   abbrev pub TaskSound : List F.words.Op → Task F.words → Part F.words → Option Answered → List F.words.Series → F.Board → Type 0
   TaskSound own (Gets k op) part None undo b = OfPlan own k op × CanUndo F plan start k undo (F.records b) × Got (F.words.key_of op) part.before (F.records b)
   TaskSound own (Gets k op) part (Some a) undo b =
-      OfPlan own k op × CanUndo F plan start k undo (F.records b) × Got (F.words.key_of op) part.before (F.records b) × Gave F (F.records b) part.asked a
+      OfPlan own k op × CanUndo F plan start k undo (F.records b) × Got (F.words.key_of op) part.before (F.records b) × GaveAnswer F (F.records b) part.asked a
   TaskSound own (Sets k op back) part None undo b = OfPlan own k op × SetSound k op back part.before undo b (Some part.asked)
   TaskSound own (Sets k op back) part (Some a) undo b =
       OfPlan own k op × (a.code ≡ success → SetSound k op back (bodies_with F.words a part) undo b (next_asked F.words a (Sets k op back) part))
-      × (a.code ≢ success → CanUndo F plan start k undo (F.records b) × Gave F (F.records b) part.asked a)
+      × (a.code ≢ success → CanUndo F plan start k undo (F.records b) × GaveAnswer F (F.records b) part.asked a)
   TaskSound own (Undoes first rest) part None undo b = UndoSound first rest part.before b (Some part.asked)
   TaskSound own (Undoes first rest) part (Some a) undo b = (a.code ≡ success) × UndoSound first rest (bodies_with F.words a part) b (next_asked F.words a (Undoes first rest) part)
 
@@ -53,13 +53,13 @@ module _ (F : Family) (plan : List F.words.Op) (start : F.Records) where
   StageSound own AtStart reply stopped undo b = (own ≡ plan) × CanUndo F plan start 0 undo (F.records b)
   StageSound own (Opened heeded task part) reply stopped undo b = TaskSound own task part reply undo b × IfSome reply (λ a. is_busy a.code ≡ false) × IsPart task part
   StageSound own AtEnd reply stopped undo b = CanUndo F plan start (length plan) undo (F.records b)
-  StageSound own (AtHalt k why) reply stopped undo b = CanUndo F plan start k undo (F.records b) × Because F stopped plan k why (F.records b)
+  StageSound own (AtHalt k why) reply stopped undo b = CanUndo F plan start k undo (F.records b) × HaltCause F stopped plan k why (F.records b)
   StageSound own AtUndone reply stopped undo b = F.records b ≡ start
   StageSound own (AtRefused k code) reply stopped undo b = ⊥
 
   -- ---- what happens elsewhere changes nothing of it
 
-  module _ (own : List F.words.Op) (undo : List F.words.Series) (b after : F.Board) (keeps : Keeps F b after) where
+  module _ (own : List F.words.Op) (undo : List F.words.Series) (b after : F.Board) (keeps : KeepsRecords F b after) where
     same : F.records b ≡ F.records after
     same = sym keeps.0
 
@@ -74,12 +74,12 @@ module _ (F : Family) (plan : List F.words.Op) (start : F.Records) where
     task_kept : (task : Task F.words) (part : Part F.words) (reply : Option Answered) → TaskSound own task part reply undo b → TaskSound own task part reply undo after
     task_kept (Gets k op) part None t = (t.0, subst (CanUndo F plan start k undo) same t.1, subst (Got (F.words.key_of op) part.before) same t.2)
     task_kept (Gets k op) part (Some a) t =
-        (t.0, subst (CanUndo F plan start k undo) same t.1, subst (Got (F.words.key_of op) part.before) same t.2, subst (λ (r : F.Records). Gave F r part.asked a) same t.3)
+        (t.0, subst (CanUndo F plan start k undo) same t.1, subst (Got (F.words.key_of op) part.before) same t.2, subst (λ (r : F.Records). GaveAnswer F r part.asked a) same t.3)
     task_kept (Sets k op back) part None t = (t.0, set_kept k op back part.before (Some part.asked) t.1)
     task_kept (Sets k op back) part (Some a) t = (
       t.0,
       (λ e. set_kept k op back (bodies_with F.words a part) (next_asked F.words a (Sets k op back) part) (t.1 e)),
-      (λ ne. let refused = t.2 ne in (subst (CanUndo F plan start k undo) same refused.0, subst (λ (r : F.Records). Gave F r part.asked a) same refused.1)),
+      (λ ne. let refused = t.2 ne in (subst (CanUndo F plan start k undo) same refused.0, subst (λ (r : F.Records). GaveAnswer F r part.asked a) same refused.1)),
     )
     task_kept (Undoes first rest) part None t = undo_kept first rest part.before (Some part.asked) t
     task_kept (Undoes first rest) part (Some a) t = (t.0, undo_kept first rest (bodies_with F.words a part) (next_asked F.words a (Undoes first rest) part) t.1)
@@ -88,7 +88,7 @@ module _ (F : Family) (plan : List F.words.Op) (start : F.Records) where
     stage_kept AtStart reply stopped t = (t.0, subst (CanUndo F plan start 0 undo) same t.1)
     stage_kept (Opened heeded task part) reply stopped t = (task_kept task part reply t.0, t.1, t.2)
     stage_kept AtEnd reply stopped t = subst (CanUndo F plan start (length plan) undo) same t
-    stage_kept (AtHalt k why) reply stopped t = (subst (CanUndo F plan start k undo) same t.0, subst (Because F stopped plan k why) same t.1)
+    stage_kept (AtHalt k why) reply stopped t = (subst (CanUndo F plan start k undo) same t.0, subst (HaltCause F stopped plan k why) same t.1)
     stage_kept AtUndone reply stopped t = keeps.0 ∙ t
     stage_kept (AtRefused k code) reply stopped t = t
 
@@ -129,7 +129,7 @@ module _ (F : Family) (plan : List F.words.Op) (start : F.Records) where
     undo_after first rest part None t = undo_went first rest part.before (Some part.asked) t
     undo_after first rest part (Some a) t = undo_went first rest (bodies_with F.words a part) (next_asked F.words a (Undoes first rest) part) t.1
 
-    task_after : (heeded : Bool) (task : Task F.words) (part : Part F.words) (reply : Option Answered) → TaskSound own task part reply undo b → Stands F plan start (phase_at F.words (Opened heeded task part)) (F.records b)
+    task_after : (heeded : Bool) (task : Task F.words) (part : Part F.words) (reply : Option Answered) → TaskSound own task part reply undo b → PhaseMeans F plan start (phase_at F.words (Opened heeded task part)) (F.records b)
     task_after true (Gets k op) part None t = after_of F plan start k undo (F.records b) t.1
     task_after true (Gets k op) part (Some a) t = after_of F plan start k undo (F.records b) t.1
     task_after true (Sets k op back) part None t = set_went k op back part.before (Some part.asked) t.1
@@ -142,7 +142,7 @@ module _ (F : Family) (plan : List F.words.Op) (start : F.Records) where
     task_after false (Undoes first rest) part reply t = undo_after first rest part reply t
 
     -- the phase stands on the records
-    pub stage_stands : (stage : Stage F.words) (reply : Option Answered) (stopped : Bool) → StageSound own stage reply stopped undo b → Stands F plan start (phase_at F.words stage) (F.records b)
+    pub stage_stands : (stage : Stage F.words) (reply : Option Answered) (stopped : Bool) → StageSound own stage reply stopped undo b → PhaseMeans F plan start (phase_at F.words stage) (F.records b)
     stage_stands AtStart reply stopped t = after_of F plan start 0 undo (F.records b) t.1
     stage_stands (Opened heeded task part) reply stopped t = task_after heeded task part reply t.0
     stage_stands AtEnd reply stopped t = after_of F plan start (length plan) undo (F.records b) t
@@ -151,7 +151,7 @@ module _ (F : Family) (plan : List F.words.Op) (start : F.Records) where
     stage_stands (AtRefused k code) reply stopped t = t
 
     -- a halt has its cause
-    pub stage_halts : (stage : Stage F.words) (reply : Option Answered) (stopped : Bool) → StageSound own stage reply stopped undo b → Halts F stopped plan (phase_at F.words stage) (F.records b)
+    pub stage_halts : (stage : Stage F.words) (reply : Option Answered) (stopped : Bool) → StageSound own stage reply stopped undo b → HaltMeans F stopped plan (phase_at F.words stage) (F.records b)
     stage_halts AtStart reply stopped t = tt
     stage_halts (Opened true (Gets k op) part) reply stopped t = tt
     stage_halts (Opened true (Sets k op back) part) reply stopped t = tt

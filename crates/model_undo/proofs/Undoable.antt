@@ -3,7 +3,7 @@ use Rattle.std.proofs.Common.{◌≡◌, ℕ, zero, suc, ◌≤◌, List, [], �
 use Rattle.std.specs.Prelude.{slice_get}
 use Rattle.std.proofs.lemmas.Option.{same_Some, none-some}
 use Rattle.model_undo.specs.Family.{Family, AllValid, SetsTo}
-use Rattle.model_undo.specs.IsFamily.{Showed, IsFamily}
+use Rattle.model_undo.specs.IsFamily.{ShownRecord, IsFamily}
 use Rattle.model_undo.specs.Plan.{IsAfter}
 use Rattle.model_undo.specs.Undoable.{CanUndo}
 
@@ -60,7 +60,7 @@ module _ (F : Family) (laws : IsFamily F) where
       }
 
   -- the inverse that is made from what the Get showed is ready
-  pub ready : (op back : F.words.Op) (body : List ℕ) (r : F.Records) → AllValid F r → Showed F (F.words.key_of op) body r → F.words.inverse op body ≡ Some back → LeadsHome F op back r
+  pub ready : (op back : F.words.Op) (body : List ℕ) (r : F.Records) → AllValid F r → ShownRecord F (F.words.key_of op) body r → F.words.inverse op body ≡ Some back → LeadsHome F op back r
   ready op back body r valid shown e =
       let is_valid = valid (F.words.key_of op) shown.value shown.found in
       record {

@@ -5,7 +5,7 @@ use Rattle.std.proofs.lemmas.Bool.{false≢true, cond_both}
 use Rattle.two_wire.specs.declared.Bus.{Bus}
 use Rattle.two_wire.specs.declared.Bus.TheVariants.{Ipmb, Smbus}
 use Rattle.model_bus.specs.BusState.{BusState}
-use Rattle.model_bus.specs.Effect.{SameRequests, IsBegun, IsCarried, IsTaken}
+use Rattle.model_bus.specs.Effect.{SameRequests, BeginsRequest, CarriesOpen, TakesReply}
 use Rattle.model_bus.proofs.Lists.{length_more}
 use Rattle.model_bus.proofs.PacketEnds.{same_requests}
 use Rattle.model_undo.specs.Family.{Family}
@@ -19,7 +19,7 @@ use Rattle.model_undo.specs.Joined.{OthersStill, IsClosed, request_bytes, answer
 use Rattle.model_undo.specs.Line.{Exchange, Line}
 use Rattle.model_undo.specs.World as world
 use Rattle.model_undo.specs.declared.call.Call.TheVariants.{Start, Quiet, Stop, Again, Undo}
-use Rattle.model_undo.specs.World.{States, update, World, Happening, Calls, Resume, Restart, ToManager, OnBus, OnBench, May, AllMay, run, happens, IsHonestOn, BoardMay}
+use Rattle.model_undo.specs.World.{States, update, World, Happening, Calls, Resume, Restart, ToManager, OnBus, OnBench, MayHappen, AllMay, run, happens, IsHonestOn, BoardMay}
 use Rattle.model_undo.specs.Undoable.{CanUndo}
 use Rattle.model_undo.proofs.Undoable.{length_of}
 use Rattle.model_undo.proofs.Calls.{first_good, undo_good, stop_good}
@@ -90,7 +90,7 @@ module _ (F : Family) (laws : IsFamily F) (L : Bus → Line) (lines : (bus : Bus
   counted_still : (counts : Counts) (old new : Bus → BusState) → ((bus : Bus) → SameRequests (old bus) (new bus)) → AreCounted F W first counts old → AreCounted F W first counts new
   counted_still counts old new same h bus = ap (λ (x : List (List ℕ)). number_of bus (first bus + length x)) (same bus).taken ∙ h bus
 
-  counted_taken : (counts : Counts) (bus : Bus) (old new : Bus → BusState) (reply : List ℕ) → IsTaken (old bus) (new bus) reply → OthersStill bus old new → AreCounted F W first counts old
+  counted_taken : (counts : Counts) (bus : Bus) (old new : Bus → BusState) (reply : List ℕ) → TakesReply (old bus) (new bus) reply → OthersStill bus old new → AreCounted F W first counts old
       → AreCounted F W first (one_answered bus counts) new
   counted_taken counts bus old new reply t there_still h =
       each_bus (λ any. number_of any (first any + length (new any).taken) ≡ number_of any (count_of any (one_answered bus counts))) bus
@@ -132,16 +132,16 @@ module _ (F : Family) (laws : IsFamily F) (L : Bus → Line) (lines : (bus : Bus
       let answered = order.answered in let below = order.below in let closed = h.closed.closed bus in
       let all : length (requests on bus).begun ≡ length (requests on bus).taken = omega arith in
       let number : number_of bus (count_of bus counts) ≡ number_of bus (first bus + length (requests on bus).begun) = sym (h.counted bus) ∙ ap (λ (n : ℕ). number_of bus (first bus + n)) (sym all) in
-      let begun : IsBegun (requests on bus) ((L bus).requests s) bytes = (lines bus).begun (on bus) bytes (h.holds bus) closed in
-      let spelled : IsBegun (requests on bus) ((L bus).requests s) (request_bytes F W first bus (length (requests on bus).begun) part.asked) =
-      subst (λ (n : ℕ). IsBegun (requests on bus) ((L bus).requests s) (W.bytes_of n part.asked)) number begun in
+      let begun : BeginsRequest (requests on bus) ((L bus).requests s) bytes = (lines bus).begun (on bus) bytes (h.holds bus) closed in
+      let spelled : BeginsRequest (requests on bus) ((L bus).requests s) (request_bytes F W first bus (length (requests on bus).begun) part.asked) =
+      subst (λ (n : ℕ). BeginsRequest (requests on bus) ((L bus).requests s) (W.bytes_of n part.asked)) number begun in
       let taken : (any : Bus) → number_of any (first any + length (requests (update L bus s on) any).taken) ≡ number_of any (count_of any counts) =
       each_bus (λ any. number_of any (first any + length (requests (update L bus s on) any).taken) ≡ number_of any (count_of any counts)) bus
       (at_here bus s on (λ x. number_of bus (first bus + length x.taken) ≡ number_of bus (count_of bus counts)) (ap (λ (x : List (List ℕ)). number_of bus (first bus + length x)) begun.taken ∙ h.counted bus))
       (λ other ne. ap (λ (x : List (List ℕ)). number_of other (first other + length x)) (others bus s on other ne).taken ∙ h.counted other) in
       record {
         joined = enters_joined F laws W first plan start own (Opened heeded task part) stopped undo (requests on) (requests (update L bus s on)) board h.closed
-            (at_here bus s on (λ x. IsBegun (requests on bus) x (request_bytes F W first bus (length (requests on bus).begun) part.asked)) spelled, others bus s on);
+            (at_here bus s on (λ x. BeginsRequest (requests on bus) x (request_bytes F W first bus (length (requests on bus).begun) part.asked)) spelled, others bus s on);
         counted = taken;
         holds = all_hold bus s on h.holds ((lines bus).keeps (on bus) ((L bus).begins bytes) (h.holds bus) ((lines bus).may_begin (on bus) bytes));
       }
@@ -241,17 +241,17 @@ module _ (F : Family) (laws : IsFamily F) (L : Bus → Line) (lines : (bus : Bus
   -- ---- a reply is taken
 
   replies_hold : (task : Task F.words) (part : Part F.words) (m : Machine F.words) (bus : Bus) (e : (L bus).Event) (on : States L) (board : F.Board) (reply : List ℕ) → bus ≡ bus_at F.words part → Holding m.plan (Opened true task part) m.stopped m.undo m.counts on board
-      → (lines bus).Holds ((L bus).happens (on bus) e) → IsTaken (requests on bus) ((L bus).requests ((L bus).happens (on bus) e)) reply
+      → (lines bus).Holds ((L bus).happens (on bus) e) → TakesReply (requests on bus) ((L bus).requests ((L bus).happens (on bus) e)) reply
       → Opens (replies F.words (W.answered_from bus reply) (Opened true task part) m) (update L bus ((L bus).happens (on bus) e) on) board
   replies_hold task part m bus e on board reply is h held taken =
       let a = W.answered_from bus reply in
       let now = update L bus ((L bus).happens (on bus) e) on in
-      let t : IsTaken (requests on bus) (requests now bus) reply = at_here bus ((L bus).happens (on bus) e) on (λ x. IsTaken (requests on bus) x reply) taken in
+      let t : TakesReply (requests on bus) (requests now bus) reply = at_here bus ((L bus).happens (on bus) e) on (λ x. TakesReply (requests on bus) x reply) taken in
       let others_still : OthersStill bus (requests on) (requests now) = others bus ((L bus).happens (on bus) e) on in
-      let busy : is_busy a.code ≡ false = subst (λ (x : Bus). IsTaken (requests on x) (requests now x) reply → is_busy (W.answered_from x reply).code ≡ false) (sym is)
+      let busy : is_busy a.code ≡ false = subst (λ (x : Bus). TakesReply (requests on x) (requests now x) reply → is_busy (W.answered_from x reply).code ≡ false) (sym is)
       (λ t. (told F laws W first plan start m.plan true task part m.stopped m.undo (requests on) board (requests now (bus_at F.words part)) reply h.joined t).1) t in
       let closed : Closed F laws W first plan start m.plan (stage_after F.words m.stopped m.plan a task part) m.stopped (undo_after F.words a task part m.undo) (requests now) board =
-      subst (λ (x : Bus). IsTaken (requests on x) (requests now x) reply → OthersStill x (requests on) (requests now)
+      subst (λ (x : Bus). TakesReply (requests on x) (requests now x) reply → OthersStill x (requests on) (requests now)
       → Closed F laws W first plan start m.plan (stage_after F.words m.stopped m.plan (W.answered_from x reply) task part) m.stopped (undo_after F.words (W.answered_from x reply) task part m.undo) (requests now) board) (sym is)
       (λ t others_still. takes_closed F laws W first plan start m.plan true task part m.stopped m.undo (requests on) (requests now) board reply h.joined t others_still) t others_still in
       let counted : AreCounted F W first (one_answered (bus_at F.words part) m.counts) (requests now) =
@@ -286,7 +286,7 @@ module _ (F : Family) (laws : IsFamily F) (L : Bus → Line) (lines : (bus : Bus
       }
 
   on_bus_holds : (bus : Bus) (e : (L bus).Event) (after : F.Board) (o : Option Exchange) (w : World F L) → WorldHolds w → (L bus).IsHonest (w.on bus) e
-      → MatchOption o (SameRequests (requests w.on bus) ((L bus).requests ((L bus).happens (w.on bus) e))) (λ x. IsCarried (requests w.on bus) ((L bus).requests ((L bus).happens (w.on bus) e)) x.bytes x.reply)
+      → MatchOption o (SameRequests (requests w.on bus) ((L bus).requests ((L bus).happens (w.on bus) e))) (λ x. CarriesOpen (requests w.on bus) ((L bus).requests ((L bus).happens (w.on bus) e)) x.bytes x.reply)
       → BoardMay F L W bus o w.board after → HoldsOf w.machine (world.moved F L W bus e w) after
   on_bus_holds bus e after None w h honest same may =
       let m = moved_still bus e w h honest same in
@@ -294,12 +294,12 @@ module _ (F : Family) (laws : IsFamily F) (L : Bus → Line) (lines : (bus : Bus
   on_bus_holds bus e after (Some x) w h honest c may =
       let s = (L bus).happens (w.on bus) e in
       let a = may.0 in
-      let told_as : IsCarried (requests w.on bus) ((L bus).requests s) x.bytes (W.reply_to bus x.bytes a) = subst (IsCarried (requests w.on bus) ((L bus).requests s) x.bytes) may.1 c in
+      let told_as : CarriesOpen (requests w.on bus) ((L bus).requests s) x.bytes (W.reply_to bus x.bytes a) = subst (CarriesOpen (requests w.on bus) ((L bus).requests s) x.bytes) may.1 c in
       let same_taken : (any : Bus) → (requests (update L bus s w.on) any).taken ≡ (requests w.on any).taken =
       each_bus (λ any. (requests (update L bus s w.on) any).taken ≡ (requests w.on any).taken) bus (at_here bus s w.on (λ y. y.taken ≡ (requests w.on bus).taken) c.taken) (λ other ne. (others bus s w.on other ne).taken) in
       record {
         joined = carries F laws W first plan start w.machine.plan w.machine.stage w.machine.stopped w.machine.undo (requests w.on) (requests (update L bus s w.on)) w.board after x.bytes a bus h.joined
-            (at_here bus s w.on (λ y. IsCarried (requests w.on bus) y x.bytes (W.reply_to bus x.bytes a)) told_as) (others bus s w.on) may.2;
+            (at_here bus s w.on (λ y. CarriesOpen (requests w.on bus) y x.bytes (W.reply_to bus x.bytes a)) told_as) (others bus s w.on) may.2;
         counted = λ any. ap (λ (l : List (List ℕ)). number_of any (first any + length l)) (same_taken any) ∙ h.counted any;
         holds = all_hold bus s w.on h.holds ((lines bus).keeps (w.on bus) e (h.holds bus) honest);
       }
@@ -309,7 +309,7 @@ module _ (F : Family) (laws : IsFamily F) (L : Bus → Line) (lines : (bus : Bus
   answered_holds bus e (Some t) w h o = o
 
   brought_holds : (task : Task F.words) (part : Part F.words) (bus : Bus) (e : (L bus).Event) (o : Option (List ℕ)) (w : World F L) → Opened true task part ≡ w.machine.stage → bus ≡ bus_at F.words part → WorldHolds w → (L bus).IsHonest (w.on bus) e
-      → MatchOption o (SameRequests (requests w.on bus) ((L bus).requests ((L bus).happens (w.on bus) e))) (IsTaken (requests w.on bus) ((L bus).requests ((L bus).happens (w.on bus) e)))
+      → MatchOption o (SameRequests (requests w.on bus) ((L bus).requests ((L bus).happens (w.on bus) e))) (TakesReply (requests w.on bus) ((L bus).requests ((L bus).happens (w.on bus) e)))
       → WorldHolds (world.brought F L W bus e o w)
   brought_holds task part bus e None w at is h honest same = moved_still bus e w h honest same
   brought_holds task part bus e (Some reply) w at is h honest t =
@@ -388,7 +388,7 @@ module _ (F : Family) (laws : IsFamily F) (L : Bus → Line) (lines : (bus : Bus
         holds = λ bus. ((lines bus).restarted (on bus) (h.holds bus)).0;
       }
 
-  pub happens_holds : (w : World F L) (e : Happening F L) → WorldHolds w → May F L W w e → WorldHolds (happens F L W w e)
+  pub happens_holds : (w : World F L) (e : Happening F L) → WorldHolds w → MayHappen F L W w e → WorldHolds (happens F L W w e)
   happens_holds w (Calls Start) h may = opened_holds (start_of F.words w.machine) w h (starts_hold w.machine.stage w.machine w.on w.board h)
   happens_holds w (Calls Quiet) h may = repeated_holds (quiet_of F.words w.machine) w h (quiets_hold w.machine.stage w.machine w.on w.board refl h)
   happens_holds w (Calls Stop) h may = opened_holds (stop_of F.words w.machine) w h (stops_hold w.machine.stage w.machine w.on w.board refl h)

@@ -51,7 +51,7 @@ module _ (family : Family) (answer : family.Board → family.words.Asked → Ans
   did board op = answer (got board op).1 (set_asked family.words op)
 
   -- the board carries a step out, and the step can be undone
-  pub record Goes (board : family.Board) (op : family.words.Op) (after : family.Board) : Type 0 where
+  pub record CarriesStep (board : family.Board) (op : family.words.Op) (after : family.Board) : Type 0 where
     pub read : (got board op).0.code ≡ success
     pub can_undo : family.Restorable op (got board op).0.body
     pub done : (did board op).0.code ≡ success
@@ -60,20 +60,20 @@ module _ (family : Family) (answer : family.Board → family.words.Asked → Ans
   -- the board carries all steps out, in order, and becomes the second board; each step can be undone
   abbrev pub GoAll : List family.words.Op → family.Board → family.Board → Type 0
   GoAll [] board after = after ≡ board
-  GoAll (op ∷ ops) board after = (mid : family.Board) × Goes board op mid × GoAll ops mid after
+  GoAll (op ∷ ops) board after = (mid : family.Board) × CarriesStep board op mid × GoAll ops mid after
 
   -- why the board doesn't carry a step out so, and how many requests of the step were sent
-  abbrev pub Sticks : family.Board → family.words.Op → Why → ℕ → Type 0
-  Sticks board op Stop count = ⊥
-  Sticks board op (GetRefused code) count = ((got board op).0.code ≡ code) × (code ≢ success) × (count ≡ 1)
-  Sticks board op NotRestorable count = ((got board op).0.code ≡ success) × (¬ family.Restorable op (got board op).0.body) × (count ≡ 1)
-  Sticks board op (Refused code) count =
+  abbrev pub HaltsStep : family.Board → family.words.Op → Why → ℕ → Type 0
+  HaltsStep board op Stop count = ⊥
+  HaltsStep board op (GetRefused code) count = ((got board op).0.code ≡ code) × (code ≢ success) × (count ≡ 1)
+  HaltsStep board op NotRestorable count = ((got board op).0.code ≡ success) × (¬ family.Restorable op (got board op).0.body) × (count ≡ 1)
+  HaltsStep board op (Refused code) count =
       ((got board op).0.code ≡ success) × family.Restorable op (got board op).0.body × ((did board op).0.code ≡ code) × (code ≢ success) × (count ≡ 2)
 
   -- the phase after `step` steps, where these steps are left: done, or halted at the first of them
   abbrev pub EndsIn : ℕ → List family.words.Op → family.Board → Phase → ℕ → Type 0
   EndsIn step [] board phase count = (phase ≡ Done) × (count ≡ 0)
-  EndsIn step (op ∷ ops) board phase count = (why : Why) × Sticks board op why count × (phase ≡ Halted step why)
+  EndsIn step (op ∷ ops) board phase count = (why : Why) × HaltsStep board op why count × (phase ≡ Halted step why)
 
   -- the manager sends no more requests, and so many were answered
   pub record IsAtRest (moment : Moment family) (phase : Phase) (requests : ℕ) : Type 0 where

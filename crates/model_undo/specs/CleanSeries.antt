@@ -19,15 +19,15 @@ AreFinite words = (series : words.Series) → IsSeries words series → (most : 
 
 module _ (family : Family) (answer : family.Board → family.words.Asked → Answered × family.Board) where
   -- after replies with the data `before`, the board answers requests of the series in order, each with 00h and these data, and becomes the other
-  abbrev pub Answers : family.words.Series → (before bodies : List (List ℕ)) → family.Board → family.Board → Type 0
-  Answers series before [] board after = after ≡ board
-  Answers series before (body ∷ bodies) board after =
+  abbrev pub SeriesAnswered : family.words.Series → (before bodies : List (List ℕ)) → family.Board → family.Board → Type 0
+  SeriesAnswered series before [] board after = after ≡ board
+  SeriesAnswered series before (body ∷ bodies) board after =
       (asked : family.words.Asked) × IsNext family.words series before asked × ((answer board asked).0 ≡ record { code = success; body = body })
-      × Answers series (before ++ body ∷ []) bodies (answer board asked).1 after
+      × SeriesAnswered series (before ++ body ∷ []) bodies (answer board asked).1 after
 
   -- it answers all requests of the series so
   pub record AnswersAll (series : family.words.Series) (bodies : List (List ℕ)) (board after : family.Board) : Type 0 where
-    pub replied : Answers series [] bodies board after
+    pub replied : SeriesAnswered series [] bodies board after
     pub some : bodies ≢ []
     pub no_more : family.words.next series bodies ≡ None
 
@@ -35,7 +35,7 @@ module _ (family : Family) (answer : family.Board → family.words.Asked → Ans
   pub record RefusesOne (series : family.words.Series) (code requests : ℕ) (board : family.Board) : Type 0 where
     pub bodies : List (List ℕ)
     pub mid : family.Board
-    pub replied : Answers series [] bodies board mid
+    pub replied : SeriesAnswered series [] bodies board mid
     pub asked : family.words.Asked
     pub is_next : IsNext family.words series bodies asked
     pub refused : (answer mid asked).0.code ≡ code
@@ -47,7 +47,7 @@ module _ (family : Family) (answer : family.Board → family.words.Asked → Ans
   shown op bodies = family.words.joined (family.words.getting (family.words.key_of op)) bodies
 
   -- the board carries a step out by so many requests, and the step can be undone
-  pub record Goes (board : family.Board) (op : family.words.Op) (requests : ℕ) (after : family.Board) : Type 0 where
+  pub record CarriesSeries (board : family.Board) (op : family.words.Op) (requests : ℕ) (after : family.Board) : Type 0 where
     pub got : List (List ℕ)
     pub mid : family.Board
     pub read : AnswersAll (family.words.getting (family.words.key_of op)) got board mid
@@ -59,7 +59,7 @@ module _ (family : Family) (answer : family.Board → family.words.Asked → Ans
   -- the board carries all steps out, in order, by so many requests, and becomes the second board; each step can be undone
   abbrev pub GoAll : List family.words.Op → ℕ → family.Board → family.Board → Type 0
   GoAll [] requests board after = (after ≡ board) × (requests ≡ 0)
-  GoAll (op ∷ ops) requests board after = (mid : family.Board) × (first : ℕ) × (more : ℕ) × Goes board op first mid × GoAll ops more mid after × (requests ≡ first + more)
+  GoAll (op ∷ ops) requests board after = (mid : family.Board) × (first : ℕ) × (more : ℕ) × CarriesSeries board op first mid × GoAll ops more mid after × (requests ≡ first + more)
 
   -- the board reads a step's record by a Get, and refuses its Set
   pub record RefusesSet (board : family.Board) (op : family.words.Op) (code requests : ℕ) : Type 0 where
@@ -72,17 +72,17 @@ module _ (family : Family) (answer : family.Board → family.words.Asked → Ans
     pub counted : requests ≡ length got + sets
 
   -- why the board doesn't carry a step out, and how many requests of the step were sent
-  abbrev pub Sticks : family.Board → family.words.Op → Why → ℕ → Type 0
-  Sticks board op Stop requests = ⊥
-  Sticks board op (GetRefused code) requests = RefusesOne (family.words.getting (family.words.key_of op)) code requests board
-  Sticks board op NotRestorable requests =
+  abbrev pub HaltsSeries : family.Board → family.words.Op → Why → ℕ → Type 0
+  HaltsSeries board op Stop requests = ⊥
+  HaltsSeries board op (GetRefused code) requests = RefusesOne (family.words.getting (family.words.key_of op)) code requests board
+  HaltsSeries board op NotRestorable requests =
       (bodies : List (List ℕ)) × (after : family.Board) × AnswersAll (family.words.getting (family.words.key_of op)) bodies board after × (¬ family.Restorable op (shown op bodies)) × (requests ≡ length bodies)
-  Sticks board op (Refused code) requests = RefusesSet board op code requests
+  HaltsSeries board op (Refused code) requests = RefusesSet board op code requests
 
   -- the phase after `step` steps, where these steps are left: done, or halted at the first of them
   abbrev pub EndsIn : ℕ → List family.words.Op → family.Board → Phase → ℕ → Type 0
   EndsIn step [] board phase requests = (phase ≡ Done) × (requests ≡ 0)
-  EndsIn step (op ∷ ops) board phase requests = (why : Why) × Sticks board op why requests × (phase ≡ Halted step why)
+  EndsIn step (op ∷ ops) board phase requests = (why : Why) × HaltsSeries board op why requests × (phase ≡ Halted step why)
 
   -- the board answers all requests of each series, in order, so many together, and becomes the other
   abbrev pub AnswersEach : List family.words.Series → ℕ → family.Board → family.Board → Type 0

@@ -42,13 +42,13 @@ abbrev pub IsReady : (family : Family) → family.Board → Type 0
 IsReady family board = (series : family.words.Series) → family.Ready board series []
 
 -- no record changes, and the board stays ready for what it was ready for
-abbrev pub Keeps : (family : Family) → family.Board → family.Board → Type 0
-Keeps family board after = (family.records after ≡ family.records board)
+abbrev pub KeepsRecords : (family : Family) → family.Board → family.Board → Type 0
+KeepsRecords family board after = (family.records after ≡ family.records board)
     × ((series : family.words.Series) (bodies : List (List ℕ)) → family.Ready board series bodies → family.Ready after series bodies)
 
 -- the board gave this reply to the request at these records
-abbrev pub Gave : (family : Family) → family.Records → family.words.Asked → Answered → Type 0
-Gave family records asked answered = (board : family.Board) × (after : family.Board) × (family.records board ≡ records) × family.Row board asked answered after
+abbrev pub GaveAnswer : (family : Family) → family.Records → family.words.Asked → Answered → Type 0
+GaveAnswer family records asked answered = (board : family.Board) × (after : family.Board) × (family.records board ≡ records) × family.Row board asked answered after
 
 -- the operation is accepted at these records, and leaves those: it changes its own record, and no other
 pub record SetsTo (family : Family) (op : family.words.Op) (old new : family.Records) : Type 0 where

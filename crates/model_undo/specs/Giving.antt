@@ -3,7 +3,7 @@ use Rattle.std.specs.Prelude.{◌≡◌, ◌≢◌, ℕ, List, [], ◌∷◌, �
 use Rattle.two_wire.specs.Codes.{success}
 use Rattle.two_wire.specs.declared.Bus.{Bus}
 use Rattle.model_bus.specs.Answered.{Answered}
-use Rattle.model_undo.specs.Words.{IsOf, AllAnswered}
+use Rattle.model_undo.specs.Words.{IsOneOf, AllAnswered}
 use Rattle.model_undo.specs.declared.phase.Why.TheVariants.{Stop, Refused, NotRestorable, GetRefused}
 use Rattle.model_undo.specs.declared.phase.Phase.{Phase}
 use Rattle.model_undo.specs.declared.phase.Phase.TheVariants.{Halted}
@@ -16,7 +16,7 @@ use Rattle.model_undo.specs.World.{States, World, Happening, OnBus, happens, run
 use Rattle.model_undo.specs.Headline.{AnyMakesStop, IsStart}
 
 -- a board answered a request, and became another
-pub record Giving (family : Family) : Type 0 where
+pub record GivenAnswer (family : Family) : Type 0 where
   pub before : family.Board
   pub asked : family.words.Asked
   pub answered : Answered
@@ -24,22 +24,22 @@ pub record Giving (family : Family) : Type 0 where
 
 module _ (family : Family) (lines : Bus → Line) (wires : Wires family.words) where
   -- the answer by which a board became another, if a request of the manager was carried out then
-  abbrev pub given_by : Bus → Option Exchange → family.Board → family.Board → List (Giving family)
+  abbrev pub given_by : Bus → Option Exchange → family.Board → family.Board → List (GivenAnswer family)
   given_by bus None before after = []
   given_by bus (Some exchange) before after = record { before = before; asked = wires.asked_from bus exchange.bytes; answered = wires.answered_from bus exchange.reply; after = after } ∷ []
 
   -- the answer that the board gives as this happens, if it gives one
-  abbrev pub given_at : World family lines → Happening family lines → List (Giving family)
+  abbrev pub given_at : World family lines → Happening family lines → List (GivenAnswer family)
   given_at world (OnBus bus event after) = given_by bus ((lines bus).carries (world.on bus) event) world.board after
   given_at world _ = []
 
   -- all answers that the board gave to the manager in a schedule, in order
-  abbrev pub given_in : List (Happening family lines) → World family lines → List (Giving family)
+  abbrev pub given_in : List (Happening family lines) → World family lines → List (GivenAnswer family)
   given_in [] world = []
   given_in (happening ∷ happenings) world = given_at world happening ++ given_in happenings (happens family lines wires world happening)
 
   -- the board gave this answer to this request by the command relation, at the records after `step` steps
-  pub record GaveIn (given : List (Giving family)) (plan : List family.words.Op) (start : family.Records) (step : ℕ) (asked : family.words.Asked) (answered : Answered) : Type 0 where
+  pub record GaveIn (given : List (GivenAnswer family)) (plan : List family.words.Op) (start : family.Records) (step : ℕ) (asked : family.words.Asked) (answered : Answered) : Type 0 where
     pub before : family.Board
     pub after : family.Board
     pub is_one : Contains given (record { before = before; asked = asked; answered = answered; after = after })
@@ -48,22 +48,22 @@ module _ (family : Family) (lines : Bus → Line) (wires : Wires family.words) w
 
   -- the answer that the board gave to a request of the Get of this step of the plan, and to one of its Set, each at the records after the steps
   -- before it
-  pub record GaveGetIn (given : List (Giving family)) (plan : List family.words.Op) (start : family.Records) (place : ℕ) (answered : Answered) : Type 0 where
+  pub record GaveGetIn (given : List (GivenAnswer family)) (plan : List family.words.Op) (start : family.Records) (place : ℕ) (answered : Answered) : Type 0 where
     pub op : family.words.Op
     pub step : slice_get plan place ≡ Some op
     pub asked : family.words.Asked
-    pub is_of : IsOf family.words (family.words.getting (family.words.key_of op)) asked
+    pub is_of : IsOneOf family.words (family.words.getting (family.words.key_of op)) asked
     pub gave : GaveIn given plan start place asked answered
 
-  pub record GaveSetIn (given : List (Giving family)) (plan : List family.words.Op) (start : family.Records) (place : ℕ) (answered : Answered) : Type 0 where
+  pub record GaveSetIn (given : List (GivenAnswer family)) (plan : List family.words.Op) (start : family.Records) (place : ℕ) (answered : Answered) : Type 0 where
     pub op : family.words.Op
     pub step : slice_get plan place ≡ Some op
     pub asked : family.words.Asked
-    pub is_of : IsOf family.words (family.words.setting op) asked
+    pub is_of : IsOneOf family.words (family.words.setting op) asked
     pub gave : GaveIn given plan start place asked answered
 
   -- the data of the answers that the board gave to all requests of that Get, from which the step can't be undone
-  pub record GaveUnrestorableIn (given : List (Giving family)) (plan : List family.words.Op) (start : family.Records) (place : ℕ) (bodies : List (List ℕ)) : Type 0 where
+  pub record GaveUnrestorableIn (given : List (GivenAnswer family)) (plan : List family.words.Op) (start : family.Records) (place : ℕ) (bodies : List (List ℕ)) : Type 0 where
     pub op : family.words.Op
     pub step : slice_get plan place ≡ Some op
     pub gave : AllAnswered family.words (GaveIn given plan start place) (family.words.getting (family.words.key_of op)) bodies

@@ -4,10 +4,10 @@ use Rattle.two_wire.specs.Codes.{success}
 use Rattle.two_wire.specs.declared.Bus.{Bus}
 use Rattle.model_bus.specs.Answered.{Answered}
 use Rattle.model_undo.specs.Words.{AllAnswered}
-use Rattle.model_undo.specs.Family.{Family, AllValid, IsReady, Gave}
+use Rattle.model_undo.specs.Family.{Family, AllValid, IsReady, GaveAnswer}
 use Rattle.model_undo.specs.declared.phase.Why.TheVariants.{Stop}
 use Rattle.model_undo.specs.declared.phase.Phase.TheVariants.{Halted, Undone}
-use Rattle.model_undo.specs.Plan.{Stands, Halts}
+use Rattle.model_undo.specs.Plan.{PhaseMeans, HaltMeans}
 use Rattle.model_undo.specs.Machine.{phase_of}
 use Rattle.model_undo.specs.Wires.{Wires}
 use Rattle.model_undo.specs.Line.{Line}
@@ -37,7 +37,7 @@ ShowsSame family board after = (key : family.words.Key) (one other : family.word
 -- the records of the second, show the same configuration
 abbrev pub PartsShowSame : (family : Family) → family.Board → family.Board → Type 0
 PartsShowSame family board after = (key : family.words.Key) (shown again : List (List ℕ)) → let get = family.words.getting key in
-    AllAnswered family.words (Gave family (family.records board)) get shown → AllAnswered family.words (Gave family (family.records after)) get again
+    AllAnswered family.words (GaveAnswer family (family.records board)) get shown → AllAnswered family.words (GaveAnswer family (family.records after)) get again
     → family.conf key (family.words.joined get again) ≡ family.conf key (family.words.joined get shown)
 
 -- from a board that is ready and whose records are valid, and a start on both buses, so long as each thing may happen where it does
@@ -52,8 +52,8 @@ module _ (family : Family) (lines : Bus → Line) (wires : Wires family.words) w
   AlwaysStands = (plan : List family.words.Op) (retries : ℕ) (on : States lines) (board : family.Board) → IsStart on board
       → (events later : List (Happening family lines)) → AllMay family lines wires (events ++ later) (opening family lines plan retries on board)
       → let world = run family lines wires events (opening family lines plan retries on board) in
-      Stands family plan (family.records board) (phase_of family.words world.machine) (family.records world.board)
-      × Halts family world.machine.stopped plan (phase_of family.words world.machine) (family.records world.board)
+      PhaseMeans family plan (family.records board) (phase_of family.words world.machine) (family.records world.board)
+      × HaltMeans family world.machine.stopped plan (phase_of family.words world.machine) (family.records world.board)
 
   -- once a plan is undone, and at every moment from then on, all records are what they were at the start, and each Get, whoever
   -- asks it, is answered with the same code and shows the same configuration as at the start, and so does each of several requests

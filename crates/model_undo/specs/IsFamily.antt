@@ -2,11 +2,11 @@
 use Rattle.std.specs.Prelude.{◌≡◌, ◌≢◌, List, [], ◌∷◌, ◌++◌, ℕ, Some, None, false}
 use Rattle.two_wire.specs.Codes.{success}
 use Rattle.model_bus.specs.Answered.{Answered}
-use Rattle.model_undo.specs.Words.{is_busy, AreSingle, IsNext, IsOf, IsMade, AllAnswered, get_asked, set_asked}
-use Rattle.model_undo.specs.Family.{Family, AllValid, IsReady, Gave, SetsTo}
+use Rattle.model_undo.specs.Words.{is_busy, AreSingle, IsNext, IsOneOf, IsMade, AllAnswered, get_asked, set_asked}
+use Rattle.model_undo.specs.Family.{Family, AllValid, IsReady, GaveAnswer, SetsTo}
 
 -- what a Get that is carried out shows: the value that the record has
-pub record Showed (family : Family) (key : family.words.Key) (body : List ℕ) (records : family.Records) : Type 0 where
+pub record ShownRecord (family : Family) (key : family.words.Key) (body : List ℕ) (records : family.Records) : Type 0 where
   pub value : family.Value
   pub found : family.get records key ≡ Some value
   pub shows : family.Shows key value body
@@ -54,10 +54,10 @@ pub record IsFamily (family : Family) : Type 0 where
       → family.Row board asked answered after → family.Row other_board other other_answer later → other_answer.code ≡ answered.code
   -- the manager's Get: none of its requests changes a record. Their replies show the value together, where each was answered with 00h and the
   -- records were the same, and valid
-  pub parts_keep : (board after : family.Board) (key : family.words.Key) (asked : family.words.Asked) (answered : Answered) → IsOf family.words (family.words.getting key) asked
+  pub parts_keep : (board after : family.Board) (key : family.words.Key) (asked : family.words.Asked) (answered : Answered) → IsOneOf family.words (family.words.getting key) asked
       → family.Row board asked answered after → family.records after ≡ family.records board
   pub parts_show : (records : family.Records) (key : family.words.Key) (bodies : List (List ℕ)) → AllValid family records
-      → AllAnswered family.words (Gave family records) (family.words.getting key) bodies → Showed family key (family.words.joined (family.words.getting key) bodies) records
+      → AllAnswered family.words (GaveAnswer family records) (family.words.getting key) bodies → ShownRecord family key (family.words.joined (family.words.getting key) bodies) records
   -- the manager's Set: a request that is carried out with another to come changes no record, and the board is ready for that other. The last
   -- one that is carried out does the operation
   pub sets_go_on : (board after : family.Board) (op : family.words.Op) (bodies : List (List ℕ)) (answered : Answered) (following : family.words.Asked) → AnswersSet family op bodies board answered after → answered.code ≡ success
@@ -84,7 +84,7 @@ pub record IsSingleFamily (family : Family) : Type 0 where
   pub gets_are : (key : family.words.Key) → family.IsGet (get_asked family.words key) key
   pub gets_keep : (board after : family.Board) (asked : family.words.Asked) (key : family.words.Key) (answered : Answered) → family.IsGet asked key → family.Row board asked answered after → family.records after ≡ family.records board
   pub gets_show : (board after : family.Board) (asked : family.words.Asked) (key : family.words.Key) (answered : Answered)
-      → family.IsGet asked key → family.Row board asked answered after → answered.code ≡ success → Showed family key answered.body (family.records board)
+      → family.IsGet asked key → family.Row board asked answered after → answered.code ≡ success → ShownRecord family key answered.body (family.records board)
   -- the command relation: whoever asks, and whatever isn't configuration, a Get is answered with one code where the records are the same
   pub gets_agree : (board after other_board later : family.Board) (asked other : family.words.Asked) (key : family.words.Key) (answered other_answer : Answered)
       → family.IsGet asked key → family.IsGet other key → family.records other_board ≡ family.records board

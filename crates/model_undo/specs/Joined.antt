@@ -3,7 +3,7 @@ use Rattle.std.specs.Prelude.{◌≡◌, ◌≢◌, ℕ, ◌+◌, ◌≤◌, Lis
 use Rattle.two_wire.specs.declared.Bus.{Bus}
 use Rattle.model_bus.specs.Request.{Kept}
 use Rattle.model_bus.specs.BusState.{BusState}
-use Rattle.model_bus.specs.Effect.{SameRequests, IsBegun}
+use Rattle.model_bus.specs.Effect.{SameRequests, BeginsRequest}
 use Rattle.model_bus.specs.Answered.{Answered}
 use Rattle.model_undo.specs.Family.{Family}
 use Rattle.model_undo.specs.Machine.{Counts, count_of, Part, Stage, Opened, AtStart, AtEnd, AtHalt, AtUndone, AtRefused, bus_at}
@@ -30,7 +30,7 @@ module _ (family : Family) (wires : Wires family.words) (first : Bus → ℕ) wh
     pub spelled : bytes ≡ request_bytes bus count asked
 
   -- the reply that is kept answers the request
-  pub record IsAnswered (bus : Bus) (kept : Kept) : Type 0 where
+  pub record KeptAnswers (bus : Bus) (kept : Kept) : Type 0 where
     pub answered : Answered
     pub spelled : kept.reply ≡ wires.reply_to bus kept.request.bytes answered
 
@@ -40,7 +40,7 @@ module _ (family : Family) (wires : Wires family.words) (first : Bus → ℕ) wh
     pub below : length state.carried ≤ length state.begun
     pub one_open : length state.begun ≤ length state.taken + 1
     pub written : (count : ℕ) (bytes : List ℕ) → slice_get state.begun count ≡ Some bytes → IsWritten bus count bytes
-    pub replied : (count : ℕ) (kept : Kept) → slice_get state.carried count ≡ Some kept → IsAnswered bus kept
+    pub replied : (count : ℕ) (kept : Kept) → slice_get state.carried count ≡ Some kept → KeptAnswers bus kept
 
   -- the request is open on its bus, and none on the other
   abbrev pub IsOpen : Part family.words → Bus → BusState → Type 0
@@ -73,11 +73,11 @@ module _ (family : Family) (wires : Wires family.words) (first : Bus → ℕ) wh
   answer_at _ on = None
 
   -- the manager enters a stage: it begins the stage's request, if the stage has one
-  abbrev pub Enters : Stage family.words → (Bus → BusState) → (Bus → BusState) → Type 0
-  Enters (Opened heeded task part) old new =
+  abbrev pub EntersStage : Stage family.words → (Bus → BusState) → (Bus → BusState) → Type 0
+  EntersStage (Opened heeded task part) old new =
       let bus = bus_at family.words part in
-      IsBegun (old bus) (new bus) (request_bytes bus (length (old bus).begun) part.asked) × OthersStill bus old new
-  Enters _ old new = (bus : Bus) → SameRequests (old bus) (new bus)
+      BeginsRequest (old bus) (new bus) (request_bytes bus (length (old bus).begun) part.asked) × OthersStill bus old new
+  EntersStage _ old new = (bus : Bus) → SameRequests (old bus) (new bus)
 
   -- the machine's counts give the numbers of the requests that are open or next
   abbrev pub AreCounted : Counts → (Bus → BusState) → Type 0

@@ -4,7 +4,7 @@ use Rattle.model_bus.specs.Numbering.{Rules}
 use Rattle.model_bus.specs.BusState.{BusState, Frame, Event, Begins, SendsAgain, ReachesPort, ReachesManager, OtherReplies, Resumes, carried_now, taken_now, happens}
 use Rattle.model_bus.specs.Schedule.{IsHonest}
 use Rattle.model_bus.specs.Start.{NothingUnderWay, FreshWindow, NothingWaits}
-use Rattle.model_bus.specs.PacketBus.{PacketBus, rules_of, Ends, PacketEvent, Plain, PacketReachesPort, PacketReachesManager, OtherReplyPacket, Clears, PacketResumes, packet_happens}
+use Rattle.model_bus.specs.PacketBus.{PacketBus, rules_of, BusEnds, PacketEvent, Plain, PacketReachesPort, PacketReachesManager, OtherReplyPacket, Clears, PacketResumes, packet_happens}
 use Rattle.model_bus.specs.PacketEffect.{completed_request, completed_reply, carried_of, taken_of}
 use Rattle.model_bus.specs.PacketSchedule.{RecentWhereWhole, IsPacketHonest}
 
@@ -97,20 +97,20 @@ is_to_manager_packets (OtherReplyPacket name packet number) = true
 is_to_manager_packets _ = false
 
 -- the request that a packet of the frame has carried out, if there is such a frame
-abbrev pub carried_at : PacketBus → Ends → ℕ → Option Frame → Option (List ℕ)
+abbrev pub carried_at : PacketBus → BusEnds → ℕ → Option Frame → Option (List ℕ)
 carried_at bus ends place None = None
 carried_at bus ends place (Some frame) = carried_of (rules_of bus) (completed_request bus ends place frame.request frame.idles frame.content) ends.bus
 
-abbrev pub carries_packets : PacketBus → Ends → PacketEvent → Option Exchange
+abbrev pub carries_packets : PacketBus → BusEnds → PacketEvent → Option Exchange
 carries_packets bus ends (PacketReachesPort which place answer) = exchange (carried_at bus ends place (slice_get ends.bus.frames which)) answer
 carries_packets bus ends _ = None
 
 -- the reply that a packet of the frame completes, if there is such a frame
-abbrev pub brought_at : PacketBus → Ends → ℕ → Option Frame → Option (List ℕ)
+abbrev pub brought_at : PacketBus → BusEnds → ℕ → Option Frame → Option (List ℕ)
 brought_at bus ends place None = None
 brought_at bus ends place (Some frame) = taken_of (rules_of bus) (completed_reply bus ends place frame.request frame.idles frame.content) ends.bus
 
-abbrev pub brings_packets : PacketBus → Ends → PacketEvent → Option (List ℕ)
+abbrev pub brings_packets : PacketBus → BusEnds → PacketEvent → Option (List ℕ)
 brings_packets bus ends (PacketReachesManager which place) = brought_at bus ends place (slice_get ends.bus.frames which)
 brings_packets bus ends _ = None
 
@@ -118,7 +118,7 @@ brings_packets bus ends _ = None
 -- less. A restart drops what waits at the manager.
 abbrev pub packets : PacketBus → Line
 packets bus = record {
-  State = Ends;
+  State = BusEnds;
   Event = PacketEvent;
   requests = λ ends. ends.bus;
   IsStart = λ ends. NothingUnderWay ends.bus × NothingWaits bus ends × FreshWindow (rules_of bus) ends.bus.log;

@@ -2,8 +2,8 @@
 use Rattle.std.specs.Prelude.{◌≡◌, ◌≢◌, ℕ, zero, suc, Bool, true, List, length, Some, ◌⊎◌, slice_get}
 use Rattle.two_wire.specs.Codes.{success}
 use Rattle.model_bus.specs.Answered.{Answered}
-use Rattle.model_undo.specs.Words.{IsOf, AllAnswered}
-use Rattle.model_undo.specs.Family.{Family, Gave, SetsTo}
+use Rattle.model_undo.specs.Words.{IsOneOf, AllAnswered}
+use Rattle.model_undo.specs.Family.{Family, GaveAnswer, SetsTo}
 use Rattle.model_undo.specs.declared.phase.Why.{Why}
 use Rattle.model_undo.specs.declared.phase.Why.TheVariants.{Stop, Refused, NotRestorable, GetRefused}
 use Rattle.model_undo.specs.declared.phase.Phase.{Phase}
@@ -17,31 +17,31 @@ IsAfter family plan start (suc step) records =
     × (slice_get plan step ≡ Some op) × SetsTo family op before records
 
 -- what the phase says of the records
-abbrev pub Stands : (family : Family) → List family.words.Op → family.Records → Phase → family.Records → Type 0
-Stands family plan start Fresh records = IsAfter family plan start 0 records
-Stands family plan start (Getting step) records = IsAfter family plan start step records
-Stands family plan start (Setting step) records = IsAfter family plan start step records ⊎ IsAfter family plan start (suc step) records
-Stands family plan start Done records = IsAfter family plan start (length plan) records
-Stands family plan start (Halted step why) records = IsAfter family plan start step records
-Stands family plan start (Unsettled step) records = IsAfter family plan start step records ⊎ IsAfter family plan start (suc step) records
-Stands family plan start (Undoing step) records = IsAfter family plan start (suc step) records ⊎ IsAfter family plan start step records
-Stands family plan start Undone records = IsAfter family plan start 0 records
-Stands family plan start (UndoRefused step code) records = ⊥
+abbrev pub PhaseMeans : (family : Family) → List family.words.Op → family.Records → Phase → family.Records → Type 0
+PhaseMeans family plan start Fresh records = IsAfter family plan start 0 records
+PhaseMeans family plan start (Getting step) records = IsAfter family plan start step records
+PhaseMeans family plan start (Setting step) records = IsAfter family plan start step records ⊎ IsAfter family plan start (suc step) records
+PhaseMeans family plan start Done records = IsAfter family plan start (length plan) records
+PhaseMeans family plan start (Halted step why) records = IsAfter family plan start step records
+PhaseMeans family plan start (Unsettled step) records = IsAfter family plan start step records ⊎ IsAfter family plan start (suc step) records
+PhaseMeans family plan start (Undoing step) records = IsAfter family plan start (suc step) records ⊎ IsAfter family plan start step records
+PhaseMeans family plan start Undone records = IsAfter family plan start 0 records
+PhaseMeans family plan start (UndoRefused step code) records = ⊥
 
 -- the board gave this reply to a request of the Get of this step of the plan at these records
 pub record GaveGet (family : Family) (plan : List family.words.Op) (place : ℕ) (answered : Answered) (records : family.Records) : Type 0 where
   pub op : family.words.Op
   pub step : slice_get plan place ≡ Some op
   pub asked : family.words.Asked
-  pub is_of : IsOf family.words (family.words.getting (family.words.key_of op)) asked
-  pub gave : Gave family records asked answered
+  pub is_of : IsOneOf family.words (family.words.getting (family.words.key_of op)) asked
+  pub gave : GaveAnswer family records asked answered
 
 -- the board gave replies with these data to all requests of the Get of this step of the plan, at these records, and the step can't be undone
 -- from what they show together
 pub record GaveUnrestorable (family : Family) (plan : List family.words.Op) (place : ℕ) (bodies : List (List ℕ)) (records : family.Records) : Type 0 where
   pub op : family.words.Op
   pub step : slice_get plan place ≡ Some op
-  pub gave : AllAnswered family.words (Gave family records) (family.words.getting (family.words.key_of op)) bodies
+  pub gave : AllAnswered family.words (GaveAnswer family records) (family.words.getting (family.words.key_of op)) bodies
   pub not_restorable : ¬ family.Restorable op (family.words.joined (family.words.getting (family.words.key_of op)) bodies)
 
 -- the board gave this reply to a request of the Set of this step of the plan at these records
@@ -49,19 +49,19 @@ pub record GaveSet (family : Family) (plan : List family.words.Op) (place : ℕ)
   pub op : family.words.Op
   pub step : slice_get plan place ≡ Some op
   pub asked : family.words.Asked
-  pub is_of : IsOf family.words (family.words.setting op) asked
-  pub gave : Gave family records asked answered
+  pub is_of : IsOneOf family.words (family.words.setting op) asked
+  pub gave : GaveAnswer family records asked answered
 
 -- why a plan halted after `step` steps, at the records that these steps left; `stopped` says whether the manager was to stop
-abbrev pub Because : (family : Family) → Bool → List family.words.Op → ℕ → Why → family.Records → Type 0
-Because family stopped plan step Stop records = stopped ≡ true
-Because family stopped plan step (Refused code) records =
+abbrev pub HaltCause : (family : Family) → Bool → List family.words.Op → ℕ → Why → family.Records → Type 0
+HaltCause family stopped plan step Stop records = stopped ≡ true
+HaltCause family stopped plan step (Refused code) records =
     (code ≢ success) × (body : List ℕ) × GaveSet family plan step (record { code = code; body = body }) records
-Because family stopped plan step (GetRefused code) records =
+HaltCause family stopped plan step (GetRefused code) records =
     (code ≢ success) × (body : List ℕ) × GaveGet family plan step (record { code = code; body = body }) records
-Because family stopped plan step NotRestorable records = (bodies : List (List ℕ)) × GaveUnrestorable family plan step bodies records
+HaltCause family stopped plan step NotRestorable records = (bodies : List (List ℕ)) × GaveUnrestorable family plan step bodies records
 
 -- a halted plan has a cause
-abbrev pub Halts : (family : Family) → Bool → List family.words.Op → Phase → family.Records → Type 0
-Halts family stopped plan (Halted step why) records = Because family stopped plan step why records
-Halts family stopped plan _ records = Unit {0}
+abbrev pub HaltMeans : (family : Family) → Bool → List family.words.Op → Phase → family.Records → Type 0
+HaltMeans family stopped plan (Halted step why) records = HaltCause family stopped plan step why records
+HaltMeans family stopped plan _ records = Unit {0}

@@ -4,8 +4,8 @@ use Rattle.std.specs.Prelude.{ℕ, List, [], ◌∷◌, Option, Some, None}
 use Rattle.model_bus.specs.Answered.{Answered}
 use Rattle.model_undo.specs.declared.call.Call.{Call}
 use Rattle.model_undo.specs.declared.call.Call.TheVariants.{Start, Quiet, Stop, Again, Undo}
-use Rattle.model_undo.specs.Family.{Family, AllValid, IsReady, Keeps}
-use Rattle.model_undo.specs.Plan.{Stands, Halts}
+use Rattle.model_undo.specs.Family.{Family, AllValid, IsReady, KeepsRecords}
+use Rattle.model_undo.specs.Plan.{PhaseMeans, HaltMeans}
 use Rattle.model_undo.specs.Machine.{Stage, Opened, AtEnd, AtHalt, Machine, Turn, phase_of, start_of, quiet_of, stop_of, again_of, undo_of, reply_of, opened}
 use Rattle.model_undo.specs.Resume.{list_of, resumed}
 use Rattle.model_undo.specs.Restart.{restarted}
@@ -67,15 +67,15 @@ module _ (family : Family) where
   happens desk (Elsewhere after) = record desk { board = after }
 
   -- the board answers the open request by the command relation
-  abbrev pub Answers : Stage family.words → family.Board → Answered → family.Board → Type 0
-  Answers (Opened heeded task part) board answered after = family.Row board part.asked answered after
-  Answers _ board answered after = Unit {0}
+  abbrev pub StageAnswered : Stage family.words → family.Board → Answered → family.Board → Type 0
+  StageAnswered (Opened heeded task part) board answered after = family.Row board part.asked answered after
+  StageAnswered _ board answered after = Unit {0}
 
   -- nothing else changes a record, or what the board is ready for
-  abbrev pub May : Desk family → DeskEvent family → Type 0
-  May desk (Carries answered after) = Answers desk.machine.stage desk.board answered after
-  May desk (Elsewhere after) = Keeps family desk.board after
-  May desk _ = Unit {0}
+  abbrev pub MayHappen : Desk family → DeskEvent family → Type 0
+  MayHappen desk (Carries answered after) = StageAnswered desk.machine.stage desk.board answered after
+  MayHappen desk (Elsewhere after) = KeepsRecords family desk.board after
+  MayHappen desk _ = Unit {0}
 
   abbrev pub run : List (DeskEvent family) → Desk family → Desk family
   run [] desk = desk
@@ -83,7 +83,7 @@ module _ (family : Family) where
 
   abbrev pub AllMay : List (DeskEvent family) → Desk family → Type 0
   AllMay [] desk = Unit {0}
-  AllMay (desk_event ∷ desk_events) desk = May desk desk_event × AllMay desk_events (happens desk desk_event)
+  AllMay (desk_event ∷ desk_events) desk = MayHappen desk desk_event × AllMay desk_events (happens desk desk_event)
 
   abbrev pub at_desk : List family.words.Op → ℕ → family.Board → Desk family
   at_desk plan retries board = record { machine = opened family.words plan retries; reply = None; board = board }
@@ -93,5 +93,5 @@ module _ (family : Family) where
   RecordsStand = (plan : List family.words.Op) (retries : ℕ) (board : family.Board) → AllValid family (family.records board) → IsReady family board
       → (events : List (DeskEvent family)) → AllMay events (at_desk plan retries board)
       → let desk = run events (at_desk plan retries board) in
-      Stands family plan (family.records board) (phase_of family.words desk.machine) (family.records desk.board)
-      × Halts family desk.machine.stopped plan (phase_of family.words desk.machine) (family.records desk.board)
+      PhaseMeans family plan (family.records board) (phase_of family.words desk.machine) (family.records desk.board)
+      × HaltMeans family desk.machine.stopped plan (phase_of family.words desk.machine) (family.records desk.board)

@@ -31,7 +31,7 @@ module _ (words : Words) where
 
   -- The manager that is made has the same request open, under the same number, and gives the same list. `quiet`, `again` and `stop` change nothing
   -- of it, so nothing need be written down at them; and nothing need be written down as it is made.
-  pub record IsKept : Type 0 where
+  pub record KeepsPlace : Type 0 where
     pub same_request : (machine : Machine words) → open_request (restarted words machine) ≡ open_request machine
     pub same_list : (machine : Machine words) → list_of words (restarted words machine) ≡ list_of words machine
     pub quiet : (machine : Machine words) → restarted words (after words (turn_of words (Called manager_call.Quiet) machine) machine) ≡ restarted words machine

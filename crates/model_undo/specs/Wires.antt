@@ -4,7 +4,7 @@ use Rattle.two_wire.specs.Circles.{sequence_numbers, instances}
 use Rattle.two_wire.specs.declared.Bus.{Bus}
 use Rattle.two_wire.specs.declared.Bus.TheVariants.{Ipmb, Smbus}
 use Rattle.model_bus.specs.Answered.{Answered}
-pub use Rattle.model_undo.specs.Words.{IsSeries, IsOf, IsMade}
+pub use Rattle.model_undo.specs.Words.{IsSeries, IsOneOf, IsMade}
 use Rattle.model_undo.specs.Words.{Words}
 
 -- the number of a count: a sequence number on IPMB, an instance on SMBus

@@ -46,8 +46,8 @@ IsNext words series [] asked = asked ≡ words.first series
 IsNext words series (body ∷ bodies) asked = words.next series (body ∷ bodies) ≡ Some asked
 
 -- the request is one of the series
-abbrev pub IsOf : (words : Words) → words.Series → words.Asked → Type 0
-IsOf words series asked = (asked ≡ words.first series) ⊎ ((bodies : List (List ℕ)) × (words.next series bodies ≡ Some asked))
+abbrev pub IsOneOf : (words : Words) → words.Series → words.Asked → Type 0
+IsOneOf words series asked = (asked ≡ words.first series) ⊎ ((bodies : List (List ℕ)) × (words.next series bodies ≡ Some asked))
 
 -- a manager makes the series: it gets a record, or carries an operation out
 abbrev pub IsSeries : (words : Words) → words.Series → Type 0
@@ -55,7 +55,7 @@ IsSeries words series = ((key : words.Key) × (series ≡ words.getting key)) �
 
 -- a manager makes the request
 abbrev pub IsMade : (words : Words) → words.Asked → Type 0
-IsMade words asked = (series : words.Series) × IsSeries words series × IsOf words series asked
+IsMade words asked = (series : words.Series) × IsSeries words series × IsOneOf words series asked
 
 -- each series is one request, and shows what its reply shows
 pub record AreSingle (words : Words) : Type 0 where

@@ -5,7 +5,7 @@ use Rattle.two_wire.specs.declared.Bus.TheVariants.{Ipmb, Smbus}
 use Rattle.model_bus.specs.Answered.{Answered}
 use Rattle.model_undo.specs.declared.call.Call.{Call}
 use Rattle.model_undo.specs.declared.call.Call.TheVariants.{Start, Quiet, Stop, Again, Undo}
-use Rattle.model_undo.specs.Family.{Family, Keeps}
+use Rattle.model_undo.specs.Family.{Family, KeepsRecords}
 use Rattle.model_undo.specs.Machine.{Stage, Opened, AtEnd, AtHalt, Machine, Sending, Turn, bus_at, start_of, quiet_of, stop_of, again_of, undo_of, reply_of, opened, same_bus}
 use Rattle.model_undo.specs.Resume.{list_of, resumed}
 use Rattle.model_undo.specs.Restart.{restarted}
@@ -118,7 +118,7 @@ module _ (family : Family) (lines : Bus → Line) (wires : Wires family.words) w
 
   -- a request of the manager that is carried out is answered by the command relation; nothing else changes a record, or what the board is ready for
   abbrev pub BoardMay : Bus → Option Exchange → family.Board → family.Board → Type 0
-  BoardMay bus None board after = Keeps family board after
+  BoardMay bus None board after = KeepsRecords family board after
   BoardMay bus (Some exchange) board after =
       (answered : Answered) × (exchange.reply ≡ wires.reply_to bus exchange.bytes answered) × family.Row board (wires.asked_from bus exchange.bytes) answered after
 
@@ -127,11 +127,11 @@ module _ (family : Family) (lines : Bus → Line) (wires : Wires family.words) w
   IsHonestOn bus event world = (lines bus).IsOutside event × (lines bus).IsHonest (world.on bus) event
 
   -- it may happen here
-  abbrev pub May : World family lines → Happening family lines → Type 0
-  May world (ToManager bus event) = IsHonestOn bus event world × ((lines bus).is_to_manager event ≡ true)
-  May world (OnBus bus event after) = IsHonestOn bus event world × ((lines bus).is_to_manager event ≡ false) × BoardMay bus ((lines bus).carries (world.on bus) event) world.board after
-  May world (OnBench after) = Keeps family world.board after
-  May world _ = Unit {0}
+  abbrev pub MayHappen : World family lines → Happening family lines → Type 0
+  MayHappen world (ToManager bus event) = IsHonestOn bus event world × ((lines bus).is_to_manager event ≡ true)
+  MayHappen world (OnBus bus event after) = IsHonestOn bus event world × ((lines bus).is_to_manager event ≡ false) × BoardMay bus ((lines bus).carries (world.on bus) event) world.board after
+  MayHappen world (OnBench after) = KeepsRecords family world.board after
+  MayHappen world _ = Unit {0}
 
   -- the world after a schedule
   abbrev pub run : List (Happening family lines) → World family lines → World family lines
@@ -141,7 +141,7 @@ module _ (family : Family) (lines : Bus → Line) (wires : Wires family.words) w
   -- each may happen where it does
   abbrev pub AllMay : List (Happening family lines) → World family lines → Type 0
   AllMay [] world = Unit {0}
-  AllMay (happening ∷ happenings) world = May world happening × AllMay happenings (happens world happening)
+  AllMay (happening ∷ happenings) world = MayHappen world happening × AllMay happenings (happens world happening)
 
 -- a manager that was opened with a plan, between these buses and this board
 abbrev pub opening : (family : Family) (lines : Bus → Line) → List family.words.Op → ℕ → States lines → family.Board → World family lines

@@ -12,7 +12,7 @@ pub fn plan_ends_undone()
     ensures packets { EndsUndone mixed long_wires quiet_mixed (run_and_undo mixed by_packet) }
 {}
 
-/// The same where another manager undoes the plan, with the run's requests in the windows and its frames still live.
+/// The plan ends undone where another manager undoes it, with the run's requests in the windows and its frames still live.
 pub fn resumed_plan_ends_undone()
     ensures messages { EndsUndone messages wires quiet_messages
         (run_resume_undo messages by_message) }

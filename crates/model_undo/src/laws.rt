@@ -11,7 +11,7 @@ ghost use Rattle.model_undo.specs.Giving.{HaltsByAnswers};
 ghost use Rattle.model_undo.specs.Resume.{GoesOnAlike};
 ghost use Rattle.model_undo.specs.Unsettled.{UnsettledByQuiet};
 ghost use Rattle.model_undo.specs.Silence.{RestartsAreSilences};
-ghost use Rattle.model_undo.specs.Restart.{IsKept};
+ghost use Rattle.model_undo.specs.Restart.{KeepsPlace};
 ghost use Rattle.model_undo.specs.RecordsRun.{RecordsStand};
 ghost use Rattle.model_undo.specs.Clean.{AnswersByRow, AlwaysRunsClean};
 ghost use Rattle.model_undo.specs.CleanBuses.{AllCanBeSent, AlwaysRunsOverBuses};
@@ -73,7 +73,7 @@ pub fn restarts_are_silences()
 /// The manager that is made again has the same request open under the same number, gives the same list, and sends nothing by itself. `quiet`, `again`
 /// and `stop` change nothing of what it is made of.
 pub fn restarted_keeps_its_place()
-    ensures { IsKept register_words }
+    ensures { KeepsPlace register_words }
 {}
 
 /// A request comes to be unsettled only by a call of `quiet`, after its frames were sent again as often as is allowed since it was opened or

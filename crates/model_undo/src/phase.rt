@@ -19,16 +19,16 @@ pub enum Why {
 #[derive(Clone, Copy, Debug, PartialEq, Eq)]
 pub enum Phase {
     Fresh,
-    /// It gets the record that the step changes.
+    /// The manager gets the record that the step changes.
     Getting(usize),
-    /// It carries the step out.
+    /// The manager carries the step out.
     Setting(usize),
     Done,
-    /// So many steps were acknowledged.
+    /// The plan halted after so many acknowledged steps.
     Halted(usize, Why),
     /// The open request of the step, or of its undo, was sent as often as is allowed, and no reply is awaited.
     Unsettled(usize),
-    /// It undoes the step.
+    /// The manager undoes the step.
     Undoing(usize),
     Undone,
     /// The controller refused the request that undoes the step with this code.

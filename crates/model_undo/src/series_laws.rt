@@ -12,7 +12,7 @@ ghost use Rattle.model_undo.specs.RecordsRun.{RecordsStand};
 ghost use Rattle.model_undo.specs.Resume.{GoesOnAlike};
 ghost use Rattle.model_undo.specs.Unsettled.{UnsettledByQuiet};
 ghost use Rattle.model_undo.specs.Silence.{RestartsAreSilences};
-ghost use Rattle.model_undo.specs.Restart.{IsKept};
+ghost use Rattle.model_undo.specs.Restart.{KeepsPlace};
 ghost use Rattle.model_undo.specs.Clean.{AnswersByRow};
 ghost use Rattle.model_undo.specs.CleanSeries.{AlwaysRunsThrough};
 ghost use Rattle.model_undo.specs.CleanBuses.{AlwaysRunsThroughBuses};
@@ -65,7 +65,7 @@ pub fn pair_restarts_are_silences()
 
 /// The manager that is made again has the same request of the series open, and the data of the replies before it.
 pub fn restarted_pairs_keep_their_place()
-    ensures { IsKept pairs }
+    ensures { KeepsPlace pairs }
 {}
 
 /// A request comes to be unsettled only by a call of `quiet`, whichever of its series it is.

@@ -9,7 +9,7 @@ use Rattle.record_base.specs.declared.key.Key.{Key}
 use Rattle.record_base.specs.Keys.{same_key, is_length}
 use Rattle.record_base.specs.KeyLaws.{exact_key}
 use Rattle.cfg_records.specs.Records.{with_record}
-use Rattle.packed_store.specs.Image.{Offsets, length_at, value_at, records_in, IsImage, WroteAt, Added}
+use Rattle.packed_store.specs.Image.{Offsets, length_at, value_at, records_in, IsImage, WroteAt, HasAdded}
 
 -- ---- parts of bytes
 
@@ -121,7 +121,7 @@ where_at true before new at is = inl (refl, one_place (Some new) new at refl is)
 where_at false before new at is = inr (refl, is)
 
 module _ (old new : List ℕ) (before after : Offsets) (key : Key) (room : ℕ) (value : List ℕ) (image : IsImage old before)
-    (more : (k : Key) → after k ≡ (if same_key key k then Some (length old) else before k)) (fits : IsTrue (is_length key (length value))) (longest : (n : ℕ) → IsTrue (is_length key n) → n ≤ room) (added : Added old new room value) where
+    (more : (k : Key) → after k ≡ (if same_key key k then Some (length old) else before k)) (fits : IsTrue (is_length key (length value))) (longest : (n : ℕ) → IsTrue (is_length key n) → n ≤ room) (added : HasAdded old new room value) where
   lies : (k : Key) (at : ℕ) → after k ≡ Some at → Where (same_key key k) (before k) (length old) at
   lies k at is = where_at (same_key key k) (before k) (length old) at (sym (more k) ∙ is)
 

@@ -10,7 +10,7 @@ use Rattle.record_base.specs.KeyLaws.{exact_key, same_key_self}
 use Rattle.record_base.proofs.Names.{NamesDiffer-more, NamesDiffer-twice}
 use Rattle.cfg_records.specs.Records.{Records, Pair, key_in, with_record, records_of, KeysDiffer, LengthsFit}
 use Rattle.cfg_records.proofs.Pairs.{records_of-push, KeysDiffer-twice}
-use Rattle.packed_store.specs.Image.{Offsets, value_at, records_in, IsImage, Added}
+use Rattle.packed_store.specs.Image.{Offsets, value_at, records_in, IsImage, HasAdded}
 use Rattle.packed_store.proofs.Images.{image_added, records_added}
 
 -- ---- keys that differ
@@ -52,7 +52,7 @@ module _ (pairs : List Pair) (i : ℕ) (pair : Pair) (bytes : List ℕ) (offsets
   no_offset = nowhere bytes (offsets pair.0) (written pair.0 ∙ new_key)
 
   module _ (fit : LengthsFit pairs) (new : List ℕ) (after : Offsets) (at room : ℕ) (value : List ℕ) (at_end : at ≡ length bytes) (its : value ≡ pair.1)
-      (more : (k : Key) → after k ≡ (if same_key pair.0 k then Some at else offsets k)) (longest : (n : ℕ) → IsTrue (is_length pair.0 n) → n ≤ room) (added : Added bytes new room value) where
+      (more : (k : Key) → after k ≡ (if same_key pair.0 k then Some at else offsets k)) (longest : (n : ℕ) → IsTrue (is_length pair.0 n) → n ≤ room) (added : HasAdded bytes new room value) where
     fits : IsTrue (is_length pair.0 (length value))
     fits = subst (λ (v : List ℕ). IsTrue (is_length pair.0 (length v))) (sym its) (subst (λ (p : Pair). IsTrue (is_length p.0 (length p.1))) (sym is) (fit i pair inside))
 

@@ -38,7 +38,7 @@ pub record WroteAt (old new : List ℕ) (at : ℕ) (value : List ℕ) : Type 0 w
   pub behind : (k : ℕ) → at + 2 + length value ≤ k → slice_index new k ≡ slice_index old k
 
 -- a record was added behind the bytes: the value with its length, in this much room
-pub record Added (old new : List ℕ) (room : ℕ) (value : List ℕ) : Type 0 where
+pub record HasAdded (old new : List ℕ) (room : ℕ) (value : List ℕ) : Type 0 where
   pub longer : length new ≡ length old + 2 + room
   pub low : slice_index new (length old) ≡ length value % 256
   pub high : slice_index new (length old + 1) ≡ length value / 256

@@ -1,6 +1,6 @@
 //! An image of records: a value with its length in front, in the room that its kind may take.
 ghost use Rattle.std.specs.Prelude.{◌≡◌, ◌+◌, ◌≤◌, OnOk, length};
-ghost use Rattle.packed_store.specs.Image.{length_at, value_at, WroteAt, Added};
+ghost use Rattle.packed_store.specs.Image.{length_at, value_at, WroteAt, HasAdded};
 
 use std::alloc::AllocError;
 
@@ -28,7 +28,7 @@ pub(crate) fn write_at(bytes: &mut [u8], at: usize, value: &[u8])
 pub(crate) fn add(bytes: &mut Vec<u8>, room: usize, value: &[u8]) -> Result<(), AllocError>
     requires fits { length value.now ≤ room }
     requires short { room ≤ 65535 }
-    ensures { OnOk result (Added bytes.old.items bytes.new.items room value.now) }
+    ensures { OnOk result (HasAdded bytes.old.items bytes.new.items room value.now) }
 {
     let at = bytes.len();
     bytes.resize(at + 2 + room, 0)?;

@@ -1,7 +1,7 @@
 -- What a step for a LAN parameter has in its fields.
 use Rattle.std.proofs.Common.{◌≡◌, true, is_some, Option, Some, None, refl}
 use Rattle.toml.specs.Data.{Data, Members}
-use Rattle.record_base.specs.declared.lan.LanParameter.{LanParameter}
+use Rattle.record_base.specs.declared.lan_parameter.LanParameter.{LanParameter}
 use Rattle.text_fields.specs.declared.field.Field.TheVariants as field
 use Rattle.text_fields.specs.declared.lan.LanShape.TheVariants as lan_shape
 use Rattle.text_fields.specs.declared.row.Shape.TheVariants as shape

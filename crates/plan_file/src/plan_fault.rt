@@ -15,7 +15,7 @@ pub enum OutsidePlan {
 pub enum NoGet {
     /// A user's session limit.
     SessionLimit,
-    /// That expiration flags of the watchdog timer are cleared.
+    /// The step clears expiration flags of the watchdog timer, which no Get shows.
     FlagsClear,
     /// Both stores of a channel's access at once.
     BothStores,
@@ -28,7 +28,7 @@ pub enum NoGet {
 pub enum StepFault {
     OutsidePlan(OutsidePlan),
     NoGet(NoGet),
-    /// Its `kind` names no kind of step.
+    /// The step's `kind` names no kind of step.
     UnknownKind,
     Field(FieldFault),
 }

@@ -1,7 +1,7 @@
 -- Operations on thresholds are one where their bytes are.
 use Rattle.std.proofs.Common.{◌≡◌, ℕ, List, length, ap, subst}
 use Rattle.std.proofs.Math.Nat.{ℕ_set}
-use Rattle.record_base.specs.declared.sensor_thresholds.SetThresholds.{SetThresholds}
+use Rattle.record_base.specs.declared.thresholds.SetThresholds.{SetThresholds}
 
 -- the operation with these bytes
 abbrev pub set_thresholds : (sensor mask : ℕ) (values : List ℕ) → length values ≡ 6 → SetThresholds

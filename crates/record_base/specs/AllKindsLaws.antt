@@ -7,7 +7,7 @@ use Rattle.record_base.specs.declared.op.Op.{Op}
 use Rattle.record_base.specs.declared.live.Live.{Live}
 use Rattle.record_base.specs.declared.message.Asked.{Asked}
 use Rattle.record_base.specs.Keys.{is_length}
-use Rattle.record_base.specs.Meaning.{Decides, IsRefusal, room_for, most_shown}
+use Rattle.record_base.specs.Meaning.{DecidesValue, IsRefusal, room_for, most_shown}
 use Rattle.record_base.specs.RefusalLaws.{refused_field}
 use Rattle.record_base.specs.Kind.{KindWords, RecordWords, KindLaws, RecordLaws}
 use Rattle.record_base.specs.AllKinds.{Place, OpWords, words_as, any_words, OpLaws, is_of_own, sets_own, outcome_own, lifted}
@@ -96,7 +96,7 @@ module _ {K O : Type 0} (W : KindWords K O) (place : Place W) (op_words : Op →
     taken op (Some own) old new done = subst (λ (o : Op). is_of_own (place.own_key (key_of o)) R) (sym own.1) (to_any own.0 (laws.taken own.0 old new done))
     taken op None old new done = absurd done
 
-    decides : (op : Op) (found : Option (Own op)) (value : List ℕ) → Decides (outcome_own found R value) (sets_own found R value)
+    decides : (op : Op) (found : Option (Own op)) (value : List ℕ) → DecidesValue (outcome_own found R value) (sets_own found R value)
     decides op (Some own) value = laws.decides own.0 value
     decides op None value = λ new done. done
 

@@ -7,11 +7,11 @@ use Rattle.record_base.specs.declared.attribute.AttributeKind.TheVariants.{Enume
 use Rattle.record_base.specs.declared.attribute_value.AttributeValue.{AttributeValue}
 use Rattle.record_base.specs.AttributeSizes.{least_value, most_value}
 use Rattle.record_base.specs.AttributeValue.{type_of_value, value_bytes, value_in, HasEightBytes}
-use Rattle.record_base.specs.AttributeRange.{type_of, Allows, IsValue}
+use Rattle.record_base.specs.AttributeRange.{type_of, AllowsValue, IsValue}
 use Rattle.record_base.specs.AttributeRangeLaws.{value_back, value_length, length_tested}
 use Rattle.record_base.specs.Attribute.{range_of, current_of, attribute_value}
 
-current_allowed : (kind : AttributeKind) → Allows (range_of kind) (current_of kind)
+current_allowed : (kind : AttributeKind) → AllowsValue (range_of kind) (current_of kind)
 current_allowed (Enumeration e) = e.current_valid
 current_allowed (Text t) = t.current_valid
 current_allowed (Integer i) = i.current_valid
@@ -29,8 +29,8 @@ same_type (Integer i) = refl
 pub begins_valid : (attribute : Attribute) → IsValue (range_of attribute.kind) (attribute_value attribute)
 begins_valid attribute =
     let kind : AttributeKind = attribute.kind in
-    subst (λ (code : ℕ). IsSomeAnd (value_in code (value_bytes (current_of kind))) (Allows (range_of kind))) (same_type kind)
-    (subst (λ (o : Option AttributeValue). IsSomeAnd o (Allows (range_of kind))) (sym (value_back (current_of kind) (current_small kind))) (current_allowed kind))
+    subst (λ (code : ℕ). IsSomeAnd (value_in code (value_bytes (current_of kind))) (AllowsValue (range_of kind))) (same_type kind)
+    (subst (λ (o : Option AttributeValue). IsSomeAnd o (AllowsValue (range_of kind))) (sym (value_back (current_of kind) (current_small kind))) (current_allowed kind))
 
 -- it has a length of the kind
 pub begins_long : (attribute : Attribute) → (nat_le least_value (length (attribute_value attribute)) && nat_le (length (attribute_value attribute)) most_value) ≡ true

@@ -34,11 +34,11 @@ pub record AllowsNumber (steps : IntegerSteps) (number : ℕ) : Type 0 where
   pub stepped : steps.increment ≢ 0 → (number - steps.lower) % steps.increment ≡ 0
 
 -- the attribute can have the value
-abbrev pub Allows : AttributeRange → AttributeValue → Type 0
-Allows (range.Enumeration possible) (Indexes indexes) = AllowsIndexes possible.count indexes
-Allows (range.Text lengths) (Text text) = AllowsText lengths text
-Allows (range.Integer steps) (Number number) = AllowsNumber steps number
-Allows _ _ = ⊥
+abbrev pub AllowsValue : AttributeRange → AttributeValue → Type 0
+AllowsValue (range.Enumeration possible) (Indexes indexes) = AllowsIndexes possible.count indexes
+AllowsValue (range.Text lengths) (Text text) = AllowsText lengths text
+AllowsValue (range.Integer steps) (Number number) = AllowsNumber steps number
+AllowsValue _ _ = ⊥
 
 -- the test that the attribute can have the value
 abbrev pub allows : AttributeRange → AttributeValue → Bool
@@ -49,7 +49,7 @@ allows _ _ = false
 
 -- the bytes of a value that the attribute can have
 abbrev pub IsValue : AttributeRange → List ℕ → Type 0
-IsValue allowed bytes = IsSomeAnd (value_in (type_of allowed) bytes) (Allows allowed)
+IsValue allowed bytes = IsSomeAnd (value_in (type_of allowed) bytes) (AllowsValue allowed)
 
 -- the test that bytes are those of a value that the attribute can have
 abbrev pub is_allowed : AttributeRange → Option AttributeValue → Bool

@@ -15,7 +15,7 @@ use Rattle.record_base.specs.declared.attribute_value.AttributeValue.{AttributeV
 use Rattle.record_base.specs.declared.attribute_value.AttributeValue.TheVariants.{Indexes, Text, Number}
 use Rattle.record_base.specs.AttributeSizes.{most_indexes, least_value, most_value}
 use Rattle.record_base.specs.AttributeValue.{number_of, type_of_value, value_bytes, value_in, HasEightBytes}
-use Rattle.record_base.specs.AttributeRange.{AllowsIndexes, AllowsText, AllowsNumber, Allows, allows, IsValue}
+use Rattle.record_base.specs.AttributeRange.{AllowsIndexes, AllowsText, AllowsNumber, AllowsValue, allows, IsValue}
 
 -- ---- tests say what they are named for
 
@@ -32,7 +32,7 @@ stepped_true : (increment rest : ℕ) → (increment ≢ 0 → rest ≡ 0) → (
 stepped_true zero rest h = refl
 stepped_true (suc increment) rest h = let none : rest ≡ 0 = h (λ same. omega arith) in grind (arith, nat_tests)
 
-pub true_allows : (r : AttributeRange) (v : AttributeValue) → allows r v ≡ true → Allows r v
+pub true_allows : (r : AttributeRange) (v : AttributeValue) → allows r v ≡ true → AllowsValue r v
 true_allows (range.Enumeration possible) (Indexes indexes) h =
     let tests = both_true _ _ h in
     let more = both_true _ _ tests.1 in
@@ -50,7 +50,7 @@ true_allows (range.Text lengths) (Number n) h = absurd cc
 true_allows (range.Integer steps) (Indexes indexes) h = absurd cc
 true_allows (range.Integer steps) (Text text) h = absurd cc
 
-pub allows_true : (r : AttributeRange) (v : AttributeValue) → Allows r v → allows r v ≡ true
+pub allows_true : (r : AttributeRange) (v : AttributeValue) → AllowsValue r v → allows r v ≡ true
 allows_true (range.Enumeration possible) (Indexes indexes) is = both _ _ (le_true _ _ is.some) (both _ _ (le_true _ _ is.few) is.known)
 allows_true (range.Text lengths) (Text text) is = both _ _ (le_true _ _ is.enough) (le_true _ _ is.few)
 allows_true (range.Integer steps) (Number n) is = both _ _ (le_true _ _ is.above) (both _ _ (le_true _ _ is.below) (stepped_true _ _ is.stepped))
@@ -72,7 +72,7 @@ AllowsText-prop lengths text = hlevel props
 pub AllowsNumber-prop : (steps : IntegerSteps) (n : ℕ) → IsProp (AllowsNumber steps n)
 AllowsNumber-prop steps n = hlevel props
 
-pub Allows-prop : (r : AttributeRange) (v : AttributeValue) → IsProp (Allows r v)
+pub Allows-prop : (r : AttributeRange) (v : AttributeValue) → IsProp (AllowsValue r v)
 Allows-prop (range.Enumeration possible) (Indexes indexes) = hlevel props
 Allows-prop (range.Text lengths) (Text text) = hlevel props
 Allows-prop (range.Integer steps) (Number n) = hlevel props
@@ -109,15 +109,15 @@ pub record IsLength (size : ℕ) : Type 0 where
 pub value_length : (r : AttributeRange) (bytes : List ℕ) → IsValue r bytes → IsLength (length bytes)
 value_length (range.Enumeration possible) [] is = absurd is
 value_length (range.Enumeration possible) (count ∷ indexes) is =
-    let here = comes (count == length indexes) (Indexes indexes) (Allows (range.Enumeration possible)) is in
+    let here = comes (count == length indexes) (Indexes indexes) (AllowsValue (range.Enumeration possible)) is in
     record { least = omega (arith, here.1.some); most = omega (arith, here.1.few, possible.few) }
 value_length (range.Text lengths) [] is = absurd is
 value_length (range.Text lengths) (low ∷ []) is = absurd is
 value_length (range.Text lengths) (low ∷ high ∷ text) is =
-    let here = comes _ (Text text) (Allows (range.Text lengths)) is in
+    let here = comes _ (Text text) (AllowsValue (range.Text lengths)) is in
     record { least = omega arith; most = omega (arith, here.1.few, lengths.few) }
 value_length (range.Integer steps) bytes is =
-    let here = comes (length bytes == 8) _ (Allows (range.Integer steps)) is in
+    let here = comes (length bytes == 8) _ (AllowsValue (range.Integer steps)) is in
     let eight : length bytes ≡ 8 = tested_same _ _ here.0 in
     record { least = omega (arith, eight); most = omega (arith, eight) }
 

@@ -6,7 +6,7 @@ use Rattle.record_base.specs.declared.key.Key.{Key}
 use Rattle.record_base.specs.declared.live.Live.{Live}
 use Rattle.record_base.specs.declared.message.Asked.{Asked}
 use Rattle.record_base.specs.Keys.{is_length}
-use Rattle.record_base.specs.Meaning.{Decides, IsRefusal, room_for, most_shown}
+use Rattle.record_base.specs.Meaning.{DecidesValue, IsRefusal, room_for, most_shown}
 
 -- the words for all records of the kind
 pub record KindWords (K O : Type 0) : Type 1 where
@@ -66,7 +66,7 @@ pub record RecordLaws {K O : Type 0} (words : KindWords K O) (record_words : Rec
   -- the record accepts only operations on itself
   pub taken : (op : O) (old new : List ℕ) → record_words.sets op old new → record_words.is_of (words.key_of op)
   -- the outcome is a new value exactly where the record accepts the operation
-  pub decides : (op : O) (value : List ℕ) → Decides (record_words.outcome op value) (record_words.sets op value)
+  pub decides : (op : O) (value : List ℕ) → DecidesValue (record_words.outcome op value) (record_words.sets op value)
   -- a refusal has one of the codes of refusals
   pub refuses : (op : O) (value : List ℕ) (code : ℕ) → record_words.outcome op value ≡ Err code → IsRefusal code
   -- an operation makes at most one value

@@ -1,13 +1,13 @@
 -- The LAN parameters that a controller keeps (IPMI 2.0, LAN configuration parameters): 3, IP address, 4, IP address source, 6, subnet mask,
 -- 12, default gateway address, and 20, 802.1q VLAN ID. Addresses go most significant byte first.
 use Rattle.std.specs.Prelude.{◌≡◌, ℕ, ◌≤◌, ◌==◌, List, [], ◌∷◌, length, slice_index, Option, Some, None, if◌then◌else◌}
-use Rattle.record_base.specs.declared.lan.LanAddress.TheVariants.{Ip, SubnetMask, DefaultGateway}
-use Rattle.record_base.specs.declared.lan.LanParameter.{LanParameter}
-use Rattle.record_base.specs.declared.lan.LanParameter.TheVariants.{Address, AddressSource, Vlan}
-use Rattle.record_base.specs.declared.lan.Ipv4Address.{Ipv4Address}
-use Rattle.record_base.specs.declared.lan.VlanBytes.{VlanBytes}
-use Rattle.record_base.specs.declared.lan.LanChange.{LanChange}
-use Rattle.record_base.specs.declared.lan.LanChange.TheVariants as change
+use Rattle.record_base.specs.declared.lan_parameter.LanAddress.TheVariants.{Ip, SubnetMask, DefaultGateway}
+use Rattle.record_base.specs.declared.lan_parameter.LanParameter.{LanParameter}
+use Rattle.record_base.specs.declared.lan_parameter.LanParameter.TheVariants.{Address, AddressSource, Vlan}
+use Rattle.record_base.specs.declared.lan_parameter.Ipv4Address.{Ipv4Address}
+use Rattle.record_base.specs.declared.lan_parameter.VlanBytes.{VlanBytes}
+use Rattle.record_base.specs.declared.lan_parameter.LanChange.{LanChange}
+use Rattle.record_base.specs.declared.lan_parameter.LanChange.TheVariants as change
 use Rattle.record_base.specs.Vlan.{vlan_high}
 
 -- the number of a parameter: its selector

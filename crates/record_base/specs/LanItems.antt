@@ -3,11 +3,11 @@ use Rattle.std.specs.Prelude.{ℕ, List, [], ◌∷◌}
 use Rattle.record_base.specs.declared.key.Key.{Key}
 use Rattle.record_base.specs.declared.key.Key.TheVariants as key
 use Rattle.record_base.specs.Numbers.{ChannelNumber}
-use Rattle.record_base.specs.declared.lan.LanAddress.TheVariants.{Ip, SubnetMask, DefaultGateway}
-use Rattle.record_base.specs.declared.lan.LanParameter.{LanParameter}
-use Rattle.record_base.specs.declared.lan.LanParameter.TheVariants.{Address, AddressSource, Vlan}
-use Rattle.record_base.specs.declared.lan.ParameterOnChannel.{ParameterOnChannel}
-use Rattle.record_base.specs.declared.lan_item.Lan.{Lan}
+use Rattle.record_base.specs.declared.lan_parameter.LanAddress.TheVariants.{Ip, SubnetMask, DefaultGateway}
+use Rattle.record_base.specs.declared.lan_parameter.LanParameter.{LanParameter}
+use Rattle.record_base.specs.declared.lan_parameter.LanParameter.TheVariants.{Address, AddressSource, Vlan}
+use Rattle.record_base.specs.declared.lan_parameter.ParameterOnChannel.{ParameterOnChannel}
+use Rattle.record_base.specs.declared.lan.Lan.{Lan}
 use Rattle.record_base.specs.Lan.{address_bytes, vlan_bytes}
 
 -- a parameter of a channel, and the name of its record

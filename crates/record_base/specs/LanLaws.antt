@@ -5,10 +5,10 @@ use Rattle.std.specs.Ordering.{is_eq, ordering_then}
 use Rattle.std.specs.declared.cmp.Ordering.{Ordering}
 use Rattle.std.specs.declared.cmp.Ordering.TheVariants.{Less, Equal, Greater}
 use Rattle.record_base.specs.Numbers.{ChannelNumber}
-use Rattle.record_base.specs.declared.lan.LanAddress.TheVariants.{Ip, SubnetMask, DefaultGateway}
-use Rattle.record_base.specs.declared.lan.LanParameter.{LanParameter}
-use Rattle.record_base.specs.declared.lan.LanParameter.TheVariants.{Address, AddressSource, Vlan}
-use Rattle.record_base.specs.declared.lan.ParameterOnChannel.{ParameterOnChannel}
+use Rattle.record_base.specs.declared.lan_parameter.LanAddress.TheVariants.{Ip, SubnetMask, DefaultGateway}
+use Rattle.record_base.specs.declared.lan_parameter.LanParameter.{LanParameter}
+use Rattle.record_base.specs.declared.lan_parameter.LanParameter.TheVariants.{Address, AddressSource, Vlan}
+use Rattle.record_base.specs.declared.lan_parameter.ParameterOnChannel.{ParameterOnChannel}
 use Rattle.record_base.specs.contracts.lan.LanParameterOrd.TheImpl as parameter_ord
 use Rattle.record_base.specs.Lan.{IsLanData, IsLanParam}
 

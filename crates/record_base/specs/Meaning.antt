@@ -9,9 +9,9 @@ use Rattle.record_base.specs.declared.message.Asked.TheVariants.{Ipmi, Pldm}
 use Rattle.record_base.specs.AttributeSizes.{before_value, most_value}
 
 -- the outcome decides the property: the new value has it, or no value has it
-abbrev pub Decides : Result (List ℕ) ℕ → (List ℕ → Type 0) → Type 0
-Decides (Ok new) Holds = Holds new
-Decides (Err code) Holds = (new : List ℕ) → ¬ Holds new
+abbrev pub DecidesValue : Result (List ℕ) ℕ → (List ℕ → Type 0) → Type 0
+DecidesValue (Ok new) Holds = Holds new
+DecidesValue (Err code) Holds = (new : List ℕ) → ¬ Holds new
 
 -- the outcome of a call that writes the new value where it succeeds
 abbrev pub value_or_code : {A : Type 0} → Result A ℕ → List ℕ → Result (List ℕ) ℕ

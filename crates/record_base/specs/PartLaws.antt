@@ -1,7 +1,7 @@
 -- At most one proof says that a part of a board file is in its range.
 use Rattle.std.specs.Prelude.{ℕ, List}
 use Rattle.std.proofs.Props.{props}
-use Rattle.record_base.specs.declared.thresholds.ThresholdMasks.{ThresholdMasks}
+use Rattle.record_base.specs.declared.threshold_masks.ThresholdMasks.{ThresholdMasks}
 use Rattle.record_base.specs.Sensor.Thresholds.{IsThresholds}
 use Rattle.record_base.specs.Sensor.EventEnable.{IsEventEnable}
 use Rattle.record_base.specs.PowerPolicy.{IsPowerPolicy}

@@ -4,7 +4,7 @@ use Rattle.std.proofs.lemmas.Bool.Decides.{nat_tests}
 use Rattle.record_base.specs.Masks.{all_below}
 use Rattle.record_base.specs.MaskLaws.{all_below-at, at-all_below, implied, implies}
 use Rattle.record_base.specs.Sensor.Thresholds.{is_there, IsInOrder, are_in_order, is_in_order, is_clear, IsThresholds}
-use Rattle.record_base.specs.declared.thresholds.ThresholdMasks.{ThresholdMasks}
+use Rattle.record_base.specs.declared.threshold_masks.ThresholdMasks.{ThresholdMasks}
 
 le_from : (a b : ℕ) → nat_le a b ≡ true → a ≤ b
 le_from a b h = grind (arith, nat_tests)

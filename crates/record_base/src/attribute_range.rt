@@ -50,7 +50,7 @@ impl PossibleValues {
     ghost use Rattle.record_base.specs.declared.attribute_value.AttributeValue.TheVariants as value;
     ghost use Rattle.record_base.specs.AttributeRange.{AllowsIndexes, allows};
 
-    /// This number of possible values, or nothing where they are too many.
+    /// A range of so many possible values, or nothing where they are too many.
     pub fn new(count: u8) -> Option<PossibleValues>
         ensures made { IsSome result ↔ (count ≤ most_indexes) }
         ensures parts { IfSome result (λ made. made.count ≡ count) }
@@ -79,7 +79,7 @@ impl TextLengths {
     ghost use Rattle.record_base.specs.declared.attribute_value.AttributeValue.TheVariants as value;
     ghost use Rattle.record_base.specs.AttributeRange.{AllowsText, allows};
 
-    /// These lengths, or nothing where the most is too much.
+    /// A text's lengths, or nothing where the most is too much.
     pub fn new(least: u16, most: u16) -> Option<TextLengths>
         ensures made { IsSome result ↔ (most ≤ most_text) }
         ensures parts { IfSome result (λ made. (made.least ≡ least) × (made.most ≡ most)) }

@@ -30,7 +30,7 @@ impl Attributes {
     ghost use Rattle.record_base.specs.AttributeSizes.{most_attributes};
     ghost use Rattle.record_base.specs.Attributes.{AreInPlace};
 
-    /// These attributes, or nothing where a handle isn't its attribute's place, or where there are too many.
+    /// A board's attributes, or nothing where a handle isn't its attribute's place, or where there are too many.
     pub fn new(items: Vec<Attribute>) -> Option<Self>
         ensures made { IsSome result
             ↔ (AreInPlace items.items × (length items.items ≤ most_attributes)) }

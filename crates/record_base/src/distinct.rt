@@ -32,7 +32,7 @@ impl<T: Numbered + Drop, const MOST: usize> Drop for Distinct<T, MOST> {
 }
 
 impl<T: Numbered + Drop, const MOST: usize> Distinct<T, MOST> {
-    /// These items, or nothing where two have the same number or there are too many.
+    /// A list of the items, or nothing where two have the same number or there are too many.
     pub fn new(items: Vec<T>) -> Option<Self>
         ensures made { IsSome result
             ↔ (NamesDiffer T.number_of items.items × (length items.items ≤ MOST)) }

@@ -98,7 +98,7 @@ impl EventEnable {
     ghost use Rattle.std.specs.Prelude.{◌≡◌, ◌↔◌, IsSome, IfSome};
     ghost use Rattle.record_base.specs.Sensor.EventEnable.{CanEnable, event_value};
 
-    /// These events, or nothing where a supported event belongs to no threshold, or an enabled event isn't supported.
+    /// A sensor's events, or nothing where a supported event belongs to no threshold, or an enabled event isn't supported.
     pub fn new(
         supported: u16,
         messages: bool,

@@ -6,7 +6,7 @@ use crate::attribute_sizes::{LEAST_VALUE, MOST_VALUE};
 use crate::board_sizes::MOST_STATE_FIELDS;
 use crate::boot_param::BootParameter;
 use crate::channel::StoredAccess;
-use crate::lan::ParameterOnChannel;
+use crate::lan_parameter::ParameterOnChannel;
 use crate::user::{UserNumber, UserOnChannel};
 use crate::user_sizes::USER_NAME_SIZE;
 use crate::value::VALUE_CAPACITY;
@@ -105,7 +105,7 @@ fn in_table(table: usize, sensor: u8, lengths: Lengths) -> Storage
     }
 }
 
-/// The same of another record's key.
+/// The storage of another record's key.
 #[inline(always)]
 fn in_map(lengths: Lengths) -> Storage
     ensures { result ≡ in_map lengths }

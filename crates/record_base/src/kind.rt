@@ -1,7 +1,7 @@
 //! What a kind of record is.
 ghost use Rattle.std.specs.Prelude.{◌≡◌, ◌+◌, ◌≤◌, ◌++◌, ℕ, List, OnErr, SomeIff, length};
 ghost use Rattle.record_base.specs.declared.live.Live.{Live};
-ghost use Rattle.record_base.specs.Meaning.{Decides, value_or_code};
+ghost use Rattle.record_base.specs.Meaning.{DecidesValue, value_or_code};
 ghost use Rattle.record_base.specs.Kind.{Kind};
 
 use crate::key::Key;
@@ -29,7 +29,7 @@ pub trait RecordKind<'a> {
     fn apply(&self, op: &Self::Op, value: &[u8], new: &mut Value) -> Result<(), Code>
         requires of_record { (kind.record_words self.now).is_of (kind.words.key_of op.now) }
         requires is_valid { (kind.record_words self.now).valid value.now }
-        ensures decides { Decides (value_or_code result new.new)
+        ensures decides { DecidesValue (value_or_code result new.new)
             ((kind.record_words self.now).sets op.now value.now) }
         ensures outcome { value_or_code result new.new
             ≡ (kind.record_words self.now).outcome op.now value.now }

@@ -1,139 +1,98 @@
-//! LAN configuration parameters, as they are named and set.
-ghost use Rattle.std.specs.Prelude.{◌≡◌};
-ghost use Rattle.record_base.specs.Lan.{lan_length, lan_selector, lan_parameter_at, address_bytes, vlan_bytes, changed_parameter};
+//! The LAN parameters of a channel, in a board file.
+ghost use Rattle.std.specs.Prelude.{◌≡◌, ◌≤◌};
+ghost use Rattle.record_base.specs.Vlan.{vlan_high};
 
+use crate::board_sizes::MOST_CHANNELS;
 use crate::channel::ChannelNumber;
+use crate::distinct::{Distinct, Numbered};
+use crate::key::Key;
+use crate::lan_parameter::{Ipv4Address, LanAddress, LanParameter, ParameterOnChannel, VlanBytes};
+use crate::start_value::StartValue;
 
-/// An address that a LAN parameter holds (IPMI 2.0).
-#[derive(Clone, Copy, Debug, PartialEq, Eq, PartialOrd, Ord)]
-pub enum LanAddress {
-    /// Parameter 3, IP address.
-    Ip,
-    /// Parameter 6, subnet mask.
-    SubnetMask,
-    /// Parameter 12, default gateway address.
-    DefaultGateway,
-}
+/// The greatest source of an address (IPMI 2.0, IP Address Source).
+pub const MOST_SOURCE: u8 = 4;
 
-/// A LAN parameter that a controller keeps (IPMI 2.0).
-#[derive(Clone, Copy, Debug, PartialEq, Eq, PartialOrd, Ord)]
-pub enum LanParameter {
-    /// Parameters 3, 6 and 12.
-    Address(LanAddress),
-    /// Parameter 4, IP address source: where the address comes from, by bits 3:0.
-    AddressSource,
-    /// Parameter 20, 802.1q VLAN ID: which virtual network frames belong to.
-    Vlan,
-}
-
-/// A parameter of a channel.
-#[derive(Clone, Copy, Debug, PartialEq, Eq, PartialOrd, Ord)]
-pub struct ParameterOnChannel {
-    pub channel: ChannelNumber,
-    pub parameter: LanParameter,
-}
-
-/// An address of the Internet Protocol, version 4, the most significant byte first.
+/// The first data of a channel's LAN parameters. Bits that the standard reserves are clear.
 #[derive(Clone, Copy, Debug)]
-pub struct Ipv4Address {
-    pub first: u8,
-    pub second: u8,
-    pub third: u8,
-    pub fourth: u8,
+pub struct Lan {
+    pub number: ChannelNumber,
+    pub ip: Ipv4Address,
+    pub source: u8,
+    pub mask: Ipv4Address,
+    pub gateway: Ipv4Address,
+    pub vlan: VlanBytes,
+    ghost is_source: { source ≤ 4 },
+    ghost is_vlan: { vlan_high vlan.high ≡ vlan.high },
 }
 
-/// The data of parameter 20: the low byte of the VLAN ID, and a byte with its high bits in bits 3:0, which bit 7 enables.
-#[derive(Clone, Copy, Debug)]
-pub struct VlanBytes {
-    pub low: u8,
-    pub high: u8,
+/// The LAN parameters of a board's channels.
+pub type Lans = Distinct<Lan, { MOST_CHANNELS }>;
+
+impl Numbered for Lan {
+    ghost number_of = { λ lan. lan.number.number };
+
+    fn number(&self) -> u16 {
+        u16::from(self.number.number)
+    }
 }
 
-/// A change of a LAN parameter, by the data of the request.
-#[derive(Clone, Copy)]
-pub enum LanChange {
-    /// The parameter of this name becomes this address.
-    Address(LanAddress, Ipv4Address),
-    /// Parameter 4 becomes bits 3:0 of this byte.
-    AddressSource(u8),
-    /// Parameter 20 becomes these bytes, without bits 6:4 of the second.
-    Vlan(VlanBytes),
+/// The second byte of a VLAN without its ignored bits, 6:4.
+pub fn vlan_high(byte: u8) -> u8
+    ensures { result ≡ vlan_high byte }
+{
+    byte / 128 * 128 + byte % 16
 }
 
-/// Sets a LAN parameter of a channel.
-#[derive(Clone, Copy)]
-pub struct SetLanParam {
-    pub channel: ChannelNumber,
-    pub change: LanChange,
-}
+impl Lan {
+    ghost use Rattle.std.specs.Prelude.{◌↔◌, IsSome, IfSome};
+    ghost use Rattle.record_base.specs.LanItems.{lan_value, lan_key};
 
-impl LanParameter {
-    /// The parameter of this number, its selector in a request.
-    pub fn at(number: u8) -> Option<LanParameter>
-        ensures { result ≡ lan_parameter_at number }
+    /// The parameters of a channel, or nothing where no source has the number, or an ignored bit of the VLAN is set.
+    pub fn new(
+        number: ChannelNumber,
+        ip: Ipv4Address,
+        source: u8,
+        mask: Ipv4Address,
+        gateway: Ipv4Address,
+        vlan: VlanBytes,
+    ) -> Option<Lan>
+        ensures made { IsSome result ↔ ((source ≤ 4) × (vlan_high vlan.high ≡ vlan.high)) }
+        ensures parts { IfSome result
+            (λ made. (made.number ≡ number) × (made.ip ≡ ip) × (made.mask ≡ mask)) }
+        ensures others { IfSome result
+            (λ made. (made.gateway ≡ gateway) × (made.source ≡ source)) }
+        ensures vlan { IfSome result (λ made. made.vlan ≡ vlan) }
     {
-        match number {
-            3 => Some(LanParameter::Address(LanAddress::Ip)),
-            4 => Some(LanParameter::AddressSource),
-            6 => Some(LanParameter::Address(LanAddress::SubnetMask)),
-            12 => Some(LanParameter::Address(LanAddress::DefaultGateway)),
-            20 => Some(LanParameter::Vlan),
-            _ => None,
+        if source > MOST_SOURCE || vlan_high(vlan.high) != vlan.high {
+            return None;
         }
+        Some(Lan {
+            number,
+            ip,
+            source,
+            mask,
+            gateway,
+            vlan,
+        })
     }
 
-    /// The number of the parameter.
-    pub fn selector(self) -> u8
-        ensures { result ≡ lan_selector self }
+    /// The record of the parameter.
+    pub fn pair(&self, parameter: LanParameter) -> (Key, StartValue)
+        ensures { result ≡ (lan_key self.now.number parameter, lan_value self.now parameter) }
     {
-        match self {
-            LanParameter::Address(LanAddress::Ip) => 3,
-            LanParameter::AddressSource => 4,
-            LanParameter::Address(LanAddress::SubnetMask) => 6,
-            LanParameter::Address(LanAddress::DefaultGateway) => 12,
-            LanParameter::Vlan => 20,
-        }
-    }
-
-    /// How many bytes the parameter's value has.
-    pub fn length(self) -> usize
-        ensures { result ≡ lan_length self }
-    {
-        match self {
-            LanParameter::Address(_) => 4,
-            LanParameter::AddressSource => 1,
-            LanParameter::Vlan => 2,
-        }
-    }
-}
-
-impl Ipv4Address {
-    /// The bytes of the address, the most significant first.
-    pub fn bytes(self) -> [u8; 4]
-        ensures { result ≡ address_bytes self }
-    {
-        [self.first, self.second, self.third, self.fourth]
-    }
-}
-
-impl VlanBytes {
-    /// Both bytes of the VLAN.
-    pub fn bytes(self) -> [u8; 2]
-        ensures { result ≡ vlan_bytes self }
-    {
-        [self.low, self.high]
-    }
-}
-
-impl LanChange {
-    /// The parameter that the change changes.
-    pub fn parameter(&self) -> LanParameter
-        ensures { result ≡ changed_parameter self.now }
-    {
-        match self {
-            LanChange::Address(which, _) => LanParameter::Address(*which),
-            LanChange::AddressSource(_) => LanParameter::AddressSource,
-            LanChange::Vlan(_) => LanParameter::Vlan,
-        }
+        let value = match parameter {
+            LanParameter::Address(LanAddress::Ip) => StartValue::few(&self.ip.bytes()),
+            LanParameter::Address(LanAddress::SubnetMask) => StartValue::few(&self.mask.bytes()),
+            LanParameter::Address(LanAddress::DefaultGateway) => {
+                StartValue::few(&self.gateway.bytes())
+            }
+            LanParameter::AddressSource => StartValue::few(&[self.source]),
+            LanParameter::Vlan => StartValue::few(&self.vlan.bytes()),
+        };
+        let name = ParameterOnChannel {
+            channel: self.number,
+            parameter,
+        };
+        (Key::LanParam(name), value)
     }
 }

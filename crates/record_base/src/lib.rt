@@ -24,7 +24,7 @@ pub mod items;
 pub mod key;
 pub mod kind;
 pub mod lan;
-pub mod lan_item;
+pub mod lan_parameter;
 pub mod live;
 pub mod log_capacity;
 pub mod mask;
@@ -37,9 +37,9 @@ pub mod op;
 pub mod power_policy;
 pub mod sdr_record;
 pub mod sensor;
-pub mod sensor_thresholds;
 pub mod start_value;
 pub mod state_effecter;
+pub mod threshold_masks;
 pub mod thresholds;
 pub mod user;
 pub mod user_sizes;
@@ -71,10 +71,10 @@ pub use hysteresis::{Hysteresis, SetHysteresis};
 pub use items::Items;
 pub use key::Key;
 pub use kind::{RecordKind, there_and_back};
-pub use lan::{
+pub use lan::{Lan, Lans};
+pub use lan_parameter::{
     Ipv4Address, LanAddress, LanChange, LanParameter, ParameterOnChannel, SetLanParam, VlanBytes,
 };
-pub use lan_item::{Lan, Lans};
 pub use live::Live;
 pub use log_capacity::LogCapacity;
 pub use message::{Answered, Asked, byte_at, bytes_at};
@@ -85,10 +85,10 @@ pub use op::Op;
 pub use power_policy::{PowerPolicy, SetPowerPolicy};
 pub use sdr_record::{SdrRecord, SdrRecords};
 pub use sensor::{Sensor, Sensors};
-pub use sensor_thresholds::{SetThresholds, Thresholds};
 pub use start_value::StartValue;
 pub use state_effecter::{SetStateEffecter, StateEffecter, StateEffecters, StateField};
-pub use thresholds::ThresholdMasks;
+pub use threshold_masks::ThresholdMasks;
+pub use thresholds::{SetThresholds, Thresholds};
 pub use user::{
     SetUserAccess, SetUserName, User, UserAccess, UserAccesses, UserNumber, UserOnChannel,
 };

@@ -83,7 +83,7 @@ pub fn byte_at(body: &[u8], place: usize) -> u8
     }
 }
 
-/// So many bytes of a request's data from a place on, 00h where they are missing.
+/// The bytes of a request's data from a place on, 00h where they are missing.
 pub fn bytes_at<const N: usize>(body: &[u8], place: usize) -> [u8; N]
     requires { place + N < 2 ^ 32 }
     ensures { result ≡ bytes_at N body.now place }

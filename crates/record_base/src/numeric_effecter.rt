@@ -56,7 +56,7 @@ impl NumericEffecter {
     ghost use Rattle.record_base.specs.NumericSize.{numbers_of, bytes_of};
     ghost use Rattle.record_base.specs.NumericEffecter.{IsNumeric};
 
-    /// This effecter, or nothing where it can't have the number.
+    /// An effecter, or nothing where it can't have the number.
     pub fn new(id: u16, enabled: bool, range: NumericRange, current: u32) -> Option<NumericEffecter>
         ensures made { IsSome result
             ↔ ((current < numbers_of range.size) × IsNumeric range (bytes_of range.size current)) }

@@ -48,7 +48,7 @@ impl Model for StartValue {
 }
 
 impl StartValue {
-    /// These few bytes.
+    /// A value of a few bytes, which lie in place.
     pub fn few(bytes: &[u8]) -> Self
         requires { length bytes.now ≤ most_few }
         ensures { result ≡ bytes.now }
@@ -58,7 +58,7 @@ impl StartValue {
         }
     }
 
-    /// These bytes, in their own memory.
+    /// A value whose bytes have memory of their own.
     pub fn many(bytes: Vec<u8>) -> Self
         ensures { result ≡ bytes.items }
     {

@@ -76,7 +76,7 @@ impl StateField {
     ghost use Rattle.std.specs.Prelude.{◌≡◌, ◌↔◌, IsTrue, IsSome, IfSome};
     ghost use Rattle.record_base.specs.StateField.{allows};
 
-    /// This field, or nothing where it can't be in the present state.
+    /// A field, or nothing where it can't be in the present state.
     pub fn new(allowed: Items<u8>, current: u8) -> Option<StateField>
         ensures made { IsSome result ↔ IsTrue (allows allowed current) }
         ensures parts { IfSome result (λ made.
@@ -108,7 +108,7 @@ impl StateEffecter {
     ghost use Rattle.record_base.specs.BoardSizes.{most_state_fields};
     ghost use Rattle.record_base.specs.StateEffecter.{are_states, state_value};
 
-    /// This effecter, or nothing where it has no fields or too many.
+    /// An effecter, or nothing where it has no fields or too many.
     pub fn new(id: u16, enabled: bool, fields: Vec<StateField>) -> Option<StateEffecter>
         ensures made { IsSome result
             ↔ ((1 ≤ length fields.items) × (length fields.items ≤ most_state_fields)) }

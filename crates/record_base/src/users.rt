@@ -27,7 +27,7 @@ impl Users {
     ghost use Rattle.std.specs.Prelude.{◌≡◌, ◌↔◌, IsSome, IfSome};
     ghost use Rattle.record_base.specs.Users.{AreUsers};
 
-    /// These users, or nothing where no board can have them.
+    /// A board's users, or nothing where no board can have them.
     pub fn new(items: Vec<User>) -> Option<Self>
         ensures made { IsSome result ↔ AreUsers items.items }
         ensures items { IfSome result (λ made. made.items ≡ items.items) }

@@ -1,10 +1,10 @@
 -- LAN parameters begin with values that they can have, and a channel's are found by its number.
 use Rattle.std.proofs.Common.{◌≡◌, ◌==◌, true, refl, subst, eq-eqb}
 use Rattle.record_base.specs.Numbers.{ChannelNumber}
-use Rattle.record_base.specs.declared.lan.LanAddress.TheVariants.{Ip, SubnetMask, DefaultGateway}
-use Rattle.record_base.specs.declared.lan.LanParameter.{LanParameter}
-use Rattle.record_base.specs.declared.lan.LanParameter.TheVariants.{Address, AddressSource, Vlan}
-use Rattle.record_base.specs.declared.lan_item.Lan.{Lan}
+use Rattle.record_base.specs.declared.lan_parameter.LanAddress.TheVariants.{Ip, SubnetMask, DefaultGateway}
+use Rattle.record_base.specs.declared.lan_parameter.LanParameter.{LanParameter}
+use Rattle.record_base.specs.declared.lan_parameter.LanParameter.TheVariants.{Address, AddressSource, Vlan}
+use Rattle.record_base.specs.declared.lan.Lan.{Lan}
 use Rattle.record_base.specs.InverseLaws.{tested_same}
 use Rattle.record_base.specs.Keys.{same_key}
 use Rattle.record_base.specs.KeyLaws.{exact_key, same_key_self}

@@ -14,9 +14,9 @@ IsSoundAt None None = Unit {0}
 IsSoundAt _ _ = ⊥
 
 -- each key has limits and a value that they allow, or neither
-abbrev pub IsSound : BoardFile → Records → Type 0
-IsSound file records = (key : Key) → IsSoundAt (limits_at file key) (records key)
+abbrev pub AreSoundRecords : BoardFile → Records → Type 0
+AreSoundRecords file records = (key : Key) → IsSoundAt (limits_at file key) (records key)
 
 -- the records that a board file gives are sound
 abbrev pub StartsSound : Type 0
-StartsSound = (file : BoardFile) → IsSound file (records_of (pairs_of file))
+StartsSound = (file : BoardFile) → AreSoundRecords file (records_of (pairs_of file))

@@ -10,7 +10,7 @@ use Rattle.cfg_records.specs.Records.{Records, with_record}
 use Rattle.record_kinds.specs.declared.limits.Limits.{Limits}
 use Rattle.record_kinds.specs.Limits.{valid, sets, limits_at}
 use Rattle.record_kinds.specs.LimitsLaws.{record_laws}
-use Rattle.record_kinds.specs.Sound.{IsSoundAt, IsSound}
+use Rattle.record_kinds.specs.Sound.{IsSoundAt, AreSoundRecords}
 
 -- ---- at most one proof
 
@@ -23,8 +23,8 @@ IsSoundAt-prop None None = hlevel props
 IsSoundAt-prop (Some limits) None = hlevel props
 IsSoundAt-prop None (Some value) = hlevel props
 
-pub IsSound-prop : (file : BoardFile) (records : Records) → IsProp (IsSound file records)
-IsSound-prop file records = hlevel (props, IsSoundAt-prop)
+pub AreSoundRecords-prop : (file : BoardFile) (records : Records) → IsProp (AreSoundRecords file records)
+AreSoundRecords-prop file records = hlevel (props, IsSoundAt-prop)
 
 -- ---- written records
 
@@ -33,17 +33,17 @@ pub valid_at : (at : Option Limits) (had : Option (List ℕ)) (limits : Limits) 
 valid_at at had limits old is_at is_had sound =
     subst (λ (v : Option (List ℕ)). IsSoundAt (Some limits) v) is_had (subst (λ (l : Option Limits). IsSoundAt l had) is_at sound)
 
-sound_where : (file : BoardFile) (records : Records) (key : Key) (limits : Limits) (new : List ℕ) → IsSound file records → limits_at file key ≡ Some limits → valid limits new
+sound_where : (file : BoardFile) (records : Records) (key : Key) (limits : Limits) (new : List ℕ) → AreSoundRecords file records → limits_at file key ≡ Some limits → valid limits new
     → (k : Key) (b : Bool) → same_key key k ≡ b → IsSoundAt (limits_at file k) (if b then Some new else records k)
 sound_where file records key limits new sound at is_valid k true e =
     subst (λ (q : Key). IsSoundAt (limits_at file q) (Some new)) (exact_key key k e) (subst (λ (l : Option Limits). IsSoundAt l (Some new)) (sym at) is_valid)
 sound_where file records key limits new sound at is_valid k false e = sound k
 
 -- a valid value keeps the records sound
-pub sound_with : (file : BoardFile) (records : Records) (key : Key) (limits : Limits) (new : List ℕ) → IsSound file records → limits_at file key ≡ Some limits → valid limits new → IsSound file (with_record records key new)
+pub sound_with : (file : BoardFile) (records : Records) (key : Key) (limits : Limits) (new : List ℕ) → AreSoundRecords file records → limits_at file key ≡ Some limits → valid limits new → AreSoundRecords file (with_record records key new)
 sound_with file records key limits new sound at is_valid = λ k. sound_where file records key limits new sound at is_valid k (same_key key k) refl
 
 -- an operation that a record accepts keeps the records sound
-pub sound_set : (file : BoardFile) (records : Records) (key : Key) (limits : Limits) (op : Op) (old new : List ℕ) → IsSound file records → limits_at file key ≡ Some limits → records key ≡ Some old
-    → sets limits op old new → IsSound file (with_record records key new)
+pub sound_set : (file : BoardFile) (records : Records) (key : Key) (limits : Limits) (op : Op) (old new : List ℕ) → AreSoundRecords file records → limits_at file key ≡ Some limits → records key ≡ Some old
+    → sets limits op old new → AreSoundRecords file (with_record records key new)
 sound_set file records key limits op old new sound at had done = sound_with file records key limits new sound at ((record_laws limits).keeps op old new (valid_at _ _ limits old at had (sound key)) done)

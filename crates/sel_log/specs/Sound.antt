@@ -9,7 +9,7 @@ CountFrom id [] = Unit {0}
 CountFrom id (r ∷ behind) = (id_of r ≡ id) × CountFrom (id + 1) behind
 
 -- no more records than the capacity, whose ids count from 0001h, and room for all in the list
-pub record IsSound (capacity room : ℕ) (records : List (List ℕ)) : Type 0 where
+pub record IsSoundLog (capacity room : ℕ) (records : List (List ℕ)) : Type 0 where
   pub within : IsCapacity capacity
   pub few : length records ≤ capacity
   pub reserved : capacity ≤ room

@@ -45,7 +45,7 @@ impl LogRecord {
         }
     }
 
-    /// Its bytes.
+    /// The record's bytes.
     pub fn as_slice(&self) -> &[u8]
         ensures value { result.now ≡ self.now }
         ensures sized { length result.now ≡ record_size }

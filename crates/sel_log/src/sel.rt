@@ -70,7 +70,7 @@ impl Drop for Sel {
 impl Model for Sel {
     ghost use Rattle.std.specs.Vec.{vec_capacity};
     ghost use Rattle.sel_log.specs.Log.{Log};
-    ghost use Rattle.sel_log.specs.Sound.{IsSound};
+    ghost use Rattle.sel_log.specs.Sound.{IsSoundLog};
 
     ghost Value = { Log };
 
@@ -84,7 +84,7 @@ impl Model for Sel {
       clock = s.clock;
     } };
 
-    ghost invariant = { λ s. IsSound s.capacity (vec_capacity s.records) s.records.items };
+    ghost invariant = { λ s. IsSoundLog s.capacity (vec_capacity s.records) s.records.items };
 }
 
 impl Sel {

@@ -1,8 +1,8 @@
 -- The events that a reading makes at one threshold.
 use Rattle.std.proofs.Common.{◌≡◌, ℕ, List, [], ◌∷◌, ◌++◌, Bool, true, false, not, ◌&&◌, cond, if◌then◌else◌, refl}
 use Rattle.std.specs.List.{filter}
-use Rattle.sensor_recs.specs.declared.compared.Compared.{Compared}
-use Rattle.sensor_recs.specs.declared.compared.Event.{Event}
+use Rattle.sensor_recs.specs.declared.comparator.Comparator.{Comparator}
+use Rattle.sensor_recs.specs.declared.comparator.Event.{Event}
 use Rattle.sensor_recs.specs.Readings.{is_same, crosses, was_beyond, goes_high, counts, is_made, events_at}
 
 -- the event that a crossing asserts, and the one that it deasserts
@@ -28,7 +28,7 @@ made_where counted place true false is = joined (counted (asserted place false))
 made_where counted place false high is = cc
 
 -- a crossing of the threshold at the place makes these two events, where they count
-pub made_at : (s : Compared) (beyond : List Bool) (reading place : ℕ) → crosses s place (was_beyond beyond place) reading ≡ true
+pub made_at : (s : Comparator) (beyond : List Bool) (reading place : ℕ) → crosses s place (was_beyond beyond place) reading ≡ true
     → filter (is_made s beyond reading) (events_at place)
     ≡ where_counted (counts s) (asserted place (goes_high place (was_beyond beyond place))) ++ where_counted (counts s) (deasserted place (goes_high place (was_beyond beyond place)))
 made_at s beyond reading place is = made_where (counts s) place (crosses s place (was_beyond beyond place) reading) (goes_high place (was_beyond beyond place)) is

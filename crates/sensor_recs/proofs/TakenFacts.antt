@@ -5,13 +5,13 @@ use Rattle.std.proofs.lemmas.Bool.{and_parts}
 use Rattle.std.proofs.lemmas.Bool.Decides.{nat_tests}
 use Rattle.std.proofs.lemmas.List.Elements.{All-filter}
 use Rattle.std.specs.List.{All, list_all}
-use Rattle.sensor_recs.specs.declared.compared.Compared.{Compared}
-use Rattle.sensor_recs.specs.declared.compared.Event.{Event}
-use Rattle.sensor_recs.specs.declared.compared.Taken.{Taken}
+use Rattle.sensor_recs.specs.declared.comparator.Comparator.{Comparator}
+use Rattle.sensor_recs.specs.declared.comparator.Event.{Event}
+use Rattle.sensor_recs.specs.declared.comparator.LastReading.{LastReading}
 use Rattle.sensor_recs.specs.Readings.{events_below, is_made, events_of}
 
 -- a reading of these parts
-abbrev pub taken_with : (raw : ℕ) (beyond : List Bool) → length beyond ≡ 6 → Taken
+abbrev pub taken_with : (raw : ℕ) (beyond : List Bool) → length beyond ≡ 6 → LastReading
 taken_with raw beyond six = record { raw = raw; beyond = beyond; six = six }
 
 -- readings of the same parts are one
@@ -29,5 +29,5 @@ below_from (e ∷ es) all zero d within = lt_from _ _ (and_parts (nat_lt e.place
 below_from (e ∷ es) all (suc k) d within = below_from es (and_parts (nat_lt e.place 6) _ all).1 k d (omega (arith, within))
 
 -- the events of a reading are of the six thresholds
-pub places_of : (s : Compared) (beyond : List Bool) (reading : ℕ) → All (λ (e : Event). e.place < 6) (events_of s beyond reading)
+pub places_of : (s : Comparator) (beyond : List Bool) (reading : ℕ) → All (λ (e : Event). e.place < 6) (events_of s beyond reading)
 places_of s beyond reading = All-filter (is_made s beyond reading) (λ (e : Event). e.place < 6) (events_below 6) (below_from (events_below 6) refl)

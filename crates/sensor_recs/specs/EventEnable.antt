@@ -43,20 +43,20 @@ pub record AreSupported (supported : ℕ) (masks : EventMasks) : Type 0 where
   pub deassertions : AreWithin masks.deassertions supported
 
 -- the enabled events after a change: the old events, with the operation's events besides, or without them
-abbrev pub Changes : ℕ → EventChange → EventMasks → EventMasks → Type 0
-Changes supported Leave old new = IsSame old.assertions new.assertions × IsSame old.deassertions new.deassertions
-Changes supported (Enable more) old new =
+abbrev pub ChangesMasks : ℕ → EventChange → EventMasks → EventMasks → Type 0
+ChangesMasks supported Leave old new = IsSame old.assertions new.assertions × IsSame old.deassertions new.deassertions
+ChangesMasks supported (Enable more) old new =
     AreSupported supported more × IsUnion old.assertions more.assertions new.assertions × IsUnion old.deassertions more.deassertions new.deassertions
-Changes supported (Disable less) old new =
+ChangesMasks supported (Disable less) old new =
     AreSupported supported less × IsDifference old.assertions less.assertions new.assertions × IsDifference old.deassertions less.deassertions new.deassertions
-Changes supported Reserved old new = ⊥
+ChangesMasks supported Reserved old new = ⊥
 
 -- the flags become the operation's, and the enabled events change as it says
 pub record SetsEventEnable (supported : ℕ) (op : SetEventEnable) (old new : List ℕ) : Type 0 where
   pub is_value : IsEventValue new
   pub messages : makes_messages (slice_index new 0) ≡ op.messages
   pub scanning : is_scanning (slice_index new 0) ≡ op.scanning
-  pub events : Changes supported op.change (enabled_in old) (enabled_in new)
+  pub events : ChangesMasks supported op.change (enabled_in old) (enabled_in new)
 
 -- ---- the same as functions
 

@@ -12,14 +12,14 @@ use Rattle.record_base.specs.declared.event_enable.SetEventEnable.{SetEventEnabl
 use Rattle.record_base.specs.Keys.{is_length}
 use Rattle.record_base.specs.Masks.{has}
 use Rattle.record_base.specs.MaskLaws.{both_true, both}
-use Rattle.record_base.specs.Meaning.{Decides, IsRefusal}
+use Rattle.record_base.specs.Meaning.{DecidesValue, IsRefusal}
 use Rattle.record_base.specs.InverseLaws.{some_where, made_where, tested_same, same_tested}
 use Rattle.record_base.specs.Kind.{KindLaws, RecordLaws}
 use Rattle.record_base.specs.RefusalLaws.{refused_field}
 use Rattle.record_base.specs.Sensor.EventEnable.{AreWithin, are_within, flags_byte, makes_messages, is_scanning, event_value, enabled_in, IsEventValue, IsEventEnable}
 use Rattle.record_base.specs.PartLaws.{IsEventEnable-prop}
 use Rattle.record_base.specs.EventLaws.{within_true, true_within, has_in_two_bytes, messages_are, scanning_is, is_event_value}
-use Rattle.sensor_recs.specs.EventEnable.{IsSame, AreSupported, Changes, SetsEventEnable, difference, events_after, is_accepted, value_after, undo_change, undo_event_enable, words, record_words}
+use Rattle.sensor_recs.specs.EventEnable.{IsSame, AreSupported, ChangesMasks, SetsEventEnable, difference, events_after, is_accepted, value_after, undo_change, undo_event_enable, words, record_words}
 
 -- ---- sets of events, bit by bit
 
@@ -105,7 +105,7 @@ one_value a b of_a of_b messages scanning asserted deasserted =
     five_members a of_a.five ∙ five_bytes _ _ _ _ _ _ _ _ _ _ flags first.0 first.1 second.0 second.1 ∙ sym (five_members b of_b.five)
 
 -- what a change makes of the enabled events
-changes_after : (supported : ℕ) (change : EventChange) (messages scanning : Bool) (old : EventMasks) → is_accepted supported change ≡ true → Changes supported change old (enabled_in (event_value messages scanning (events_after change old)))
+changes_after : (supported : ℕ) (change : EventChange) (messages scanning : Bool) (old : EventMasks) → is_accepted supported change ≡ true → ChangesMasks supported change old (enabled_in (event_value messages scanning (events_after change old)))
 changes_after supported Leave messages scanning old is = (λ k lt. has_in_two_bytes old.assertions k lt, λ k lt. has_in_two_bytes old.deassertions k lt)
 changes_after supported (Enable more) messages scanning old is =
     let tests = both_true (are_within more.assertions supported) (are_within more.deassertions supported) is in (
@@ -122,14 +122,14 @@ changes_after supported (Disable less) messages scanning old is =
 changes_after supported Reserved messages scanning old is = cc
 
 -- only an accepted change changes them
-accepted : (supported : ℕ) (change : EventChange) (old new : EventMasks) → Changes supported change old new → is_accepted supported change ≡ true
+accepted : (supported : ℕ) (change : EventChange) (old new : EventMasks) → ChangesMasks supported change old new → is_accepted supported change ≡ true
 accepted supported Leave old new changes = refl
 accepted supported (Enable more) old new changes = both _ _ (true_within _ _ changes.0.assertions) (true_within _ _ changes.0.deassertions)
 accepted supported (Disable less) old new changes = both _ _ (true_within _ _ changes.0.assertions) (true_within _ _ changes.0.deassertions)
 accepted supported Reserved old new changes = absurd changes
 
 -- a change makes one set of events
-one_change : (supported : ℕ) (change : EventChange) (old new other : EventMasks) → Changes supported change old new → Changes supported change old other → IsSame new.assertions other.assertions × IsSame new.deassertions other.deassertions
+one_change : (supported : ℕ) (change : EventChange) (old new other : EventMasks) → ChangesMasks supported change old new → ChangesMasks supported change old other → IsSame new.assertions other.assertions × IsSame new.deassertions other.deassertions
 one_change supported Leave old new other done also = (λ k lt. also.0 k lt ∙ sym (done.0 k lt), λ k lt. also.1 k lt ∙ sym (done.1 k lt))
 one_change supported (Enable more) old new other done also = (λ k lt. also.1 k lt ∙ sym (done.1 k lt), λ k lt. also.2 k lt ∙ sym (done.2 k lt))
 one_change supported (Disable less) old new other done also = (λ k lt. also.1 k lt ∙ sym (done.1 k lt), λ k lt. also.2 k lt ∙ sym (done.2 k lt))
@@ -143,7 +143,7 @@ sets_after supported op old is = record {
   events = changes_after supported op.change op.messages op.scanning (enabled_in old) is;
 }
 
-decided : (supported : ℕ) (op : SetEventEnable) (old : List ℕ) (b : Bool) → is_accepted supported op.change ≡ b → Decides (if b then Ok (value_after op old) else Err invalid_data_field) (SetsEventEnable supported op old)
+decided : (supported : ℕ) (op : SetEventEnable) (old : List ℕ) (b : Bool) → is_accepted supported op.change ≡ b → DecidesValue (if b then Ok (value_after op old) else Err invalid_data_field) (SetsEventEnable supported op old)
 decided supported op old true is = sets_after supported op old is
 decided supported op old false is = λ new s. let takes : is_accepted supported op.change ≡ true = accepted supported op.change (enabled_in old) (enabled_in new) s.events in cc
 
@@ -165,7 +165,7 @@ of_first : (a b c : Bool) → (a ≡ true → c ≡ true) → (a && b) ≡ true 
 of_first true b c p h = p refl
 of_first false b c p h = cc
 
-stay_supported : (supported : ℕ) (change : EventChange) (old new : EventMasks) → AreSupported supported old → Changes supported change old new → AreSupported supported new
+stay_supported : (supported : ℕ) (change : EventChange) (old new : EventMasks) → AreSupported supported old → ChangesMasks supported change old new → AreSupported supported new
 stay_supported supported Leave old new are changes = record {
   assertions = λ k lt there. are.assertions k lt (sym (changes.0 k lt) ∙ there);
   deassertions = λ k lt there. are.deassertions k lt (sym (changes.1 k lt) ∙ there);
@@ -217,7 +217,7 @@ within_first a b supported within k lt there = of_first _ _ _ (within k lt) (sym
 within_both : (a b supported : ℕ) → AreWithin a supported → AreWithin (bit_and a b) supported
 within_both a b supported within k lt there = of_first _ _ _ (within k lt) (sym (has_and a b k) ∙ there)
 
-undone_change : (supported : ℕ) (change : EventChange) (old new : EventMasks) → Changes supported change old new → Changes supported (undo_change change old) new old
+undone_change : (supported : ℕ) (change : EventChange) (old new : EventMasks) → ChangesMasks supported change old new → ChangesMasks supported (undo_change change old) new old
 undone_change supported Leave old new changes = (λ k lt. sym (changes.0 k lt), λ k lt. sym (changes.1 k lt))
 undone_change supported (Enable more) old new changes = (
   record { assertions = within_first more.assertions old.assertions supported changes.0.assertions; deassertions = within_first more.deassertions old.deassertions supported changes.0.deassertions },

@@ -6,8 +6,8 @@ use Rattle.std.specs.List.{filter}
 use Rattle.record_base.specs.Masks.{has}
 use Rattle.record_base.specs.Sensor.Thresholds.{is_there}
 use Rattle.record_base.specs.declared.hysteresis.Hysteresis.{Hysteresis}
-use Rattle.sensor_recs.specs.declared.compared.Compared.{Compared}
-use Rattle.sensor_recs.specs.declared.compared.Event.{Event}
+use Rattle.sensor_recs.specs.declared.comparator.Comparator.{Comparator}
+use Rattle.sensor_recs.specs.declared.comparator.Event.{Event}
 
 -- ---- one threshold
 
@@ -24,13 +24,13 @@ comes_back place hysteresis threshold reading =
     if is_upper place then nat_lt (reading + hysteresis.positive) threshold else nat_lt (threshold + hysteresis.negative) reading
 
 -- the reading crosses the threshold at the place, where the last reading was beyond the threshold or not
-abbrev pub crosses : Compared → ℕ → Bool → ℕ → Bool
+abbrev pub crosses : Comparator → ℕ → Bool → ℕ → Bool
 crosses compared place was reading =
     is_there compared.masks place
     && (if was then comes_back place compared.hysteresis (slice_index compared.thresholds place) reading else reaches place (slice_index compared.thresholds place) reading)
 
 -- a crossing changes whether the reading is beyond the threshold
-abbrev pub is_beyond : Compared → ℕ → Bool → ℕ → Bool
+abbrev pub is_beyond : Comparator → ℕ → Bool → ℕ → Bool
 is_beyond compared place was reading = if crosses compared place was reading then not was else was
 
 -- whether the last reading was beyond the threshold at the place
@@ -38,10 +38,10 @@ abbrev pub was_beyond : List Bool → ℕ → Bool
 was_beyond beyond place = get_or beyond place false
 
 -- for each threshold, whether the reading is beyond the threshold
-abbrev pub beyond_at : Compared → List Bool → ℕ → ℕ → Bool
+abbrev pub beyond_at : Comparator → List Bool → ℕ → ℕ → Bool
 beyond_at compared beyond reading place = is_beyond compared place (was_beyond beyond place) reading
 
-abbrev pub beyond_after : Compared → List Bool → ℕ → List Bool
+abbrev pub beyond_after : Comparator → List Bool → ℕ → List Bool
 beyond_after compared beyond reading =
     beyond_at compared beyond reading 0 ∷ beyond_at compared beyond reading 1 ∷ beyond_at compared beyond reading 2
     ∷ beyond_at compared beyond reading 3 ∷ beyond_at compared beyond reading 4 ∷ beyond_at compared beyond reading 5 ∷ []
@@ -60,16 +60,16 @@ abbrev pub is_same : Bool → Bool → Bool
 is_same first second = if first then second else not second
 
 -- a crossing asserts the event of the crossing's direction, and deasserts the event of the other direction
-abbrev pub happens : Compared → List Bool → ℕ → Event → Bool
+abbrev pub happens : Comparator → List Bool → ℕ → Event → Bool
 happens compared beyond reading event =
     crosses compared event.place (was_beyond beyond event.place) reading
     && is_same event.high (if event.deasserted then not (goes_high event.place (was_beyond beyond event.place)) else goes_high event.place (was_beyond beyond event.place))
 
 -- an event counts where the sensor makes messages, and its offset is in the mask of assertions or of deassertions
-abbrev pub counts : Compared → Event → Bool
+abbrev pub counts : Comparator → Event → Bool
 counts compared event = compared.messages && has (if event.deasserted then compared.enabled.deassertions else compared.enabled.assertions) (offset_of event)
 
-abbrev pub is_made : Compared → List Bool → ℕ → Event → Bool
+abbrev pub is_made : Comparator → List Bool → ℕ → Event → Bool
 is_made compared beyond reading event = happens compared beyond reading event && counts compared event
 
 -- the possible events of a threshold, the assertions first
@@ -86,5 +86,5 @@ events_below zero = []
 events_below (suc place) = events_below place ++ events_at place
 
 -- the events that the reading makes, among the possible events
-abbrev pub events_of : Compared → List Bool → ℕ → List Event
+abbrev pub events_of : Comparator → List Bool → ℕ → List Event
 events_of compared beyond reading = filter (is_made compared beyond reading) (events_below 6)

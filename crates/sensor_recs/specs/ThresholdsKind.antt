@@ -1,6 +1,6 @@
 -- The kind Thresholds, and its place among all kinds.
 use Rattle.std.specs.Prelude.{ℕ}
-use Rattle.record_base.specs.declared.sensor_thresholds.SetThresholds.{SetThresholds}
+use Rattle.record_base.specs.declared.thresholds.SetThresholds.{SetThresholds}
 use Rattle.record_base.specs.Kind.{Kind}
 use Rattle.record_base.specs.Member.{Member}
 use Rattle.record_base.specs.Reader.{Reader}

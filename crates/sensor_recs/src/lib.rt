@@ -2,19 +2,19 @@
 //! sensor data records.
 #![tactic(auto)]
 
-pub mod compared;
+pub mod comparator;
 pub mod event_enable;
 pub mod hysteresis;
+pub mod reading_events;
 pub mod readings;
 pub mod request;
 pub mod sdr;
-pub mod taken;
 pub mod thresholds;
 
-pub use compared::{Compared, Event, Taken};
+pub use comparator::{Comparator, Event, LastReading};
 pub use event_enable::EventEnableLimits;
 pub use hysteresis::HysteresisLimits;
-pub use readings::Events;
+pub use reading_events::Events;
+pub use readings::Readings;
 pub use sdr::{Sdr, SdrEntry};
-pub use taken::Readings;
 pub use thresholds::ThresholdLimits;

@@ -1,183 +1,171 @@
-//! Readings of a sensor, and the events that they make.
-ghost use Rattle.std.specs.Prelude.{◌≡◌, ◌+◌, ◌*◌, ◌<◌, ◌≤◌, ◌++◌, [], ◌∷◌, if◌then◌else◌};
-ghost use Rattle.std.specs.List.{filter};
-ghost use Rattle.arrayvec.specs.ArrayVec.{array_vec_len};
-ghost use Rattle.sensor_recs.specs.Readings.{is_upper, is_beyond, reaches, comes_back, crosses, goes_high, offset_of, beyond_after, counts, is_made, events_at, events_of};
+//! The last readings of sensors.
+ghost use Rattle.std.specs.Prelude.{◌≡◌, ◌<◌, IfOk, All};
+ghost use Rattle.sensor_recs.specs.Taken.{none_taken, last_of, with_reading, last_beyond, taken_after, compared_of, mask_of, reading_data, log_record};
+ghost use Rattle.sensor_recs.specs.Readings.{events_of};
 
-use crate::compared::{Compared, Event};
-use arrayvec::ArrayVec;
-use record_base::Hysteresis;
+use crate::comparator::{Comparator, Event, LastReading};
+use crate::reading_events::Events;
+use record_base::event_enable::{MESSAGES_PLACE, SCANNING_PLACE, flags_byte};
+use record_base::mask::has;
+use record_base::{EventMasks, Hysteresis, ThresholdMasks, byte_at, bytes_at};
+use sel_log::LogRecord;
+use std::alloc::{AllocError, Global};
+use std::marker::Model;
+use two_wire::places::CONTROLLER_WIRE;
 
-/// The events of a reading, in order: threshold by threshold, the assertion first.
-pub type Events = ArrayVec<Event, 12>;
+/// The bit of a Get Sensor Reading reply that says that there is no reading yet.
+const UNAVAILABLE: u8 = 0x20;
 
-/// Whether the place is one of an upper threshold.
-fn is_upper(place: usize) -> bool
-    ensures { result ≡ is_upper place }
-{
-    place >= 3
+/// The type of the log's records of events.
+const SYSTEM_EVENT: u8 = 0x02;
+
+/// The format of events of IPMI 2.0.
+const EVENT_FORMAT: u8 = 0x04;
+
+/// The last reading of each sensor, if the sensor has one. Contracts see a list with a place for each number of a sensor. It takes
+/// all its memory when it is made.
+pub struct Readings {
+    items: Vec<Option<LastReading>>,
 }
 
-/// Whether a crossing of the threshold at the place goes high, where the reading before was beyond it or not.
-fn goes_high(place: usize, was: bool) -> bool
-    ensures { result ≡ goes_high place was }
-{
-    if was {
-        !is_upper(place)
-    } else {
-        is_upper(place)
+// Written out: the crates above would prove a derived one anew.
+impl Drop for Readings {
+    fn drop(self) {
+        let Readings { items } = self;
+        drop(items);
     }
 }
 
-/// Whether the reading is at the threshold or beyond it.
-fn reaches(place: usize, threshold: u8, reading: u8) -> bool
-    ensures { result ≡ reaches place threshold reading }
-{
-    if is_upper(place) {
-        threshold <= reading
-    } else {
-        reading <= threshold
-    }
+impl Model for Readings {
+    ghost use Rattle.std.specs.Prelude.{◌≡◌, length};
+    ghost use Rattle.sensor_recs.specs.Taken.{LastReadings};
+
+    ghost Value = { LastReadings };
+
+    ghost view = { λ s. s.items.items };
+
+    ghost invariant = { λ s. length s.items.items ≡ 256 };
 }
 
-/// Whether the reading has come back from the threshold by more than the hysteresis.
-fn comes_back(place: usize, hysteresis: &Hysteresis, threshold: u8, reading: u8) -> bool
-    ensures { result ≡ comes_back place hysteresis.now threshold reading }
-{
-    let threshold = u16::from(threshold);
-    let reading = u16::from(reading);
-    if is_upper(place) {
-        reading + u16::from(hysteresis.positive) < threshold
-    } else {
-        threshold + u16::from(hysteresis.negative) < reading
-    }
-}
-
-impl Event {
-    /// The offset of the event, as IPMI numbers the events of thresholds: two for each, going low and going high.
-    pub fn offset(&self) -> u8
-        requires { self.now.place < 6 }
-        ensures { result ≡ offset_of self.now }
+impl Readings {
+    /// No sensor has a reading.
+    pub fn new(alloc: Global) -> Result<Self, AllocError>
+        ensures { IfOk result (λ s. s ≡ none_taken) }
     {
-        2 * self.place + u8::from(self.high)
+        Ok(Readings {
+            items: vec![in alloc; None; 256]?,
+        })
+    }
+
+    /// The last reading of the sensor of this number.
+    pub fn last(&self, sensor: u8) -> Option<LastReading>
+        ensures { result ≡ last_of self.now sensor }
+    {
+        self.items[sensor as usize]
+    }
+
+    /// Makes this reading the last one of the sensor of this number.
+    pub fn put(&mut self, sensor: u8, taken: LastReading)
+        ensures { self.new ≡ with_reading self.old sensor taken }
+    {
+        self.items[sensor as usize] = Some(taken);
     }
 }
 
-impl Compared {
-    /// Whether the reading crosses the threshold at the place, where the one before was beyond it or not.
-    fn crosses(&self, place: usize, was: bool, reading: u8) -> bool
-        requires { place < 6 }
-        ensures { result ≡ crosses self.now place was reading }
+/// For each threshold, whether the last reading was beyond the threshold.
+fn last_beyond(last: &Option<LastReading>) -> [bool; 6]
+    ensures { result ≡ last_beyond last.now }
+{
+    match last {
+        Some(taken) => taken.beyond,
+        None => [false; 6],
+    }
+}
+
+/// The mask of the places that have `true`.
+fn mask_of(beyond: &[bool; 6]) -> u8
+    ensures value { result ≡ mask_of beyond.now }
+    ensures small { result < 64 }
+{
+    let [a, b, c, d, e, f] = *beyond;
+    let upper = u8::from(d) + 2 * (u8::from(e) + 2 * u8::from(f));
+    u8::from(a) + 2 * (u8::from(b) + 2 * (u8::from(c) + 2 * upper))
+}
+
+/// The data of the Get Sensor Reading reply, from the sensor's enabled events and its last reading.
+pub fn reading_data(events: &[u8], last: &Option<LastReading>) -> [u8; 3]
+    ensures { result ≡ reading_data events.now last.now }
+{
+    let flags = byte_at(events, 0);
+    let flags = flags_byte(has(flags, MESSAGES_PLACE), has(flags, SCANNING_PLACE));
+    match last {
+        Some(taken) => [taken.raw, flags, 0xC0 + mask_of(&taken.beyond)],
+        None => [0, flags + UNAVAILABLE, 0xC0],
+    }
+}
+
+impl Comparator {
+    /// The comparison for the readings of a sensor, from its masks and from the values of its records.
+    pub fn of(
+        masks: ThresholdMasks,
+        thresholds: &[u8],
+        hysteresis: &[u8],
+        events: &[u8],
+    ) -> Comparator
+        ensures { result ≡ compared_of masks thresholds.now hysteresis.now events.now }
     {
-        if !self.masks.is_there(place) {
-            return false;
+        Comparator {
+            masks,
+            thresholds: bytes_at(thresholds, 0),
+            hysteresis: Hysteresis {
+                positive: byte_at(hysteresis, 0),
+                negative: byte_at(hysteresis, 1),
+            },
+            messages: has(byte_at(events, 0), MESSAGES_PLACE),
+            enabled: EventMasks {
+                assertions: u16::from_le_bytes(bytes_at(events, 1)),
+                deassertions: u16::from_le_bytes(bytes_at(events, 3)),
+            },
         }
-        let threshold = self.thresholds[place];
-        if was {
-            comes_back(place, &self.hysteresis, threshold, reading)
-        } else {
-            reaches(place, threshold, reading)
-        }
     }
 
-    /// Whether the reading is beyond the threshold at the place.
-    fn is_beyond(&self, place: usize, was: bool, reading: u8) -> bool
-        requires { place < 6 }
-        ensures { result ≡ is_beyond self.now place was reading }
+    /// Takes a reading after the last reading: gives the new last reading, and the events that the reading makes.
+    pub fn take(&self, last: &Option<LastReading>, reading: u8) -> (LastReading, Events)
+        ensures taken { result.0 ≡ taken_after self.now last.now reading }
+        ensures events { result.1.items ≡ events_of self.now (last_beyond last.now) reading }
+        ensures places { All (λ event. event.place < 6) result.1.items }
     {
-        if self.crosses(place, was, reading) {
-            !was
-        } else {
-            was
-        }
+        let mut beyond = last_beyond(last);
+        let events = self.read_taken(&mut beyond, reading);
+        let taken = LastReading {
+            raw: reading,
+            beyond,
+        };
+        (taken, events)
     }
 
-    /// For each threshold, whether the reading is beyond the threshold.
-    fn beyond_after(&self, beyond: &[bool; 6], reading: u8) -> [bool; 6]
-        ensures { result ≡ beyond_after self.now beyond.now reading }
-    {
-        [
-            self.is_beyond(0, beyond[0], reading),
-            self.is_beyond(1, beyond[1], reading),
-            self.is_beyond(2, beyond[2], reading),
-            self.is_beyond(3, beyond[3], reading),
-            self.is_beyond(4, beyond[4], reading),
-            self.is_beyond(5, beyond[5], reading),
-        ]
-    }
-
-    /// Whether the event counts.
-    fn counts(&self, event: &Event) -> bool
+    /// The log's record of an event that a reading of the sensor makes.
+    pub fn log_record(&self, sensor_type: u8, sensor: u8, reading: u8, event: &Event) -> LogRecord
         requires { event.now.place < 6 }
-        ensures { result ≡ counts self.now event.now }
+        ensures { result ≡ log_record sensor_type sensor self.now reading event.now }
     {
-        let mask = if event.deasserted {
-            self.enabled.deassertions
-        } else {
-            self.enabled.assertions
-        };
-        self.messages && (mask >> event.offset()) & 1 == 1
-    }
-
-    /// Adds the event, where it counts.
-    fn add(&self, event: Event, events: &mut Events)
-        requires of_threshold { event.place < 6 }
-        requires room { array_vec_len events.old < 12 }
-        ensures items { events.new.items ≡
-            events.old.items ++ (if counts self.now event then event ∷ [] else []) }
-        ensures few { array_vec_len events.new ≤ array_vec_len events.old + 1 }
-    {
-        if self.counts(&event) {
-            events.push(event);
-        }
-    }
-
-    /// Adds the events that the reading makes at the threshold at the place.
-    fn add_at(&self, beyond: &[bool; 6], place: usize, reading: u8, events: &mut Events)
-        requires of_threshold { place < 6 }
-        requires room { array_vec_len events.old ≤ 10 }
-        ensures items { events.new.items ≡
-            events.old.items ++ filter (is_made self.now beyond.now reading) (events_at place) }
-        ensures few { array_vec_len events.new ≤ array_vec_len events.old + 2 }
-    {
-        let was = beyond[place];
-        if !self.crosses(place, was, reading) {
-            return;
-        }
-        let high = goes_high(place, was);
-        let asserted = Event {
-            place: place as u8,
-            high,
-            deasserted: false,
-        };
-        let deasserted = Event {
-            place: place as u8,
-            high: !high,
-            deasserted: true,
-        };
-        self.add(asserted, events);
-        self.add(deasserted, events);
-    }
-
-    /// The events that the reading makes.
-    fn events(&self, beyond: &[bool; 6], reading: u8) -> Events
-        ensures { result.items ≡ events_of self.now beyond.now reading }
-    {
-        let mut events = ArrayVec::new();
-        for place in 0..6 {
-            self.add_at(beyond, place, reading, &mut events);
-        }
-        events
-    }
-
-    /// Takes a reading, and gives the events that it makes. `beyond` says for each threshold whether the last reading was beyond the
-    /// threshold.
-    pub fn read_taken(&self, beyond: &mut [bool; 6], reading: u8) -> Events
-        ensures events { result.items ≡ events_of self.now beyond.old reading }
-        ensures beyond { beyond.new ≡ beyond_after self.now beyond.old reading }
-    {
-        let events = self.events(beyond, reading);
-        *beyond = self.beyond_after(beyond, reading);
-        events
+        LogRecord::from_slice(&[
+            0,
+            0,
+            SYSTEM_EVENT,
+            0,
+            0,
+            0,
+            0,
+            CONTROLLER_WIRE,
+            0x00,
+            EVENT_FORMAT,
+            sensor_type,
+            sensor,
+            if event.deasserted { 0x81 } else { 0x01 },
+            0x50 + event.offset(),
+            reading,
+            self.thresholds[event.place as usize],
+        ])
     }
 }

@@ -1,6 +1,6 @@
 //! Lines of the board alone.
-use crate::around::Around;
 use crate::bytes::{bytes_of, push_digits};
+use crate::fixture::Fixture;
 use crate::request::{asked_in, asked_over, key_of};
 use bmc_board::{Bench, Board, Records, is_changing};
 use cfg_records::{Answered, Asked, Store};
@@ -91,7 +91,7 @@ pub fn marked(alloc: Global, rest: &str, came: &mut String) -> Result<(), AllocE
 }
 
 /// `from 40`: who asks from now on.
-pub fn comes_from(around: &mut Around, rest: &str, came: &mut String) -> Result<(), AllocError> {
+pub fn comes_from(around: &mut Fixture, rest: &str, came: &mut String) -> Result<(), AllocError> {
     match text_lines::byte(rest) {
         Some(from) => {
             around.from = from;
@@ -147,7 +147,7 @@ pub fn happens(
     came.push_str(come_to(board, event))
 }
 
-/// So many tenths of a second go by.
+/// Lets so many tenths of a second go by.
 fn pass(board: &mut Board<Records>, tenths: u32) {
     for _ in 0..tenths {
         let _ = board.bench(Bench::Tick);

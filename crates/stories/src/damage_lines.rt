@@ -1,24 +1,24 @@
 //! Lines of frames that come damaged.
-use crate::around::Around;
+use crate::fixture::Fixture;
 use crate::port_lines::{hear, heard_in, port_of};
 use bmc_board::{Board, Records};
-use bmc_core::{Done, Out, Port};
+use bmc_core::{Disposition, Out, Port};
 use std::alloc::{AllocError, Global};
 
 /// How a frame is damaged.
 #[derive(Clone, Copy)]
 pub enum Damage {
-    /// It is cut off.
+    /// The frame is cut off.
     Cut,
     /// A byte is another one.
     Changed,
 }
 
 /// How often a port did each thing, in the order in which it first did it.
-type Counts = Vec<(Done, u32)>;
+type Counts = Vec<(Disposition, u32)>;
 
 /// The port did this once more.
-fn count(counts: &mut Counts, done: Done) -> Result<(), AllocError> {
+fn count(counts: &mut Counts, done: Disposition) -> Result<(), AllocError> {
     for (known, count) in counts.iter_mut() {
         if *known == done {
             *count = count.wrapping_add(1);
@@ -32,7 +32,7 @@ fn count(counts: &mut Counts, done: Done) -> Result<(), AllocError> {
 }
 
 /// Appends each number with its name.
-fn push_counts(came: &mut String, counts: &[(Done, u32)]) -> Result<(), AllocError> {
+fn push_counts(came: &mut String, counts: &[(Disposition, u32)]) -> Result<(), AllocError> {
     for (done, count) in counts {
         write!(came, "{count} {done:?} ")?;
     }
@@ -89,7 +89,7 @@ fn hear_damaged(
 pub fn damaged(
     alloc: Global,
     board: &mut Board<Records>,
-    around: &mut Around,
+    around: &mut Fixture,
     (damage, words): (Damage, &str),
     came: &mut String,
 ) -> Result<(), AllocError> {

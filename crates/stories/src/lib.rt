@@ -2,12 +2,12 @@
 //! language.
 #![tactic(auto)]
 
-mod around;
 mod board_lines;
 mod boards;
 mod bytes;
 mod change_lines;
 mod damage_lines;
+mod fixture;
 mod lan;
 mod line;
 mod port_lines;

@@ -2,8 +2,8 @@
 ghost use Rattle.std.specs.Prelude.{◌≡◌};
 ghost use Rattle.bmc_core.specs.Port.{bus_of, bus_asked};
 
-use crate::around::Around;
 use crate::bytes::{bytes_of, push_digits};
+use crate::fixture::Fixture;
 use bmc_board::{Board, Records};
 use bmc_core::{Out, Pending, Port, Step};
 use std::alloc::{AllocError, Global};
@@ -73,7 +73,7 @@ pub fn hear(board: &mut Board<Records>, port: &mut Port, bytes: &[u8], out: &mut
 }
 
 /// The port of the bus.
-pub fn port_of(around: &mut Around, bus: Bus) -> (&mut Port, &mut Out) {
+pub fn port_of(around: &mut Fixture, bus: Bus) -> (&mut Port, &mut Out) {
     match bus {
         Bus::Ipmb => (&mut around.ipmb, &mut around.out),
         Bus::Smbus => (&mut around.smbus, &mut around.out),
@@ -83,7 +83,7 @@ pub fn port_of(around: &mut Around, bus: Bus) -> (&mut Port, &mut Out) {
 /// The port of the bus hears the bytes. Gives whether they are a request that nobody answers.
 fn hear_as(
     board: &mut Board<Records>,
-    around: &mut Around,
+    around: &mut Fixture,
     heard: Heard,
     (bus, bytes): (Bus, &[u8]),
 ) -> bool {
@@ -106,7 +106,7 @@ fn hear_as(
 pub fn hears(
     alloc: Global,
     board: &mut Board<Records>,
-    around: &mut Around,
+    around: &mut Fixture,
     (heard, words): (Heard, &str),
     came: &mut String,
 ) -> Result<(), AllocError> {
@@ -122,14 +122,14 @@ pub fn hears(
 }
 
 /// Whether the port had a window for the requester, which it forgets.
-fn forget(around: &mut Around, bus: &str, requester: &str) -> Option<bool> {
+fn forget(around: &mut Fixture, bus: &str, requester: &str) -> Option<bool> {
     let requester = text_lines::byte(requester)?;
     let (port, _) = port_of(around, Bus::named(bus)?);
     Some(port.idle(requester))
 }
 
 /// `idle ipmb 40`: whether the port had a window for the requester.
-pub fn idle(around: &mut Around, rest: &str, came: &mut String) -> Result<(), AllocError> {
+pub fn idle(around: &mut Fixture, rest: &str, came: &mut String) -> Result<(), AllocError> {
     let (bus, requester) = rest.split_once(' ').unwrap_or((rest, ""));
     came.push_str(match forget(around, bus, requester) {
         Some(true) => "yes",

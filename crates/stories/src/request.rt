@@ -70,7 +70,7 @@ pub fn asked_in(alloc: Global, from: u8, words: &str) -> Result<Option<Asked>, A
     }
 }
 
-/// The same request of another requester.
+/// The request, sent by another requester.
 pub fn sent_by(requester: u8, asked: Asked) -> Asked {
     match asked {
         Asked::Ipmi {

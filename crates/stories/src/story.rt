@@ -1,10 +1,10 @@
 //! The scene of stories of a controller.
-use crate::around::{Around, open_around};
 use crate::board_lines::{Happening, comes_from, happens, kept, marked, replies, ticks};
 use crate::boards::{board_of, is_of_board};
 use crate::bytes::is_told;
 use crate::change_lines::{change, undo};
 use crate::damage_lines::{Damage, damaged};
+use crate::fixture::{Fixture, open_around};
 use crate::line::Word;
 use crate::port_lines::{Heard, hears, idle};
 use crate::window_lines::window;
@@ -18,7 +18,7 @@ use text_board::FileFault;
 #[derive(Drop)]
 struct Controller {
     board: Board<Records>,
-    around: Around,
+    around: Fixture,
 }
 
 /// A controller of a fresh board of the file.
@@ -48,7 +48,7 @@ fn no_scene(alloc: Global, fault: FileFault) -> NoScene {
 fn tell(
     alloc: Global,
     board: &mut Board<Records>,
-    around: &mut Around,
+    around: &mut Fixture,
     (word, line, rest): (Word, &str, &str),
     came: &mut String,
 ) -> Result<(), AllocError> {

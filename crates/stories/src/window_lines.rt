@@ -6,16 +6,16 @@ use two_wire::Below;
 
 /// The windows of a port on IPMB, and those of PLDM.
 #[derive(Drop)]
-pub struct BothWindows {
+pub struct WindowPair {
     ipmb: Windows<64, 32>,
     pldm: Windows<32, 256>,
 }
 
 /// Windows in which nothing is kept.
-pub fn open_windows(alloc: Global) -> Result<BothWindows, AllocError> {
+pub fn open_windows(alloc: Global) -> Result<WindowPair, AllocError> {
     let ipmb = Windows::new(alloc)?;
     match Windows::new(alloc) {
-        Ok(pldm) => Ok(BothWindows { ipmb, pldm }),
+        Ok(pldm) => Ok(WindowPair { ipmb, pldm }),
         Err(refused) => {
             drop(ipmb);
             Err(refused)
@@ -158,7 +158,7 @@ fn comes<const NUMBERS: u8, const CAP: usize>(
 /// the reply where it's new. With `finds` it's looked up alone; `idles 40` forgets the requester, and gives whether it had a window.
 pub fn window(
     alloc: Global,
-    both: &mut BothWindows,
+    both: &mut WindowPair,
     rest: &str,
     came: &mut String,
 ) -> Result<(), AllocError> {

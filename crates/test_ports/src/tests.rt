@@ -9,7 +9,7 @@ mod smbus;
 mod told_wrong;
 mod window;
 
-use bmc_core::{Done, Out};
+use bmc_core::{Disposition, Out};
 use std::alloc::Global;
 use std::fmt::Debug;
 use std::process::Abort;
@@ -27,7 +27,7 @@ pub(crate) fn expect_told(rt: &impl Abort, alloc: Global, stories: &str) {
 }
 
 /// The port did this, and sent this frame and no other.
-pub(crate) fn expect_out(rt: &impl Abort, out: &Out, done: Done, frame: &[u8]) {
+pub(crate) fn expect_out(rt: &impl Abort, out: &Out, done: Disposition, frame: &[u8]) {
     expect_equal(rt, out.done, done);
     match out.frames.as_slice() {
         [sent] => expect_equal(rt, sent.as_slice(), frame),

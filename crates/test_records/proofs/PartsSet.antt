@@ -13,7 +13,7 @@ use Rattle.record_base.specs.BiosAttribute.{setting}
 use Rattle.cfg_records.specs.declared.board_file.BoardFile.{BoardFile}
 use Rattle.cfg_records.specs.Records.{Records}
 use Rattle.bios_attr.specs.declared.bios_attribute.AttributeLimits.{AttributeLimits}
-use Rattle.attribute_parts.specs.Stagings.{Staged, start_outcome}
+use Rattle.attribute_parts.specs.Stagings.{StagedParts, start_outcome}
 use Rattle.record_kinds.specs.declared.limits.Limits.{Limits}
 use Rattle.record_kinds.specs.declared.limits.Limits.TheVariants as limits
 use Rattle.record_kinds.specs.Limits.{limits_at}
@@ -50,7 +50,7 @@ module _ (setup : BoardFile) (records : Records) (live : LivePart) (has : HasTex
       ∙ ap (λ (l : AttributeLimits). Some (limits.BiosAttribute l)) are_limits
 
   -- a first part, by the limits of its attribute
-  abbrev begins : List ℕ → Staged → Option AttributeLimits → SetGiven
+  abbrev begins : List ℕ → StagedParts → Option AttributeLimits → SetGiven
   begins bytes before given = staged_given 0x0B (settable records live before) (start_outcome given before 0x0B bytes)
 
   -- the Set of the whole entry, by what it makes

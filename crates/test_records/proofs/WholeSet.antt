@@ -10,14 +10,14 @@ use Rattle.watch_boot.specs.Watchdog.{watchdog_in}
 use Rattle.record_kinds.specs.declared.limits.Limits.TheVariants as limits
 use Rattle.board_records.specs.Replies.{unknown_code}
 use Rattle.board_records.specs.Sets.{outcome_among, set_outcome, set_given, records_set, live_set}
-use Rattle.test_records.specs.WholeSet.{HasSettings, counting, Leaves, SetsWhole}
+use Rattle.test_records.specs.WholeSet.{HasSettings, counting, SetLeaves, SetsWhole}
 
 module _ (setup : BoardFile) (records : Records) (live : LivePart) (has : HasSettings records) where
   -- what a Set makes of the settings
   abbrev made_of : Op → Result (List ℕ) ℕ
   made_of set = set_outcome (Some (limits.Watchdog (record {}))) (Some (0x04 ∷ 0x01 ∷ 0x0A ∷ 0xB8 ∷ 0x0B ∷ [])) (unknown_code setup key.Watchdog) set
 
-  leaves : (body : List ℕ) → let set = op.Watchdog (watchdog_in body) in Leaves setup records live body (set_given (made_of set) set) (records_set (made_of set) set records) (live_set (made_of set) set (counting live))
+  leaves : (body : List ℕ) → let set = op.Watchdog (watchdog_in body) in SetLeaves setup records live body (set_given (made_of set) set) (records_set (made_of set) set records) (live_set (made_of set) set (counting live))
   leaves body =
       let set = op.Watchdog (watchdog_in body) in
       let makes : outcome_among setup records set ≡ made_of set = ap (λ (v : Option (List ℕ)). set_outcome (Some (limits.Watchdog (record {}))) v (unknown_code setup key.Watchdog) set) has in

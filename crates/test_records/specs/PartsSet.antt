@@ -13,7 +13,7 @@ use Rattle.cfg_records.specs.Records.{Records, with_record}
 use Rattle.attribute_parts.specs.declared.set_part.SetPart.{SetPart}
 use Rattle.attribute_parts.specs.declared.set_part.SetPart.TheVariants.{Start, Middle, End}
 use Rattle.attribute_parts.specs.SetParts.{part_in}
-use Rattle.attribute_parts.specs.Stagings.{Staged}
+use Rattle.attribute_parts.specs.Stagings.{StagedParts}
 use Rattle.record_kinds.specs.Boards.{attribute_at}
 use Rattle.board_records.specs.Replies.{done, refused}
 use Rattle.board_records.specs.Keeps.{settable}
@@ -52,11 +52,11 @@ pub record HasText (setup : BoardFile) (records : Records) : Type 0 where
   pub no_ninth : attribute_at setup.attributes.items 9 ≡ None
 
 -- what requester 0Bh has staged
-abbrev pub staged : List ℕ → Staged
+abbrev pub staged : List ℕ → StagedParts
 staged bytes = record { from = 0x0B; entry = bytes } ∷ []
 
 -- eight other requesters have something staged
-abbrev pub eight_others : Staged
+abbrev pub eight_others : StagedParts
 eight_others = map (λ from. record { from = from; entry = take 192 entry }) (0x11 ∷ 0x12 ∷ 0x13 ∷ 0x14 ∷ 0x15 ∷ 0x16 ∷ 0x17 ∷ 0x18 ∷ [])
 
 -- ---- what comes of each part

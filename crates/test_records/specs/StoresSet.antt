@@ -39,7 +39,7 @@ given setup records (Two first second) = Some (answer_to_both setup records firs
 given setup records _ = None
 
 -- this came of the data, and left these bytes in both stores of channel 2
-pub record Gives (setup : BoardFile) (records : Records) (body : List ℕ) (answer : Answered) (first second : List ℕ) : Type 0 where
+pub record SetGives (setup : BoardFile) (records : Records) (body : List ℕ) (answer : Answered) (first second : List ℕ) : Type 0 where
   pub after : Records
   pub came : given setup records (channel_request_in body) ≡ Some (answer, after)
   pub in_first : after (non_volatile 2) ≡ Some first
@@ -47,7 +47,7 @@ pub record Gives (setup : BoardFile) (records : Records) (body : List ℕ) (answ
 
 -- access 1 and limit 2 are set; limit 6, and mode 4, is none
 pub record ChangesTogether (setup : BoardFile) (records : Records) : Type 0 where
-  pub both : Gives setup records (0x02 ∷ 0x41 ∷ 0x82 ∷ []) (done []) (0x01 ∷ 0x03 ∷ []) (0x09 ∷ 0x02 ∷ [])
-  pub second_refused : Gives setup records (0x02 ∷ 0x41 ∷ 0x86 ∷ []) (refused 0xCC) (0x3A ∷ 0x03 ∷ []) (0x09 ∷ 0x05 ∷ [])
-  pub first_refused : Gives setup records (0x02 ∷ 0x44 ∷ 0x82 ∷ []) (refused 0xCC) (0x3A ∷ 0x03 ∷ []) (0x09 ∷ 0x05 ∷ [])
-  pub no_sessions : Gives setup records (0x0F ∷ 0x41 ∷ 0x82 ∷ []) (refused 0x82) (0x3A ∷ 0x03 ∷ []) (0x09 ∷ 0x05 ∷ [])
+  pub both : SetGives setup records (0x02 ∷ 0x41 ∷ 0x82 ∷ []) (done []) (0x01 ∷ 0x03 ∷ []) (0x09 ∷ 0x02 ∷ [])
+  pub second_refused : SetGives setup records (0x02 ∷ 0x41 ∷ 0x86 ∷ []) (refused 0xCC) (0x3A ∷ 0x03 ∷ []) (0x09 ∷ 0x05 ∷ [])
+  pub first_refused : SetGives setup records (0x02 ∷ 0x44 ∷ 0x82 ∷ []) (refused 0xCC) (0x3A ∷ 0x03 ∷ []) (0x09 ∷ 0x05 ∷ [])
+  pub no_sessions : SetGives setup records (0x0F ∷ 0x41 ∷ 0x82 ∷ []) (refused 0x82) (0x3A ∷ 0x03 ∷ []) (0x09 ∷ 0x05 ∷ [])

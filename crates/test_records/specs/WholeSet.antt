@@ -19,7 +19,7 @@ abbrev pub counting : LivePart → LivePart
 counting live = record live { countdown = 12345; expired = 0x18; running = true }
 
 -- the Set with these data is answered so, and leaves these records and this live part
-pub record Leaves (setup : BoardFile) (records : Records) (live : LivePart) (body : List ℕ) (answer : Answered) (after : Records) (left : LivePart) : Type 0 where
+pub record SetLeaves (setup : BoardFile) (records : Records) (live : LivePart) (body : List ℕ) (answer : Answered) (after : Records) (left : LivePart) : Type 0 where
   pub answered : answer_to setup records (op.Watchdog (watchdog_in body)) ≡ answer
   pub kept : records_after setup records (op.Watchdog (watchdog_in body)) ≡ after
   pub goes_on : live_after setup records (op.Watchdog (watchdog_in body)) (counting live) ≡ left
@@ -27,10 +27,10 @@ pub record Leaves (setup : BoardFile) (records : Records) (live : LivePart) (bod
 -- 6,000 tenths of a second for the operating system, a reset and an interrupt 5 seconds before; the flag of use 4 is cleared
 pub record SetsWhole (setup : BoardFile) (records : Records) (live : LivePart) : Type 0 where
   -- without a log, and the timer isn't stopped
-  pub runs_on : Leaves setup records live (0xC4 ∷ 0x11 ∷ 0x05 ∷ 0x10 ∷ 0x70 ∷ 0x17 ∷ []) (done []) (with_record records key.Watchdog (0x84 ∷ 0x11 ∷ 0x05 ∷ 0x70 ∷ 0x17 ∷ []))
+  pub runs_on : SetLeaves setup records live (0xC4 ∷ 0x11 ∷ 0x05 ∷ 0x10 ∷ 0x70 ∷ 0x17 ∷ []) (done []) (with_record records key.Watchdog (0x84 ∷ 0x11 ∷ 0x05 ∷ 0x70 ∷ 0x17 ∷ []))
       (record live { countdown = 6000; expired = 0x08; running = true })
   -- with a log, and the timer is stopped
-  pub stops : Leaves setup records live (0x04 ∷ 0x11 ∷ 0x05 ∷ 0x10 ∷ 0x70 ∷ 0x17 ∷ []) (done []) (with_record records key.Watchdog (0x04 ∷ 0x11 ∷ 0x05 ∷ 0x70 ∷ 0x17 ∷ []))
+  pub stops : SetLeaves setup records live (0x04 ∷ 0x11 ∷ 0x05 ∷ 0x10 ∷ 0x70 ∷ 0x17 ∷ []) (done []) (with_record records key.Watchdog (0x04 ∷ 0x11 ∷ 0x05 ∷ 0x70 ∷ 0x17 ∷ []))
       (record live { countdown = 6000; expired = 0x08; running = false })
   -- use 0 is none
-  pub no_use : Leaves setup records live (0xC0 ∷ 0x11 ∷ 0x05 ∷ 0x10 ∷ 0x70 ∷ 0x17 ∷ []) (refused 0xCC) records (counting live)
+  pub no_use : SetLeaves setup records live (0xC0 ∷ 0x11 ∷ 0x05 ∷ 0x10 ∷ 0x70 ∷ 0x17 ∷ []) (refused 0xCC) records (counting live)

@@ -38,8 +38,8 @@ use Rattle.cfg_records.specs.BoardChannels.{channel_numbers, on_numbers, each_us
 use Rattle.record_base.specs.declared.device.Device.{Device}
 use Rattle.record_base.specs.declared.device.Bcd.{Bcd}
 use Rattle.record_base.specs.declared.device.ManufacturerId.{ManufacturerId}
-use Rattle.record_base.specs.declared.thresholds.ThresholdMasks.{ThresholdMasks}
-use Rattle.record_base.specs.declared.sensor_thresholds.Thresholds.{Thresholds}
+use Rattle.record_base.specs.declared.threshold_masks.ThresholdMasks.{ThresholdMasks}
+use Rattle.record_base.specs.declared.thresholds.Thresholds.{Thresholds}
 use Rattle.record_base.specs.declared.event_enable.EventEnable.{EventEnable}
 use Rattle.record_base.specs.declared.sensor.Sensor.{Sensor}
 use Rattle.record_base.specs.declared.state_effecter.StateField.{StateField}
@@ -72,7 +72,7 @@ use Rattle.text_fields.specs.Users.{name_of}
 use Rattle.text_fields.specs.Attributes.{text_of, text_in, string_in}
 use Rattle.text_fields.specs.Ranges.{record_in, has_text}
 use Rattle.text_board.specs.AttributeItems.{IsTextIn, HoldsEnumeration, HoldsString, HoldsInteger, HoldsKind, HoldsAttribute, IsAttributeIn}
-use Rattle.text_board.specs.Holds.{HoldsDevice, HoldsEvents, HoldsSensor, operational, IsFieldIn, IsPresentIn, HoldsState, HasSized, HoldsRange, HoldsNumeric, IsNameIn, HoldsChannel, IsNumberIn, with_sessions, without_sessions, parts_of, HoldsBoot, HoldsBoard, Answers, Reads}
+use Rattle.text_board.specs.Holds.{HoldsDevice, HoldsEvents, HoldsSensor, operational, IsFieldIn, IsPresentIn, HoldsState, HasSized, HoldsRange, HoldsNumeric, IsNameIn, HoldsChannel, IsNumberIn, with_sessions, without_sessions, parts_of, HoldsBoot, HoldsBoard, MembersAnswer, ReadsText}
 use Rattle.text_fields.specs.Ranges.{settings}
 use Rattle.text_board.specs.Faults.{board_faults}
 use Rattle.text_fields.specs.Faults.{first}
@@ -501,16 +501,16 @@ one_held tree a b p q =
       each = is_prop→PathP (λ j. map on_numbers (access_items j) ≡ each_user_on (channel_items j) (user_items j)) (λ j. hlevel props) a.each b.each i;
     }
 
-answered : (tree : Members) (a b : Result BoardFile FileFault) → Answers tree a → Answers tree b → a ≡ b
+answered : (tree : Members) (a b : Result BoardFile FileFault) → MembersAnswer tree a → MembersAnswer tree b → a ≡ b
 answered tree (Ok a) (Ok b) p q = ap Ok (one_held tree a b p.1 q.1)
 answered tree (Ok a) (Err b) p q = let none : None ≡ Some b = sym (ap first p.0) ∙ q in cc none
 answered tree (Err a) (Ok b) p q = let none : None ≡ Some a = sym (ap first q.0) ∙ p in cc none
 answered tree (Err a) (Err b) p q = ap Err (one_found (first (board_faults tree)) a b p q)
 
-read : (found : Option Members) (a b : Result BoardFile FileFault) → MatchOption found (a ≡ Err file.Text) (λ tree. Answers tree a) → MatchOption found (b ≡ Err file.Text) (λ tree. Answers tree b) → a ≡ b
+read : (found : Option Members) (a b : Result BoardFile FileFault) → MatchOption found (a ≡ Err file.Text) (λ tree. MembersAnswer tree a) → MatchOption found (b ≡ Err file.Text) (λ tree. MembersAnswer tree b) → a ≡ b
 read None a b p q = p ∙ sym q
 read (Some tree) a b p q = answered tree a b p q
 
 -- a text is read in one way
-pub one_reading : (text : List ℕ) (a b : Result BoardFile FileFault) → Reads text a → Reads text b → a ≡ b
+pub one_reading : (text : List ℕ) (a b : Result BoardFile FileFault) → ReadsText text a → ReadsText text b → a ≡ b
 one_reading text a b p q = read (parse_document text) a b p q

@@ -6,9 +6,9 @@ use Rattle.toml.specs.Data.{Members}
 use Rattle.record_base.specs.Lan.{address_bytes, vlan_bytes}
 use Rattle.record_base.specs.Vlan.{vlan_high}
 use Rattle.record_base.specs.NumberLaws.{same_field}
-use Rattle.record_base.specs.declared.lan.Ipv4Address.{Ipv4Address}
-use Rattle.record_base.specs.declared.lan.VlanBytes.{VlanBytes}
-use Rattle.record_base.specs.declared.lan_item.Lan.{Lan}
+use Rattle.record_base.specs.declared.lan_parameter.Ipv4Address.{Ipv4Address}
+use Rattle.record_base.specs.declared.lan_parameter.VlanBytes.{VlanBytes}
+use Rattle.record_base.specs.declared.lan.Lan.{Lan}
 use Rattle.text_fields.specs.declared.field.Field.{Field}
 use Rattle.text_fields.specs.declared.field.Field.TheVariants as field
 use Rattle.text_fields.specs.declared.lan_field.LanField.TheVariants as lan

@@ -215,10 +215,10 @@ pub record HoldsBoard (tree : Members) (board : BoardFile) : Type 0 where
   pub lans : AllZip IsLanIn (lans_in tree) board.lans.items
 
 -- what the reading of a tree answers: the board that it holds where it has no fault, else its first fault
-abbrev pub Answers : Members → Result BoardFile FileFault → Type 0
-Answers tree (Ok board) = (board_faults tree ≡ []) × HoldsBoard tree board
-Answers tree (Err why) = first (board_faults tree) ≡ Some why
+abbrev pub MembersAnswer : Members → Result BoardFile FileFault → Type 0
+MembersAnswer tree (Ok board) = (board_faults tree ≡ []) × HoldsBoard tree board
+MembersAnswer tree (Err why) = first (board_faults tree) ≡ Some why
 
 -- what the reading of a text answers where memory suffices: Text where it's no TOML 1.1
-abbrev pub Reads : List ℕ → Result BoardFile FileFault → Type 0
-Reads text answer = MatchOption (parse_document text) (answer ≡ Err file.Text) (λ tree. Answers tree answer)
+abbrev pub ReadsText : List ℕ → Result BoardFile FileFault → Type 0
+ReadsText text answer = MatchOption (parse_document text) (answer ≡ Err file.Text) (λ tree. MembersAnswer tree answer)

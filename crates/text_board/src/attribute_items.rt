@@ -76,7 +76,7 @@ fn lengths(item: &Checked<'_>) -> TextLengths
     TextLengths::new(least, item.natural(Field::Most) as u16).unwrap()
 }
 
-/// These bytes, in memory of their own.
+/// A copy of the bytes, in memory of its own.
 fn own(alloc: Global, bytes: &[u8]) -> Result<Vec<u8>, FileFault>
     ensures held { IfOk result (λ own. own.items ≡ bytes.now) }
     ensures err { IfErr result (λ why. why ≡ FileFault.Memory) }

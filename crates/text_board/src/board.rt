@@ -6,7 +6,7 @@ ghost use Rattle.text_fields.specs.Trees.{members_in, HasNumber, HasNumbers};
 ghost use Rattle.text_fields.specs.Ranges.{record_in, settings};
 ghost use Rattle.text_fields.specs.Faults.{field_faults};
 ghost use Rattle.text_board.specs.Faults.{record_faults, own_part_faults, IsFirstFault};
-ghost use Rattle.text_board.specs.Holds.{HoldsBoot, HoldsDevice, HoldsOwn, IsRecordIn, Answers, Reads};
+ghost use Rattle.text_board.specs.Holds.{HoldsBoot, HoldsDevice, HoldsOwn, IsRecordIn, MembersAnswer, ReadsText};
 
 use crate::check::checked;
 use crate::fault::{FileFault, Item, Place};
@@ -162,7 +162,7 @@ fn own_parts(alloc: Global, top: &Checked<'_>) -> Result<OwnParts, FileFault>
 fn board_in(alloc: Global, top: &Checked<'_>) -> Result<BoardFile, FileFault>
     requires rows { top.now.rows.now ≡ TOP }
     requires sound { field_faults TOP (table_view top.now.table.now) ≡ [] }
-    ensures { (result ≡ Err FileFault.Memory) ⊎ Answers (table_view top.now.table.now) result }
+    ensures { (result ≡ Err FileFault.Memory) ⊎ MembersAnswer (table_view top.now.table.now) result }
 {
     let own = own_parts(alloc, top)?;
     let ipmi = ipmi_items(alloc, top)?;
@@ -191,7 +191,7 @@ fn board_in(alloc: Global, top: &Checked<'_>) -> Result<BoardFile, FileFault>
 
 /// The board that the tree holds, or its first fault.
 fn board_of(alloc: Global, tree: &Table) -> Result<BoardFile, FileFault>
-    ensures { (result ≡ Err FileFault.Memory) ⊎ Answers (table_view tree.now) result }
+    ensures { (result ≡ Err FileFault.Memory) ⊎ MembersAnswer (table_view tree.now) result }
 {
     let top = checked(Item::Top, &TOP, tree)?;
     board_in(alloc, &top)
@@ -200,7 +200,7 @@ fn board_of(alloc: Global, tree: &Table) -> Result<BoardFile, FileFault>
 /// The board that the text holds, or why it is no board file: its first fault, in the order in which `TOP`, `DEVICE`, `SENSOR`,
 /// `SESSIONS`, `LAN`, `ENUMERATION`, `STRING`, `INTEGER`, `STATE` and `NUMERIC` list fields. Keys that name no field are ignored.
 pub fn read_board(alloc: Global, text: &str) -> Result<BoardFile, FileFault>
-    ensures { (result ≡ Err FileFault.Memory) ⊎ Reads text.now result }
+    ensures { (result ≡ Err FileFault.Memory) ⊎ ReadsText text.now result }
 {
     match toml::table_from_str(alloc, text) {
         Ok(tree) => board_of(alloc, &tree),

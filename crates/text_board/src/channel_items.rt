@@ -39,7 +39,7 @@ pub fn has_sessions(table: &Table) -> bool
     }
 }
 
-/// That the fields of a channel in a file of so many users have no fault, or else the first.
+/// The first fault of the fields of a channel in a file of so many users, if there is one.
 fn check_channel(item: Item, users: usize, table: &Table) -> Result<(), FileFault>
     ensures ok { OnOk result
         (field_faults (channel_rows users (table_view table.now)) (table_view table.now) ≡ []) }
@@ -116,7 +116,7 @@ fn table_at(value: &Value) -> &Table
     value.as_table().unwrap()
 }
 
-/// Those of the channels that have sessions.
+/// The channels that have sessions.
 fn channels_of(alloc: Global, users: usize, values: &[Value]) -> Result<Vec<Channel>, FileFault>
     requires tables { list_all (λ value. is_table (view value)) values.now ≡ true }
     requires sound { channel_faults users (map view values.now) ≡ [] }

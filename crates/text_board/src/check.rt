@@ -33,7 +33,7 @@ pub fn checked<'a>(item: Item, rows: &'a [Row], table: &'a Table) -> Result<Chec
     }
 }
 
-/// That the fields of an item of a board file have no fault, or else the first.
+/// The first fault of the fields of an item of a board file, if there is one.
 pub fn check(item: Item, rows: &[Row], table: &Table) -> Result<(), FileFault>
     ensures ok { OnOk result (field_faults rows.now (table_view table.now) ≡ []) }
     ensures err { IfErr result (λ why.

@@ -13,7 +13,7 @@ use crate::sensors::sensors;
 use crate::state_items::state_effecters;
 use crate::tables::TOP;
 use cfg_records::Sensors;
-use record_base::lan_item::Lans;
+use record_base::lan::Lans;
 use record_base::{Attributes, NumericEffecters, StateEffecters};
 use std::alloc::Global;
 use text_fields::Checked;

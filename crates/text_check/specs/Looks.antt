@@ -3,8 +3,8 @@ use Rattle.std.specs.Prelude.{ℕ, Bool, not, ◌==◌, ◌&&◌, ◌||◌, List
 use Rattle.std.specs.List.{list_all, list_any, find, starts_with}
 use Rattle.std.specs.Str.{trim}
 use Rattle.text_schedule.specs.Text.{lines_of}
-use Rattle.text_check.specs.declared.looks.Looks.{Looks}
-use Rattle.text_check.specs.declared.looks.Looks.TheVariants.{Undo, Board, Plan, Schedule, Empty}
+use Rattle.text_check.specs.declared.text_form.TextForm.{TextForm}
+use Rattle.text_check.specs.declared.text_form.TextForm.TheVariants.{Undo, Board, Plan, Schedule, Empty}
 
 -- the text begins with the words
 abbrev pub begins : (words text : List ℕ) → Bool
@@ -39,7 +39,7 @@ abbrev pub begins_board : List ℕ → Bool
 begins_board line = begins (codes "tid") (trim line) || begins (codes "[device]") (trim line)
 
 -- what lines look like, whose first that says something is this one
-abbrev pub looks_from : List (List ℕ) → Option (List ℕ) → Looks
+abbrev pub looks_from : List (List ℕ) → Option (List ℕ) → TextForm
 looks_from lines None = Empty
 looks_from lines (Some line) =
     if is_undo (trim line) then Undo
@@ -51,9 +51,9 @@ abbrev pub first_spoken : List (List ℕ) → Option (List ℕ)
 first_spoken lines = find (λ line. not (is_silent line)) lines
 
 -- what lines look like
-abbrev pub looks_by : List (List ℕ) → Looks
+abbrev pub looks_by : List (List ℕ) → TextForm
 looks_by lines = looks_from lines (first_spoken lines)
 
 -- what a text looks like
-abbrev pub looks_of : List ℕ → Looks
+abbrev pub looks_of : List ℕ → TextForm
 looks_of text = looks_by (lines_of text)

@@ -11,12 +11,12 @@ use Rattle.text_schedule.specs.declared.event.Event.{Event}
 use Rattle.text_schedule.specs.declared.schedule.ScheduleFault.TheVariants.{Line}
 use Rattle.text_board.specs.declared.fault.FileFault.{FileFault}
 use Rattle.plan_file.specs.declared.plan_fault.PlanFault.{PlanFault}
-use Rattle.text_board.specs.Holds.{Reads}
+use Rattle.text_board.specs.Holds.{ReadsText}
 use Rattle.plan_file.specs.PlanHolds.{ReadsPlan}
-use Rattle.text_schedule.specs.Schedule.{IsRead}
-use Rattle.text_undo.specs.UndoText.{Stands, IsFirstBad}
-use Rattle.text_check.specs.declared.looks.Looks.{Looks}
-use Rattle.text_check.specs.declared.looks.Looks.TheVariants as looks
+use Rattle.text_schedule.specs.Schedule.{TextIsRead}
+use Rattle.text_undo.specs.UndoText.{IsTextOf, IsFirstBad}
+use Rattle.text_check.specs.declared.text_form.TextForm.{TextForm}
+use Rattle.text_check.specs.declared.text_form.TextForm.TheVariants as looks
 use Rattle.text_check.specs.declared.outcome.Outcome.{Outcome}
 use Rattle.text_check.specs.declared.outcome.Outcome.TheVariants.{Fine, Told, Refused}
 use Rattle.text_check.specs.Looks.{looks_of}
@@ -27,34 +27,34 @@ abbrev pub tells : (Members → Bool) → List ℕ → Bool
 tells is_told text = option_map_or is_told (parse_document text) false
 
 -- what comes of a text: it has a fault and is refused; or it is read, and something is told of it or nothing
-abbrev pub Comes : (Faulty Read : Type 0) → (is_told : Bool) → Outcome → Type 0
-Comes Faulty Read is_told Refused = Faulty
-Comes Faulty Read is_told Told = Read × (is_told ≡ true)
-Comes Faulty Read is_told Fine = Read × (is_told ≡ false)
+abbrev pub OutcomeOf : (Faulty Read : Type 0) → (is_told : Bool) → Outcome → Type 0
+OutcomeOf Faulty Read is_told Refused = Faulty
+OutcomeOf Faulty Read is_told Told = Read × (is_told ≡ true)
+OutcomeOf Faulty Read is_told Fine = Read × (is_told ≡ false)
 
 -- what comes of a board file
 abbrev pub IsBoardOutcome : List ℕ → Outcome → Type 0
-IsBoardOutcome text = Comes ((why : FileFault) × Reads text (Err why)) ((file : BoardFile) × Reads text (Ok file)) (tells is_told_board text)
+IsBoardOutcome text = OutcomeOf ((why : FileFault) × ReadsText text (Err why)) ((file : BoardFile) × ReadsText text (Ok file)) (tells is_told_board text)
 
 -- what comes of a plan
 abbrev pub IsPlanOutcome : List ℕ → Outcome → Type 0
-IsPlanOutcome text = Comes ((why : PlanFault) × ReadsPlan text (Err why)) ((plan : Plan) × ReadsPlan text (Ok plan)) (tells is_told_plan text)
+IsPlanOutcome text = OutcomeOf ((why : PlanFault) × ReadsPlan text (Err why)) ((plan : Plan) × ReadsPlan text (Ok plan)) (tells is_told_plan text)
 
 -- what comes of a schedule
 abbrev pub IsScheduleOutcome : List ℕ → Outcome → Type 0
-IsScheduleOutcome text = Comes ((line : ℕ) × IsRead text (Err (Line line))) ((events : List Event) × IsRead text (Ok events)) false
+IsScheduleOutcome text = OutcomeOf ((line : ℕ) × TextIsRead text (Err (Line line))) ((events : List Event) × TextIsRead text (Ok events)) false
 
 -- what comes of an undo text
 abbrev pub IsUndoOutcome : List ℕ → Outcome → Type 0
-IsUndoOutcome text = Comes ((line : ℕ) × IsFirstBad text line) ((list : UndoList) × Stands text list) false
+IsUndoOutcome text = OutcomeOf ((line : ℕ) × IsFirstBad text line) ((list : UndoList) × IsTextOf text list) false
 
 -- what comes of a text that looks like this; an empty one has no fault
-abbrev pub IsOutcomeBy : Looks → List ℕ → Outcome → Type 0
+abbrev pub IsOutcomeBy : TextForm → List ℕ → Outcome → Type 0
 IsOutcomeBy looks.Undo text = IsUndoOutcome text
 IsOutcomeBy looks.Board text = IsBoardOutcome text
 IsOutcomeBy looks.Plan text = IsPlanOutcome text
 IsOutcomeBy looks.Schedule text = IsScheduleOutcome text
-IsOutcomeBy looks.Empty text = Comes ⊥ (Unit {0}) false
+IsOutcomeBy looks.Empty text = OutcomeOf ⊥ (Unit {0}) false
 
 -- what comes of a text, by what it looks like
 abbrev pub IsOutcome : List ℕ → Outcome → Type 0

@@ -4,14 +4,14 @@
 mod faults;
 mod group;
 mod keys;
-mod looks;
 mod near;
 mod notes;
 mod outcome;
+mod text_form;
 mod texts;
 
 pub use group::{Group, known_rows};
-pub use looks::{Looks, looks_like};
 pub use near::{nearest, within};
 pub use outcome::{Outcome, worst};
+pub use text_form::{TextForm, looks_like};
 pub use texts::checked;

@@ -19,7 +19,7 @@ struct Spot<'a> {
     /// The file's name.
     name: &'a str,
     group: Group,
-    /// Its place among those of the group, from 0.
+    /// The item's place among those of the group, from 0.
     place: usize,
 }
 

@@ -7,9 +7,9 @@ ghost use Rattle.text_check.specs.Outcomes.{is_among, worst_of};
 pub enum Outcome {
     /// Nothing is told but what it holds.
     Fine,
-    /// It has a key that is unknown, or that isn't used.
+    /// The file has a key that is unknown, or that isn't used.
     Told,
-    /// It is refused.
+    /// The file is refused.
     Refused,
 }
 

@@ -4,9 +4,9 @@ ghost use Rattle.text_check.specs.Known.{is_told_board, is_told_plan};
 ghost use Rattle.text_check.specs.Outcomes.{tells, IsBoardOutcome, IsPlanOutcome, IsScheduleOutcome, IsUndoOutcome, IsOutcome};
 
 use crate::faults::{push_board_fault, push_plan_fault};
-use crate::looks::{Looks, looks_like};
 use crate::notes::{tell_board, tell_plan};
 use crate::outcome::Outcome;
+use crate::text_form::{TextForm, looks_like};
 use cfg_records::BoardFile;
 use plan_file::{PlanFault, read_plan};
 use std::alloc::{AllocError, Global};
@@ -261,11 +261,11 @@ pub fn checked(
     ensures { IfOk result (IsOutcome file.now) }
 {
     match looks_like(alloc, file)? {
-        Looks::Undo => checked_undo(alloc, text, name, file),
-        Looks::Board => checked_board(alloc, text, name, file),
-        Looks::Plan => checked_plan(alloc, text, name, file),
-        Looks::Schedule => checked_schedule(alloc, text, name, file),
-        Looks::Empty => {
+        TextForm::Undo => checked_undo(alloc, text, name, file),
+        TextForm::Board => checked_board(alloc, text, name, file),
+        TextForm::Plan => checked_plan(alloc, text, name, file),
+        TextForm::Schedule => checked_schedule(alloc, text, name, file),
+        TextForm::Empty => {
             writeln!(text, "{name}: empty")?;
             Ok(Outcome::Fine)
         }

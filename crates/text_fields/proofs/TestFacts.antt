@@ -2,7 +2,7 @@
 use Rattle.std.proofs.Common.{◌≡◌, ℕ, List, length, Bool, true, false, ◌&&◌, ◌↔◌, Option, Some, None, is_some, IsSome, refl, sym}
 use Rattle.std.proofs.lemmas.Bool.{and_parts}
 use Rattle.std.specs.Option.{IfSome}
-use Rattle.record_base.specs.declared.thresholds.ThresholdMasks.{ThresholdMasks}
+use Rattle.record_base.specs.declared.threshold_masks.ThresholdMasks.{ThresholdMasks}
 use Rattle.record_base.specs.Sensor.Thresholds.{IsThresholds, is_clear, is_in_order}
 use Rattle.record_base.specs.ThresholdLaws.{tests_pass, value_is_clear, true_in_order}
 use Rattle.text_fields.specs.Ranges.{are_thresholds}

@@ -1,8 +1,8 @@
 -- LAN parameters in files: the channels that have them, their numbers and their data.
 use Rattle.std.specs.Prelude.{ℕ, ◌==◌, nat_le, Bool, true, false, List, slice_index, get_or, Option, is_some, option_and_then}
 use Rattle.std.specs.Option.{option_map_or}
-use Rattle.record_base.specs.declared.lan.LanParameter.{LanParameter}
-use Rattle.record_base.specs.declared.lan.LanParameter.TheVariants as parameter
+use Rattle.record_base.specs.declared.lan_parameter.LanParameter.{LanParameter}
+use Rattle.record_base.specs.declared.lan_parameter.LanParameter.TheVariants as parameter
 use Rattle.record_base.specs.Lan.{lan_length, lan_parameter_at}
 use Rattle.record_base.specs.Vlan.{vlan_high}
 use Rattle.toml.specs.Data.{Data, Members}

@@ -42,8 +42,8 @@ abbrev pub sized_bytes : Field → Members → Option (List ℕ)
 sized_bytes named tree = option_and_then (λ size. option_map (bytes_of size) (sized_in size named tree)) (size_in tree)
 
 -- what a step tells are the bytes of a request's value
-abbrev pub AreBytes : NumericBytes → Option (List ℕ) → Type 0
-AreBytes (bytes.One a) found = found ≡ Some (a ∷ [])
-AreBytes (bytes.Two a b) found = found ≡ Some (a ∷ b ∷ [])
-AreBytes (bytes.Four a b c d) found = found ≡ Some (a ∷ b ∷ c ∷ d ∷ [])
-AreBytes bytes.Other found = ⊥
+abbrev pub AreValueBytes : NumericBytes → Option (List ℕ) → Type 0
+AreValueBytes (bytes.One a) found = found ≡ Some (a ∷ [])
+AreValueBytes (bytes.Two a b) found = found ≡ Some (a ∷ b ∷ [])
+AreValueBytes (bytes.Four a b c d) found = found ≡ Some (a ∷ b ∷ c ∷ d ∷ [])
+AreValueBytes bytes.Other found = ⊥

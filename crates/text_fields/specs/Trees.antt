@@ -119,5 +119,5 @@ abbrev pub HasFlag : Field → Members → Bool → Type 0
 HasFlag named tree b = flag_in named tree ≡ Some b
 
 -- the table lacks the field
-abbrev pub Lacks : Field → Members → Type 0
-Lacks named tree = in_field named tree ≡ None
+abbrev pub LacksField : Field → Members → Type 0
+LacksField named tree = in_field named tree ≡ None

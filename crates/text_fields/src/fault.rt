@@ -7,7 +7,7 @@ use std::fmt;
 pub enum FieldFault {
     /// The item lacks it.
     Missing(Field),
-    /// Its value is of another type.
+    /// The field's value is of another type.
     WrongType(Field),
     /// The item can't have its value.
     Range(Field),

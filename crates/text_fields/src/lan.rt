@@ -9,7 +9,7 @@ ghost use Rattle.text_fields.specs.Lan.{are_lan_data, lan_parameter_in, is_lan_n
 
 use crate::field::Field;
 use crate::tree::{bytes, natural, number};
-use record_base::lan_item::{MOST_SOURCE, vlan_high};
+use record_base::lan::{MOST_SOURCE, vlan_high};
 use record_base::{Ipv4Address, LanChange, LanParameter, VlanBytes};
 use toml::{Table, Value};
 

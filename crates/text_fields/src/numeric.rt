@@ -2,7 +2,7 @@
 ghost use Rattle.std.specs.Prelude.{◌≡◌, ◌<◌, ◌≤◌, ◌-◌, Some, pos, negsuc};
 ghost use Rattle.record_base.specs.NumericSize.{bytes_of, negatives_of, numbers_of};
 ghost use Rattle.toml.specs.View.{view, table_view};
-ghost use Rattle.text_fields.specs.Numeric.{size_at, size_in, bits_of, sized, sized_in, in_order, AreBytes};
+ghost use Rattle.text_fields.specs.Numeric.{size_at, size_in, bits_of, sized, sized_in, in_order, AreValueBytes};
 
 use crate::field::Field;
 use crate::tree::{in_field, number};
@@ -116,7 +116,7 @@ pub fn in_order(size: NumericSize, low: Option<u32>, high: Option<u32>) -> bool
 
 /// The bytes of a number of the size, as a request has them.
 pub fn numeric_bytes(size: NumericSize, number: u32) -> NumericBytes
-    ensures { AreBytes result (Some (bytes_of size number)) }
+    ensures { AreValueBytes result (Some (bytes_of size number)) }
 {
     let [a, b, c, d] = number.to_le_bytes();
     match size {

@@ -80,7 +80,7 @@ pub fn naturals<const N: usize>(value: &Value) -> Option<[u64; N]>
     naturals_of(values)
 }
 
-/// These numbers, where each is a byte.
+/// The numbers as bytes, where each is one.
 fn all_bytes<const N: usize>(numbers: [u64; N]) -> Option<[u8; N]>
     ensures { result ≡ all_bytes numbers.entry }
 {

@@ -11,13 +11,13 @@ abbrev pub space : ℕ
 space = 32
 
 -- the mark isn't among the bytes
-abbrev pub Lacks : ℕ → List ℕ → Type 0
-Lacks mark bytes = AllByRecursion (λ byte. byte ≢ mark) bytes
+abbrev pub LacksByte : ℕ → List ℕ → Type 0
+LacksByte mark bytes = AllByRecursion (λ byte. byte ≢ mark) bytes
 
 -- the text is the front, a mark and the back, and this is its first mark
 pub record CutsAt (mark : ℕ) (text front back : List ℕ) : Type 0 where
   pub parts : text ≡ front ++ mark ∷ back
-  pub first : Lacks mark front
+  pub first : LacksByte mark front
 
 -- a line, and the line feed that ends it
 abbrev pub ended : List ℕ → List ℕ

@@ -9,9 +9,9 @@ use Rattle.std.specs.List.{AllZip}
 use Rattle.std.specs.Borrow.{Bor}
 use Rattle.text_schedule.specs.declared.event.Event.{Event}
 use Rattle.text_schedule.specs.Text.{words_of}
-use Rattle.text_schedule.specs.Line.{Says}
-use Rattle.text_schedule.specs.Schedule.{is_skipped, spoken, Say, IsBad, IsFirstBad}
-use Rattle.text_schedule.specs.Reads.{Reads}
+use Rattle.text_schedule.specs.Line.{IsLineOf}
+use Rattle.text_schedule.specs.Schedule.{is_skipped, spoken, AreLinesOf, IsBad, IsFirstBad}
+use Rattle.text_schedule.specs.Reads.{ReadsLine}
 use Rattle.text_schedule.specs.declared.line.LineFault.{LineFault}
 use Rattle.text_schedule.specs.declared.line.LineFault.TheVariants.{Bad}
 use Rattle.text_schedule.proofs.Once.{one_event}
@@ -19,7 +19,7 @@ use Rattle.text_schedule.proofs.Once.{one_event}
 -- ---- laws
 
 -- lines say one list of events
-pub one_list : (lines : List (List ℕ)) (events others : List Event) → AllZip Says lines events → AllZip Says lines others → events ≡ others
+pub one_list : (lines : List (List ℕ)) (events others : List Event) → AllZip IsLineOf lines events → AllZip IsLineOf lines others → events ≡ others
 one_list [] [] [] told also = refl
 one_list [] [] (o ∷ others) told also = absurd also
 one_list [] (e ∷ events) others told also = absurd told
@@ -31,19 +31,19 @@ one_list (l ∷ lines) (e ∷ events) (o ∷ others) told also =
     cc (first, rest)
 
 -- a line that isn't skipped, among those that say events, says one
-said_here : (l : List ℕ) (lines : List (List ℕ)) (skipped : Bool) (events : List Event) → AllZip Says (if not skipped then l ∷ spoken lines else spoken lines) events
-    → (skipped ≡ true) × AllZip Says (spoken lines) events ⊎ ((e : Event) × (rest : List Event) × Says l e × AllZip Says (spoken lines) rest × (skipped ≡ false))
+said_here : (l : List ℕ) (lines : List (List ℕ)) (skipped : Bool) (events : List Event) → AllZip IsLineOf (if not skipped then l ∷ spoken lines else spoken lines) events
+    → (skipped ≡ true) × AllZip IsLineOf (spoken lines) events ⊎ ((e : Event) × (rest : List Event) × IsLineOf l e × AllZip IsLineOf (spoken lines) rest × (skipped ≡ false))
 said_here l lines true events told = inl (refl, told)
 said_here l lines false [] told = absurd told
 said_here l lines false (e ∷ events) told = inr (e, events, told.0, told.1, refl)
 
-pub said_at : (lines : List (List ℕ)) (events : List Event) (place : ℕ) (line : List ℕ) → Say lines events → slice_get lines place ≡ Some line → ¬ IsBad line
+pub said_at : (lines : List (List ℕ)) (events : List Event) (place : ℕ) (line : List ℕ) → AreLinesOf lines events → slice_get lines place ≡ Some line → ¬ IsBad line
 said_at [] events place line told is bad = cc is
 said_at (l ∷ lines) events zero line told is bad =
     let same : l ≡ line = cc is in
     elim (said_here l lines (is_skipped l) events told) [
       | inl here ↦ (let skipped = here.0 in let spoken = bad.spoken in cc (same, skipped, spoken))
-      | inr here ↦ bad.nothing here.0 (subst (λ x. Says x here.0) same here.2)
+      | inr here ↦ bad.nothing here.0 (subst (λ x. IsLineOf x here.0) same here.2)
     ]
 said_at (l ∷ lines) events (suc place) line told is bad =
     elim (said_here l lines (is_skipped l) events told) [
@@ -77,8 +77,8 @@ pushed (Ok a) new old e is fine = is
 pushed (Err why) new old e is fine = cc fine
 
 -- what says no event
-pub refused : (So : Event → Type 0) (r : Result Event LineFault) (why : LineFault) → Reads So r → r ≡ Err why → why ≡ Bad → (e : Event) → ¬ So e
-refused So r why reads is bad = subst (Reads So) (is ∙ ap Err bad) reads
+pub refused : (So : Event → Type 0) (r : Result Event LineFault) (why : LineFault) → ReadsLine So r → r ≡ Err why → why ≡ Bad → (e : Event) → ¬ So e
+refused So r why reads is bad = subst (ReadsLine So) (is ∙ ap Err bad) reads
 
 module _ (lines : List (Bor (List ℕ))) (place : ℕ) (d : Bor (List ℕ)) (within : place < length lines) where
   abbrev line : Bor (List ℕ)
@@ -93,12 +93,12 @@ module _ (lines : List (Bor (List ℕ))) (place : ℕ) (d : Bor (List ℕ)) (wit
   spoken_more : spoken (said (take (place + 1) lines)) ≡ spoken (said (take place lines)) ++ spoken (line.now ∷ [])
   spoken_more = ap spoken more ∙ filter-append (λ l. not (is_skipped l)) (said (take place lines)) (line.now ∷ [])
 
-  pub next_said : (events : List Event) (e : Event) → Say (said (take place lines)) events → is_skipped line.now ≡ false → Says line.now e
-      → Say (said (take (place + 1) lines)) (events ++ e ∷ [])
-  next_said events e told spoke says = rw (spoken_more, spoke) (all_zipped_more Says (spoken (said (take place lines))) events line.now e told says)
+  pub next_said : (events : List Event) (e : Event) → AreLinesOf (said (take place lines)) events → is_skipped line.now ≡ false → IsLineOf line.now e
+      → AreLinesOf (said (take (place + 1) lines)) (events ++ e ∷ [])
+  next_said events e told spoke says = rw (spoken_more, spoke) (all_zipped_more IsLineOf (spoken (said (take place lines))) events line.now e told says)
 
   -- where the line is bad, it's the first
-  pub bad_first : (events : List Event) → Say (said (take place lines)) events → IsBad line.now → IsFirstBad (said lines) (place + 1)
+  pub bad_first : (events : List Event) → AreLinesOf (said (take place lines)) events → IsBad line.now → IsFirstBad (said lines) (place + 1)
   bad_first events told bad = record {
     place = place;
     line = line.now;

@@ -14,7 +14,7 @@ use Rattle.text_schedule.specs.declared.event.BenchEvent.TheVariants.{Scan, Tick
 use Rattle.text_schedule.specs.declared.event.Event.{Event}
 use Rattle.text_schedule.specs.declared.event.Event.TheVariants.{Calls, ToBmc, ToMgr, OtherIpmb, OtherSmbus, Noise, Idle, OnBench}
 use Rattle.two_wire.specs.Buses.{bus_name}
-use Rattle.text_schedule.specs.Line.{Word, Spells, Say, IsRequest, call_name, bytes_of, words_for}
+use Rattle.text_schedule.specs.Line.{Word, SpellsWord, AreWordsOf, IsOtherRequest, call_name, bytes_of, words_for}
 
 -- ---- what words are read as
 
@@ -66,24 +66,24 @@ said _ = OnBench Tick
 -- ---- so many words
 
 -- the words spell one, and no more
-one : (texts : List (List ℕ)) (p : Word) → AllZip Spells texts (p ∷ []) → (a : List ℕ) × (texts ≡ a ∷ []) × Spells a p
+one : (texts : List (List ℕ)) (p : Word) → AllZip SpellsWord texts (p ∷ []) → (a : List ℕ) × (texts ≡ a ∷ []) × SpellsWord a p
 one [] p all = absurd all
 one (a ∷ []) p all = (a, refl, all.0)
 one (a ∷ b ∷ more) p all = absurd all.1
 
-two : (texts : List (List ℕ)) (p q : Word) → AllZip Spells texts (p ∷ q ∷ []) → (a b : List ℕ) × (texts ≡ a ∷ b ∷ []) × Spells a p × Spells b q
+two : (texts : List (List ℕ)) (p q : Word) → AllZip SpellsWord texts (p ∷ q ∷ []) → (a b : List ℕ) × (texts ≡ a ∷ b ∷ []) × SpellsWord a p × SpellsWord b q
 two [] p q all = absurd all
 two (a ∷ []) p q all = absurd all.1
 two (a ∷ b ∷ []) p q all = (a, b, refl, all.0, all.1.0)
 two (a ∷ b ∷ c ∷ more) p q all = absurd all.1.1
 
-three : (texts : List (List ℕ)) (p q r : Word) → AllZip Spells texts (p ∷ q ∷ r ∷ []) → (a b c : List ℕ) × (texts ≡ a ∷ b ∷ c ∷ []) × Spells a p × Spells b q × Spells c r
+three : (texts : List (List ℕ)) (p q r : Word) → AllZip SpellsWord texts (p ∷ q ∷ r ∷ []) → (a b c : List ℕ) × (texts ≡ a ∷ b ∷ c ∷ []) × SpellsWord a p × SpellsWord b q × SpellsWord c r
 three [] p q r all = absurd all
 three (a ∷ texts) p q r all =
     let rest = two texts q r all.1 in
     (a, rest.0, rest.1, ap (λ (l : List (List ℕ)). a ∷ l) rest.2, all.0, rest.3, rest.4)
 
-four_of : (texts : List (List ℕ)) (p q r s : Word) → AllZip Spells texts (p ∷ q ∷ r ∷ s ∷ []) → (a b c d : List ℕ) × (texts ≡ a ∷ b ∷ c ∷ d ∷ []) × Spells a p × Spells b q × Spells c r × Spells d s
+four_of : (texts : List (List ℕ)) (p q r s : Word) → AllZip SpellsWord texts (p ∷ q ∷ r ∷ s ∷ []) → (a b c d : List ℕ) × (texts ≡ a ∷ b ∷ c ∷ d ∷ []) × SpellsWord a p × SpellsWord b q × SpellsWord c r × SpellsWord d s
 four_of [] p q r s all = absurd all
 four_of (a ∷ texts) p q r s all =
     let rest = three texts q r s all.1 in
@@ -114,12 +114,12 @@ high n m small = omega (arith, small)
 low : (n m : ℕ) → m < 4 → (4 * n + m) % 4 ≡ m
 low n m small = omega (arith, small)
 
-request_is : (r : OtherRequest) (bytes : List ℕ) → IsRequest r bytes → request_said r.requester.address bytes ≡ r
+request_is : (r : OtherRequest) (bytes : List ℕ) → IsOtherRequest r bytes → request_said r.requester.address bytes ≡ r
 request_is r bytes is =
     let at = is.all in
     rw (at, high r.net_fn r.responder is.responder, low r.net_fn r.responder is.responder, high r.sequence r.requester.lun is.requester, low r.sequence r.requester.lun is.requester) refl
 
-said_is : (words : List (List ℕ)) (event : Event) → Say words event → said words ≡ event
+said_is : (words : List (List ℕ)) (event : Event) → AreWordsOf words event → said words ≡ event
 said_is words (Calls call) (all, sound) =
     let w = one words _ all in ap said (w.1 ∙ ap (λ (a : List ℕ). a ∷ []) w.2) ∙ call_is call
 said_is words (ToBmc number) (all, sound) =
@@ -148,13 +148,13 @@ said_is words (OnBench Tick) (all, sound) =
     let w = one words _ all in ap said (w.1 ∙ ap (λ (a : List ℕ). a ∷ []) w.2)
 
 -- words say one event
-pub one_event : (words : List (List ℕ)) (event other : Event) → Say words event → Say words other → event ≡ other
+pub one_event : (words : List (List ℕ)) (event other : Event) → AreWordsOf words event → AreWordsOf words other → event ≡ other
 one_event words event other is also = sym (said_is words event is) ∙ said_is words other also
 
 -- ---- words that say nothing
 
 -- no event is written with another bus
-pub no_bus : (name from digits : List ℕ) → ((bus : Bus) → name ≢ bus_name bus) → (event : Event) → ¬ Say (codes "other" ∷ name ∷ from ∷ digits ∷ []) event
+pub no_bus : (name from digits : List ℕ) → ((bus : Bus) → name ≢ bus_name bus) → (event : Event) → ¬ AreWordsOf (codes "other" ∷ name ∷ from ∷ digits ∷ []) event
 no_bus name from digits none (Calls call) is = absurd is.0.1
 no_bus name from digits none (ToBmc number) is = absurd is.0.1.1
 no_bus name from digits none (ToMgr number) is = absurd is.0.1.1
@@ -174,13 +174,13 @@ most : (event : Event) → length (words_for event) ≤ 4
 most (OnBench Tick) = lit≤ tt
 most _ = lit≤ tt
 
-long : (texts : List (Bor (List ℕ))) (words : List Word) → AllZip Spells (map (λ x. x.now) texts) words → length texts ≡ length words
+long : (texts : List (Bor (List ℕ))) (words : List Word) → AllZip SpellsWord (map (λ x. x.now) texts) words → length texts ≡ length words
 long [] [] all = refl
 long [] (w ∷ words) all = absurd all
 long (t ∷ texts) [] all = absurd all
 long (t ∷ texts) (w ∷ words) all = ap suc (long texts words all.1)
 
-pub other_length : (texts : List (Bor (List ℕ))) → length texts < 1 ⊎ 5 ≤ length texts → (event : Event) → ¬ Say (map (λ x. x.now) texts) event
+pub other_length : (texts : List (Bor (List ℕ))) → length texts < 1 ⊎ 5 ≤ length texts → (event : Event) → ¬ AreWordsOf (map (λ x. x.now) texts) event
 other_length texts (inl none) event is =
     let same = long texts (words_for event) is.0 in
     let some = fewest event in

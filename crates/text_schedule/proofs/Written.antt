@@ -13,7 +13,7 @@ use Rattle.std.proofs.lemmas.Str.Parse.{IsNumeralModel, numerals_by_value, tells
 use Rattle.std.proofs.lemmas.Fmt.{decimal_is_IsNumeral, length-decimal-le}
 use Rattle.hex.specs.Hex.{IsBytes, decode_of, encode_upper, is_hex_digit}
 use Rattle.hex.proofs.HexLemmas.{decode_of-ok, decode_of-encode_upper}
-use Rattle.text_lines.specs.Cuts.{Lacks}
+use Rattle.text_lines.specs.Cuts.{LacksByte}
 use Rattle.text_lines.proofs.Cuts.{lacks_by_index}
 use Rattle.two_wire.specs.declared.Bus.{Bus}
 use Rattle.two_wire.specs.declared.Bus.TheVariants.{Ipmb, Smbus}
@@ -23,9 +23,9 @@ use Rattle.text_schedule.specs.declared.event.Event.{Event}
 use Rattle.text_schedule.specs.declared.event.Event.TheVariants.{ToBmc, ToMgr, OtherIpmb, OtherSmbus}
 use Rattle.text_schedule.specs.Text.{lines_of, words_of, IsNumber}
 use Rattle.two_wire.specs.Buses.{bus_name}
-use Rattle.text_schedule.specs.Line.{Word, Name, Number, Digits, bytes_of, words_for, Spells, AreSome, IsRequest, IsSound, Says}
-use Rattle.text_schedule.specs.Schedule.{is_skipped, spoken, Say}
-use Rattle.text_schedule.specs.Written.{said, written, spaced, line_with, line_of, text_of, Stands}
+use Rattle.text_schedule.specs.Line.{Word, Name, Number, Digits, bytes_of, words_for, SpellsWord, AreSome, IsOtherRequest, IsSoundEvent, IsLineOf}
+use Rattle.text_schedule.specs.Schedule.{is_skipped, spoken, AreLinesOf}
+use Rattle.text_schedule.specs.Written.{said, written, spaced, line_with, line_of, text_of, IsEventLine}
 
 -- ---- where a text is cut
 
@@ -41,11 +41,11 @@ other_mark b mark differs = elim (eqb_tells b mark) [
   | inr p ↦ p.0
 ]
 
-split_none : (mark : ℕ) (xs : List ℕ) → Lacks mark xs → slice_split (λ b. b == mark) xs ≡ xs ∷ []
+split_none : (mark : ℕ) (xs : List ℕ) → LacksByte mark xs → slice_split (λ b. b == mark) xs ≡ xs ∷ []
 split_none mark [] l = refl
 split_none mark (x ∷ xs) l = slice_split-cons_no (λ b. b == mark) x xs (other_mark x mark l.0) ∙ ap (onto_first x) (split_none mark xs l.1)
 
-split_at : (mark : ℕ) (xs ys : List ℕ) → Lacks mark xs → slice_split (λ b. b == mark) (xs ++ mark ∷ ys) ≡ xs ∷ slice_split (λ b. b == mark) ys
+split_at : (mark : ℕ) (xs ys : List ℕ) → LacksByte mark xs → slice_split (λ b. b == mark) (xs ++ mark ∷ ys) ≡ xs ∷ slice_split (λ b. b == mark) ys
 split_at mark [] ys l = slice_split-cons_yes (λ b. b == mark) mark ys (own_mark mark)
 split_at mark (x ∷ xs) ys l = slice_split-cons_no (λ b. b == mark) x (xs ++ mark ∷ ys) (other_mark x mark l.0) ∙ ap (onto_first x) (split_at mark xs ys l.1)
 
@@ -54,7 +54,7 @@ abbrev has : ℕ → List ℕ → Bool
 has mark [] = false
 has mark (b ∷ bytes) = cond (b == mark) true (has mark bytes)
 
-lacks_by_test : (mark : ℕ) (bytes : List ℕ) → has mark bytes ≡ false → Lacks mark bytes
+lacks_by_test : (mark : ℕ) (bytes : List ℕ) → has mark bytes ≡ false → LacksByte mark bytes
 lacks_by_test mark [] h = tt
 lacks_by_test mark (b ∷ bytes) h =
     elim (eqb_tells b mark) [
@@ -62,7 +62,7 @@ lacks_by_test mark (b ∷ bytes) h =
       | inr p ↦ (p.1, lacks_by_test mark bytes (rw p.0 at h))
     ]
 
-lacks_both : (mark : ℕ) (front back : List ℕ) → Lacks mark front → Lacks mark back → Lacks mark (front ++ back)
+lacks_both : (mark : ℕ) (front back : List ℕ) → LacksByte mark front → LacksByte mark back → LacksByte mark (front ++ back)
 lacks_both mark [] back f b = b
 lacks_both mark (x ∷ front) back f b = (f.0, lacks_both mark front back f.1 b)
 
@@ -71,8 +71,8 @@ own = numerals_by_value (AllDigits 10) tells_digits
 
 -- what has neither spaces nor line feeds
 pub record IsWord (word : List ℕ) : Type 0 where
-  spaces : Lacks 32 word
-  feeds : Lacks 10 word
+  spaces : LacksByte 32 word
+  feeds : LacksByte 10 word
 
 decimal_word : (n : ℕ) → n < 2 ^ 32 → IsWord (decimal n)
 decimal_word n small = let all : AllDigits 10 (decimal n) = (decimal_is_IsNumeral n (omega (arith, small))).0.1 in record {
@@ -80,7 +80,7 @@ decimal_word n small = let all : AllDigits 10 (decimal n) = (decimal_is_IsNumera
   feeds = lacks_by_index 10 (decimal n) (not_in_digits own (decimal n) 10 all (λ r. omega (arith, r.0)));
 }
 
-digits_lack : (mark : ℕ) (digits bytes : List ℕ) → decode_of digits ≡ Ok bytes → is_hex_digit mark ≢ true → Lacks mark digits
+digits_lack : (mark : ℕ) (digits bytes : List ℕ) → decode_of digits ≡ Ok bytes → is_hex_digit mark ≢ true → LacksByte mark digits
 digits_lack mark digits bytes h no_digit =
     let all = (decode_of-ok digits bytes h).1 in
     lacks_by_index mark digits (λ i l e.
@@ -105,7 +105,7 @@ one_word word spaces feeds = record { spaces = lacks_by_test 32 word spaces; fee
 -- the line's words are these, and no line feed is in it
 record HasWords (line : List ℕ) (words : List (List ℕ)) : Type 0 where
   are : words_of line ≡ words
-  feeds : Lacks 10 line
+  feeds : LacksByte 10 line
 
 last_word : (word : List ℕ) → IsWord word → HasWords word (word ∷ [])
 last_word word is = record { are = split_none 32 word is.spaces; feeds = is.feeds }
@@ -139,7 +139,7 @@ good_word (Name name) good = good
 good_word (Number number) good = decimal_word number (number_read number good).0
 good_word (Digits bytes) good = digits_word bytes good
 
-good_spelled : (word : Word) → IsGood word → Spells (written word) word
+good_spelled : (word : Word) → IsGood word → SpellsWord (written word) word
 good_spelled (Name name) good = refl
 good_spelled (Number number) good = (number_read number good).1
 good_spelled (Digits bytes) good = decode_of-encode_upper bytes good
@@ -147,7 +147,7 @@ good_spelled (Digits bytes) good = decode_of-encode_upper bytes good
 abbrev pub AllGood : List Word → Type 0
 AllGood words = AllByRecursion IsGood words
 
-all_spelled : (words : List Word) → AllGood words → AllZip Spells (map written words) words
+all_spelled : (words : List Word) → AllGood words → AllZip SpellsWord (map written words) words
 all_spelled [] all = tt
 all_spelled (word ∷ words) all = (good_spelled word all.0, all_spelled words all.1)
 
@@ -160,32 +160,32 @@ line_has [] all spoken = absurd cc
 line_has (word ∷ words) all spoken = has_all word words all.0 all.1
 
 -- a line of good words stands for its event
-pub stands : (event : Event) → AllGood (words_for event) → IsSound event → is_skipped (line_of event) ≡ false → Stands (line_of event) event
+pub stands : (event : Event) → AllGood (words_for event) → IsSoundEvent event → is_skipped (line_of event) ≡ false → IsEventLine (line_of event) event
 stands event good sound spoken =
     let has_words = line_has (words_for event) good spoken in
     record {
-      says = (subst (λ (texts : List (List ℕ)). AllZip Spells texts (words_for event)) (sym has_words.are) (all_spelled (words_for event) good), sound);
+      says = (subst (λ (texts : List (List ℕ)). AllZip SpellsWord texts (words_for event)) (sym has_words.are) (all_spelled (words_for event) good), sound);
       spoken = spoken;
       whole = has_words.feeds;
     }
 
 -- ---- the lines
 
-pub to_bmc_stands : (n : ℕ) → nat_lt n 1000000000 ≡ true → Stands (line_of (ToBmc n)) (ToBmc n)
+pub to_bmc_stands : (n : ℕ) → nat_lt n 1000000000 ≡ true → IsEventLine (line_of (ToBmc n)) (ToBmc n)
 to_bmc_stands n low = let e = ToBmc n in stands e (one_word _ refl refl, (low, tt)) tt refl
 
-pub to_mgr_stands : (n : ℕ) → nat_lt n 1000000000 ≡ true → Stands (line_of (ToMgr n)) (ToMgr n)
+pub to_mgr_stands : (n : ℕ) → nat_lt n 1000000000 ≡ true → IsEventLine (line_of (ToMgr n)) (ToMgr n)
 to_mgr_stands n low = let e = ToMgr n in stands e (one_word _ refl refl, (low, tt)) tt refl
 
 -- by what the code has of the message
-pub message_by : (m : OtherMessage) (body : List ℕ) → body ≡ m.body → m.from < 256 → IsBytes body → 0 < length body → length body ≤ 256 → Stands (line_of (OtherSmbus m)) (OtherSmbus m)
+pub message_by : (m : OtherMessage) (body : List ℕ) → body ≡ m.body → m.from < 256 → IsBytes body → 0 < length body → length body ≤ 256 → IsEventLine (line_of (OtherSmbus m)) (OtherSmbus m)
 message_by m body same from small some few =
     let e = OtherSmbus m in
     let sound : AreSome 256 m.body = subst (AreSome 256) same (record { some = some; few = few }) in
     stands e (one_word _ refl refl, (bus_word Smbus, (small_byte m.from from, (subst IsBytes same small, tt)))) sound refl
 
 -- and of the request
-pub request_by : (r : OtherRequest) (address : ℕ) (bytes : List ℕ) → address ≡ r.requester.address → address < 256 → bytes ≡ bytes_of r → IsBytes bytes → IsRequest r (bytes_of r) → Stands (line_of (OtherIpmb r)) (OtherIpmb r)
+pub request_by : (r : OtherRequest) (address : ℕ) (bytes : List ℕ) → address ≡ r.requester.address → address < 256 → bytes ≡ bytes_of r → IsBytes bytes → IsOtherRequest r (bytes_of r) → IsEventLine (line_of (OtherIpmb r)) (OtherIpmb r)
 request_by r address bytes same small are all is =
     let e = OtherIpmb r in
     let from : r.requester.address < 256 = subst (λ (a : ℕ). a < 256) same small in
@@ -193,7 +193,7 @@ request_by r address bytes same small are all is =
 
 pub request_is : (r : OtherRequest) (net_fn responder lun : ℕ) (body : List ℕ) (address : ℕ)
     → net_fn ≡ r.net_fn → responder ≡ r.responder → lun ≡ r.requester.lun → body ≡ r.body → address ≡ r.requester.address
-    → net_fn % 2 ≡ 0 → responder < 4 → lun < 4 → length body ≤ 25 → address % 2 ≡ 0 → IsRequest r (bytes_of r)
+    → net_fn % 2 ≡ 0 → responder < 4 → lun < 4 → length body ≤ 25 → address % 2 ≡ 0 → IsOtherRequest r (bytes_of r)
 request_is r net_fn responder lun body address f p l b a even low under few plain = record {
   all = refl;
   net_fn = subst (λ (n : ℕ). n % 2 ≡ 0) f even;
@@ -207,12 +207,12 @@ request_is r net_fn responder lun body address f p l b a even low under few plai
 
 -- each of the events stands on its line
 abbrev pub AllStand : List Event → Type 0
-AllStand events = AllByRecursion (λ e. Stands (line_of e) e) events
+AllStand events = AllByRecursion (λ e. IsEventLine (line_of e) e) events
 
 -- reading the lines gives the events back
-pub lines_said : (es : List Event) → AllStand es → Say (lines_of (text_of es)) es
+pub lines_said : (es : List Event) → AllStand es → AreLinesOf (lines_of (text_of es)) es
 lines_said [] all = tt
-lines_said (e ∷ es) all = subst (λ (ls : List (List ℕ)). AllZip Says ls (e ∷ es)) (sym whole) (all.0.says, lines_said es all.1)
+lines_said (e ∷ es) all = subst (λ (ls : List (List ℕ)). AllZip IsLineOf ls (e ∷ es)) (sym whole) (all.0.says, lines_said es all.1)
   where
     cut : lines_of (text_of (e ∷ es)) ≡ line_of e ∷ lines_of (text_of es)
     cut = ap lines_of (append_assoc (line_of e) (10 ∷ []) (text_of es)) ∙ split_at 10 (line_of e) (text_of es) all.0.whole
@@ -225,7 +225,7 @@ pub record IsWritten (es : List Event) (text : List ℕ) : Type 0 where
   pub are : text ≡ text_of es
   pub stand : AllStand es
 
-pub written_all : (es : List Event) (i : ℕ) (text : List ℕ) → length es ≤ i → IsWritten (take i es) text → (text ≡ text_of es) × Say (lines_of text) es
+pub written_all : (es : List Event) (i : ℕ) (text : List ℕ) → length es ≤ i → IsWritten (take i es) text → (text ≡ text_of es) × AreLinesOf (lines_of text) es
 written_all es i text all is =
     let whole : IsWritten es text = subst (λ (l : List Event). IsWritten l text) (take_all i es all) is in
-    (whole.are, subst (λ (t : List ℕ). Say (lines_of t) es) (sym whole.are) (lines_said es whole.stand))
+    (whole.are, subst (λ (t : List ℕ). AreLinesOf (lines_of t) es) (sym whole.are) (lines_said es whole.stand))

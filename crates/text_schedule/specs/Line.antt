@@ -11,7 +11,7 @@ use Rattle.text_schedule.specs.declared.event.OtherRequest.{OtherRequest}
 use Rattle.text_schedule.specs.declared.event.BenchEvent.TheVariants.{Scan, Tick}
 use Rattle.text_schedule.specs.declared.event.Event.{Event}
 use Rattle.text_schedule.specs.declared.event.Event.TheVariants.{Calls, ToBmc, ToMgr, OtherIpmb, OtherSmbus, Noise, Idle, OnBench}
-use Rattle.text_schedule.specs.Text.{words_of, IsNumber, AreBytes}
+use Rattle.text_schedule.specs.Text.{words_of, IsNumber, AreHexBytes}
 
 -- a call's name
 abbrev pub call_name : Called → List ℕ
@@ -61,10 +61,10 @@ event_name event = name_in (words_for event)
 -- ---- what a line says
 
 -- the text is the word: a name itself, a number in 1 to 9 decimal digits, bytes in hexadecimal
-abbrev pub Spells : List ℕ → Word → Type 0
-Spells text (Name name) = text ≡ name
-Spells text (Number number) = IsNumber 9 text number
-Spells text (Digits bytes) = AreBytes text bytes
+abbrev pub SpellsWord : List ℕ → Word → Type 0
+SpellsWord text (Name name) = text ≡ name
+SpellsWord text (Number number) = IsNumber 9 text number
+SpellsWord text (Digits bytes) = AreHexBytes text bytes
 
 -- noise has at most so many bytes, as many as a frame
 abbrev pub most_noise : ℕ
@@ -76,7 +76,7 @@ pub record AreSome (most : ℕ) (bytes : List ℕ) : Type 0 where
   pub few : length bytes ≤ most
 
 -- The bytes are the request's: an even netFn, and 0 to `most_ipmi_request_data` bytes of data. It comes from an even address.
-pub record IsRequest (request : OtherRequest) (bytes : List ℕ) : Type 0 where
+pub record IsOtherRequest (request : OtherRequest) (bytes : List ℕ) : Type 0 where
   pub all : bytes ≡ bytes_of request
   pub net_fn : request.net_fn % 2 ≡ 0
   pub responder : request.responder < 4
@@ -85,16 +85,16 @@ pub record IsRequest (request : OtherRequest) (bytes : List ℕ) : Type 0 where
   pub address : request.requester.address % 2 ≡ 0
 
 -- what an event holds is of its kind: a request, or as many bytes as there may be
-abbrev pub IsSound : Event → Type 0
-IsSound (OtherIpmb request) = IsRequest request (bytes_of request)
-IsSound (OtherSmbus message) = AreSome most_message_bytes message.body
-IsSound (Noise on bytes) = AreSome most_noise bytes
-IsSound _ = Unit {0}
+abbrev pub IsSoundEvent : Event → Type 0
+IsSoundEvent (OtherIpmb request) = IsOtherRequest request (bytes_of request)
+IsSoundEvent (OtherSmbus message) = AreSome most_message_bytes message.body
+IsSoundEvent (Noise on bytes) = AreSome most_noise bytes
+IsSoundEvent _ = Unit {0}
 
 -- the words say the event
-abbrev pub Say : List (List ℕ) → Event → Type 0
-Say words event = AllZip Spells words (words_for event) × IsSound event
+abbrev pub AreWordsOf : List (List ℕ) → Event → Type 0
+AreWordsOf words event = AllZip SpellsWord words (words_for event) × IsSoundEvent event
 
 -- the line says the event: its words, with a space between two of them, do
-abbrev pub Says : List ℕ → Event → Type 0
-Says line event = Say (words_of line) event
+abbrev pub IsLineOf : List ℕ → Event → Type 0
+IsLineOf line event = AreWordsOf (words_of line) event

@@ -5,7 +5,7 @@ use Rattle.text_schedule.specs.declared.event.Event.{Event}
 use Rattle.text_schedule.specs.declared.schedule.ScheduleFault.{ScheduleFault}
 use Rattle.text_schedule.specs.declared.schedule.ScheduleFault.TheVariants.{Memory, Line}
 use Rattle.text_schedule.specs.Text.{lines_of}
-use Rattle.text_schedule.specs.Line.{Says}
+use Rattle.text_schedule.specs.Line.{IsLineOf}
 
 -- a line that is blank, or that begins with '#', is skipped
 abbrev pub is_skipped : List ℕ → Bool
@@ -17,13 +17,13 @@ abbrev pub spoken : List (List ℕ) → List (List ℕ)
 spoken lines = filter (λ line. not (is_skipped line)) lines
 
 -- the lines say the events, one each and in their order, but for those that are skipped
-abbrev pub Say : List (List ℕ) → List Event → Type 0
-Say lines events = AllZip Says (spoken lines) events
+abbrev pub AreLinesOf : List (List ℕ) → List Event → Type 0
+AreLinesOf lines events = AllZip IsLineOf (spoken lines) events
 
 -- a line that isn't skipped and says no event
 pub record IsBad (line : List ℕ) : Type 0 where
   pub spoken : is_skipped line ≡ false
-  pub nothing : (event : Event) → ¬ Says line event
+  pub nothing : (event : Event) → ¬ IsLineOf line event
 
 -- the line of this number, counted from 1, is the first bad one
 pub record IsFirstBad (lines : List (List ℕ)) (number : ℕ) : Type 0 where
@@ -35,11 +35,11 @@ pub record IsFirstBad (lines : List (List ℕ)) (number : ℕ) : Type 0 where
   pub first : (before : ℕ) (other : List ℕ) → before < place → slice_get lines before ≡ Some other → ¬ IsBad other
 
 -- the events are those that the lines say; else the first bad line is named, unless memory was refused
-abbrev pub AreRead : List (List ℕ) → Result (List Event) ScheduleFault → Type 0
-AreRead lines (Ok events) = Say lines events
-AreRead lines (Err Memory) = Unit {0}
-AreRead lines (Err (Line number)) = IsFirstBad lines number
+abbrev pub LinesAreRead : List (List ℕ) → Result (List Event) ScheduleFault → Type 0
+LinesAreRead lines (Ok events) = AreLinesOf lines events
+LinesAreRead lines (Err Memory) = Unit {0}
+LinesAreRead lines (Err (Line number)) = IsFirstBad lines number
 
 -- the same of the lines of a text
-abbrev pub IsRead : List ℕ → Result (List Event) ScheduleFault → Type 0
-IsRead text result = AreRead (lines_of text) result
+abbrev pub TextIsRead : List ℕ → Result (List Event) ScheduleFault → Type 0
+TextIsRead text result = LinesAreRead (lines_of text) result

@@ -19,9 +19,9 @@ pub record IsNumber (most : ℕ) (digits : List ℕ) (number : ℕ) : Type 0 whe
   pub value : digits_value 10 digits ≡ number
 
 -- these bytes in hexadecimal, two digits each, in either case
-abbrev pub AreBytes : List ℕ → List ℕ → Type 0
-AreBytes digits bytes = decode_of digits ≡ Ok bytes
+abbrev pub AreHexBytes : List ℕ → List ℕ → Type 0
+AreHexBytes digits bytes = decode_of digits ≡ Ok bytes
 
 -- one byte in hexadecimal
 abbrev pub IsByte : List ℕ → ℕ → Type 0
-IsByte digits byte = AreBytes digits (byte ∷ [])
+IsByte digits byte = AreHexBytes digits (byte ∷ [])

@@ -4,10 +4,10 @@ use Rattle.std.specs.List.{flat_map}
 use Rattle.std.specs.Fmt.{decimal}
 use Rattle.std.proofs.Common.{String}
 use Rattle.hex.specs.Hex.{encode_upper}
-use Rattle.text_lines.specs.Cuts.{Lacks, line_feed, ended}
+use Rattle.text_lines.specs.Cuts.{LacksByte, line_feed, ended}
 use Rattle.text_schedule.specs.declared.event.Event.{Event}
 use Rattle.text_schedule.specs.declared.event.Event.TheVariants.{ToBmc, ToMgr}
-use Rattle.text_schedule.specs.Line.{Word, Name, Number, Digits, words_for, Says}
+use Rattle.text_schedule.specs.Line.{Word, Name, Number, Digits, words_for, IsLineOf}
 use Rattle.text_schedule.specs.Schedule.{is_skipped}
 
 -- a line can say the event: the number of a frame has nine digits at most
@@ -48,15 +48,15 @@ abbrev pub text_of : List Event → List ℕ
 text_of events = flat_map ended (map line_of events)
 
 -- the line says the event, and isn't skipped, wherever it stands in a text
-pub record Stands (line : List ℕ) (event : Event) : Type 0 where
-  pub says : Says line event
+pub record IsEventLine (line : List ℕ) (event : Event) : Type 0 where
+  pub says : IsLineOf line event
   pub spoken : is_skipped line ≡ false
-  pub whole : Lacks line_feed line
+  pub whole : LacksByte line_feed line
 
 -- so it is of the line that is written for the event
 abbrev pub IsSaid : Event → Type 0
-IsSaid event = Stands (line_of event) event
+IsSaid event = IsEventLine (line_of event) event
 
 -- unless memory was refused, the text has the event's line behind what it had
-abbrev pub Adds : {Z : Type 0} {A E : Type 0} → Event → Result A E → (old new : String Z) → Type 0
-Adds event result old new = OnOk result (string_bytes new ≡ string_bytes old ++ ended (line_of event))
+abbrev pub AddsLine : {Z : Type 0} {A E : Type 0} → Event → Result A E → (old new : String Z) → Type 0
+AddsLine event result old new = OnOk result (string_bytes new ≡ string_bytes old ++ ended (line_of event))

@@ -69,7 +69,7 @@ pub enum Event {
     Noise(Bus, Octets<{ MOST_NOISE }>),
     /// The controller's port forgets the window of this requester.
     Idle(Bus, u8),
-    /// This happens on the bench.
+    /// An event happens on the bench.
     OnBench(BenchEvent),
 }
 

@@ -1,8 +1,8 @@
 //! The lines of a schedule.
 ghost use Rattle.std.specs.Prelude.{◌≡◌, ◌%◌, [], ◌∷◌, map, codes};
 ghost use Rattle.text_schedule.specs.Text.{IsByte};
-ghost use Rattle.text_schedule.specs.Line.{IsRequest, Say, Says};
-ghost use Rattle.text_schedule.specs.Reads.{Finds, Reads, ReadsBytes};
+ghost use Rattle.text_schedule.specs.Line.{IsOtherRequest, AreWordsOf, IsLineOf};
+ghost use Rattle.text_schedule.specs.Reads.{FindsOne, ReadsLine, ReadsBytes};
 
 use crate::event::{BenchEvent, Event, OtherMessage, OtherRequest};
 use crate::octets::Octets;
@@ -18,7 +18,7 @@ use two_wire::{Address, Below, Bus, Bytes, NetFn};
 pub enum LineFault {
     /// Memory was refused.
     Memory,
-    /// It says none.
+    /// The line says no event.
     Bad,
 }
 
@@ -35,7 +35,7 @@ fn some_bytes(alloc: Global, digits: &str) -> Result<Vec<u8>, LineFault>
 
 /// The event that one word says.
 fn one_word(word: &str) -> Option<Event>
-    ensures { Finds (Say (word.now ∷ [])) result }
+    ensures { FindsOne (AreWordsOf (word.now ∷ [])) result }
 {
     if word == "tick" {
         return Some(Event::OnBench(BenchEvent::Tick));
@@ -46,7 +46,7 @@ fn one_word(word: &str) -> Option<Event>
 
 /// The event that the words `to-bmc` or `to-mgr` and a number say.
 fn delivery(word: &str, digits: &str) -> Option<Event>
-    ensures { Finds (Say (word.now ∷ digits.now ∷ [])) result }
+    ensures { FindsOne (AreWordsOf (word.now ∷ digits.now ∷ [])) result }
 {
     let frame = frame_number(digits)?;
     match word {
@@ -58,7 +58,7 @@ fn delivery(word: &str, digits: &str) -> Option<Event>
 
 /// The event that the words `idle`, a bus and a requester say.
 fn idle(name: &str, from: &str) -> Option<Event>
-    ensures { Finds (Say (codes "idle" ∷ name.now ∷ from.now ∷ [])) result }
+    ensures { FindsOne (AreWordsOf (codes "idle" ∷ name.now ∷ from.now ∷ [])) result }
 {
     let bus = Bus::named(name)?;
     let requester = byte(from)?;
@@ -67,7 +67,7 @@ fn idle(name: &str, from: &str) -> Option<Event>
 
 /// The event that the words `scan`, a sensor and a reading say.
 fn scan(sensor: &str, reading: &str) -> Option<Event>
-    ensures { Finds (Say (codes "scan" ∷ sensor.now ∷ reading.now ∷ [])) result }
+    ensures { FindsOne (AreWordsOf (codes "scan" ∷ sensor.now ∷ reading.now ∷ [])) result }
 {
     let sensor = byte(sensor)?;
     let reading = byte(reading)?;
@@ -76,7 +76,7 @@ fn scan(sensor: &str, reading: &str) -> Option<Event>
 
 /// The event that the words `noise`, a bus and bytes say.
 fn noise(alloc: Global, name: &str, digits: &str) -> Result<Event, LineFault>
-    ensures { Reads (Say (codes "noise" ∷ name.now ∷ digits.now ∷ [])) result }
+    ensures { ReadsLine (AreWordsOf (codes "noise" ∷ name.now ∷ digits.now ∷ [])) result }
 {
     let Some(bus) = Bus::named(name) else {
         return Err(LineFault::Bad);
@@ -90,7 +90,7 @@ fn noise(alloc: Global, name: &str, digits: &str) -> Result<Event, LineFault>
 
 /// The request of these bytes from this address.
 fn request(from: Address, bytes: &[u8]) -> Option<OtherRequest>
-    ensures { Finds (λ r. (r.requester.address ≡ from) × IsRequest r bytes.now) result }
+    ensures { FindsOne (λ r. (r.requester.address ≡ from) × IsOtherRequest r bytes.now) result }
 {
     let [function, sequence, command, body @ ..] = bytes else {
         return None;
@@ -114,7 +114,7 @@ fn request(from: Address, bytes: &[u8]) -> Option<OtherRequest>
 
 /// The address that the digits say.
 fn address(digits: &str) -> Option<Address>
-    ensures { Finds (λ address. IsByte digits.now address × (address % 2 ≡ 0)) result }
+    ensures { FindsOne (λ address. IsByte digits.now address × (address % 2 ≡ 0)) result }
 {
     let byte = byte(digits)?;
     Address::new(byte)
@@ -122,7 +122,7 @@ fn address(digits: &str) -> Option<Address>
 
 /// The event that the words `other`, `ipmb`, a requester and a request's bytes say.
 fn other_ipmb(alloc: Global, from: &str, digits: &str) -> Result<Event, LineFault>
-    ensures { Reads (Say (codes "other" ∷ codes "ipmb" ∷ from.now ∷ digits.now ∷ [])) result }
+    ensures { ReadsLine (AreWordsOf (codes "other" ∷ codes "ipmb" ∷ from.now ∷ digits.now ∷ [])) result }
 {
     let Some(from) = address(from) else {
         return Err(LineFault::Bad);
@@ -136,7 +136,7 @@ fn other_ipmb(alloc: Global, from: &str, digits: &str) -> Result<Event, LineFaul
 
 /// The event that the words `other`, `smbus`, an endpoint and a message's bytes say.
 fn other_smbus(alloc: Global, from: &str, digits: &str) -> Result<Event, LineFault>
-    ensures { Reads (Say (codes "other" ∷ codes "smbus" ∷ from.now ∷ digits.now ∷ [])) result }
+    ensures { ReadsLine (AreWordsOf (codes "other" ∷ codes "smbus" ∷ from.now ∷ digits.now ∷ [])) result }
 {
     let Some(from) = byte(from) else {
         return Err(LineFault::Bad);
@@ -150,7 +150,7 @@ fn other_smbus(alloc: Global, from: &str, digits: &str) -> Result<Event, LineFau
 
 /// The event that three words say.
 fn three_words(alloc: Global, word: &str, first: &str, second: &str) -> Result<Event, LineFault>
-    ensures { Reads (Say (word.now ∷ first.now ∷ second.now ∷ [])) result }
+    ensures { ReadsLine (AreWordsOf (word.now ∷ first.now ∷ second.now ∷ [])) result }
 {
     match word {
         "idle" => idle(first, second).ok_or(LineFault::Bad),
@@ -162,7 +162,7 @@ fn three_words(alloc: Global, word: &str, first: &str, second: &str) -> Result<E
 
 /// The event that the word `other`, a bus and two more words say.
 fn other(alloc: Global, name: &str, from: &str, digits: &str) -> Result<Event, LineFault>
-    ensures { Reads (Say (codes "other" ∷ name.now ∷ from.now ∷ digits.now ∷ [])) result }
+    ensures { ReadsLine (AreWordsOf (codes "other" ∷ name.now ∷ from.now ∷ digits.now ∷ [])) result }
 {
     match Bus::named(name) {
         Some(Bus::Ipmb) => other_ipmb(alloc, from, digits),
@@ -179,7 +179,7 @@ fn four_words(
     from: &str,
     digits: &str,
 ) -> Result<Event, LineFault>
-    ensures { Reads (Say (word.now ∷ name.now ∷ from.now ∷ digits.now ∷ [])) result }
+    ensures { ReadsLine (AreWordsOf (word.now ∷ name.now ∷ from.now ∷ digits.now ∷ [])) result }
 {
     match word {
         "other" => other(alloc, name, from, digits),
@@ -189,7 +189,7 @@ fn four_words(
 
 /// The event that the words say.
 fn event_of(alloc: Global, words: &[&str]) -> Result<Event, LineFault>
-    ensures { Reads (Say (map (λ x. x.now) words.now)) result }
+    ensures { ReadsLine (AreWordsOf (map (λ x. x.now) words.now)) result }
 {
     match *words {
         [word] => one_word(word).ok_or(LineFault::Bad),
@@ -202,7 +202,7 @@ fn event_of(alloc: Global, words: &[&str]) -> Result<Event, LineFault>
 
 /// The event that the line says.
 pub fn read_line(alloc: Global, line: &str) -> Result<Event, LineFault>
-    ensures { Reads (Says line.now) result }
+    ensures { ReadsLine (IsLineOf line.now) result }
 {
     match words(alloc, line) {
         Ok(words) => event_of(alloc, words.as_slice()),

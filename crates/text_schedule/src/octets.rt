@@ -28,7 +28,7 @@ impl<const CAP: usize> Model for Octets<CAP> {
 }
 
 impl<const CAP: usize> Octets<CAP> {
-    /// These bytes, or nothing where there are none or too many.
+    /// A list of the bytes, or nothing where there are none or too many.
     pub fn new(items: Vec<u8>) -> Option<Self>
         ensures { SomeIff result
             ((0 < length items.items) × (length items.items ≤ CAP)) items.items }

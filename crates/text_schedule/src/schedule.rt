@@ -1,6 +1,6 @@
 //! Schedules.
 ghost use Rattle.std.specs.Prelude.{◌≡◌, map};
-ghost use Rattle.text_schedule.specs.Schedule.{AreRead, IsRead, is_skipped};
+ghost use Rattle.text_schedule.specs.Schedule.{LinesAreRead, TextIsRead, is_skipped};
 
 use crate::event::Event;
 use crate::line::{LineFault, read_line};
@@ -59,7 +59,7 @@ fn is_skipped(line: &str) -> bool
 
 /// The events that the lines say.
 fn events_of(alloc: Global, lines: &[&str]) -> Result<Schedule, ScheduleFault>
-    ensures { AreRead (map (λ x. x.now) lines.now) result }
+    ensures { LinesAreRead (map (λ x. x.now) lines.now) result }
 {
     let mut events = Vec::new(alloc);
     for (place, line) in lines.iter().enumerate() {
@@ -80,7 +80,7 @@ fn events_of(alloc: Global, lines: &[&str]) -> Result<Schedule, ScheduleFault>
 
 /// The events that a text says, a line each.
 pub fn read_schedule(alloc: Global, text: &str) -> Result<Schedule, ScheduleFault>
-    ensures { IsRead text.now result }
+    ensures { TextIsRead text.now result }
 {
     match lines(alloc, text) {
         Ok(lines) => events_of(alloc, lines.as_slice()),

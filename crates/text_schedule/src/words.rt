@@ -2,7 +2,7 @@
 ghost use Rattle.std.specs.Prelude.{◌≡◌, IfOk, map};
 ghost use Rattle.text_schedule.specs.Text.{lines_of, words_of, IsNumber};
 ghost use Rattle.text_schedule.specs.Line.{call_name};
-ghost use Rattle.text_schedule.specs.Reads.{Finds};
+ghost use Rattle.text_schedule.specs.Reads.{FindsOne};
 
 use model_undo::Call;
 use std::alloc::{AllocError, Global};
@@ -39,7 +39,7 @@ pub fn call_name(call: Call) -> &'static str
 
 /// The call of this name.
 pub fn find_call(name: &str) -> Option<Call>
-    ensures { Finds (λ call. name.now ≡ call_name call) result }
+    ensures { FindsOne (λ call. name.now ≡ call_name call) result }
 {
     match name {
         "start" => Some(Call::Start),
@@ -53,7 +53,7 @@ pub fn find_call(name: &str) -> Option<Call>
 
 /// The frame's number in 1 to 9 decimal digits.
 pub fn frame_number(digits: &str) -> Option<u32>
-    ensures { Finds (IsNumber 9 digits.now) result }
+    ensures { FindsOne (IsNumber 9 digits.now) result }
 {
     text_lines::number(digits, MOST_DIGITS)
 }

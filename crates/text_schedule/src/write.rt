@@ -4,9 +4,9 @@ ghost use Rattle.std.specs.List.{AllByRecursion};
 ghost use Rattle.hex.specs.Hex.{IsBytes, encode_upper};
 ghost use Rattle.text_schedule.specs.Text.{lines_of};
 ghost use Rattle.two_wire.specs.Sizes.{most_ipmi_request_data};
-ghost use Rattle.text_schedule.specs.Line.{AreSome, IsRequest, bytes_of, most_noise};
-ghost use Rattle.text_schedule.specs.Schedule.{Say};
-ghost use Rattle.text_schedule.specs.Written.{Adds, IsSaid, byte_digits, has_line, text_of};
+ghost use Rattle.text_schedule.specs.Line.{AreSome, IsOtherRequest, bytes_of, most_noise};
+ghost use Rattle.text_schedule.specs.Schedule.{AreLinesOf};
+ghost use Rattle.text_schedule.specs.Written.{AddsLine, IsSaid, byte_digits, has_line, text_of};
 
 use crate::event::{BenchEvent, Event, OtherMessage, OtherRequest};
 use std::alloc::{AllocError, Global};
@@ -61,7 +61,7 @@ fn joined(function: u8, sequence: u8, command: u8, body: &[u8]) -> Bytes<MOST_RE
 /// The bytes of a request without addresses and check bytes.
 fn bytes_of(request: &OtherRequest) -> Bytes<MOST_REQUEST>
     ensures value { result ≡ bytes_of request.now }
-    ensures is { IsRequest request.now (bytes_of request.now) }
+    ensures is { IsOtherRequest request.now (bytes_of request.now) }
 {
     let function = request.net_fn.number() * 4 + request.responder.number();
     let sequence = request.sequence.number() * 4 + request.requester.lun.number();
@@ -72,7 +72,7 @@ fn bytes_of(request: &OtherRequest) -> Bytes<MOST_REQUEST>
 
 /// Adds the line of somebody else's request.
 fn push_request(alloc: Global, text: &mut String, request: &OtherRequest) -> Result<(), AllocError>
-    ensures text { Adds (Event.OtherIpmb request.now) result text.old text.new }
+    ensures text { AddsLine (Event.OtherIpmb request.now) result text.old text.new }
     ensures stands { IsSaid (Event.OtherIpmb request.now) }
 {
     let bytes = bytes_of(request);
@@ -84,7 +84,7 @@ fn push_request(alloc: Global, text: &mut String, request: &OtherRequest) -> Res
 
 /// Adds the line of somebody else's message.
 fn push_message(alloc: Global, text: &mut String, message: &OtherMessage) -> Result<(), AllocError>
-    ensures text { Adds (Event.OtherSmbus message.now) result text.old text.new }
+    ensures text { AddsLine (Event.OtherSmbus message.now) result text.old text.new }
     ensures stands { IsSaid (Event.OtherSmbus message.now) }
 {
     let body = message.body.as_slice();
@@ -97,7 +97,7 @@ fn push_message(alloc: Global, text: &mut String, message: &OtherMessage) -> Res
 /// Adds the line of noise.
 fn push_noise(alloc: Global, text: &mut String, on: Bus, bytes: &[u8]) -> Result<(), AllocError>
     requires { AreSome most_noise bytes.now }
-    ensures text { Adds (Event.Noise on bytes.now) result text.old text.new }
+    ensures text { AddsLine (Event.Noise on bytes.now) result text.old text.new }
     ensures stands { IsSaid (Event.Noise on bytes.now) }
 {
     let bus = on.name();
@@ -107,7 +107,7 @@ fn push_noise(alloc: Global, text: &mut String, on: Bus, bytes: &[u8]) -> Result
 
 /// Adds the line of a window that is forgotten.
 fn push_idle(alloc: Global, text: &mut String, on: Bus, requester: u8) -> Result<(), AllocError>
-    ensures text { Adds (Event.Idle on requester) result text.old text.new }
+    ensures text { AddsLine (Event.Idle on requester) result text.old text.new }
     ensures stands { IsSaid (Event.Idle on requester) }
 {
     let bus = on.name();
@@ -117,7 +117,7 @@ fn push_idle(alloc: Global, text: &mut String, on: Bus, requester: u8) -> Result
 
 /// Adds the line of a reading.
 fn push_scan(alloc: Global, text: &mut String, sensor: u8, reading: u8) -> Result<(), AllocError>
-    ensures text { Adds (Event.OnBench (BenchEvent.Scan sensor reading)) result text.old text.new }
+    ensures text { AddsLine (Event.OnBench (BenchEvent.Scan sensor reading)) result text.old text.new }
     ensures stands { IsSaid (Event.OnBench (BenchEvent.Scan sensor reading)) }
 {
     let sensor = byte_digits(alloc, sensor)?;
@@ -127,7 +127,7 @@ fn push_scan(alloc: Global, text: &mut String, sensor: u8, reading: u8) -> Resul
 
 /// Adds the line of an event.
 pub fn push_event(alloc: Global, text: &mut String, event: &Event) -> Result<(), AllocError>
-    ensures text { Adds event.now result text.old text.new }
+    ensures text { AddsLine event.now result text.old text.new }
     ensures stands { has_line event.now ≡ true → IsSaid event.now }
 {
     match event {
@@ -151,7 +151,7 @@ pub fn push_event(alloc: Global, text: &mut String, event: &Event) -> Result<(),
 pub fn write_schedule(alloc: Global, events: &[Event]) -> Result<String, AllocError>
     requires { AllByRecursion (λ event. has_line event ≡ true) events.now }
     ensures text { IfOk result (λ text. string_bytes text ≡ text_of events.now) }
-    ensures said { IfOk result (λ text. Say (lines_of (string_bytes text)) events.now) }
+    ensures said { IfOk result (λ text. AreLinesOf (lines_of (string_bytes text)) events.now) }
 {
     let mut text = String::new(alloc);
     for event in events {

@@ -4,7 +4,7 @@ use Rattle.std.specs.Result.{result_unwrap_or}
 use Rattle.hex.specs.declared.error.FromHexError.{FromHexError}
 use Rattle.hex.specs.Hex.{IsBytes, decode_of, encode_upper}
 use Rattle.hex.proofs.HexLemmas.{decode_of-encode_upper}
-use Rattle.text_lines.specs.Cuts.{Lacks, CutsAt, ended}
+use Rattle.text_lines.specs.Cuts.{LacksByte, CutsAt, ended}
 use Rattle.text_lines.proofs.Cuts.{same_cut, not_lacking}
 use Rattle.undo_plans.specs.declared.names.Names.{Names}
 use Rattle.text_undo.specs.UndoText.{IsPair, AreEven, named_line, IsNamesLine, pair_of, names_line}
@@ -71,8 +71,8 @@ one_names line a b p q =
 -- ---- reading on
 
 -- a text without a space begins with no byte and a space
-pub no_byte : (text digits rest : List ℕ) → Lacks 32 text → text ≢ digits ++ 32 ∷ rest
-no_byte text digits rest lacks e = not_lacking 32 digits rest (subst (Lacks 32) e lacks)
+pub no_byte : (text digits rest : List ℕ) → LacksByte 32 text → text ≢ digits ++ 32 ∷ rest
+no_byte text digits rest lacks e = not_lacking 32 digits rest (subst (LacksByte 32) e lacks)
 
 -- what begins with a byte and a space has that byte in its first word
 pub first_word_is : (text front back digits rest : List ℕ) (byte : ℕ) → CutsAt 32 text front back → decode_of digits ≡ Ok (byte ∷ []) → text ≡ digits ++ 32 ∷ rest → decode_of front ≡ Ok (byte ∷ [])

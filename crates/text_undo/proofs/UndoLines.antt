@@ -10,7 +10,7 @@ use Rattle.std.specs.Result.{result_unwrap_or}
 use Rattle.hex.specs.declared.error.FromHexError.{FromHexError}
 use Rattle.hex.specs.Hex.{IsBytes, decode_of, encode_with, encode_upper, is_hex_digit}
 use Rattle.hex.proofs.HexLemmas.{decode_of-ok, decode_of-encode_upper}
-use Rattle.text_lines.specs.Cuts.{Lacks, CutsAt, ended}
+use Rattle.text_lines.specs.Cuts.{LacksByte, CutsAt, ended}
 use Rattle.text_lines.proofs.Cuts.{lacks_by_index, same_cut, not_lacking}
 use Rattle.record_base.specs.declared.message.Asked.{Asked}
 use Rattle.record_base.specs.declared.message.Asked.TheVariants.{Ipmi, Pldm}
@@ -23,7 +23,7 @@ use Rattle.undo_plans.specs.declared.undo_list.NextNumbers.{NextNumbers}
 use Rattle.undo_version.specs.declared.version.Version.{Version}
 use Rattle.undo_version.specs.declared.version.Version.TheVariants.{One, Two}
 use Rattle.undo_version.specs.Versions.{version_line}
-use Rattle.text_undo.specs.UndoText.{numbers_line, IsNumbersLine, IsPair, IsNamesLine, name_of, bus_of, bytes_of, line_of, IsPlain, Fits, IsRequestLine, BeginsWith, IsGood}
+use Rattle.text_undo.specs.UndoText.{numbers_line, IsNumbersLine, IsPair, IsNamesLine, name_of, bus_of, bytes_of, line_of, IsPlain, LineFits, IsRequestLine, BeginsWith, IsGood}
 
 -- ---- what lacks a mark
 
@@ -32,7 +32,7 @@ abbrev has : ℕ → List ℕ → Bool
 has mark [] = false
 has mark (b ∷ bytes) = cond (b == mark) true (has mark bytes)
 
-lacks_by_test : (mark : ℕ) (bytes : List ℕ) → has mark bytes ≡ false → Lacks mark bytes
+lacks_by_test : (mark : ℕ) (bytes : List ℕ) → has mark bytes ≡ false → LacksByte mark bytes
 lacks_by_test mark [] h = tt
 lacks_by_test mark (b ∷ bytes) h =
     elim (eqb_tells b mark) [
@@ -40,7 +40,7 @@ lacks_by_test mark (b ∷ bytes) h =
       | inr p ↦ (p.1, lacks_by_test mark bytes (rw p.0 at h))
     ]
 
-lacks_both : (mark : ℕ) (front back : List ℕ) → Lacks mark front → Lacks mark back → Lacks mark (front ++ back)
+lacks_both : (mark : ℕ) (front back : List ℕ) → LacksByte mark front → LacksByte mark back → LacksByte mark (front ++ back)
 lacks_both mark [] back f b = b
 lacks_both mark (x ∷ front) back f b = (f.0, lacks_both mark front back f.1 b)
 
@@ -48,13 +48,13 @@ own : IsNumeralModel (AllDigits 10) (digits_value 10)
 own = numerals_by_value (AllDigits 10) tells_digits
 
 -- a number in decimal has digits alone
-decimal_lacks : (mark n : ℕ) → n < 2 ^ 32 → mark < 48 → Lacks mark (decimal n)
+decimal_lacks : (mark n : ℕ) → n < 2 ^ 32 → mark < 48 → LacksByte mark (decimal n)
 decimal_lacks mark n low small =
     let all : AllDigits 10 (decimal n) = digits_decimal own n (omega (arith, low)) in
     lacks_by_index mark (decimal n) (not_in_digits own (decimal n) mark all (λ r. omega (arith, r.0, small)))
 
 -- digits in hexadecimal hold no other mark
-mark_lacks : (mark : ℕ) (digits bytes : List ℕ) → decode_of digits ≡ Ok bytes → is_hex_digit mark ≢ true → Lacks mark digits
+mark_lacks : (mark : ℕ) (digits bytes : List ℕ) → decode_of digits ≡ Ok bytes → is_hex_digit mark ≢ true → LacksByte mark digits
 mark_lacks mark digits bytes h no_digit =
     let all = (decode_of-ok digits bytes h).1 in
     lacks_by_index mark digits (λ i l e.
@@ -62,40 +62,40 @@ mark_lacks mark digits bytes h no_digit =
     no_digit (subst (λ (d : ℕ). is_hex_digit d ≡ true) e one))
 
 -- they hold no line feed
-digits_lack : (digits bytes : List ℕ) → decode_of digits ≡ Ok bytes → Lacks 10 digits
+digits_lack : (digits bytes : List ℕ) → decode_of digits ≡ Ok bytes → LacksByte 10 digits
 digits_lack digits bytes h = mark_lacks 10 digits bytes h (λ e. cc e)
 
 -- and no space
-pub spaces_lack : (digits bytes : List ℕ) → decode_of digits ≡ Ok bytes → Lacks 32 digits
+pub spaces_lack : (digits bytes : List ℕ) → decode_of digits ≡ Ok bytes → LacksByte 32 digits
 spaces_lack digits bytes h = mark_lacks 32 digits bytes h (λ e. cc e)
 
-bus_lacks : (asked : Asked) → Lacks 10 (bus_of asked)
+bus_lacks : (asked : Asked) → LacksByte 10 (bus_of asked)
 bus_lacks (Ipmi from net_fn lun command body) = lacks_by_test 10 (codes "ipmb ") refl
 bus_lacks (Pldm from kind command body) = lacks_by_test 10 (codes "smbus ") refl
 
 -- ---- no line of the text holds a line feed
 
-pub request_lacks : (line : List ℕ) (asked : Asked) → IsRequestLine line asked → Lacks 10 line
+pub request_lacks : (line : List ℕ) (asked : Asked) → IsRequestLine line asked → LacksByte 10 line
 request_lacks line asked is =
-    subst (Lacks 10) (sym is.spelt) (lacks_both 10 (bus_of asked) is.digits (bus_lacks asked) (digits_lack is.digits is.bytes is.read))
+    subst (LacksByte 10) (sym is.spelt) (lacks_both 10 (bus_of asked) is.digits (bus_lacks asked) (digits_lack is.digits is.bytes is.read))
 
-pub numbers_lack : (line : List ℕ) (next : NextNumbers) → IsNumbersLine line next → Lacks 10 line
+pub numbers_lack : (line : List ℕ) (next : NextNumbers) → IsNumbersLine line next → LacksByte 10 line
 numbers_lack line next is =
-    subst (Lacks 10) (sym is.spelt)
+    subst (LacksByte 10) (sym is.spelt)
     (lacks_both 10 (codes "next ipmb ") _ (lacks_by_test 10 (codes "next ipmb ") refl)
     (lacks_both 10 (decimal next.ipmb) _ (decimal_lacks 10 next.ipmb (omega (arith, is.ipmb)) (omega arith))
     (lacks_both 10 (codes " smbus ") _ (lacks_by_test 10 (codes " smbus ") refl)
     (decimal_lacks 10 next.smbus (omega (arith, is.smbus)) (omega arith)))))
 
-pair_lacks : (words : List ℕ) (own peer : ℕ) → IsPair words own peer → Lacks 10 words
+pair_lacks : (words : List ℕ) (own peer : ℕ) → IsPair words own peer → LacksByte 10 words
 pair_lacks words own peer is =
-    subst (Lacks 10) (sym is.spelt)
+    subst (LacksByte 10) (sym is.spelt)
     (lacks_both 10 is.own_digits _ (digits_lack is.own_digits (own ∷ []) is.own_read)
     ((λ (e : 32 ≡ 10). cc e), digits_lack is.peer_digits (peer ∷ []) is.peer_read))
 
-pub names_lack : (line : List ℕ) (names : Names) → IsNamesLine line names → Lacks 10 line
+pub names_lack : (line : List ℕ) (names : Names) → IsNamesLine line names → LacksByte 10 line
 names_lack line names is =
-    subst (Lacks 10) (sym is.spelt)
+    subst (LacksByte 10) (sym is.spelt)
     (lacks_both 10 (codes "names ipmb ") _ (lacks_by_test 10 (codes "names ipmb ") refl)
     (lacks_both 10 is.ipmb _ (pair_lacks is.ipmb _ _ is.addresses)
     (lacks_both 10 (codes " smbus ") _ (lacks_by_test 10 (codes " smbus ") refl)
@@ -103,11 +103,11 @@ names_lack line names is =
     (lacks_both 10 (codes " eid ") _ (lacks_by_test 10 (codes " eid ") refl)
     (pair_lacks is.eid _ _ is.eids))))))
 
-pub version_lacks : (version : Version) → Lacks 10 (version_line version)
+pub version_lacks : (version : Version) → LacksByte 10 (version_line version)
 version_lacks One = lacks_by_test 10 (codes "undo 1") refl
 version_lacks Two = lacks_by_test 10 (codes "undo 2") refl
 
-pub good_lacks : (version : Version) (n : ℕ) (line : List ℕ) → IsGood version n line → Lacks 10 line
+pub good_lacks : (version : Version) (n : ℕ) (line : List ℕ) → IsGood version n line → LacksByte 10 line
 good_lacks version n line (inl h) = numbers_lack line h.1.0 h.1.1
 good_lacks version n line (inr (inl h)) = names_lack line h.2.0 h.2.1
 good_lacks version n line (inr (inr h)) = request_lacks line h.2.0 h.2.1
@@ -180,19 +180,19 @@ one_request line (Pldm f k c d) (Ipmi f' n' l' c' d') p q =
 -- ---- the first line of a text
 
 -- a text that begins with a line of a sort that holds no line feed has that line first
-pub first_of_sort : (Sort : List ℕ → Type 0) (text front back more : List ℕ) → CutsAt 10 text front back → ((line : List ℕ) → Sort line → Lacks 10 line) → BeginsWith Sort text more → Sort front
+pub first_of_sort : (Sort : List ℕ → Type 0) (text front back more : List ℕ) → CutsAt 10 text front back → ((line : List ℕ) → Sort line → LacksByte 10 line) → BeginsWith Sort text more → Sort front
 first_of_sort Sort text front back more cut lacks b =
     let same = same_cut 10 front back b.0 more (sym cut.parts ∙ b.1) cut.first (lacks b.0 b.2) in
     subst Sort (sym same.0) b.2
 
 -- a text without a line feed begins with no line
-pub no_line : (Sort : List ℕ → Type 0) (text more : List ℕ) → Lacks 10 text → ¬ BeginsWith Sort text more
-no_line Sort text more lacks b = not_lacking 10 b.0 more (subst (Lacks 10) b.1 lacks)
+pub no_line : (Sort : List ℕ → Type 0) (text more : List ℕ) → LacksByte 10 text → ¬ BeginsWith Sort text more
+no_line Sort text more lacks b = not_lacking 10 b.0 more (subst (LacksByte 10) b.1 lacks)
 
 -- ---- what is written
 
 -- the line that is written for a request is the request's
-pub written_is : (asked : Asked) → IsPlain asked → Fits asked → IsBytes (bytes_of asked) → IsRequestLine (line_of asked) asked
+pub written_is : (asked : Asked) → IsPlain asked → LineFits asked → IsBytes (bytes_of asked) → IsRequestLine (line_of asked) asked
 written_is asked plain fits small = record {
   digits = encode_upper (bytes_of asked);
   spelt = refl;
@@ -209,14 +209,14 @@ no_bus line none (Pldm from kind command body) is = none Smbus is.digits is.spel
 pub ipmb_written : (asked : Asked) (from net_fn lun command : ℕ) (body : List ℕ) (n : ℕ) (b : List ℕ) → asked ≡ Ipmi from net_fn lun command body → n ≡ net_fn → b ≡ body → n < 64 → n % 2 ≡ 0 → length b ≤ 25
     → IsBytes (n * 4 ∷ command ∷ b) → IsPlain asked → IsRequestLine (line_of asked) asked
 ipmb_written asked from net_fn lun command body n b is same whole low even short small =
-    let fits : Fits (Ipmi from n lun command b) = (low, even, short) in
+    let fits : LineFits (Ipmi from n lun command b) = (low, even, short) in
     let all : asked ≡ Ipmi from n lun command b = is ∙ ap (λ (m : ℕ). Ipmi from m lun command body) (sym same) ∙ ap (λ (x : List ℕ). Ipmi from n lun command x) (sym whole) in
     subst (λ (x : Asked). IsPlain x → IsRequestLine (line_of x) x) (sym all) (λ plain. written_is (Ipmi from n lun command b) plain fits small)
 
 pub smbus_written : (asked : Asked) (from kind command : ℕ) (body : List ℕ) (n : ℕ) (b : List ℕ) → asked ≡ Pldm from kind command body → n ≡ kind → b ≡ body → n < 64 → length body ≤ most_of (Pldm from kind command body)
     → IsBytes (n ∷ command ∷ b) → IsPlain asked → IsRequestLine (line_of asked) asked
 smbus_written asked from kind command body n b is same whole low short small =
-    let fits : Fits (Pldm from n command b) = (low, subst (λ (x : ℕ × List ℕ). length x.1 ≤ most_of (Pldm from x.0 command x.1)) (λ i. (sym same i, sym whole i)) short) in
+    let fits : LineFits (Pldm from n command b) = (low, subst (λ (x : ℕ × List ℕ). length x.1 ≤ most_of (Pldm from x.0 command x.1)) (λ i. (sym same i, sym whole i)) short) in
     let all : asked ≡ Pldm from n command b = is ∙ ap (λ (m : ℕ). Pldm from m command body) (sym same) ∙ ap (λ (x : List ℕ). Pldm from n command x) (sym whole) in
     subst (λ (x : Asked). IsPlain x → IsRequestLine (line_of x) x) (sym all) (λ plain. written_is (Pldm from n command b) plain fits small)
 
@@ -238,8 +238,8 @@ behind_same rest last other p q =
     cc both
 
 -- numbers that end where they are said to end aren't without a space
-pub numbers_have_space : (numbers : List ℕ) (next : NextNumbers) → numbers ≡ decimal next.ipmb ++ (32 ∷ (codes "smbus " ++ decimal next.smbus)) → ¬ Lacks 32 numbers
-numbers_have_space numbers next e lacks = not_lacking 32 (decimal next.ipmb) (codes "smbus " ++ decimal next.smbus) (subst (Lacks 32) e lacks)
+pub numbers_have_space : (numbers : List ℕ) (next : NextNumbers) → numbers ≡ decimal next.ipmb ++ (32 ∷ (codes "smbus " ++ decimal next.smbus)) → ¬ LacksByte 32 numbers
+numbers_have_space numbers next e lacks = not_lacking 32 (decimal next.ipmb) (codes "smbus " ++ decimal next.smbus) (subst (LacksByte 32) e lacks)
 
 -- the digits of the first two bytes stand in front of those of the others
 pub digits_behind : (first command : ℕ) (body : List ℕ) → encode_upper (first ∷ command ∷ body) ≡ encode_upper (first ∷ command ∷ []) ++ encode_upper body

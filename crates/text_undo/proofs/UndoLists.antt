@@ -5,7 +5,7 @@ use Rattle.std.proofs.lemmas.Option.{slice_get_within}
 use Rattle.std.proofs.lemmas.Grind.{flat_map-append}
 use Rattle.std.proofs.lemmas.List.{reverse-reverse, reverse-append, map-append}
 use Rattle.std.proofs.lemmas.Slice.Zip.{AllZip-long}
-use Rattle.text_lines.specs.Cuts.{Lacks, ended}
+use Rattle.text_lines.specs.Cuts.{LacksByte, ended}
 use Rattle.text_lines.proofs.Cuts.{same_cut}
 use Rattle.record_base.specs.declared.message.Asked.{Asked}
 use Rattle.undo_plans.specs.declared.names.Names.{Names}
@@ -16,7 +16,7 @@ use Rattle.text_undo.specs.declared.text.UndoFault.TheVariants as fault
 use Rattle.undo_version.specs.declared.version.Version.{Version}
 use Rattle.undo_version.specs.declared.version.Version.TheVariants.{One, Two}
 use Rattle.undo_version.specs.Versions.{version_line, head_length}
-use Rattle.text_undo.specs.UndoText.{version_of, numbers_line, IsNumbersLine, IsNamesLine, AreNamesLines, IsRequestLine, IsPlain, BeginsWith, IsGood, AllGood, IsFirstBadFrom, IsFirstBad, AreLinesOf, Stands, AreAlike, line_of}
+use Rattle.text_undo.specs.UndoText.{version_of, numbers_line, IsNumbersLine, IsNamesLine, AreNamesLines, IsRequestLine, IsPlain, BeginsWith, IsGood, AllGood, IsFirstBadFrom, IsFirstBad, AreLinesOf, IsTextOf, AreAlike, line_of}
 use Rattle.text_undo.proofs.NamesLines.{one_names}
 use Rattle.text_undo.proofs.UndoLines.{version_lacks, one_version, good_lacks, one_numbers, one_request}
 
@@ -30,12 +30,12 @@ never_empty : (line rest : List ℕ) → line ++ 10 ∷ rest ≡ [] → ⊥
 never_empty [] rest e = cc e
 never_empty (b ∷ line) rest e = cc e
 
-goods_lack : (version : Version) (n : ℕ) (lines : List (List ℕ)) → AllGood version n lines → AllByRecursion (Lacks 10) lines
+goods_lack : (version : Version) (n : ℕ) (lines : List (List ℕ)) → AllGood version n lines → AllByRecursion (LacksByte 10) lines
 goods_lack version n [] g = tt
 goods_lack version n (line ∷ lines) g = (good_lacks version n line g.0, goods_lack version (n + 1) lines g.1)
 
 -- a text has one list of lines
-one_lines : (xs ys : List (List ℕ)) → AllByRecursion (Lacks 10) xs → AllByRecursion (Lacks 10) ys → flat_map ended xs ≡ flat_map ended ys → xs ≡ ys
+one_lines : (xs ys : List (List ℕ)) → AllByRecursion (LacksByte 10) xs → AllByRecursion (LacksByte 10) ys → flat_map ended xs ≡ flat_map ended ys → xs ≡ ys
 one_lines [] [] l m e = refl
 one_lines [] (y ∷ ys) l m e = absurd (never_empty y (flat_map ended ys) (sym (e ∙ regroup y (flat_map ended ys))))
 one_lines (x ∷ xs) [] l m e = absurd (never_empty x (flat_map ended xs) (sym (regroup x (flat_map ended xs)) ∙ e))
@@ -62,13 +62,13 @@ names_good (line ∷ []) lines (Some names) requests are z few = (inr (inl (refl
 names_good (line ∷ other ∷ more) lines o requests are z few = absurd are
 
 -- the lines behind the version
-abbrev behind_version : (text : List ℕ) (list : UndoList) → Stands text list → List (List ℕ)
+abbrev behind_version : (text : List ℕ) (list : UndoList) → IsTextOf text list → List (List ℕ)
 behind_version text list s = numbers_line list.next ∷ (s.names ++ s.lines)
 
-stands_good : (text : List ℕ) (list : UndoList) (s : Stands text list) → AllGood (version_of list.names) 2 (behind_version text list s)
+stands_good : (text : List ℕ) (list : UndoList) (s : IsTextOf text list) → AllGood (version_of list.names) 2 (behind_version text list s)
 stands_good text list s = (inl (refl, (list.next, s.next)), names_good s.names s.lines list.names (reverse list.requests.members) s.named s.each s.few)
 
-stands_lack : (text : List ℕ) (list : UndoList) (s : Stands text list) → AllByRecursion (Lacks 10) (version_line (version_of list.names) ∷ behind_version text list s)
+stands_lack : (text : List ℕ) (list : UndoList) (s : IsTextOf text list) → AllByRecursion (LacksByte 10) (version_line (version_of list.names) ∷ behind_version text list s)
 stands_lack text list s = (version_lacks (version_of list.names), goods_lack (version_of list.names) 2 (behind_version text list s) (stands_good text list s))
 
 -- there are lines enough in front of the requests
@@ -110,7 +110,7 @@ same_behind names (other ∷ []) lines more o None a b same e = absurd b
 same_behind names (other ∷ second ∷ others) lines more o p a b same e = absurd b
 
 -- the lists that a text stands for say the same
-pub one_list : (text : List ℕ) (a b : UndoList) → Stands text a → Stands text b → AreAlike a b
+pub one_list : (text : List ℕ) (a b : UndoList) → IsTextOf text a → IsTextOf text b → AreAlike a b
 one_list text a b p q =
     let lines = one_lines (version_line (version_of a.names) ∷ behind_version text a p) (version_line (version_of b.names) ∷ behind_version text b q)
     (stands_lack text a p) (stands_lack text b q) (sym p.spelt ∙ q.spelt) in
@@ -144,7 +144,7 @@ same_version a b text rest more p q =
     let parts = same_cut 10 (version_line a) rest (version_line b) more (sym (regroup (version_line a) rest) ∙ sym p ∙ q ∙ regroup (version_line b) more) (version_lacks a) (version_lacks b) in
     (one_version a b parts.0, parts.1)
 
-pub apart : (text : List ℕ) (list : UndoList) (n : ℕ) → Stands text list → IsFirstBad text n → ⊥
+pub apart : (text : List ℕ) (list : UndoList) (n : ℕ) → IsTextOf text list → IsFirstBad text n → ⊥
 apart text list n s (inl bad) = bad.1 (version_of list.names) (flat_map ended (behind_version text list s)) s.spelt
 apart text list n s (inr (version, rest, e, from)) =
     let same = same_version (version_of list.names) version text (flat_map ended (behind_version text list s)) rest s.spelt e in
@@ -320,7 +320,7 @@ headed version text rest more back next o same e second named = record {
 
 -- the list that was read
 pub read_is : (text back : List ℕ) (next : NextNumbers) (o : Option Names) (requests : List Asked) (list : UndoList) → Headed text back next o → AreLinesOf back requests → length requests ≤ 256
-    → list.next ≡ next → list.names ≡ o → list.requests.members ≡ reverse requests → Stands text list
+    → list.next ≡ next → list.names ≡ o → list.requests.members ≡ reverse requests → IsTextOf text list
 read_is text back next o requests list h are few same named turned =
     let numbers : IsNumbersLine h.second.0 list.next = subst (λ (x : NextNumbers). IsNumbersLine h.second.0 x) (sym same) h.second.2 in
     let turned_back : reverse list.requests.members ≡ requests = ap reverse turned ∙ reverse-reverse requests in

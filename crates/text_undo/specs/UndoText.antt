@@ -85,14 +85,14 @@ IsPlain (Ipmi from net_fn lun command body) = (from ≡ 0) × (lun ≡ 0)
 IsPlain (Pldm from kind command body) = from ≡ 0
 
 -- the request's network function or type is one, and its data fit a request: those that set an attribute whose entry goes in parts may be more
-abbrev pub Fits : Asked → Type 0
-Fits (Ipmi from net_fn lun command body) = (net_fn < 64) × (net_fn % 2 ≡ 0) × (length body ≤ most_ipmi_request_data)
-Fits (Pldm from kind command body) = (kind < 64) × (length body ≤ most_of (Pldm from kind command body))
+abbrev pub LineFits : Asked → Type 0
+LineFits (Ipmi from net_fn lun command body) = (net_fn < 64) × (net_fn % 2 ≡ 0) × (length body ≤ most_ipmi_request_data)
+LineFits (Pldm from kind command body) = (kind < 64) × (length body ≤ most_of (Pldm from kind command body))
 
 -- the bytes are what a line of the bus of this name has of the request
-pub record IsOf (bus bytes : List ℕ) (asked : Asked) : Type 0 where
+pub record SpellsRequestOf (bus bytes : List ℕ) (asked : Asked) : Type 0 where
   pub plain : IsPlain asked
-  pub fits : Fits asked
+  pub fits : LineFits asked
   pub sent : bus_of asked ≡ bus
   pub spelt : bytes_of asked ≡ bytes
 
@@ -102,7 +102,7 @@ pub record IsRequestLine (line : List ℕ) (asked : Asked) : Type 0 where
   pub spelt : line ≡ bus_of asked ++ digits
   pub bytes : List ℕ
   pub read : decode_of digits ≡ Ok bytes
-  pub is : IsOf (bus_of asked) bytes asked
+  pub is : SpellsRequestOf (bus_of asked) bytes asked
 
 -- the text begins with a line of this sort, and the rest stands behind its line feed
 abbrev pub BeginsWith : (List ℕ → Type 0) → List ℕ → List ℕ → Type 0
@@ -118,7 +118,7 @@ AreNamesLines _ _ = ⊥
 
 -- The text stands for the list: its lines, each of which a line feed ends, are the version, the numbers, that of the names where the list
 -- has some, and a line for each of at most `most_steps` requests, in the order in which they are sent, that of the last step first.
-pub record Stands (text : List ℕ) (list : UndoList) : Type 0 where
+pub record IsTextOf (text : List ℕ) (list : UndoList) : Type 0 where
   pub names : List (List ℕ)
   pub lines : List (List ℕ)
   pub spelt : text ≡ flat_map ended (version_line (version_of list.names) ∷ numbers_line list.next ∷ (names ++ lines))

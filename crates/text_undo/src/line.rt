@@ -8,7 +8,7 @@ ghost use Rattle.undo_plans.specs.declared.undo_list.NextNumbers.{NextNumbers as
 ghost use Rattle.two_wire.specs.declared.Bus.{Bus as AnyBus};
 ghost use Rattle.undo_plans.specs.Requests.{meant};
 ghost use Rattle.undo_plans.specs.Steps.{most_steps};
-ghost use Rattle.text_undo.specs.UndoText.{IsPlain, IsNumbersLine, IsOf, IsRequestLine, BeginsWith, name_of, line_of};
+ghost use Rattle.text_undo.specs.UndoText.{IsPlain, IsNumbersLine, SpellsRequestOf, IsRequestLine, BeginsWith, name_of, line_of};
 
 use std::alloc::{AllocError, Global};
 use text_lines::{behind, bytes, first_line, first_word, plain_number};
@@ -77,8 +77,8 @@ pub fn first_numbers(text: &str) -> Option<(NextNumbers, &str)>
 
 /// The IPMI request of these bytes: a network function with logical unit 0, a command and data.
 fn ipmi(bytes: &[u8]) -> Option<UndoRequest<'_>>
-    ensures some { IfSome result (λ request. IsOf (codes "ipmb ") bytes.now (meant request)) }
-    ensures none { IfNone result ((asked : AnyAsked) → ¬ IsOf (codes "ipmb ") bytes.now asked) }
+    ensures some { IfSome result (λ request. SpellsRequestOf (codes "ipmb ") bytes.now (meant request)) }
+    ensures none { IfNone result ((asked : AnyAsked) → ¬ SpellsRequestOf (codes "ipmb ") bytes.now asked) }
 {
     let [first, command, body @ ..] = bytes else {
         return None;
@@ -96,8 +96,8 @@ fn ipmi(bytes: &[u8]) -> Option<UndoRequest<'_>>
 
 /// The PLDM request of these bytes: a type, a command and data.
 fn pldm(bytes: &[u8]) -> Option<UndoRequest<'_>>
-    ensures some { IfSome result (λ request. IsOf (codes "smbus ") bytes.now (meant request)) }
-    ensures none { IfNone result ((asked : AnyAsked) → ¬ IsOf (codes "smbus ") bytes.now asked) }
+    ensures some { IfSome result (λ request. SpellsRequestOf (codes "smbus ") bytes.now (meant request)) }
+    ensures none { IfNone result ((asked : AnyAsked) → ¬ SpellsRequestOf (codes "smbus ") bytes.now asked) }
 {
     let [kind, command, body @ ..] = bytes else {
         return None;
@@ -113,8 +113,8 @@ fn pldm(bytes: &[u8]) -> Option<UndoRequest<'_>>
 
 /// The request of the bus of these bytes.
 fn request(bus: Bus, bytes: &[u8]) -> Option<UndoRequest<'_>>
-    ensures some { IfSome result (λ request. IsOf (name_of bus) bytes.now (meant request)) }
-    ensures none { IfNone result ((asked : AnyAsked) → ¬ IsOf (name_of bus) bytes.now asked) }
+    ensures some { IfSome result (λ request. SpellsRequestOf (name_of bus) bytes.now (meant request)) }
+    ensures none { IfNone result ((asked : AnyAsked) → ¬ SpellsRequestOf (name_of bus) bytes.now asked) }
 {
     match bus {
         Bus::Ipmb => ipmi(bytes),

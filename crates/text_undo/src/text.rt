@@ -4,7 +4,7 @@ ghost use Rattle.std.specs.List.{All, AllZip, flat_map};
 ghost use Rattle.text_lines.specs.Cuts.{ended};
 ghost use Rattle.undo_plans.specs.Steps.{most_steps};
 ghost use Rattle.undo_version.specs.Versions.{version_line, head_length};
-ghost use Rattle.text_undo.specs.UndoText.{IsPlain, IsRequestLine, AreLinesOf, Stands, IsFirstBad, IsFirstBadFrom, version_of, line_of, text_of};
+ghost use Rattle.text_undo.specs.UndoText.{IsPlain, IsRequestLine, AreLinesOf, IsTextOf, IsFirstBad, IsFirstBadFrom, version_of, line_of, text_of};
 
 use crate::line::{add_first, first_numbers, push_request};
 use crate::names::{push_names_line, version_names};
@@ -40,7 +40,7 @@ fn version_text(names: &Option<Names>) -> &'static str
 pub fn write_undo(alloc: Global, list: &UndoList) -> Result<String, AllocError>
     ensures text { IfOk result (λ text. string_bytes text ≡ text_of list.now) }
     ensures stands { All IsPlain list.now.requests.members
-        → IfOk result (λ text. Stands (string_bytes text) list.now) }
+        → IfOk result (λ text. IsTextOf (string_bytes text) list.now) }
 {
     let mut text = String::from_str(alloc, version_text(&list.names))?;
     let ipmb = list.next.ipmb.number();
@@ -106,7 +106,7 @@ fn read_requests(alloc: Global, version: Version, text: &str) -> Result<Requests
 /// The list that the text stands for, or its first bad line. A last line without a line feed is bad, and so is a line in front of the
 /// requests that isn't there.
 pub fn read_undo(alloc: Global, text: &str) -> Result<UndoList, UndoFault>
-    ensures list { IfOk result (λ list. Stands text.now list) }
+    ensures list { IfOk result (λ list. IsTextOf text.now list) }
     ensures fault { IfErr result (λ why. (why ≡ UndoFault.Memory)
         ⊎ ((n : ℕ) × (why ≡ UndoFault.Line n) × IsFirstBad text.now n)) }
 {

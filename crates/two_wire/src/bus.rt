@@ -12,7 +12,7 @@ pub enum Bus {
 }
 
 impl Bus {
-    /// Its name in command lines and texts.
+    /// The bus's name in command lines and texts.
     pub fn name(self) -> &'static str
         ensures { result.now ≡ bus_name self }
     {

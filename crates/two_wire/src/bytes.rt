@@ -31,7 +31,7 @@ impl<const CAP: usize> Bytes<CAP> {
         }
     }
 
-    /// These bytes.
+    /// A list of these bytes.
     pub fn from_slice(bytes: &[u8]) -> Self
         requires { length bytes.now ≤ CAP }
         ensures { result ≡ bytes.now }
@@ -93,7 +93,7 @@ impl<const CAP: usize> Bytes<CAP> {
         }
     }
 
-    /// The same bytes once more.
+    /// A copy of the bytes.
     pub fn copy(&self) -> Self
         ensures { result ≡ self.now }
     {

@@ -20,7 +20,7 @@ impl<'a, const CAP: usize> Model for Data<'a, CAP> {
 }
 
 impl<'a, const CAP: usize> Data<'a, CAP> {
-    /// These bytes.
+    /// Data of these bytes.
     pub fn new(bytes: &'a [u8]) -> Self
         requires { length bytes.now ≤ CAP }
         ensures { result ≡ bytes.now }

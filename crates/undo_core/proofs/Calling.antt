@@ -15,7 +15,7 @@ use Rattle.undo_core.specs.declared.stage.Stage.TheVariants as stage
 use Rattle.undo_core.specs.declared.phase.WrongPhase.{WrongPhase}
 use Rattle.undo_core.specs.declared.sending.Sent.{Sent}
 use Rattle.undo_core.specs.declared.manager.Manager.{Manager}
-use Rattle.undo_core.specs.Shown.{words_of, own, IsTask, IsGot, IsStage, Shows, IsSent, Does, IsCalled}
+use Rattle.undo_core.specs.Shown.{words_of, own, IsTask, IsGot, IsStage, Represents, IsSent, IsStepResult, IsCalled}
 use Rattle.undo_core.specs.Counted.{counts_of}
 use Rattle.model_undo.specs.declared.phase.Why.{Why}
 use Rattle.model_undo.specs.declared.phase.Phase.{Phase}
@@ -80,27 +80,27 @@ module _ (names : Names) (plan : List Op) (requests : RequestList) (replies : Li
 
 -- a stage is entered, and its request is sent
 pub enters_does : (names : Names) (m : Manager) (s : ManagerState (board_plans names)) (t : machine.Stage (words_of names)) (sent : Option Sent)
-    → Shows names m (record s { machine = record s.machine { stage = t; resent = 0 } })
+    → Represents names m (record s { machine = record s.machine { stage = t; resent = 0 } })
     → IsSent sent (option_map (sent_of (board_plans names) names) (machine.sends_at (words_of names) t (counts_of m.counts)))
-    → Does names m sent (goes_on (board_plans names) s (machine.enters (words_of names) t s.machine))
+    → IsStepResult names m sent (goes_on (board_plans names) s (machine.enters (words_of names) t s.machine))
 enters_does names m s t sent shows is =
     (shows, subst (IsSent sent) (λ i. option_map (sent_of (board_plans names) (sym shows.is_named i)) (machine.sends_at (words_of names) t (sym shows.counts i))) is)
 
 -- the open request is sent again, as so many times
 pub resends_does : (names : Names) (m : Manager) (s : ManagerState (board_plans names)) (times : ℕ) (sent : Option Sent)
-    → Shows names m (record s { machine = record s.machine { resent = times } })
+    → Represents names m (record s { machine = record s.machine { resent = times } })
     → IsSent sent (option_map (sent_of (board_plans names) names) (machine.sends_at (words_of names) s.machine.stage (counts_of m.counts)))
-    → Does names m sent (goes_on (board_plans names) s (record { machine = record s.machine { resent = times }; sends = machine.sends_at (words_of names) s.machine.stage s.machine.counts }))
+    → IsStepResult names m sent (goes_on (board_plans names) s (record { machine = record s.machine { resent = times }; sends = machine.sends_at (words_of names) s.machine.stage s.machine.counts }))
 resends_does names m s times sent shows is =
     (shows, subst (IsSent sent) (λ i. option_map (sent_of (board_plans names) (sym shows.is_named i)) (machine.sends_at (words_of names) s.machine.stage (sym shows.counts i))) is)
 
 -- nothing is sent
-pub rests_does : (names : Names) (m : Manager) (s : ManagerState (board_plans names)) (after : machine.Machine (words_of names)) → Shows names m (record s { machine = after })
-    → Does names m None (goes_on (board_plans names) s (machine.rests (words_of names) after))
+pub rests_does : (names : Names) (m : Manager) (s : ManagerState (board_plans names)) (after : machine.Machine (words_of names)) → Represents names m (record s { machine = after })
+    → IsStepResult names m None (goes_on (board_plans names) s (machine.rests (words_of names) after))
 rests_does names m s after shows = (shows, tt)
 
 -- a call for which the machine has no turn is refused
-pub refused : (names : Names) (call : Call) (m : Manager) (s : ManagerState (board_plans names)) (wrong : WrongPhase) → Shows names m s
+pub refused : (names : Names) (call : Call) (m : Manager) (s : ManagerState (board_plans names)) (wrong : WrongPhase) → Represents names m s
     → machine.call_of (words_of names) call s.machine ≡ None → IsCalled names s m (Err wrong) (called (board_plans names) call s)
 unfolding called
 refused names call m s wrong shows none =
@@ -117,7 +117,7 @@ made names call m s sent t turn does =
 
 -- ---- start
 
-pub no_start : (names : Names) (m : Manager) (s : ManagerState (board_plans names)) → Shows names m s → (m.stage ≡ stage.AtStart → ⊥) → machine.start_of (words_of names) s.machine ≡ None
+pub no_start : (names : Names) (m : Manager) (s : ManagerState (board_plans names)) → Represents names m s → (m.stage ≡ stage.AtStart → ⊥) → machine.start_of (words_of names) s.machine ≡ None
 no_start names m s shows other = at s.machine.stage shows.stage where
   at : (t : machine.Stage (words_of names)) → IsStage names m.steps m.undo.requests m.replies m.stage t → machine.starts (words_of names) t s.machine ≡ None
   at machine.AtStart is = absurd (other (is_start names m.steps m.undo.requests m.replies m.stage is))
@@ -137,7 +137,7 @@ start_turn names m is = ap (λ (t : machine.Stage (words_of names)). machine.sta
 
 -- ---- quiet
 
-pub no_quiet : (names : Names) (m : Manager) (s : ManagerState (board_plans names)) → Shows names m s → ((task : Task) (parts : ℕ) (asked : Asked) → m.stage ≡ stage.Opened true task parts asked → ⊥)
+pub no_quiet : (names : Names) (m : Manager) (s : ManagerState (board_plans names)) → Represents names m s → ((task : Task) (parts : ℕ) (asked : Asked) → m.stage ≡ stage.Opened true task parts asked → ⊥)
     → machine.quiet_of (words_of names) s.machine ≡ None
 no_quiet names m s shows other = at s.machine.stage shows.stage where
   at : (t : machine.Stage (words_of names)) → IsStage names m.steps m.undo.requests m.replies m.stage t → machine.quiets (words_of names) t s.machine ≡ None
@@ -172,7 +172,7 @@ quiet_unsettles names m of part is enough =
 
 -- ---- again
 
-pub no_again : (names : Names) (m : Manager) (s : ManagerState (board_plans names)) → Shows names m s → ((task : Task) (parts : ℕ) (asked : Asked) → m.stage ≡ stage.Opened false task parts asked → ⊥)
+pub no_again : (names : Names) (m : Manager) (s : ManagerState (board_plans names)) → Represents names m s → ((task : Task) (parts : ℕ) (asked : Asked) → m.stage ≡ stage.Opened false task parts asked → ⊥)
     → machine.again_of (words_of names) s.machine ≡ None
 no_again names m s shows other = at s.machine.stage shows.stage where
   at : (t : machine.Stage (words_of names)) → IsStage names m.steps m.undo.requests m.replies m.stage t → machine.agains (words_of names) t s.machine ≡ None
@@ -245,7 +245,7 @@ is_halt names plan requests replies (stage.AtHalt j cause) k why is = (j, cause,
 is_halt names plan requests replies stage.AtUndone k why is = absurd is
 is_halt names plan requests replies (stage.AtRefused j code) k why is = absurd is
 
-pub no_undo : (names : Names) (m : Manager) (s : ManagerState (board_plans names)) → Shows names m s → (m.stage ≡ stage.AtEnd → ⊥) → ((k : ℕ) (why : Why) → m.stage ≡ stage.AtHalt k why → ⊥)
+pub no_undo : (names : Names) (m : Manager) (s : ManagerState (board_plans names)) → Represents names m s → (m.stage ≡ stage.AtEnd → ⊥) → ((k : ℕ) (why : Why) → m.stage ≡ stage.AtHalt k why → ⊥)
     → machine.undo_of (words_of names) s.machine ≡ None
 no_undo names m s shows no_end no_halt = at s.machine.stage shows.stage where
   at : (t : machine.Stage (words_of names)) → IsStage names m.steps m.undo.requests m.replies m.stage t → machine.undoes (words_of names) t s.machine ≡ None
@@ -276,7 +276,7 @@ halt_undoes names plan requests replies m j cause (machine.AtHalt k why) is = re
 halt_undoes names plan requests replies m j cause machine.AtUndone is = absurd is
 halt_undoes names plan requests replies m j cause (machine.AtRefused k code) is = absurd is
 
-pub undo_turn : (names : Names) (m : Manager) (s : ManagerState (board_plans names)) → Shows names m s → (m.stage ≡ stage.AtEnd) ⊎ ((k : ℕ) × (why : Why) × (m.stage ≡ stage.AtHalt k why))
+pub undo_turn : (names : Names) (m : Manager) (s : ManagerState (board_plans names)) → Represents names m s → (m.stage ≡ stage.AtEnd) ⊎ ((k : ℕ) × (why : Why) × (m.stage ≡ stage.AtHalt k why))
     → machine.undo_of (words_of names) s.machine ≡ Some (machine.enters (words_of names) (machine.undo_stage (words_of names) s.machine.undo) s.machine)
 undo_turn names m s shows (inl ended) =
     end_undoes names m.steps m.undo.requests m.replies s.machine s.machine.stage (subst (λ (r : Stage). IsStage names m.steps m.undo.requests m.replies r s.machine.stage) ended shows.stage)

@@ -16,13 +16,13 @@ use Rattle.model_ports.specs.Values.{Value, Asks, Tells, Part, IsFrameOn}
 use Rattle.model_lab.specs.ManagerSteps.{ManagerState, board_plans, rests, manager_hears}
 use Rattle.undo_core.specs.declared.manager.Manager.{Manager}
 use Rattle.undo_core.specs.declared.sending.Sent.{Sent}
-use Rattle.undo_core.specs.Shown.{Does}
-use Rattle.undo_core.specs.Course.{Hears, Comes}
+use Rattle.undo_core.specs.Shown.{IsStepResult}
+use Rattle.undo_core.specs.Course.{Hears, InputResult}
 use Rattle.undo_core.proofs.Exchange.{one_value}
 
 module _ (names : Names) (s : ManagerState (board_plans names)) (m : Manager) (sent : Option Sent) where
   -- of a value's frame
-  pub value_comes : (on : Bus) (bytes : List ℕ) (v : Value) → IsFrameOn on v bytes → Does names m sent (manager_hears (board_plans names) v s) → Comes names (Hears on bytes) s m sent
+  pub value_comes : (on : Bus) (bytes : List ℕ) (v : Value) → IsFrameOn on v bytes → IsStepResult names m sent (manager_hears (board_plans names) v s) → InputResult names (Hears on bytes) s m sent
   value_comes on bytes v is does = record {
     deed = manager_hears (board_plans names) v s;
     is = record {
@@ -33,7 +33,7 @@ module _ (names : Names) (s : ManagerState (board_plans names)) (m : Manager) (s
   }
 
   -- of bytes that are no frame
-  pub nothing_comes : (on : Bus) (bytes : List ℕ) → ((v : Value) → ¬ IsFrameOn on v bytes) → Does names m sent (rests (board_plans names) s) → Comes names (Hears on bytes) s m sent
+  pub nothing_comes : (on : Bus) (bytes : List ℕ) → ((v : Value) → ¬ IsFrameOn on v bytes) → IsStepResult names m sent (rests (board_plans names) s) → InputResult names (Hears on bytes) s m sent
   nothing_comes on bytes none does = record {
     deed = rests (board_plans names) s;
     is = record { frame = λ v is. absurd (none v is); none = λ _. refl };
@@ -48,14 +48,14 @@ module _ (names : Names) (s : ManagerState (board_plans names)) (m : Manager) (s
 
   -- of bytes on IPMB that are read as no response
   pub no_response_comes : (bytes : List ℕ) (read : Result Msg FrameFault) → IfOk read (λ message. IsMessage message bytes) → ((message : Msg) → IsMessage message bytes → read ≡ Ok message)
-      → ((r : Response) → read ≡ Ok (msg.Response r) → ⊥) → Does names m sent (rests (board_plans names) s) → Comes names (Hears Ipmb bytes) s m sent
+      → ((r : Response) → read ≡ Ok (msg.Response r) → ⊥) → IsStepResult names m sent (rests (board_plans names) s) → InputResult names (Hears Ipmb bytes) s m sent
   no_response_comes bytes (Ok (msg.Request r)) is whole other does = value_comes Ipmb bytes (Asks r) is does
   no_response_comes bytes (Ok (msg.Response r)) is whole other does = absurd (other r refl)
   no_response_comes bytes (Err fault) is whole other does = nothing_comes Ipmb bytes (no_message bytes fault whole) does
 
   -- of bytes on SMBus that are read as no packet
-  pub no_packet_comes : (bytes : List ℕ) (fault : PacketFault) → ((p : Packet) → IsPacket p bytes → Err fault ≡ Ok p) → Does names m sent (rests (board_plans names) s)
-      → Comes names (Hears Smbus bytes) s m sent
+  pub no_packet_comes : (bytes : List ℕ) (fault : PacketFault) → ((p : Packet) → IsPacket p bytes → Err fault ≡ Ok p) → IsStepResult names m sent (rests (board_plans names) s)
+      → InputResult names (Hears Smbus bytes) s m sent
   no_packet_comes bytes fault whole does = nothing_comes Smbus bytes none does
     where
       none : (v : Value) → ¬ IsFrameOn Smbus v bytes

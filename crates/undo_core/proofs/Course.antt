@@ -33,9 +33,9 @@ use Rattle.model_ports.specs.Bytes.{response_bytes}
 use Rattle.model_ports.specs.Values.{Value, Asks, Tells, Part, written, IsFrameOn}
 use Rattle.model_undo.specs.declared.call.Call.{Call}
 use Rattle.model_undo.specs.declared.call.Call.TheVariants.{Start, Quiet, Stop, Again, Undo}
-use Rattle.model_lab.specs.ManagerSteps.{ManagerState, ManagerDeed, board_plans, values_of, called, goes_on, sent_of, rests, is_answer, is_part, heeded_on, open_count, open_bytes, taken_or, tested, hears_reply, hears_response, ends_reply, joins, joins_for, hears_packet, manager_hears}
+use Rattle.model_lab.specs.ManagerSteps.{ManagerState, ManagerStepResult, board_plans, values_of, called, goes_on, sent_of, rests, is_answer, is_part, heeded_on, open_count, open_bytes, taken_or, tested, hears_reply, hears_response, ends_reply, joins, joins_for, hears_packet, manager_hears}
 use Rattle.undo_core.specs.Shown.{words_of}
-use Rattle.undo_core.specs.Course.{Input, Calls, Hears, HasBytes, Frames, Seen, HearsBytes, or_rests, IsDeed, frames_of, seen_of, Course, resumes, GoesOnOverFrames}
+use Rattle.undo_core.specs.Course.{Input, Calls, Hears, HasBytes, Frames, SeenStep, HearsBytes, or_rests, IsDeed, frames_of, seen_of, Course, resumes, GoesOnOverFrames}
 use Rattle.undo_core.proofs.Exchange.{one_value}
 
 -- ---- bytes are a frame or none
@@ -76,7 +76,7 @@ module _ (names : Names) where
   State = ManagerState (board_plans names)
 
   abbrev Deed : Type 0
-  Deed = ManagerDeed (board_plans names)
+  Deed = ManagerStepResult (board_plans names)
 
   -- ---- of each manager one thing is seen
 
@@ -103,14 +103,14 @@ module _ (names : Names) where
   one_deed (Calls call) s d e small a b = a ∙ sym b
   one_deed (Hears on bytes) s d e small a b = heard_once on bytes s d e (value_or_none on bytes small) a b
 
-  some_course : (inputs : List Input) (s : State) → All HasBytes inputs → (seen : List Seen) × Course names inputs s seen
+  some_course : (inputs : List Input) (s : State) → All HasBytes inputs → (seen : List SeenStep) × Course names inputs s seen
   some_course [] s small = ([], tt)
   some_course (i ∷ is) s small =
       let deed = given i s (All-head HasBytes i is small) in
       let rest = some_course is deed.0.manager (All-tail HasBytes i is small) in
       (seen_of names deed.0 ∷ rest.0, (deed.0, deed.1, refl, rest.1))
 
-  one_course : (inputs : List Input) (s : State) → All HasBytes inputs → (a b : List Seen) → Course names inputs s a → Course names inputs s b → a ≡ b
+  one_course : (inputs : List Input) (s : State) → All HasBytes inputs → (a b : List SeenStep) → Course names inputs s a → Course names inputs s b → a ≡ b
   one_course [] s small [] [] x y = refl
   one_course [] s small [] (o ∷ os) x y = absurd y
   one_course [] s small (o ∷ os) b x y = absurd x
@@ -302,7 +302,7 @@ module _ (names : Names) where
       subst (λ (x : State). (e : Deed) × IsDeed names i x e × AreAlikeDeeds d e) (sym (as_other s t alike))
       (input_alike s alike.machines.rest alike.machines.past alike.machines.numbers i small d is)
 
-  same_course : (inputs : List Input) (s t : State) → AreAlikeStates s t → All HasBytes inputs → (seen : List Seen) → Course names inputs s seen → Course names inputs t seen
+  same_course : (inputs : List Input) (s t : State) → AreAlikeStates s t → All HasBytes inputs → (seen : List SeenStep) → Course names inputs s seen → Course names inputs t seen
   same_course [] s t alike small [] course = tt
   same_course [] s t alike small (o ∷ os) course = absurd course
   same_course (i ∷ is) s t alike small [] course = absurd course
@@ -328,7 +328,7 @@ module _ (names : Names) where
       begins_alike s (machine_turn (words_of names) (Called Undo) s.machine) (machine_turn (words_of names) (Called Undo) n) (over_alike (words_of names) s.machine.stage s.machine over)
       (sends_on_bus (words_of names) (Called Undo) s.machine) (_, refl)
 
-  from_undo : (s : State) → IsOver (words_of names) (phase_of (words_of names) s.machine) → (inputs : List Input) → All HasBytes inputs → (seen : List Seen)
+  from_undo : (s : State) → IsOver (words_of names) (phase_of (words_of names) s.machine) → (inputs : List Input) → All HasBytes inputs → (seen : List SeenStep)
       → Course names (Calls Undo ∷ inputs) s seen → Course names (Calls Undo ∷ inputs) (resumes names s) seen
   from_undo s over inputs small [] course = absurd course
   from_undo s over inputs small (o ∷ os) (d, deed, o_is, rest) =

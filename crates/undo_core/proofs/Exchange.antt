@@ -19,7 +19,7 @@ use Rattle.mctp_net.specs.declared.taken.DropCause.{DropCause}
 use Rattle.mctp_net.specs.Grammar.{IsEnvelope}
 use Rattle.mctp_net.specs.Cut.{piece, IsPiece, EachFrom}
 use Rattle.mctp_net.specs.Control.{Request as ControlRequest, request_of as control_request_of}
-use Rattle.mctp_net.specs.Assembly.{Assemblies, name_of, is_ours, open_beside, drop_cause, after as kept_after, after_where, ended, kept_with, message_of, ComesBack, MakesWhole, IsTaken}
+use Rattle.mctp_net.specs.Assembly.{Assemblies, name_of, is_ours, open_beside, drop_cause, after as kept_after, after_where, ended, kept_with, message_of, ComesBack, MakesWhole, IsPieceTaken}
 use Rattle.mctp_net.proofs.PacketLaws.{packet-one}
 use Rattle.mctp_net.proofs.ComingBack.{cut-comes_back}
 use Rattle.mctp_net.proofs.Wholes.{whole-passes, whole-fits, whole-one}
@@ -38,8 +38,8 @@ use Rattle.model_ports.specs.Wires.{bus_of, bytes_of, reply_to, answered_from}
 use Rattle.model_ports.specs.Bytes.{response_bytes, response_to}
 use Rattle.model_ports.specs.Values.{Value, Asks, Tells, Part, written, parts_of, IsFrameOn}
 use Rattle.model_ports.specs.Cuts.{kept_after_parts, kept_with_parts, has_slot}
-use Rattle.model_ports.specs.PortSteps.{PortState, Deed, stays, hears_request, hears_control, hears_pldm, hears_typed, hears_message, hears_part, hears_parts, ends_message}
-use Rattle.model_lab.specs.ManagerSteps.{board_plans, ManagerState, ManagerDeed, heeded_on, open_count, open_bytes, is_part, rests, taken_or, tested, hears_reply, hears_response, joins_for, joins, ends_reply, hears_packet}
+use Rattle.model_ports.specs.PortSteps.{PortState, StepResult, stays, hears_request, hears_control, hears_pldm, hears_typed, hears_message, hears_part, hears_parts, ends_message}
+use Rattle.model_lab.specs.ManagerSteps.{board_plans, ManagerState, ManagerStepResult, heeded_on, open_count, open_bytes, is_part, rests, taken_or, tested, hears_reply, hears_response, joins_for, joins, ends_reply, hears_packet}
 use Rattle.model_ports.proofs.Parts.{parts_are_cuts, parts_are_heard}
 use Rattle.undo_core.specs.Shown.{words_of}
 use Rattle.undo_core.specs.Exchange.{AreReadAs, AreNames, CanBeAsked, CanBeTold, IsControllers, hears_each, reply_message, values_told, ManagerDeeds, sent_list, deeds_of, manager_hears_each, IsAwaiting, IsHeardAsAsked, RequestsAreHeard, IsTakenAsTold, RepliesAreTaken}
@@ -153,10 +153,10 @@ wire_part setup port before p = by (drop_cause port.eid port.kept p) where
   by (Some cause) = refl
   by None = wire_end setup (record port { kept = kept_after port.eid port.kept p }) before p p.end
 
-abbrev then_each : BoardFile → List Value → Deed → Deed
+abbrev then_each : BoardFile → List Value → StepResult → StepResult
 then_each setup vs first = let rest = hears_each setup first.port first.board vs in record { port = rest.port; board = rest.board; sent = first.sent ++ rest.sent }
 
-abbrev with_rest : Deed → Deed → Deed
+abbrev with_rest : StepResult → StepResult → StepResult
 with_rest first rest = record { port = rest.port; board = rest.board; sent = first.sent ++ rest.sent }
 
 each_part : (setup : BoardFile) (port : PortState) (before : State) (ps : List Packet) → All (λ p. p.envelope.destination ≡ port.wire) ps
@@ -211,7 +211,7 @@ request_message names count body = record {
 }
 
 -- what a port did and sent, where nothing else comes
-abbrev alone_deed : Deed → Deed
+abbrev alone_deed : StepResult → StepResult
 alone_deed d = record { port = d.port; board = d.board; sent = d.sent ++ [] }
 
 on_ipmb : (names : Names) (count from net_fn lun command : ℕ) (body : List ℕ) (setup : BoardFile) (port : PortState) (before : State) → AreNames names
@@ -236,9 +236,9 @@ on_ipmb names count from net_fn lun command body setup port before are can is =
         fits = can.3;
         spelled = refl;
       });
-      log = ap (λ (d : Deed). d.port.log) heard;
-      board = ap (λ (d : Deed). d.board) heard;
-      sent = λ a said_so. ap (λ (d : Deed). d.sent) heard ∙ ap (λ (bytes : List ℕ). Tells (response_to r (answered_from Ipmb bytes)) ∷ []) said_so;
+      log = ap (λ (d : StepResult). d.port.log) heard;
+      board = ap (λ (d : StepResult). d.board) heard;
+      sent = λ a said_so. ap (λ (d : StepResult). d.sent) heard ∙ ap (λ (bytes : List ℕ). Tells (response_to r (answered_from Ipmb bytes)) ∷ []) said_so;
     }
 
 request_read : (number kind command : ℕ) (body : List ℕ) → number < 32 → kind < 64 → length body ≤ 252
@@ -282,9 +282,9 @@ on_smbus names count from kind command body setup port before are can is =
     ∙ ap (hears_pldm setup kept before m) (request_read (count % 32) kind command body (instance_below count) can.0 can.1) in
     record {
       read = message_read m env some fits;
-      log = ap (λ (d : Deed). d.port.log) heard;
-      board = ap (λ (d : Deed). d.board) heard;
-      sent = λ a said_so. ap (λ (d : Deed). d.sent) heard
+      log = ap (λ (d : StepResult). d.port.log) heard;
+      board = ap (λ (d : StepResult). d.board) heard;
+      sent = λ a said_so. ap (λ (d : StepResult). d.sent) heard
           ∙ (λ i. map (λ (p : Packet). Part p) (parts_of (record {
             envelope = record {
               destination = names.own_wire;
@@ -332,7 +332,7 @@ module _ (names : Names) where
   abbrev after : ManagerState (board_plans names) → Packet → ManagerState (board_plans names)
   after m p = with_joined m (kept_after m.names.own_eid m.joined p)
 
-  waits : (m : ManagerState (board_plans names)) (p : Packet) → IsTaken m.names.own_eid m.joined p → joins (board_plans names) p m ≡ rests (board_plans names) (after m p)
+  waits : (m : ManagerState (board_plans names)) (p : Packet) → IsPieceTaken m.names.own_eid m.joined p → joins (board_plans names) p m ≡ rests (board_plans names) (after m p)
   waits m p is =
       ap (λ (c : Option DropCause). ends_reply (board_plans names) p c (after m p)) is.kept_on
       ∙ ap (λ (b : Bool). if b then hears_reply (board_plans names) Smbus (message_of (after m p).joined p).body (after m p) else rests (board_plans names) (after m p)) is.more
@@ -350,10 +350,10 @@ module _ (names : Names) where
       ∙ ap (λ (b : Bool). if b then hears_reply (board_plans names) Smbus (message_of (after m p).joined p).body (after m p) else rests (board_plans names) (after m p)) ends
       ∙ ap (λ (x : Message). hears_reply (board_plans names) Smbus x.body (after m p)) made
 
-  abbrev then_hears : List Value → ManagerDeed (board_plans names) → ManagerDeeds names
+  abbrev then_hears : List Value → ManagerStepResult (board_plans names) → ManagerDeeds names
   then_hears vs first = let rest = manager_hears_each names vs first.manager in record { manager = rest.manager; sent = sent_list first.sent ++ rest.sent }
 
-  last_one : (d : ManagerDeed (board_plans names)) → then_hears [] d ≡ deeds_of names d
+  last_one : (d : ManagerStepResult (board_plans names)) → then_hears [] d ≡ deeds_of names d
   last_one d = λ i. record { manager = d.manager; sent = no_more (sent_list d.sent) i }
 
   -- packets that come back bring their message

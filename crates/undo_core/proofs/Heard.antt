@@ -15,7 +15,7 @@ use Rattle.mctp_net.specs.declared.packet.Packet.{Packet}
 use Rattle.mctp_net.specs.declared.taken.DropCause.{DropCause}
 use Rattle.mctp_net.specs.declared.taken.Taken.{Taken}
 use Rattle.mctp_net.specs.declared.taken.Taken.TheVariants as taken
-use Rattle.mctp_net.specs.Assembly.{Assemblies, drop_cause, after as kept_after, message_of, IsTaken}
+use Rattle.mctp_net.specs.Assembly.{Assemblies, drop_cause, after as kept_after, message_of, IsPieceTaken}
 use Rattle.pldm_base.specs.declared.message.PldmReply.{PldmReply}
 use Rattle.pldm_base.specs.Message.{IsReply}
 use Rattle.undo_plans.specs.declared.names.Names.{Names}
@@ -33,7 +33,7 @@ use Rattle.undo_core.specs.declared.stage.Stage.{Stage}
 use Rattle.undo_core.specs.declared.stage.Stage.TheVariants as stage
 use Rattle.undo_core.specs.declared.manager.Manager.{Manager}
 use Rattle.undo_core.proofs.Replies.{own_bus}
-use Rattle.undo_core.specs.Shown.{words_of, own, IsStage, Shows, taken_if}
+use Rattle.undo_core.specs.Shown.{words_of, own, IsStage, Represents, taken_if}
 
 -- ---- the test on bytes, by fields
 
@@ -126,7 +126,7 @@ either false passes busy x r same = refl
 
 -- ---- a response
 
-pub heard_response : (names : Names) (m : Manager) (s : ManagerState (board_plans names)) (r : Response) (t : Task) (parts : ℕ) (asked : Asked) (passes : Bool) → Shows names m s
+pub heard_response : (names : Names) (m : Manager) (s : ManagerState (board_plans names)) (r : Response) (t : Task) (parts : ℕ) (asked : Asked) (passes : Bool) → Represents names m s
     → m.stage ≡ stage.Opened true t parts asked → bus_of asked ≡ Ipmb
     → ipmb_answers (bytes_of (m.counts.ipmb % 64) (own names asked)) (response_bytes r) ≡ (passes && not (is_busy_code r.code))
     → hears_response (board_plans names) r s ≡ taken_if names (is_answer m.names r && passes) (record { code = r.code; body = r.body }) s
@@ -165,7 +165,7 @@ none_stage names plan requests replies on r (machine.AtHalt k why) is other = re
 none_stage names plan requests replies on r machine.AtUndone is other = refl
 none_stage names plan requests replies on r (machine.AtRefused k code) is other = refl
 
-pub no_response : (names : Names) (m : Manager) (s : ManagerState (board_plans names)) (r : Response) → Shows names m s
+pub no_response : (names : Names) (m : Manager) (s : ManagerState (board_plans names)) (r : Response) → Represents names m s
     → ((k : Task) (parts : ℕ) (asked : Asked) → m.stage ≡ stage.Opened true k parts asked → bus_of asked ≡ Ipmb → ⊥) → hears_response (board_plans names) r s ≡ rests (board_plans names) s
 unfolding hears_response
 no_response names m s r shows other =
@@ -177,7 +177,7 @@ no_response names m s r shows other =
       at false = refl
 
 -- one from elsewhere is nothing
-pub other_response : (names : Names) (m : Manager) (s : ManagerState (board_plans names)) (r : Response) → Shows names m s → is_answer m.names r ≡ false
+pub other_response : (names : Names) (m : Manager) (s : ManagerState (board_plans names)) (r : Response) → Represents names m s → is_answer m.names r ≡ false
     → hears_response (board_plans names) r s ≡ rests (board_plans names) s
 unfolding hears_response
 other_response names m s r shows other =
@@ -187,13 +187,13 @@ other_response names m s r shows other =
 -- ---- a message
 
 -- no request is heeded
-pub no_message : (names : Names) (m : Manager) (s : ManagerState (board_plans names)) (bytes : List ℕ) → Shows names m s
+pub no_message : (names : Names) (m : Manager) (s : ManagerState (board_plans names)) (bytes : List ℕ) → Represents names m s
     → ((k : Task) (parts : ℕ) (asked : Asked) → m.stage ≡ stage.Opened true k parts asked → bus_of asked ≡ Smbus → ⊥) → hears_reply (board_plans names) Smbus bytes s ≡ rests (board_plans names) s
 no_message names m s bytes shows other =
     ap (tested (board_plans names) Smbus bytes s) (none_stage names m.steps m.undo.requests m.replies Smbus m.stage s.machine.stage shows.stage other)
 
 -- the open request is replied to, or not
-pub heard_message : (names : Names) (m : Manager) (s : ManagerState (board_plans names)) (bytes : List ℕ) (t : Task) (parts : ℕ) (asked : Asked) (passes : Bool) (a : Answered) → Shows names m s
+pub heard_message : (names : Names) (m : Manager) (s : ManagerState (board_plans names)) (bytes : List ℕ) (t : Task) (parts : ℕ) (asked : Asked) (passes : Bool) (a : Answered) → Represents names m s
     → m.stage ≡ stage.Opened true t parts asked → bus_of asked ≡ Smbus → answered_from Smbus bytes ≡ a
     → pldm_answers (bytes_of (m.counts.smbus % 32) (own names asked)) bytes ≡ (passes && not (is_busy_code a.code))
     → hears_reply (board_plans names) Smbus bytes s ≡ taken_if names passes a s
@@ -211,14 +211,14 @@ heard_message names m s bytes t parts asked passes a shows was goes says test =
 -- ---- a packet
 
 -- no request is heeded
-pub no_packet : (names : Names) (m : Manager) (s : ManagerState (board_plans names)) (p : Packet) → Shows names m s
+pub no_packet : (names : Names) (m : Manager) (s : ManagerState (board_plans names)) (p : Packet) → Represents names m s
     → ((k : Task) (parts : ℕ) (asked : Asked) → m.stage ≡ stage.Opened true k parts asked → bus_of asked ≡ Smbus → ⊥) → hears_packet (board_plans names) p s ≡ rests (board_plans names) s
 unfolding hears_packet
 no_packet names m s p shows other =
     ap (joins_for (board_plans names) p s) (none_stage names m.steps m.undo.requests m.replies Smbus m.stage s.machine.stage shows.stage other)
 
 -- one is heeded
-pub heard_packet : (names : Names) (m : Manager) (s : ManagerState (board_plans names)) (p : Packet) (t : Task) (parts : ℕ) (asked : Asked) → Shows names m s
+pub heard_packet : (names : Names) (m : Manager) (s : ManagerState (board_plans names)) (p : Packet) (t : Task) (parts : ℕ) (asked : Asked) → Represents names m s
     → m.stage ≡ stage.Opened true t parts asked → bus_of asked ≡ Smbus
     → hears_packet (board_plans names) p s ≡ (if is_part m.names m.counts.smbus p then joins (board_plans names) p s else rests (board_plans names) s)
 unfolding hears_packet
@@ -247,7 +247,7 @@ is_whole taken.Whole = true
 is_whole (taken.Dropped cause) = false
 
 -- a packet that makes a message whole is an end
-pub whole_ends : (own : ℕ) (a : Assemblies) (p : Packet) → drop_cause own a p ≡ None → (taken.Whole ≡ taken.Waiting) ↔ IsTaken own a p → p.end ≡ true
+pub whole_ends : (own : ℕ) (a : Assemblies) (p : Packet) → drop_cause own a p ≡ None → (taken.Whole ≡ taken.Waiting) ↔ IsPieceTaken own a p → p.end ≡ true
 unfolding is_whole
 whole_ends at a p none waits = elim (cases_Bool p.end) [
   | inl t ↦ t

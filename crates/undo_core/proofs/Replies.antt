@@ -26,7 +26,7 @@ use Rattle.undo_core.specs.declared.stage.Stage.TheVariants as stage
 use Rattle.undo_core.specs.declared.sending.Sent.{Sent}
 use Rattle.undo_core.specs.declared.manager.Manager.{Manager}
 use Rattle.undo_core.specs.Counted.{counts_of}
-use Rattle.undo_core.specs.Shown.{words_of, own, backs, IsTask, IsGot, IsStage, Shows, IsSent, Does}
+use Rattle.undo_core.specs.Shown.{words_of, own, backs, IsTask, IsGot, IsStage, Represents, IsSent, IsStepResult}
 use Rattle.undo_core.proofs.Backs.{backs_push, backs_take}
 use Rattle.undo_core.proofs.Going.{one_more, next_sent, more_stage, last_stage, refused_stage}
 use Rattle.undo_core.proofs.Calling.{enters_does}
@@ -133,10 +133,10 @@ pub record TookReply (names : Names) (a : Answered) (old new : Manager) (sent : 
       → IsSent sent (option_map (sent_of (board_plans names) names) (machine.sends_at (words_of names) at (counts_of new.counts)))
 
 -- the machine takes the reply likewise
-took_task : (names : Names) (s : ManagerState (board_plans names)) (a : Answered) (old new : Manager) (sent : Option Sent) (r : Task) (parts : ℕ) (asked : Asked) → Shows names old s
+took_task : (names : Names) (s : ManagerState (board_plans names)) (a : Answered) (old new : Manager) (sent : Option Sent) (r : Task) (parts : ℕ) (asked : Asked) → Represents names old s
     → TookReply names a old new sent r parts asked → (of : machine.Task (words_of names)) (part : machine.Part (words_of names)) → IsTask names old.steps old.undo.requests r of
     → length part.before ≡ parts → IsGot r old.replies part.before → own names asked ≡ part.asked
-    → Does names new sent (goes_on (board_plans names) s (machine.takes (words_of names) a of part s.machine))
+    → IsStepResult names new sent (goes_on (board_plans names) s (machine.takes (words_of names) a of part s.machine))
 took_task names s a old new sent r parts asked shows took of part is many got asks =
     let M = words_of names in
     let counted : machine.one_answered (machine.bus_at M part) s.machine.counts ≡ counts_of new.counts =
@@ -165,21 +165,21 @@ took_task names s a old new sent r parts asked shows took of part is many got as
     })
     (took.sends next (took.named ∙ shows.named) at)
 
-took_stage : (names : Names) (s : ManagerState (board_plans names)) (a : Answered) (old new : Manager) (sent : Option Sent) (r : Task) (parts : ℕ) (asked : Asked) → Shows names old s
+took_stage : (names : Names) (s : ManagerState (board_plans names)) (a : Answered) (old new : Manager) (sent : Option Sent) (r : Task) (parts : ℕ) (asked : Asked) → Represents names old s
     → TookReply names a old new sent r parts asked → (t : machine.Stage (words_of names)) → IsStage names old.steps old.undo.requests old.replies (stage.Opened true r parts asked) t
-    → Does names new sent (taken_or (board_plans names) s (machine.replies (words_of names) a t s.machine))
+    → IsStepResult names new sent (taken_or (board_plans names) s (machine.replies (words_of names) a t s.machine))
 took_stage names s a old new sent r parts asked shows took machine.AtStart is = absurd is
 took_stage names s a old new sent r parts asked shows took (machine.Opened heeds of part) is =
     let M = words_of names in
-    subst (λ (h : Bool). Does names new sent (taken_or (board_plans names) s (machine.replies M a (machine.Opened h of part) s.machine))) (sym is.0)
-    (subst (λ (b : Bool). Does names new sent (taken_or (board_plans names) s (if b then None else Some (machine.takes M a of part s.machine)))) (sym took.free)
+    subst (λ (h : Bool). IsStepResult names new sent (taken_or (board_plans names) s (machine.replies M a (machine.Opened h of part) s.machine))) (sym is.0)
+    (subst (λ (b : Bool). IsStepResult names new sent (taken_or (board_plans names) s (if b then None else Some (machine.takes M a of part s.machine)))) (sym took.free)
     (took_task names s a old new sent r parts asked shows took of part is.1 is.2 is.3 is.4))
 took_stage names s a old new sent r parts asked shows took machine.AtEnd is = absurd is
 took_stage names s a old new sent r parts asked shows took (machine.AtHalt k why) is = absurd is
 took_stage names s a old new sent r parts asked shows took machine.AtUndone is = absurd is
 took_stage names s a old new sent r parts asked shows took (machine.AtRefused k code) is = absurd is
 
-pub took_reply : (names : Names) (s : ManagerState (board_plans names)) (a : Answered) (old new : Manager) (sent : Option Sent) (r : Task) (parts : ℕ) (asked : Asked) → Shows names old s
-    → TookReply names a old new sent r parts asked → Does names new sent (taken_or (board_plans names) s (machine.reply_of (words_of names) a s.machine))
+pub took_reply : (names : Names) (s : ManagerState (board_plans names)) (a : Answered) (old new : Manager) (sent : Option Sent) (r : Task) (parts : ℕ) (asked : Asked) → Represents names old s
+    → TookReply names a old new sent r parts asked → IsStepResult names new sent (taken_or (board_plans names) s (machine.reply_of (words_of names) a s.machine))
 took_reply names s a old new sent r parts asked shows took =
     took_stage names s a old new sent r parts asked shows took s.machine.stage (subst (λ (x : Stage). IsStage names old.steps old.undo.requests old.replies x s.machine.stage) took.was shows.stage)

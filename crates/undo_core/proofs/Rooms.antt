@@ -14,7 +14,7 @@ use Rattle.effecter_recs.specs.Numeric.{value_bytes}
 use Rattle.bios_attr.specs.EntryParts.{first_request, request_at}
 use Rattle.record_kinds.specs.Limits.{set_asked, inverse}
 use Rattle.record_kinds.specs.Series.{set_whole}
-use Rattle.undo_plans.specs.Fitting.{data_of, from_nobody, Fits}
+use Rattle.undo_plans.specs.Fitting.{data_of, from_nobody, FitsMessages}
 use Rattle.undo_plans.specs.Requests.{RequestList}
 use Rattle.undo_plans.proofs.FirstRequest.{goes_alone}
 use Rattle.undo_core.specs.Room.{most_data, data_for, HasRoom}
@@ -44,7 +44,7 @@ two_each [] = refl
 two_each (change ∷ changes) = omega (arith, two_each changes)
 
 -- they are few but for an attribute
-pub short : (any : Op) → Fits (set_whole any) → length (data_of (set_whole any)) ≤ most_data any
+pub short : (any : Op) → FitsMessages (set_whole any) → length (data_of (set_whole any)) ≤ most_data any
 short (op.NumericEffecter own) fits = omega (arith, few_numbers own.value)
 short (op.StateEffecter own) fits = omega (arith, two_each own.changes, own.few)
 short (op.BiosAttribute own) fits = omega (arith, own.fits)
@@ -64,8 +64,8 @@ pub alone_whole : (any : Op) → request_at (set_whole any) 1 ≡ None → set_a
 alone_whole any alone = sym (begins_with any) ∙ goes_alone (set_whole any) alone
 
 -- so there is room for it
-pub alone_fits : (any : Op) (asked : Asked) → request_at (set_whole any) 1 ≡ None → asked ≡ set_asked any → Fits asked → length (data_of (set_whole any)) ≤ most_data any
-alone_fits any asked alone is fits = short any (subst Fits (is ∙ alone_whole any alone) fits)
+pub alone_fits : (any : Op) (asked : Asked) → request_at (set_whole any) 1 ≡ None → asked ≡ set_asked any → FitsMessages asked → length (data_of (set_whole any)) ≤ most_data any
+alone_fits any asked alone is fits = short any (subst FitsMessages (is ∙ alone_whole any alone) fits)
 
 -- ---- the room for steps
 

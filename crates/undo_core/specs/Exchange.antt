@@ -23,8 +23,8 @@ use Rattle.model_undo.specs.Wires.{number_of}
 use Rattle.model_ports.specs.Wires.{bus_of, bytes_of, reply_to}
 use Rattle.model_ports.specs.Bytes.{said}
 use Rattle.model_ports.specs.Values.{Value, Tells, Part, written, parts_of, IsFrameOn}
-use Rattle.model_ports.specs.PortSteps.{PortState, Turn, Deed, turn, spelled, stays, hears}
-use Rattle.model_lab.specs.ManagerSteps.{own_on, board_plans, values_of, Sent, ManagerState, ManagerDeed, heeded_on, open_count, taken_or, manager_hears}
+use Rattle.model_ports.specs.PortSteps.{PortState, Turn, StepResult, turn, spelled, stays, hears}
+use Rattle.model_lab.specs.ManagerSteps.{own_on, board_plans, values_of, Sent, ManagerState, ManagerStepResult, heeded_on, open_count, taken_or, manager_hears}
 use Rattle.model_lab.specs.ManagerEvents.{name_awaited}
 use Rattle.undo_core.specs.Shown.{words_of, own}
 
@@ -92,7 +92,7 @@ turn_at setup port before names count asked =
     turn (is_above (circle_of (bus_of asked))) r (spelled (bus_of asked) r) setup (own names asked) port.log before
 
 -- a port hears values, one after another
-abbrev pub hears_each : BoardFile → PortState → State → List Value → Deed
+abbrev pub hears_each : BoardFile → PortState → State → List Value → StepResult
 hears_each setup port before [] = stays port before
 hears_each setup port before (value ∷ values) =
     let first = hears setup port before value in
@@ -141,7 +141,7 @@ abbrev pub sent_list : Option Sent → List Sent
 sent_list None = []
 sent_list (Some sent) = sent ∷ []
 
-abbrev pub deeds_of : (names : Names) → ManagerDeed (board_plans names) → ManagerDeeds names
+abbrev pub deeds_of : (names : Names) → ManagerStepResult (board_plans names) → ManagerDeeds names
 deeds_of names deed = record { manager = deed.manager; sent = sent_list deed.sent }
 
 -- a manager hears values, one after another

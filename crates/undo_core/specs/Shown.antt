@@ -30,7 +30,7 @@ use Rattle.model_ports.specs.Bytes.{response_bytes}
 use Rattle.model_ports.specs.Wires.{bus_of, bytes_of, answered_from}
 use Rattle.model_ports.specs.Values.{written, IsFrameOn}
 use Rattle.model_undo.specs.declared.call.Call.{Call}
-use Rattle.model_lab.specs.ManagerSteps.{addresses, board_plans, Sent as AllSent, ManagerState, ManagerDeed, sent_of, called, remade, rests, taken_or, hears_reply, hears_response, hears_packet, joins}
+use Rattle.model_lab.specs.ManagerSteps.{addresses, board_plans, Sent as AllSent, ManagerState, ManagerStepResult, sent_of, called, remade, rests, taken_or, hears_reply, hears_response, hears_packet, joins}
 use Rattle.undo_core.specs.declared.entering.Reply.{Reply}
 use Rattle.undo_core.specs.declared.stage.Task.{Task}
 use Rattle.undo_core.specs.declared.stage.Task.TheVariants as task
@@ -95,7 +95,7 @@ abbrev pub ForStage : Stage → ((names : Names) → machine.Stage (words_of nam
 ForStage stage Holds = (names : Names) (plan : List Op) (requests : RequestList) (replies : List ℕ) (at : machine.Stage (words_of names)) → IsStage names plan requests replies stage at → Holds names at
 
 -- the manager shows this machine, and these packets wait at it
-pub record Shows (names : Names) (manager : Manager) (state : ManagerState (board_plans names)) : Type 0 where
+pub record Represents (names : Names) (manager : Manager) (state : ManagerState (board_plans names)) : Type 0 where
   pub named : manager.names ≡ names
   pub is_named : state.names ≡ names
   pub listed : state.listed ≡ manager.undo.names
@@ -139,37 +139,37 @@ IsSent None None = Unit {0}
 IsSent _ _ = ⊥
 
 -- the manager then shows the deed's manager, and sends what the deed sends
-abbrev pub Does : (names : Names) → Manager → Option Sent → ManagerDeed (board_plans names) → Type 0
-Does names manager sent deed = Shows names manager deed.manager × IsSent sent deed.sent
+abbrev pub IsStepResult : (names : Names) → Manager → Option Sent → ManagerStepResult (board_plans names) → Type 0
+IsStepResult names manager sent deed = Represents names manager deed.manager × IsSent sent deed.sent
 
 -- this holds of each machine that the manager shows
-abbrev pub ForShown : Manager → ((names : Names) → ManagerState (board_plans names) → Type 0) → Type 0
-ForShown manager Holds = (names : Names) (state : ManagerState (board_plans names)) → Shows names manager state → Holds names state
+abbrev pub ForRepresented : Manager → ((names : Names) → ManagerState (board_plans names) → Type 0) → Type 0
+ForRepresented manager Holds = (names : Names) (state : ManagerState (board_plans names)) → Represents names manager state → Holds names state
 
 -- Whatever machine the manager showed, it then shows the deed's manager, and sends what the deed sends.
-abbrev pub DoesAs : ((names : Names) → ManagerState (board_plans names) → ManagerDeed (board_plans names)) → Manager → Manager → Option Sent → Type 0
-DoesAs deed old new sent = ForShown old (λ names s. Does names new sent (deed names s))
+abbrev pub DoesAs : ((names : Names) → ManagerState (board_plans names) → ManagerStepResult (board_plans names)) → Manager → Manager → Option Sent → Type 0
+DoesAs deed old new sent = ForRepresented old (λ names s. IsStepResult names new sent (deed names s))
 
 -- a call has the effect of the deed; where there is no deed, the call is refused and changes nothing
-abbrev pub IsCalled : (names : Names) → ManagerState (board_plans names) → Manager → Result (Option Sent) WrongPhase → Option (ManagerDeed (board_plans names)) → Type 0
-IsCalled names before manager (Ok sent) (Some deed) = Does names manager sent deed
-IsCalled names before manager (Err wrong) None = Shows names manager before
+abbrev pub IsCalled : (names : Names) → ManagerState (board_plans names) → Manager → Result (Option Sent) WrongPhase → Option (ManagerStepResult (board_plans names)) → Type 0
+IsCalled names before manager (Ok sent) (Some deed) = IsStepResult names manager sent deed
+IsCalled names before manager (Err wrong) None = Represents names manager before
 IsCalled names before manager _ _ = ⊥
 
 -- whatever machine the manager showed, the call is the machine's
-abbrev pub Calls : Call → Manager → Manager → Result (Option Sent) WrongPhase → Type 0
-Calls call old new result = ForShown old (λ names s. IsCalled names s new result (called (board_plans names) call s))
+abbrev pub CallStep : Call → Manager → Manager → Result (Option Sent) WrongPhase → Type 0
+CallStep call old new result = ForRepresented old (λ names s. IsCalled names s new result (called (board_plans names) call s))
 
 -- whatever machine the manager showed, it then shows that of a manager that is made again
 abbrev pub IsRemade : Manager → Manager → Type 0
-IsRemade old new = ForShown old (λ names s. Shows names new (remade (board_plans names) s))
+IsRemade old new = ForRepresented old (λ names s. Represents names new (remade (board_plans names) s))
 
 -- whatever machine the manager showed, it takes a reply that passed the test as the machine takes the reply
-abbrev pub Takes : Answered → Manager → Manager → Option Sent → Type 0
-Takes answered = DoesAs (λ names s. taken_or (board_plans names) s (reply_of (words_of names) answered s.machine))
+abbrev pub AcceptsReply : Answered → Manager → Manager → Option Sent → Type 0
+AcceptsReply answered = DoesAs (λ names s. taken_or (board_plans names) s (reply_of (words_of names) answered s.machine))
 
 -- the manager takes the controller's reply where the reply passed the test against the open request
-abbrev pub taken_if : (names : Names) → Bool → Answered → ManagerState (board_plans names) → ManagerDeed (board_plans names)
+abbrev pub taken_if : (names : Names) → Bool → Answered → ManagerState (board_plans names) → ManagerStepResult (board_plans names)
 taken_if names passes answered state = if passes then taken_or (board_plans names) state (reply_of (words_of names) answered state.machine) else rests (board_plans names) state
 
 -- whatever stage of the machine the manager is at, the manager sends what the machine sends as it enters that stage
@@ -210,12 +210,12 @@ pub record IsReplyTo (asked : Asked) (instance : ℕ) (message : List ℕ) (repl
 
 -- whatever machine the manager shows, the machine takes the response where it passed the test
 abbrev pub IsTakenIf : Bool → Response → Manager → Type 0
-IsTakenIf passes response manager = ForShown manager (λ names s. hears_response (board_plans names) response s ≡ taken_if names passes (answered_by response) s)
+IsTakenIf passes response manager = ForRepresented manager (λ names s. hears_response (board_plans names) response s ≡ taken_if names passes (answered_by response) s)
 
 -- whatever machine the manager shows, the packet joins those that wait where it passed the test
 abbrev pub IsJoinedIf : Bool → Packet → Manager → Type 0
 IsJoinedIf passes packet manager =
-    ForShown manager (λ names s. hears_packet (board_plans names) packet s ≡ (if passes then joins (board_plans names) packet s else rests (board_plans names) s))
+    ForRepresented manager (λ names s. hears_packet (board_plans names) packet s ≡ (if passes then joins (board_plans names) packet s else rests (board_plans names) s))
 
 -- whatever machine the manager showed, it hears the response, the packet or the message as the machine does
 abbrev pub HearsResponse : Response → Manager → Manager → Option Sent → Type 0

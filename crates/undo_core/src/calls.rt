@@ -1,6 +1,6 @@
 //! The calls of a manager.
 ghost use Rattle.model_undo.specs.declared.call.Call.TheVariants.{Start, Quiet, Stop, Again, Undo};
-ghost use Rattle.undo_core.specs.Shown.{Calls};
+ghost use Rattle.undo_core.specs.Shown.{CallStep};
 
 use crate::entering::{step_stage, undo_stage};
 use crate::manager::Manager;
@@ -11,7 +11,7 @@ use crate::{Phase, WrongPhase};
 impl Manager {
     /// Begins the plan.
     pub fn start(&mut self) -> Result<Option<Sent>, WrongPhase>
-        ensures { Calls Start self.old self.new result }
+        ensures { CallStep Start self.old self.new result }
     {
         let Stage::AtStart = self.stage else {
             return Err(WrongPhase);
@@ -23,7 +23,7 @@ impl Manager {
 
     /// No reply came: sends the open request's frames again, or leaves it unsettled where that was done as often as it may be.
     pub fn quiet(&mut self) -> Result<Option<Sent>, WrongPhase>
-        ensures { Calls Quiet self.old self.new result }
+        ensures { CallStep Quiet self.old self.new result }
     {
         let Stage::Opened { heeded, .. } = &mut self.stage else {
             return Err(WrongPhase);
@@ -41,7 +41,7 @@ impl Manager {
 
     /// Halts the plan before the next Set.
     pub fn stop(&mut self) -> Result<Option<Sent>, WrongPhase>
-        ensures { Calls Stop self.old self.new result }
+        ensures { CallStep Stop self.old self.new result }
     {
         match self.stage.phase() {
             Phase::Getting(_) | Phase::Setting(_) => {
@@ -54,7 +54,7 @@ impl Manager {
 
     /// Sends the unsettled request again, and heeds it again.
     pub fn again(&mut self) -> Result<Option<Sent>, WrongPhase>
-        ensures { Calls Again self.old self.new result }
+        ensures { CallStep Again self.old self.new result }
     {
         let Stage::Opened { heeded, .. } = &mut self.stage else {
             return Err(WrongPhase);
@@ -69,7 +69,7 @@ impl Manager {
 
     /// Begins the undo, once the plan ended or halted.
     pub fn undo(&mut self) -> Result<Option<Sent>, WrongPhase>
-        ensures { Calls Undo self.old self.new result }
+        ensures { CallStep Undo self.old self.new result }
     {
         if !self.stage.is_over() {
             return Err(WrongPhase);

@@ -1,9 +1,9 @@
 //! Frames that come to a manager.
 ghost use Rattle.std.specs.Prelude.{◌≡◌, ◌≤◌, length, None, IfSome, false};
 ghost use Rattle.two_wire.specs.Sizes.{most_message_bytes};
-ghost use Rattle.undo_core.specs.Shown.{Takes, answered_in, TellsButForBusy, TellsMessage, IsReplyTo, IsTakenIf, IsJoinedIf, HearsResponse, HearsPacket, HearsMessage, HearsResponseIn, HearsPacketIn, StaysSilent, IsNoResponse, IsNoPacket, is_header_of as is_header};
+ghost use Rattle.undo_core.specs.Shown.{AcceptsReply, answered_in, TellsButForBusy, TellsMessage, IsReplyTo, IsTakenIf, IsJoinedIf, HearsResponse, HearsPacket, HearsMessage, HearsResponseIn, HearsPacketIn, StaysSilent, IsNoResponse, IsNoPacket, is_header_of as is_header};
 ghost use Rattle.model_undo.specs.Words.{is_busy as is_busy_code};
-ghost use Rattle.undo_core.specs.Course.{Hears, ComesOf};
+ghost use Rattle.undo_core.specs.Course.{Hears, InputStep};
 ghost use Rattle.two_wire.specs.declared.Bus.TheVariants.{Ipmb as IsIpmb, Smbus as IsSmbus};
 ghost use Rattle.model_lab.specs.ManagerSteps.{is_answer as is_answer_of, is_part as is_part_of};
 
@@ -27,7 +27,7 @@ impl Manager {
         ensures response { bus ≡ IsIpmb → HearsResponseIn bytes.now self.old self.new result }
         ensures packet { bus ≡ IsSmbus → HearsPacketIn bytes.now self.old self.new result }
         // Of all bytes one thing comes: of a frame what comes of its value, and of others nothing.
-        ensures heard { ComesOf (Hears bus bytes.now) self.old self.new result }
+        ensures heard { InputStep (Hears bus bytes.now) self.old self.new result }
         // Nothing else changes the manager, and it sends nothing then.
         ensures no_response { bus ≡ IsIpmb → IsNoResponse bytes.now
             → StaysSilent self.old self.new result }
@@ -130,7 +130,7 @@ impl Manager {
 
     /// Takes the reply to the open request. The codes of a busy controller count as none.
     fn on_reply(&mut self, reply: Reply<'_>) -> Option<Sent>
-        ensures { Takes (answered_in reply.entry) self.old self.new result }
+        ensures { AcceptsReply (answered_in reply.entry) self.old self.new result }
     {
         if is_busy(reply.code) {
             return None;

@@ -2,7 +2,7 @@
 ghost use Rattle.std.specs.Prelude.{◌≡◌, ◌+◌, ◌<◌, ◌≤◌, suc, length, Some};
 ghost use Rattle.record_kinds.specs.Limits.{set_asked};
 ghost use Rattle.record_kinds.specs.Series.{set_whole};
-ghost use Rattle.undo_plans.specs.Fitting.{data_of, from_nobody, Fits};
+ghost use Rattle.undo_plans.specs.Fitting.{data_of, from_nobody, FitsMessages};
 ghost use Rattle.undo_plans.specs.Steps.{most_steps};
 ghost use Rattle.undo_core.specs.Room.{most_data, HasShortValue};
 
@@ -28,13 +28,13 @@ pub(crate) fn prepare_set(requests: &mut Requests, op: &Op<'_>)
     }
 }
 
-/// The same for an operation whose request goes in parts. This is the first of them.
+/// Makes ready the Set of an operation whose request goes in parts, of which the first is given.
 fn prepare_whole(requests: &mut Requests, op: &Op<'_>, first: &Asked)
     requires few { length requests.old.members < most_steps }
     requires place { 0 < requests.old.places }
     requires room { length (data_of (set_whole op.now)) ≤ requests.old.room }
     requires first { first.now ≡ set_asked op.now }
-    requires fits { Fits (set_whole op.now) }
+    requires fits { FitsMessages (set_whole op.now) }
     ensures members { requests.new.members ≡ requests.old.members }
     ensures waiting { requests.new.waiting ≡ Some (from_nobody (set_whole op.now)) }
     ensures places { requests.old.places ≤ suc requests.new.places }

@@ -37,7 +37,7 @@ pub struct Manager {
     pub(crate) retries: Retries,
     pub(crate) names: Names,
     pub(crate) stage: Stage,
-    /// It is to stop before the next step, or before the Set of this one.
+    /// The manager is to stop before the next step, or before the Set of this one.
     pub(crate) stopped: bool,
     /// How often the open request's frames were sent again, since it was opened or heeded again.
     pub(crate) resent: u8,

@@ -1,7 +1,7 @@
 //! How a manager begins.
 ghost use Rattle.std.specs.Prelude.{◌≡◌, ◌<◌, ◌≤◌, ◌↔◌, IfOk, SomeIff, true, Err};
 ghost use Rattle.two_wire.specs.Retries.{most_retries};
-ghost use Rattle.undo_core.specs.Shown.{AreOthers, IsForOthers, Shows, opened_with, resumed_from};
+ghost use Rattle.undo_core.specs.Shown.{AreOthers, IsForOthers, Represents, opened_with, resumed_from};
 
 use crate::Why;
 use crate::joining::JoinedReplies;
@@ -19,7 +19,7 @@ impl Manager {
     pub fn open(alloc: Global, plan: Plan, names: Names, retries: u8) -> Result<Self, OpenFault>
         ensures refused { (result ≡ Err OpenFault.Retries) ↔ (most_retries < retries) }
         ensures opened { IfOk result (λ m.
-            Shows names m (opened_with names plan.steps retries)) }
+            Represents names m (opened_with names plan.steps retries)) }
     {
         let next = NextNumbers {
             ipmb: Below::new(0),
@@ -67,7 +67,7 @@ impl Manager {
         ensures refused { (result ≡ Err ResumeFault.Retries) ↔ (most_retries < retries) }
         ensures others { (result ≡ Err ResumeFault.OtherNames)
             ↔ IsForOthers undo.names names retries }
-        ensures resumed { IfOk result (λ m. Shows names m (resumed_from names undo retries)) }
+        ensures resumed { IfOk result (λ m. Represents names m (resumed_from names undo retries)) }
     {
         let Some(retries) = retries_of(retries) else {
             return Err(ResumeFault::Retries);

@@ -2,7 +2,7 @@
 ghost use Rattle.std.specs.Prelude.{◌≡◌};
 ghost use Rattle.model_undo.specs.Machine as machine;
 ghost use Rattle.model_lab.specs.Faults.{begun_on};
-ghost use Rattle.undo_core.specs.Shown.{words_of, IsListOf, ForShown, SendsOpen};
+ghost use Rattle.undo_core.specs.Shown.{words_of, IsListOf, ForRepresented, SendsOpen};
 
 use crate::Phase;
 use crate::manager::Manager;
@@ -13,7 +13,7 @@ use undo_plans::UndoList;
 impl Manager {
     /// The phase.
     pub fn phase(&self) -> Phase
-        ensures { ForShown self.now (λ names s.
+        ensures { ForRepresented self.now (λ names s.
             result ≡ machine.phase_of (words_of names) s.machine) }
     {
         self.stage.phase()
@@ -21,7 +21,7 @@ impl Manager {
 
     /// The bus on which a request is open, also one that isn't heeded.
     pub fn open_bus(&self) -> Option<Bus>
-        ensures { ForShown self.now (λ names s.
+        ensures { ForRepresented self.now (λ names s.
             result ≡ machine.open_bus (words_of names) s.machine) }
     {
         match self.stage.open() {
@@ -32,7 +32,7 @@ impl Manager {
 
     /// How many requests it began on a bus: those that were answered, and the open one.
     pub fn begun(&self, bus: Bus) -> usize
-        ensures { ForShown self.now (λ names s.
+        ensures { ForRepresented self.now (λ names s.
             result ≡ begun_on (words_of names) bus s.machine) }
     {
         let answered = match bus {
@@ -48,7 +48,7 @@ impl Manager {
 
     /// How often the open request's frames were sent again, since it was opened or heeded again.
     pub fn resent(&self) -> u8
-        ensures { ForShown self.now (λ names s. result ≡ s.machine.resent) }
+        ensures { ForRepresented self.now (λ names s. result ≡ s.machine.resent) }
     {
         self.resent
     }
@@ -56,7 +56,7 @@ impl Manager {
     /// The requests that undo the steps that were done, the numbers of the next requests, and the names: those of the manager, or, where the manager
     /// went on from a list, those of that list.
     pub fn undo_list(&self) -> &UndoList
-        ensures { ForShown self.now (λ names s. IsListOf names result.now s) }
+        ensures { ForRepresented self.now (λ names s. IsListOf names result.now s) }
     {
         &self.undo
     }

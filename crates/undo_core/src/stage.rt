@@ -14,11 +14,11 @@ use two_wire::{Bus, Code};
 /// One step of the way there or back.
 #[derive(Clone, Copy)]
 pub enum Task {
-    /// It gets the record that the step changes.
+    /// The manager gets the record that the step changes.
     Gets(usize),
-    /// It carries the step out. The request that undoes it waits.
+    /// The manager carries the step out. The request that undoes it waits.
     Sets(usize),
-    /// It undoes the step.
+    /// The manager undoes the step.
     Undoes(usize),
 }
 

@@ -16,9 +16,9 @@ use Rattle.record_base.specs.declared.state_effecter.SetStateEffecter.{SetStateE
 use Rattle.record_base.specs.declared.bios_attribute.SetBiosAttribute.{SetBiosAttribute}
 use Rattle.record_base.specs.BiosAttribute.{setting}
 use Rattle.record_base.specs.BiosAttributeLaws.{few_sent, same_setting, sent_whole}
-use Rattle.undo_plans.specs.declared.kept.Kept.{Kept}
-use Rattle.undo_plans.specs.declared.kept.Kept.TheVariants as kept
-use Rattle.undo_plans.specs.Kept.{value_of, IsAmong, kept_op, Keeps}
+use Rattle.undo_plans.specs.declared.owned_op.OwnedOp.{OwnedOp}
+use Rattle.undo_plans.specs.declared.owned_op.OwnedOp.TheVariants as kept
+use Rattle.undo_plans.specs.Kept.{value_of, IsAmong, kept_op, KeepsOp}
 
 -- bytes among others stay where they are, with more behind the others
 same_bytes : (values more : List ℕ) (from count : ℕ) → from + count ≤ length values → take count (drop from (values ++ more)) ≡ take count (drop from values)
@@ -26,18 +26,18 @@ same_bytes values more from count within =
     ap (take count) (drop-append-le from values more (omega (arith, within)))
     ∙ take-append-le count (drop from values) more (omega (arith, within, length-drop from values))
 
-same_op : (values more : List ℕ) (any : Kept) → IsAmong values any → kept_op (values ++ more) any ≡ kept_op values any
+same_op : (values more : List ℕ) (any : OwnedOp) → IsAmong values any → kept_op (values ++ more) any ≡ kept_op values any
 same_op values more (kept.BiosAttribute set) within =
     ap (λ (bytes : List ℕ). op.BiosAttribute (setting set.attribute set.attribute_type bytes)) (same_bytes values more set.from set.count within)
 same_op values more _ within = refl
 
-first_of : (values : List ℕ) (any : Kept) (others : List Kept) → All (IsAmong values) (any ∷ others) → IsAmong values any
+first_of : (values : List ℕ) (any : OwnedOp) (others : List OwnedOp) → All (IsAmong values) (any ∷ others) → IsAmong values any
 first_of values any others all = all 0 any (omega arith)
 
-rest_of : (values : List ℕ) (any : Kept) (others : List Kept) → All (IsAmong values) (any ∷ others) → All (IsAmong values) others
+rest_of : (values : List ℕ) (any : OwnedOp) (others : List OwnedOp) → All (IsAmong values) (any ∷ others) → All (IsAmong values) others
 rest_of values any others all k d below = all (suc k) d (omega (arith, below))
 
-same_ops : (values more : List ℕ) (ops : List Kept) → All (IsAmong values) ops → map (kept_op (values ++ more)) ops ≡ map (kept_op values) ops
+same_ops : (values more : List ℕ) (ops : List OwnedOp) → All (IsAmong values) ops → map (kept_op (values ++ more)) ops ≡ map (kept_op values) ops
 same_ops values more [] all = refl
 same_ops values more (any ∷ others) all =
     let here = same_op values more any (first_of values any others all) in
@@ -45,7 +45,7 @@ same_ops values more (any ∷ others) all =
     λ i. here i ∷ there i
 
 -- how an operation on an attribute is kept, where a value of so many bytes lies from this place on
-abbrev kept_from : ℕ → ℕ → SetBiosAttribute → Kept
+abbrev kept_from : ℕ → ℕ → SetBiosAttribute → OwnedOp
 kept_from from count set = kept.BiosAttribute (record { attribute = set.attribute; attribute_type = set.attribute_type; from = from; count = count })
 
 given_again : (values : List ℕ) (set : SetBiosAttribute) → kept_op (values ++ set.value) (kept_from (length values) (length set.value) set) ≡ op.BiosAttribute set
@@ -55,7 +55,7 @@ given_again values set =
     ap (λ (bytes : List ℕ). op.BiosAttribute (setting set.attribute set.attribute_type bytes)) there
     ∙ ap op.BiosAttribute (same_setting set.attribute set.attribute_type _ set.value (few_sent set.value) set.fits (sent_whole set.value set.fits))
 
-set_kept : (from : ℕ) (set : SetBiosAttribute) → Keeps from (op.BiosAttribute set) (kept_from from (length set.value) set)
+set_kept : (from : ℕ) (set : SetBiosAttribute) → KeepsOp from (op.BiosAttribute set) (kept_from from (length set.value) set)
 set_kept from set values long =
     let within : length values + length set.value ≤ length (values ++ set.value) = omega (arith, length-append values set.value) in
     subst
@@ -63,24 +63,24 @@ set_kept from set values long =
     long (within, given_again values set)
 
 -- an operation on an attribute is kept so
-pub attribute_kept : (from : ℕ) (set : SetBiosAttribute) (any : Op) (value : List ℕ) → any ≡ op.BiosAttribute set → value ≡ set.value → Keeps from any (kept_from from (length value) set)
+pub attribute_kept : (from : ℕ) (set : SetBiosAttribute) (any : Op) (value : List ℕ) → any ≡ op.BiosAttribute set → value ≡ set.value → KeepsOp from any (kept_from from (length value) set)
 attribute_kept from set any value is same =
-    subst (λ (o : Op). Keeps from o (kept_from from (length value) set)) (sym is)
-    (subst (λ (v : List ℕ). Keeps from (op.BiosAttribute set) (kept_from from (length v) set)) (sym same) (set_kept from set))
+    subst (λ (o : Op). KeepsOp from o (kept_from from (length value) set)) (sym is)
+    (subst (λ (v : List ℕ). KeepsOp from (op.BiosAttribute set) (kept_from from (length v) set)) (sym same) (set_kept from set))
 
-more_among : (values more : List ℕ) (any : Kept) → IsAmong values any → IsAmong (values ++ more) any
+more_among : (values more : List ℕ) (any : OwnedOp) → IsAmong values any → IsAmong (values ++ more) any
 more_among values more (kept.BiosAttribute set) within = omega (arith, within, length-append values more)
 more_among values more _ within = tt
 
-each_among : (values more : List ℕ) (ops : List Kept) → All (IsAmong values) ops → All (IsAmong (values ++ more)) ops
+each_among : (values more : List ℕ) (ops : List OwnedOp) → All (IsAmong values) ops → All (IsAmong (values ++ more)) ops
 each_among values more ops all k d below = more_among values more _ (all k d below)
 
 -- the values of all operations are among these, with one operation more
-pub all_among : (values more : List ℕ) (ops : List Kept) (kept : Kept) → All (IsAmong values) ops → IsAmong (values ++ more) kept → All (IsAmong (values ++ more)) (ops ++ kept ∷ [])
+pub all_among : (values more : List ℕ) (ops : List OwnedOp) (kept : OwnedOp) → All (IsAmong values) ops → IsAmong (values ++ more) kept → All (IsAmong (values ++ more)) (ops ++ kept ∷ [])
 all_among values more ops kept all among = All-push (IsAmong (values ++ more)) ops kept (each_among values more ops all) among
 
 -- an operation is added
-pub one_more : (values : List ℕ) (ops : List Kept) (any : Op) (kept : Kept) → All (IsAmong values) ops → Keeps (length values) any kept
+pub one_more : (values : List ℕ) (ops : List OwnedOp) (any : Op) (kept : OwnedOp) → All (IsAmong values) ops → KeepsOp (length values) any kept
     → map (kept_op (values ++ value_of any)) (ops ++ kept ∷ []) ≡ map (kept_op values) ops ++ any ∷ []
 one_more values ops any kept all keeps =
     let before = same_ops values (value_of any) ops all in
@@ -101,7 +101,7 @@ same_states effecter a b p q same =
     subst (λ (changes : List FieldChange). (r : length changes ≤ 9) → states_to effecter a p ≡ states_to effecter changes r) same (λ r i. states_to effecter a (few_prop a p r i)) q
 
 -- the operation that is kept at a place
-pub kept_at : (values : List ℕ) (ops : List Kept) (place : ℕ) (any d : Kept) → true ≡ nat_lt place (length ops) → any ≡ slice_index_or ops place d
+pub kept_at : (values : List ℕ) (ops : List OwnedOp) (place : ℕ) (any d : OwnedOp) → true ≡ nat_lt place (length ops) → any ≡ slice_index_or ops place d
     → slice_get (map (kept_op values) ops) place ≡ Some (kept_op values any)
 kept_at values ops place any d within is =
     let below : place < length ops = grind (arith, nat_tests) in

@@ -7,8 +7,8 @@ use Rattle.std.proofs.lemmas.List.Elements.{All-head, All-tail, All-append}
 use Rattle.std.proofs.Math.Seq.{drop-append_seam}
 use Rattle.undo_plans.specs.declared.undo_request.Head.{Head}
 use Rattle.undo_plans.specs.declared.undo_request.Mark.{Mark}
-use Rattle.undo_plans.specs.Fitting.{Fits}
-use Rattle.undo_plans.specs.Requests.{request_of, request_at, Lies, AreLaid}
+use Rattle.undo_plans.specs.Fitting.{FitsMessages}
+use Rattle.undo_plans.specs.Requests.{request_of, request_at, RequestLies, AreLaid}
 use Rattle.undo_plans.specs.Steps.{most_steps}
 use Rattle.undo_plans.proofs.Marked.{still_counted}
 
@@ -32,15 +32,15 @@ range_kept from to kept xs ys rising within there =
     ∙ ap (λ (bytes : List ℕ). slice_range bytes from to) (take-append-drop kept xs)
 
 -- the requests that count stay
-pub members_stay : (kept : ℕ) (xs ys : List ℕ) (marks : List Mark) → kept ≤ length xs → All (Lies (take kept xs)) marks
+pub members_stay : (kept : ℕ) (xs ys : List ℕ) (marks : List Mark) → kept ≤ length xs → All (RequestLies (take kept xs)) marks
     → map (request_at (take kept xs ++ ys)) marks ≡ map (request_at xs) marks
 members_stay kept xs ys [] there all = refl
 members_stay kept xs ys (mark ∷ marks) there all =
-    let lies = All-head (Lies (take kept xs)) mark marks all in
+    let lies = All-head (RequestLies (take kept xs)) mark marks all in
     let within : mark.end ≤ kept = omega (arith, lies.within, length-take-le kept xs there) in
     let first : request_at (take kept xs ++ ys) mark ≡ request_at xs mark =
     ap (request_of mark.head) (range_kept mark.start mark.end kept xs ys lies.rising within there) in
-    let rest = members_stay kept xs ys marks there (All-tail (Lies (take kept xs)) mark marks all) in
+    let rest = members_stay kept xs ys marks there (All-tail (RequestLies (take kept xs)) mark marks all) in
     λ i. first i ∷ rest i
 
 -- the mark of data behind the first bytes
@@ -56,23 +56,23 @@ request_added head kept xs body there =
 -- ---- the marks of a list
 
 -- a mark lies among bytes still while others are put behind them
-still_lies : (xs ys : List ℕ) (mark : Mark) → Lies xs mark → Lies (xs ++ ys) mark
+still_lies : (xs ys : List ℕ) (mark : Mark) → RequestLies xs mark → RequestLies (xs ++ ys) mark
 still_lies xs ys mark lies = record {
   rising = lies.rising;
   within = omega (arith, lies.within, length-append xs ys);
-  short = subst Fits (ap (request_of mark.head) (sym (range_stays mark.start mark.end xs ys lies.rising lies.within))) lies.short;
+  short = subst FitsMessages (ap (request_of mark.head) (sym (range_stays mark.start mark.end xs ys lies.rising lies.within))) lies.short;
 }
 
 -- so do all of them
-all_still : (xs ys : List ℕ) (marks : List Mark) → All (Lies xs) marks → All (Lies (xs ++ ys)) marks
+all_still : (xs ys : List ℕ) (marks : List Mark) → All (RequestLies xs) marks → All (RequestLies (xs ++ ys)) marks
 all_still xs ys marks all i d below = still_lies xs ys (get_or marks i d) (all i d below)
 
 -- the mark of data that were added
-added_lies : (head : Head) (kept : ℕ) (xs body : List ℕ) → kept ≤ length xs → Fits (request_of head body) → Lies (take kept xs ++ body) (mark_behind head kept body)
+added_lies : (head : Head) (kept : ℕ) (xs body : List ℕ) → kept ≤ length xs → FitsMessages (request_of head body) → RequestLies (take kept xs ++ body) (mark_behind head kept body)
 added_lies head kept xs body there fits = record {
   rising = omega arith;
   within = omega (arith, length-append (take kept xs) body, length-take-le kept xs there);
-  short = subst Fits (sym (request_added head kept xs body there)) fits;
+  short = subst FitsMessages (sym (request_added head kept xs body there)) fits;
 }
 
 -- all of one is that one
@@ -81,7 +81,7 @@ alone P mark is zero d below = is
 alone P mark is (suc i) d below = absurd (omega (arith, below))
 
 -- the marks lie as they should once a request waits
-pub laid_with : (marks : List Mark) (counted kept : ℕ) (xs body : List ℕ) (head : Head) → AreLaid marks counted kept xs → counted < most_steps → Fits (request_of head body)
+pub laid_with : (marks : List Mark) (counted kept : ℕ) (xs body : List ℕ) (head : Head) → AreLaid marks counted kept xs → counted < most_steps → FitsMessages (request_of head body)
     → AreLaid (take counted marks ++ mark_behind head kept body ∷ []) counted kept (take kept xs ++ body)
 laid_with marks counted kept xs body head laid few fits =
     let mark = mark_behind head kept body in
@@ -93,8 +93,8 @@ laid_with marks counted kept xs body head laid few fits =
       one = omega (arith, long);
       few = omega (arith, long, few);
       within = omega (arith, length-append (take kept xs) body, length-take-le kept xs laid.within);
-      each = subst (λ (ys : List ℕ). All (Lies ys) (take counted (take counted marks ++ mark ∷ []))) (sym bytes)
-          (subst (All (Lies (take kept xs))) (sym (still_counted marks counted mark laid.there)) laid.each);
-      all = All-append (Lies (take kept xs ++ body)) (take counted marks) (mark ∷ []) (all_still (take kept xs) body (take counted marks) laid.each)
-          (alone (Lies (take kept xs ++ body)) mark (added_lies head kept xs body laid.within fits));
+      each = subst (λ (ys : List ℕ). All (RequestLies ys) (take counted (take counted marks ++ mark ∷ []))) (sym bytes)
+          (subst (All (RequestLies (take kept xs))) (sym (still_counted marks counted mark laid.there)) laid.each);
+      all = All-append (RequestLies (take kept xs ++ body)) (take counted marks) (mark ∷ []) (all_still (take kept xs) body (take counted marks) laid.each)
+          (alone (RequestLies (take kept xs ++ body)) mark (added_lies head kept xs body laid.within fits));
     }

@@ -31,5 +31,5 @@ most_of (asked.Ipmi from net_fn lun command body) = most_ipmi_request_data
 most_of (asked.Pldm from kind command body) = if is_in_parts (asked.Pldm from kind command body) then before_part + most_entry else most_pldm_request_data
 
 -- the request, or each of its parts, fits a message of its bus
-abbrev pub Fits : Asked → Type 0
-Fits asked = length (data_of asked) ≤ most_of asked
+abbrev pub FitsMessages : Asked → Type 0
+FitsMessages asked = length (data_of asked) ≤ most_of asked

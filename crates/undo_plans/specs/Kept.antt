@@ -3,8 +3,8 @@ use Rattle.std.specs.Prelude.{◌≡◌, ℕ, ◌+◌, ◌≤◌, List, [], ◌+
 use Rattle.record_base.specs.declared.op.Op.{Op}
 use Rattle.record_base.specs.declared.op.Op.TheVariants as op
 use Rattle.record_base.specs.BiosAttribute.{setting}
-use Rattle.undo_plans.specs.declared.kept.Kept.{Kept}
-use Rattle.undo_plans.specs.declared.kept.Kept.TheVariants as kept
+use Rattle.undo_plans.specs.declared.owned_op.OwnedOp.{OwnedOp}
+use Rattle.undo_plans.specs.declared.owned_op.OwnedOp.TheVariants as kept
 
 -- the value that the operation gives to an attribute; one of another kind has none
 abbrev pub value_of : Op → List ℕ
@@ -12,12 +12,12 @@ value_of (op.BiosAttribute set) = set.value
 value_of _ = []
 
 -- the value of an attribute lies among these
-abbrev pub IsAmong : List ℕ → Kept → Type 0
+abbrev pub IsAmong : List ℕ → OwnedOp → Type 0
 IsAmong values (kept.BiosAttribute set) = set.from + set.count ≤ length values
 IsAmong values _ = Unit {0}
 
 -- the operation that is kept so
-abbrev pub kept_op : List ℕ → Kept → Op
+abbrev pub kept_op : List ℕ → OwnedOp → Op
 kept_op values (kept.Thresholds set) = op.Thresholds set
 kept_op values (kept.Hysteresis set) = op.Hysteresis set
 kept_op values (kept.EventEnable set) = op.EventEnable set
@@ -35,5 +35,5 @@ kept_op values (kept.LanParam set) = op.LanParam set
 
 -- The operation is kept so, where its value lies from this place on: its value is among any values that it lies behind so, and with them
 -- the operation is given again.
-abbrev pub Keeps : ℕ → Op → Kept → Type 0
-Keeps from any kept = (values : List ℕ) → length values ≡ from → IsAmong (values ++ value_of any) kept × (kept_op (values ++ value_of any) kept ≡ any)
+abbrev pub KeepsOp : ℕ → Op → OwnedOp → Type 0
+KeepsOp from any kept = (values : List ℕ) → length values ≡ from → IsAmong (values ++ value_of any) kept × (kept_op (values ++ value_of any) kept ≡ any)

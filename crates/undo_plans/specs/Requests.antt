@@ -3,7 +3,7 @@ use Rattle.std.specs.Prelude.{ℕ, ◌+◌, ◌≤◌, All, List, length, take, 
 use Rattle.record_base.specs.declared.message.Asked.{Asked}
 use Rattle.record_base.specs.declared.message.Asked.TheVariants as asked
 use Rattle.undo_plans.specs.Steps.{most_steps}
-pub use Rattle.undo_plans.specs.Fitting.{data_of, from_nobody, most_undo_data, most_of, Fits}
+pub use Rattle.undo_plans.specs.Fitting.{data_of, from_nobody, most_undo_data, most_of, FitsMessages}
 use Rattle.undo_plans.specs.declared.undo_request.UndoRequest.{UndoRequest}
 use Rattle.undo_plans.specs.declared.undo_request.UndoRequest.TheVariants as request
 use Rattle.undo_plans.specs.declared.undo_request.Head.{Head}
@@ -40,10 +40,10 @@ abbrev pub request_at : List ℕ → Mark → Asked
 request_at bytes mark = request_of mark.head (slice_range bytes mark.start mark.end)
 
 -- a mark's data lie among these bytes, and fit a request
-pub record Lies (bytes : List ℕ) (mark : Mark) : Type 0 where
+pub record RequestLies (bytes : List ℕ) (mark : Mark) : Type 0 where
   pub rising : mark.start ≤ mark.end
   pub within : mark.end ≤ length bytes
-  pub short : Fits (request_at bytes mark)
+  pub short : FitsMessages (request_at bytes mark)
 
 -- The marks of a list, of which the first so many count, and one more at most waits; and the first so many of its bytes belong to those that count.
 pub record AreLaid (marks : List Mark) (counted kept : ℕ) (bytes : List ℕ) : Type 0 where
@@ -51,5 +51,5 @@ pub record AreLaid (marks : List Mark) (counted kept : ℕ) (bytes : List ℕ) :
   pub one : length marks ≤ counted + 1
   pub few : length marks ≤ most_steps
   pub within : kept ≤ length bytes
-  pub each : All (Lies (take kept bytes)) (take counted marks)
-  pub all : All (Lies bytes) marks
+  pub each : All (RequestLies (take kept bytes)) (take counted marks)
+  pub all : All (RequestLies bytes) marks

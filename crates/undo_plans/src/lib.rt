@@ -1,8 +1,8 @@
 //! Plans, the lists of requests that undo them, and the names of a manager and its controller on both buses.
 #![tactic(auto)]
 
-pub mod kept;
 mod names;
+pub mod owned_op;
 mod plan;
 mod pldm_undo;
 mod requests;

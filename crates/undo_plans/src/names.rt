@@ -21,7 +21,7 @@ pub struct Names {
 }
 
 impl Names {
-    /// The same names.
+    /// A copy of the names.
     pub fn copy(&self) -> Names
         ensures { result ≡ self.now }
     {

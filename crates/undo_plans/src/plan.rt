@@ -2,7 +2,7 @@
 ghost use Rattle.std.specs.Prelude.{◌≡◌, ◌<◌, ◌≤◌, [], ◌∷◌, ◌++◌, OnErr, OnOk, length, slice_get};
 ghost use Rattle.undo_plans.specs.Steps.{most_steps};
 
-use crate::kept::{Kept, value_of};
+use crate::owned_op::{OwnedOp, value_of};
 use record_base::Op;
 use std::alloc::{AllocError, Global};
 use std::marker::Model;
@@ -14,7 +14,7 @@ pub const MOST_STEPS: usize = 256;
 /// The steps of a plan, in its order: an operation each, and at most `MOST_STEPS`. A step takes the room of a small operation, and that
 /// of the value that it gives to an attribute.
 pub struct Steps {
-    ops: Vec<Kept>,
+    ops: Vec<OwnedOp>,
     /// The values, one behind another.
     values: Vec<u8>,
 }
@@ -76,7 +76,7 @@ impl Steps {
         ensures kept { OnErr result (self.new ≡ self.old) }
     {
         let value = value_of(op);
-        let kept = Kept::of(op, self.values.len());
+        let kept = OwnedOp::of(op, self.values.len());
         self.ops.reserve(1)?;
         self.values.extend_from_slice(value)?;
         self.ops.push_reserved(kept);

@@ -16,7 +16,7 @@ pub struct NextNumbers {
 /// The requests that undo the steps that were done, the numbers of the next requests, and between whom they go.
 #[derive(Drop)]
 pub struct UndoList {
-    /// They are sent from the last to the first.
+    /// The requests, which are sent from the last to the first.
     pub requests: Requests,
     pub next: NextNumbers,
     /// The names of the manager that did the steps, and of its controller, where the list tells them.

@@ -1,8 +1,8 @@
 //! A request that undoes a step, where it lies.
 ghost use Rattle.std.specs.Prelude.{◌≡◌, ◌≤◌, ◌<◌, length, IfSome};
 ghost use Rattle.bios_attr.specs.EntryParts.{first_request, with_body, request_at as request_of_place};
-ghost use Rattle.undo_plans.specs.Fitting.{data_of, from_nobody, most_of, Fits, most_requests};
-ghost use Rattle.undo_plans.specs.Requests.{meant, request_of, request_at, Lies};
+ghost use Rattle.undo_plans.specs.Fitting.{data_of, from_nobody, most_of, FitsMessages, most_requests};
+ghost use Rattle.undo_plans.specs.Requests.{meant, request_of, request_at, RequestLies};
 
 use crate::pldm_undo::PldmUndo;
 use record_base::Asked;
@@ -59,7 +59,7 @@ impl<'a> UndoRequest<'a> {
 
     /// The request with other data, without its sender.
     pub fn with(asked: &Asked, body: &'a [u8]) -> Self
-        requires { Fits (with_body asked.now body.now) }
+        requires { FitsMessages (with_body asked.now body.now) }
         ensures { meant result ≡ from_nobody (with_body asked.now body.now) }
     {
         match asked {
@@ -82,7 +82,7 @@ impl<'a> UndoRequest<'a> {
         }
     }
 
-    /// Its data.
+    /// The request's data.
     pub fn body(&self) -> &'a [u8]
         ensures { result.now ≡ data_of (meant self.now) }
     {
@@ -131,7 +131,7 @@ impl<'a> UndoRequest<'a> {
     pub(crate) fn parts(&self) -> (Head, &'a [u8])
         ensures parts { request_of result.0 result.1.now ≡ meant self.now }
         ensures body { result.1.now ≡ data_of (meant self.now) }
-        ensures fits { Fits (request_of result.0 result.1.now) }
+        ensures fits { FitsMessages (request_of result.0 result.1.now) }
     {
         match self {
             UndoRequest::Ipmi {
@@ -161,7 +161,7 @@ impl<'a> UndoRequest<'a> {
 impl Head {
     /// The request of these data.
     fn request<'a>(self, body: &'a [u8]) -> UndoRequest<'a>
-        requires { Fits (request_of self body.now) }
+        requires { FitsMessages (request_of self body.now) }
         ensures { meant result ≡ request_of self body.now }
     {
         match self {
@@ -187,7 +187,7 @@ impl Head {
 impl Mark {
     /// The request, whose data lie among these bytes.
     pub(crate) fn request<'a>(&self, bytes: &'a [u8]) -> UndoRequest<'a>
-        requires { Lies bytes.now self.now }
+        requires { RequestLies bytes.now self.now }
         ensures { meant result ≡ request_at bytes.now self.now }
     {
         self.head.request(&bytes[self.start..self.end])

@@ -11,14 +11,14 @@ use text_lines::behind;
 pub enum Version {
     /// The text has no names.
     One,
-    /// It has the names of the manager and of the controller.
+    /// The text has the names of the manager and of the controller.
     Two,
 }
 
 /// The first line of version 1, and the line feed that ends it.
 const FIRST: &str = "undo 1\n";
 
-/// That of version 2.
+/// The first line of version 2.
 const SECOND: &str = "undo 2\n";
 
 /// The version on the first line of the text, and the text behind that line.

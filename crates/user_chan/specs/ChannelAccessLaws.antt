@@ -5,7 +5,7 @@ use Rattle.record_base.specs.declared.channel.ChannelChange.{ChannelChange}
 use Rattle.record_base.specs.declared.channel.ChannelChange.TheVariants.{Access, Limit, Both}
 use Rattle.record_base.specs.declared.channel.SetChannelAccess.{SetChannelAccess}
 use Rattle.record_base.specs.MaskLaws.{both_true, both}
-use Rattle.record_base.specs.Meaning.{Decides, IsRefusal}
+use Rattle.record_base.specs.Meaning.{DecidesValue, IsRefusal}
 use Rattle.record_base.specs.InverseLaws.{some_where, made_where, tested_same, same_tested}
 use Rattle.record_base.specs.Kind.{KindLaws, RecordLaws}
 use Rattle.record_base.specs.RefusalLaws.{refused_field}
@@ -19,7 +19,7 @@ use Rattle.user_chan.specs.ChannelAccess.{is_limit, is_change, changed, SetsChan
 
 -- ---- what a Set makes
 
-decided : (op : SetChannelAccess) (old : List ℕ) (b : Bool) → is_change op.change ≡ b → Decides (if b then Ok (changed op.change old) else Err invalid_data_field) (SetsChannelAccess op old)
+decided : (op : SetChannelAccess) (old : List ℕ) (b : Bool) → is_change op.change ≡ b → DecidesValue (if b then Ok (changed op.change old) else Err invalid_data_field) (SetsChannelAccess op old)
 decided op old true is = record { accepted = is; made = refl }
 decided op old false is = λ new s. true_not_false _ s.accepted is
 

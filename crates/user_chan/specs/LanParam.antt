@@ -6,13 +6,13 @@ use Rattle.record_base.specs.declared.key.Key.{Key}
 use Rattle.record_base.specs.declared.key.Key.TheVariants as key
 use Rattle.record_base.specs.declared.op.Op.{Op}
 use Rattle.record_base.specs.declared.op.Op.TheVariants as op
-use Rattle.record_base.specs.declared.lan.LanParameter.{LanParameter}
-use Rattle.record_base.specs.declared.lan.ParameterOnChannel.{ParameterOnChannel}
-use Rattle.record_base.specs.declared.lan.Ipv4Address.{Ipv4Address}
-use Rattle.record_base.specs.declared.lan.VlanBytes.{VlanBytes}
-use Rattle.record_base.specs.declared.lan.LanChange.{LanChange}
-use Rattle.record_base.specs.declared.lan.LanChange.TheVariants.{Address, AddressSource, Vlan}
-use Rattle.record_base.specs.declared.lan.SetLanParam.{SetLanParam}
+use Rattle.record_base.specs.declared.lan_parameter.LanParameter.{LanParameter}
+use Rattle.record_base.specs.declared.lan_parameter.ParameterOnChannel.{ParameterOnChannel}
+use Rattle.record_base.specs.declared.lan_parameter.Ipv4Address.{Ipv4Address}
+use Rattle.record_base.specs.declared.lan_parameter.VlanBytes.{VlanBytes}
+use Rattle.record_base.specs.declared.lan_parameter.LanChange.{LanChange}
+use Rattle.record_base.specs.declared.lan_parameter.LanChange.TheVariants.{Address, AddressSource, Vlan}
+use Rattle.record_base.specs.declared.lan_parameter.SetLanParam.{SetLanParam}
 use Rattle.record_base.specs.Kind.{KindWords, RecordWords}
 use Rattle.record_base.specs.AllKinds.{Place}
 use Rattle.record_base.specs.Lan.{lan_selector, lan_length, address_bytes, changed_parameter, lan_data, IsLanParam}

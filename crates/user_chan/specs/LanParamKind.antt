@@ -1,6 +1,6 @@
 -- The kind LanParam, and its place among all kinds.
-use Rattle.record_base.specs.declared.lan.ParameterOnChannel.{ParameterOnChannel}
-use Rattle.record_base.specs.declared.lan.SetLanParam.{SetLanParam}
+use Rattle.record_base.specs.declared.lan_parameter.ParameterOnChannel.{ParameterOnChannel}
+use Rattle.record_base.specs.declared.lan_parameter.SetLanParam.{SetLanParam}
 use Rattle.record_base.specs.Kind.{Kind}
 use Rattle.record_base.specs.Member.{Member}
 use Rattle.user_chan.specs.declared.lan_param.LanParamLimits.{LanParamLimits}

@@ -2,14 +2,14 @@
 use Rattle.std.proofs.Common.{◌≡◌, ℕ, ◌%◌, ◌<◌, ◌≤◌, List, [], ◌∷◌, length, ◌==◌, Bool, true, false, IsTrue, if◌then◌else◌, Ok, Err, Some, refl, sym, ◌∙◌, ap, subst, arith, lit≤}
 use Rattle.two_wire.specs.Codes.{invalid_data_field}
 use Rattle.record_base.specs.declared.key.Key.TheVariants as key
-use Rattle.record_base.specs.declared.lan.LanAddress.TheVariants.{Ip, SubnetMask, DefaultGateway}
-use Rattle.record_base.specs.declared.lan.LanParameter.{LanParameter}
-use Rattle.record_base.specs.declared.lan.LanParameter.TheVariants as parameter
-use Rattle.record_base.specs.declared.lan.LanChange.{LanChange}
-use Rattle.record_base.specs.declared.lan.LanChange.TheVariants.{Address, AddressSource, Vlan}
-use Rattle.record_base.specs.declared.lan.SetLanParam.{SetLanParam}
+use Rattle.record_base.specs.declared.lan_parameter.LanAddress.TheVariants.{Ip, SubnetMask, DefaultGateway}
+use Rattle.record_base.specs.declared.lan_parameter.LanParameter.{LanParameter}
+use Rattle.record_base.specs.declared.lan_parameter.LanParameter.TheVariants as parameter
+use Rattle.record_base.specs.declared.lan_parameter.LanChange.{LanChange}
+use Rattle.record_base.specs.declared.lan_parameter.LanChange.TheVariants.{Address, AddressSource, Vlan}
+use Rattle.record_base.specs.declared.lan_parameter.SetLanParam.{SetLanParam}
 use Rattle.record_base.specs.Keys.{is_length}
-use Rattle.record_base.specs.Meaning.{Decides, IsRefusal}
+use Rattle.record_base.specs.Meaning.{DecidesValue, IsRefusal}
 use Rattle.record_base.specs.MaskLaws.{both_true, both}
 use Rattle.record_base.specs.InverseLaws.{some_where, made_where, tested_same, same_tested}
 use Rattle.record_base.specs.Kind.{KindLaws, RecordLaws}
@@ -54,7 +54,7 @@ high_again byte = omega arith
 
 -- ---- what a Set makes
 
-decided : (p : LanParameter) (op : SetLanParam) (old : List ℕ) (b : Bool) → is_taken p op.change ≡ b → Decides (if b then Ok (value_after op.change) else Err invalid_data_field) (SetsLanParam p op old)
+decided : (p : LanParameter) (op : SetLanParam) (old : List ℕ) (b : Bool) → is_taken p op.change ≡ b → DecidesValue (if b then Ok (value_after op.change) else Err invalid_data_field) (SetsLanParam p op old)
 decided p op old true is = let tests = both_true _ _ is in record { of_it = tests.0; accepted = tests.1; made = refl }
 decided p op old false is = λ new s. true_not_false (is_taken p op.change) (both _ _ s.of_it s.accepted) is
 

@@ -1,10 +1,10 @@
 -- Requests of the commands of LAN parameters, from their data (IPMI 2.0, Set and Get LAN Configuration Parameters): the channel in bits 3:0
 -- of the first byte, the selector of the parameter in the second byte, and behind them the data of a Set, or the set and the block of a Get.
 use Rattle.std.specs.Prelude.{ℕ, List, [], ◌∷◌, drop, if◌then◌else◌, Option, Some, None}
-use Rattle.record_base.specs.declared.lan.LanParameter.{LanParameter}
-use Rattle.record_base.specs.declared.lan.LanParameter.TheVariants as parameter
-use Rattle.record_base.specs.declared.lan.LanChange.{LanChange}
-use Rattle.record_base.specs.declared.lan.LanChange.TheVariants.{Address, AddressSource, Vlan}
+use Rattle.record_base.specs.declared.lan_parameter.LanParameter.{LanParameter}
+use Rattle.record_base.specs.declared.lan_parameter.LanParameter.TheVariants as parameter
+use Rattle.record_base.specs.declared.lan_parameter.LanChange.{LanChange}
+use Rattle.record_base.specs.declared.lan_parameter.LanChange.TheVariants.{Address, AddressSource, Vlan}
 use Rattle.record_base.specs.Lan.{lan_parameter_at}
 use Rattle.record_base.specs.LanItems.{parameter_on}
 use Rattle.record_base.specs.Masks.{has}

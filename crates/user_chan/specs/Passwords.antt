@@ -69,21 +69,21 @@ test_answer kept given = if same_password kept given then Ok tt else Err (if sam
 -- ---- what is kept
 
 -- the password of each user, by the user's number
-abbrev pub Kept : Type 0
-Kept = List Password
+abbrev pub KeptPasswords : Type 0
+KeptPasswords = List Password
 
 -- the password with which a board begins: sixteen bytes 00h
 abbrev pub opening_password : Password
 opening_password = Sixteen (replicate 16 0)
 
-abbrev pub opening_passwords : Kept
+abbrev pub opening_passwords : KeptPasswords
 opening_passwords = replicate 64 opening_password
 
-abbrev pub password_of : Kept → ℕ → Password
+abbrev pub password_of : KeptPasswords → ℕ → Password
 password_of kept user = get_or kept user opening_password
 
 -- the passwords after a Set of this password
-abbrev pub after_set : Kept → ℕ → Password → Kept
+abbrev pub after_set : KeptPasswords → ℕ → Password → KeptPasswords
 after_set kept user password = set kept user password
 
 -- ---- who is enabled
@@ -109,12 +109,12 @@ abbrev pub AllTestsTell : Type 0
 AllTestsTell = (kept given : Password) → TestsTell kept given
 
 -- the last Set stores its password, and changes no other user's
-pub record SetsAreKept (kept : Kept) (user : ℕ) (password : Password) : Type 0 where
+pub record SetsAreKept (kept : KeptPasswords) (user : ℕ) (password : Password) : Type 0 where
   pub own : password_of (after_set kept user password) user ≡ password
   pub others : (other : ℕ) → ¬ (other ≡ user) → password_of (after_set kept user password) other ≡ password_of kept other
 
 abbrev pub AllSetsAreKept : Type 0
-AllSetsAreKept = (kept : Kept) (user : ℕ) (password : Password) → user < length kept → SetsAreKept kept user password
+AllSetsAreKept = (kept : KeptPasswords) (user : ℕ) (password : Password) → user < length kept → SetsAreKept kept user password
 
 -- to enable or disable a user changes this user's status alone
 abbrev pub ChangesOneStatus : Type 0

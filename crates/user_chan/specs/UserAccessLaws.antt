@@ -5,7 +5,7 @@ use Rattle.two_wire.specs.Codes.{invalid_data_field}
 use Rattle.record_base.specs.declared.live.Live.{Live}
 use Rattle.record_base.specs.declared.user.SetUserAccess.{SetUserAccess}
 use Rattle.record_base.specs.Masks.{has}
-use Rattle.record_base.specs.Meaning.{Decides, IsRefusal}
+use Rattle.record_base.specs.Meaning.{DecidesValue, IsRefusal}
 use Rattle.record_base.specs.InverseLaws.{some_where, made_where, tested_same, same_tested}
 use Rattle.record_base.specs.Kind.{KindLaws, RecordLaws}
 use Rattle.record_base.specs.RefusalLaws.{refused_field}
@@ -62,7 +62,7 @@ next_only op old new s =
     one new s.one ∙ ap (λ (n : ℕ). n ∷ []) (whole (slice_index new 0) _ _ s.seven_bits (bits_are op old new s (changes_bits op) refl) s.limited)
 
 decided : (op : SetUserAccess) (old : List ℕ) (b : Bool) → is_limit (low_of op.limit) ≡ b
-    → Decides (if b then Ok (byte_of (next_bits op (slice_index old 0)) op.limit ∷ []) else Err invalid_data_field) (SetsUserAccess op old)
+    → DecidesValue (if b then Ok (byte_of (next_bits op (slice_index old 0)) op.limit ∷ []) else Err invalid_data_field) (SetsUserAccess op old)
 decided op old true is = sets_next op old is
 decided op old false is = λ new s. true_not_false _ s.accepted is
 

@@ -4,7 +4,7 @@ use Rattle.std.proofs.Props.{props}
 use Rattle.std.proofs.lemmas.Bool.Decides.{nat_tests}
 use Rattle.two_wire.specs.Codes.{invalid_data_field}
 use Rattle.record_base.specs.declared.user.SetUserName.{SetUserName}
-use Rattle.record_base.specs.Meaning.{Decides, IsRefusal}
+use Rattle.record_base.specs.Meaning.{DecidesValue, IsRefusal}
 use Rattle.record_base.specs.InverseLaws.{some_where, made_where, tested_same, same_tested}
 use Rattle.record_base.specs.Kind.{KindLaws, RecordLaws}
 use Rattle.record_base.specs.RefusalLaws.{refused_field}
@@ -24,7 +24,7 @@ shown_is xs sized = sym (whole xs user_name_size sized)
 not_same : (m n : ℕ) → (m == n) ≡ false → m ≢ n
 not_same m n h same = grind (arith, nat_tests)
 
-decided : (op : SetUserName) (b : Bool) → (user_of op == nameless) ≡ b → Decides (if b then Err invalid_data_field else Ok op.name) (SetsUserName op)
+decided : (op : SetUserName) (b : Bool) → (user_of op == nameless) ≡ b → DecidesValue (if b then Err invalid_data_field else Ok op.name) (SetsUserName op)
 decided op true is = λ new s. s.has_name (tested_same _ _ is)
 decided op false is = record { has_name = not_same _ _ is; all = refl }
 

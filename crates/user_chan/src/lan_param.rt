@@ -2,7 +2,7 @@
 ghost use Rattle.std.specs.Prelude.{◌≡◌, ◌≤◌, length};
 ghost use Rattle.user_chan.specs.LanParam.{is_change, lan_body};
 
-use record_base::lan_item::{MOST_SOURCE, vlan_high};
+use record_base::lan::{MOST_SOURCE, vlan_high};
 use record_base::net_fn::TRANSPORT;
 use record_base::{
     Asked, Ipv4Address, Key, LanChange, LanParameter, Live, ParameterOnChannel, RecordData,

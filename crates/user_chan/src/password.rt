@@ -52,9 +52,9 @@ impl Drop for Passwords {
 
 impl Model for Passwords {
     ghost use Rattle.std.specs.Prelude.{◌≡◌, length};
-    ghost use Rattle.user_chan.specs.Passwords.{Kept};
+    ghost use Rattle.user_chan.specs.Passwords.{KeptPasswords};
 
-    ghost Value = { Kept };
+    ghost Value = { KeptPasswords };
 
     ghost view = { λ s. s.kept.items };
 

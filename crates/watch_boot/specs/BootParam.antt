@@ -48,18 +48,18 @@ body_of parameter.InfoAcknowledge value = slice_index value 1 ∷ []
 body_of parameter.Flags value = slice_index value 1 ∷ slice_index value 2 ∷ slice_index value 3 ∷ slice_index value 4 ∷ slice_index value 5 ∷ []
 
 -- the new data of a value: the old data, bits 4:0 of the byte, the old byte with the masked bits written, or the flags
-abbrev pub Changes : BootChange → List ℕ → List ℕ → Type 0
-Changes (MarkAlone parameter) old body = body ≡ body_of parameter old
-Changes (ValidBitClearing byte) old body = body ≡ byte % 32 ∷ []
-Changes (InfoAcknowledge masked) old body = (length body ≡ 1) × IsMasked masked.mask masked.bits (slice_index old 1) (slice_index body 0)
-Changes (Flags flags) old body = body ≡ flag_bytes flags
+abbrev pub ChangesParameter : BootChange → List ℕ → List ℕ → Type 0
+ChangesParameter (MarkAlone parameter) old body = body ≡ body_of parameter old
+ChangesParameter (ValidBitClearing byte) old body = body ≡ byte % 32 ∷ []
+ChangesParameter (InfoAcknowledge masked) old body = (length body ≡ 1) × IsMasked masked.mask masked.bits (slice_index old 1) (slice_index body 0)
+ChangesParameter (Flags flags) old body = body ≡ flag_bytes flags
 
 -- the mark becomes the operation's mark, and the data behind the mark change by the operation's change
 pub record SetsBootParam (parameter : BootParameter) (op : SetBootParam) (old new : List ℕ) : Type 0 where
   pub of_it : IsTrue (same_parameter (parameter_of op.change) parameter)
   pub body : List ℕ
   pub all : new ≡ mark_of op.invalid ∷ body
-  pub changed : Changes op.change old body
+  pub changed : ChangesParameter op.change old body
 
 -- ---- the same as functions
 

@@ -13,13 +13,13 @@ use Rattle.record_base.specs.declared.boot_param.BootChange.TheVariants.{MarkAlo
 use Rattle.record_base.specs.declared.boot_param.SetBootParam.{SetBootParam}
 use Rattle.record_base.specs.Keys.{is_length}
 use Rattle.record_base.specs.Masks.{has}
-use Rattle.record_base.specs.Meaning.{Decides, IsRefusal}
+use Rattle.record_base.specs.Meaning.{DecidesValue, IsRefusal}
 use Rattle.record_base.specs.InverseLaws.{some_where, made_where, tested_same, same_tested}
 use Rattle.record_base.specs.Kind.{KindLaws, RecordLaws}
 use Rattle.record_base.specs.RefusalLaws.{refused_field}
 use Rattle.record_base.specs.BootParam.{selector, parameter_of, boot_length, IsBootParam}
 use Rattle.record_base.specs.PartLaws.{IsBootParam-prop}
-use Rattle.watch_boot.specs.BootParam.{same_parameter, IsMasked, mark_of, body_of, Changes, SetsBootParam, masked_byte, body_after, marked, boot_view, reply_length, undo_change, undo_boot, is_plain_change, words, record_words}
+use Rattle.watch_boot.specs.BootParam.{same_parameter, IsMasked, mark_of, body_of, ChangesParameter, SetsBootParam, masked_byte, body_after, marked, boot_view, reply_length, undo_change, undo_boot, is_plain_change, words, record_words}
 
 -- ---- parameters
 
@@ -126,7 +126,7 @@ mark_small false = omega arith
 
 -- ---- what a Set makes
 
-changed_after : (c : BootChange) (old : List ℕ) → Changes c old (body_after c old)
+changed_after : (c : BootChange) (old : List ℕ) → ChangesParameter c old (body_after c old)
 changed_after (MarkAlone p) old = refl
 changed_after (ValidBitClearing byte) old = refl
 changed_after (InfoAcknowledge masked) old = (refl, masked_is masked.mask masked.bits (slice_index old 1))
@@ -136,7 +136,7 @@ true_not_false : (b : Bool) → b ≡ true → b ≡ false → ⊥
 true_not_false b t f = cc
 
 decided : (p : BootParameter) (op : SetBootParam) (old : List ℕ) (b : Bool) → same_parameter (parameter_of op.change) p ≡ b
-    → Decides (if b then Ok (mark_of op.invalid ∷ body_after op.change old) else Err invalid_data_field) (SetsBootParam p op old)
+    → DecidesValue (if b then Ok (mark_of op.invalid ∷ body_after op.change old) else Err invalid_data_field) (SetsBootParam p op old)
 decided p op old true is = record { of_it = is; body = body_after op.change old; all = refl; changed = changed_after op.change old }
 decided p op old false is = λ new s. true_not_false (same_parameter (parameter_of op.change) p) s.of_it is
 
@@ -145,7 +145,7 @@ refused made code true is = cc
 refused made code false is = refused_field code (Err invalid_data_field) refl is
 
 -- a change makes one body
-same_body : (c : BootChange) (old a b : List ℕ) → Changes c old a → Changes c old b → a ≡ b
+same_body : (c : BootChange) (old a b : List ℕ) → ChangesParameter c old a → ChangesParameter c old b → a ≡ b
 same_body (MarkAlone p) old a b s t = s ∙ sym t
 same_body (ValidBitClearing byte) old a b s t = s ∙ sym t
 same_body (InfoAcknowledge masked) old a b s t =
@@ -158,7 +158,7 @@ kept_mark parameter.InfoAcknowledge invalid old v = record { long = refl; mark =
 kept_mark parameter.Flags invalid old v = record { long = refl; mark = mark_small invalid; body = tt }
 
 -- a change keeps a value valid
-keeps_change : (c : BootChange) (invalid : Bool) (old body : List ℕ) → IsBootParam (parameter_of c) old → Changes c old body → IsBootParam (parameter_of c) (mark_of invalid ∷ body)
+keeps_change : (c : BootChange) (invalid : Bool) (old body : List ℕ) → IsBootParam (parameter_of c) old → ChangesParameter c old body → IsBootParam (parameter_of c) (mark_of invalid ∷ body)
 keeps_change (MarkAlone p) invalid old body v s = subst (λ (b : List ℕ). IsBootParam p (mark_of invalid ∷ b)) (sym s) (kept_mark p invalid old v)
 keeps_change (ValidBitClearing byte) invalid old body v s =
     subst (λ (b : List ℕ). IsBootParam parameter.ValidBitClearing (mark_of invalid ∷ b)) (sym s) (record { long = refl; mark = mark_small invalid; body = omega arith })
@@ -178,7 +178,7 @@ mark_fits parameter.InfoAcknowledge old = refl
 mark_fits parameter.Flags old = refl
 
 -- a new value is as long as the parameter's
-fits_change : (c : BootChange) (old body : List ℕ) → Changes c old body → IsTrue (suc (length body) == boot_length (parameter_of c))
+fits_change : (c : BootChange) (old body : List ℕ) → ChangesParameter c old body → IsTrue (suc (length body) == boot_length (parameter_of c))
 fits_change (MarkAlone p) old body s = subst (λ (b : List ℕ). IsTrue (suc (length b) == boot_length p)) (sym s) (mark_fits p old)
 fits_change (ValidBitClearing byte) old body s = ap (λ (b : List ℕ). suc (length b) == 2) s
 fits_change (InfoAcknowledge masked) old body s = ap (λ (n : ℕ). suc n == 2) s.0
@@ -244,14 +244,14 @@ body_again parameter.ValidBitClearing mark old = refl
 body_again parameter.InfoAcknowledge mark old = refl
 body_again parameter.Flags mark old = refl
 
-changed_back : (c : BootChange) (mark : ℕ) (old body : List ℕ) → IsBootParam (parameter_of c) old → Changes c old body
-    → Changes (undo_change c (boot_view (parameter_of c) old)) (mark ∷ body) (body_of (parameter_of c) old)
+changed_back : (c : BootChange) (mark : ℕ) (old body : List ℕ) → IsBootParam (parameter_of c) old → ChangesParameter c old body
+    → ChangesParameter (undo_change c (boot_view (parameter_of c) old)) (mark ∷ body) (body_of (parameter_of c) old)
 changed_back (MarkAlone p) mark old body v s = body_again p mark old ∙ ap (λ (b : List ℕ). body_of p (mark ∷ b)) (sym s)
 changed_back (ValidBitClearing byte) mark old body v s = let small : slice_index old 1 < 32 = v.body in ap (λ (n : ℕ). n ∷ []) (omega arith)
 changed_back (InfoAcknowledge masked) mark old body v s = (refl, masked_back masked.mask masked.bits (slice_index old 1) (slice_index body 0) v.body s.1)
 changed_back (Flags flags) mark old body v s = refl
 
-undoes_change : (c : BootChange) (invalid : Bool) (old body : List ℕ) → IsBootParam (parameter_of c) old → Changes c old body
+undoes_change : (c : BootChange) (invalid : Bool) (old body : List ℕ) → IsBootParam (parameter_of c) old → ChangesParameter c old body
     → SetsBootParam (parameter_of c) (undo_boot (record { invalid = invalid; change = c }) (boot_view (parameter_of c) old)) (mark_of invalid ∷ body) old
 undoes_change c invalid old body v s = record {
   of_it = ap (λ (q : BootParameter). same_parameter q (parameter_of c)) (same_param c (boot_view (parameter_of c) old)) ∙ same_self (parameter_of c);

@@ -5,7 +5,7 @@ use Rattle.two_wire.specs.Codes.{invalid_data_field}
 use Rattle.record_base.specs.declared.key.Key.TheVariants as key
 use Rattle.record_base.specs.declared.global_enables.SetGlobalEnables.{SetGlobalEnables}
 use Rattle.record_base.specs.Keys.{is_length}
-use Rattle.record_base.specs.Meaning.{Decides, IsRefusal}
+use Rattle.record_base.specs.Meaning.{DecidesValue, IsRefusal}
 use Rattle.record_base.specs.InverseLaws.{some_where, made_where, tested_same, same_tested}
 use Rattle.record_base.specs.Kind.{KindLaws, RecordLaws}
 use Rattle.record_base.specs.RefusalLaws.{refused_field}
@@ -20,7 +20,7 @@ one xs h = same_number_lists _ _ h (λ k lt. grind (arith, common_steps))
 true_not_false : (b : Bool) → b ≡ true → b ≡ false → ⊥
 true_not_false b t f = cc
 
-decided : (op : SetGlobalEnables) (b : Bool) → are_enables op.byte ≡ b → Decides (if b then Ok (op.byte ∷ []) else Err invalid_data_field) (SetsEnables op)
+decided : (op : SetGlobalEnables) (b : Bool) → are_enables op.byte ≡ b → DecidesValue (if b then Ok (op.byte ∷ []) else Err invalid_data_field) (SetsEnables op)
 decided op true is = record { unreserved = is; all = refl }
 decided op false is = λ new s. true_not_false (are_enables op.byte) s.unreserved is
 

@@ -8,7 +8,7 @@ use Rattle.record_base.specs.declared.power_policy.SetPowerPolicy.{SetPowerPolic
 use Rattle.record_base.specs.declared.live.Live.{Live}
 use Rattle.record_base.specs.Keys.{is_length}
 use Rattle.record_base.specs.MaskLaws.{both, both_true}
-use Rattle.record_base.specs.Meaning.{Decides, IsRefusal}
+use Rattle.record_base.specs.Meaning.{DecidesValue, IsRefusal}
 use Rattle.record_base.specs.InverseLaws.{some_where, made_where, tested_same, same_tested}
 use Rattle.record_base.specs.Kind.{KindLaws, RecordLaws}
 use Rattle.record_base.specs.RefusalLaws.{refused_field}
@@ -56,7 +56,7 @@ at_most a b h = grind (arith, nat_tests)
 above : (a b : ℕ) → nat_le a b ≡ false → a ≤ b → ⊥
 above a b h le = grind (arith, nat_tests)
 
-decided : (op : SetPowerPolicy) (old : List ℕ) (b : Bool) → nat_le (asked_policy op) 3 ≡ b → Decides (if b then Ok (next_policy op old ∷ []) else Err invalid_data_field) (SetsPolicy op old)
+decided : (op : SetPowerPolicy) (old : List ℕ) (b : Bool) → nat_le (asked_policy op) 3 ≡ b → DecidesValue (if b then Ok (next_policy op old ∷ []) else Err invalid_data_field) (SetsPolicy op old)
 decided op old true is = next_sets op old (at_most _ _ is)
 decided op old false is = λ new s. above _ _ is s.known
 

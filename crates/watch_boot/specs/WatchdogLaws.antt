@@ -12,7 +12,7 @@ use Rattle.record_base.specs.declared.watchdog.SetWatchdog.{SetWatchdog}
 use Rattle.record_base.specs.declared.live.Live.{Live}
 use Rattle.record_base.specs.Keys.{is_length}
 use Rattle.record_base.specs.MaskLaws.{both}
-use Rattle.record_base.specs.Meaning.{Decides, IsRefusal}
+use Rattle.record_base.specs.Meaning.{DecidesValue, IsRefusal}
 use Rattle.record_base.specs.InverseLaws.{some_where, made_where, tested_same, same_tested}
 use Rattle.record_base.specs.Kind.{KindLaws, RecordLaws}
 use Rattle.record_base.specs.RefusalLaws.{refused_field}
@@ -55,7 +55,7 @@ accepted_sets op h =
 sets_accepted : (op : SetWatchdog) (new : List ℕ) → SetsWatchdog op new → is_accepted op ≡ true
 sets_accepted op new s = both _ _ (both _ _ (both _ _ (to_le _ _ s.a_use) (to_le _ _ s.known_use)) (to_le _ _ s.known_interrupt)) (to_le _ _ s.known_action)
 
-decided : (op : SetWatchdog) (b : Bool) → is_accepted op ≡ b → Decides (if b then Ok (settings_of op) else Err invalid_data_field) (SetsWatchdog op)
+decided : (op : SetWatchdog) (b : Bool) → is_accepted op ≡ b → DecidesValue (if b then Ok (settings_of op) else Err invalid_data_field) (SetsWatchdog op)
 decided op true is = accepted_sets op is
 decided op false is = λ new s. let accepted : is_accepted op ≡ true = sets_accepted op new s in cc
 

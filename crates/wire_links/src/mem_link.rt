@@ -11,7 +11,7 @@ use std::vec::IntoIter;
 use two_wire::Frame;
 use two_wire::size::MOST_FRAME_BYTES;
 
-/// So many frames of those that are sent can be read.
+/// The most frames that a link in memory keeps of those that are sent.
 pub const MOST_KEPT: usize = 256;
 
 /// Why no link is made.

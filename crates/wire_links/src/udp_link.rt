@@ -35,7 +35,7 @@ impl Drop for UdpLink {
     }
 }
 
-/// This port of the loopback address.
+/// The socket address of this port at the loopback address.
 fn loopback(port: u16) -> SocketAddr {
     SocketAddr::V4(SocketAddrV4::new(Ipv4Addr::LOCALHOST, port))
 }

@@ -1,6 +1,6 @@
 //! Which schedules `make_schedule` draws, and how.
 use super::dice::Dice;
-use lab_schedule::{Chances, Links, Percent, Wanted};
+use lab_schedule::{Chances, Links, Percent, ScheduleOptions};
 use two_wire::Below;
 
 /// Whether the schedule of this seed is drawn by `make_schedule`: each fourth is.
@@ -14,7 +14,7 @@ fn at_most(dice: &mut Dice, percent: u64) -> Percent {
 }
 
 /// A schedule on honest buses, on which a packet may join one that waits too long, and by which the plan is undone.
-pub(super) fn any_wanted(dice: &mut Dice) -> Wanted {
+pub(super) fn any_wanted(dice: &mut Dice) -> ScheduleOptions {
     let chances = Chances {
         lose: at_most(dice, 30),
         repeat: at_most(dice, 30),
@@ -23,7 +23,7 @@ pub(super) fn any_wanted(dice: &mut Dice) -> Wanted {
         seed: u64::from(dice.word()),
         late_joins: true,
     };
-    Wanted {
+    ScheduleOptions {
         links: Links::Drawn(chances),
         undo: true,
     }

@@ -1,5 +1,5 @@
 //! The premise on packets: none that waits at the controller is joined once eight newer requests were begun on its bus.
-use bmc_core::Done;
+use bmc_core::Disposition;
 use lab_run::{Lab, SentFrame, Way};
 use text_schedule::Event;
 use two_wire::Bus;
@@ -83,7 +83,7 @@ impl Waiting {
         let Some(flags) = flags_of(frame) else {
             return;
         };
-        if matches!(lab.done(event), Some(Done::Ignored(_))) {
+        if matches!(lab.done(event), Some(Disposition::Ignored(_))) {
             return;
         }
         let place = usize::from(flags & TAG);

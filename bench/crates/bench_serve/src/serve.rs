@@ -1,7 +1,7 @@
 //! Requests to a controller, over either bus.
 ghost use Rattle.std.specs.Prelude.{◌≡◌};
 ghost use Rattle.bmc_core.specs.Outs.{sent};
-ghost use Rattle.bmc_core.specs.Port.{Hears};
+ghost use Rattle.bmc_core.specs.Port.{PortStep};
 ghost use Rattle.bmc_board.specs.State.{state_of};
 ghost use Rattle.bench_serve.specs.Serve.{frame_of, first};
 
@@ -33,7 +33,7 @@ fn bus_of(number: u8) -> Bus {
 
 /// Hands a frame to the port, which fills in what it sends.
 fn serve_one<S: Store>(port: &mut Port, board: &mut Board<S>, frame: &Slot, out: &mut Out)
-    ensures { Hears board.old.setup port.old (state_of board.old) (frame_of frame.now)
+    ensures { PortStep board.old.setup port.old (state_of board.old) (frame_of frame.now)
         out.new port.new (state_of board.new) }
 {
     port.on_frame(board, frame.as_slice(), out);

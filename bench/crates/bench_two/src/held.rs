@@ -5,7 +5,7 @@ ghost use Rattle.bmc_board.specs.State.{state_of};
 use crate::alone::{open_ports, open_sample};
 use crate::asked::Asked;
 use crate::since::since;
-use bmc_board::{AskedHere, Board, Carrier, Records, Reply};
+use bmc_board::{AskedRef, Board, Carrier, Records, Reply};
 use bmc_core::{Out, Port};
 use bmc_ports::{Held, MOST_EVENTS, Opening, PeriodFull};
 use std::alloc::Global;
@@ -39,10 +39,10 @@ impl<J: Opening> Carrier for Recorder<J> {
     fn carry<B: Reply>(
         &self,
         held: &mut Held<J, Records>,
-        asked: &AskedHere<'_>,
+        asked: &AskedRef<'_>,
         reply: &mut B,
     ) -> Result<Result<(), Code>, PeriodFull> {
-        held.exchange_here(self.seat, asked, reply)
+        held.exchange_into(self.seat, asked, reply)
     }
 }
 

@@ -2,7 +2,7 @@
 ghost use Rattle.std.specs.Prelude.{◌≡◌, ◌+◌, ◌≤◌, ◌++◌, ℕ, length};
 ghost use Rattle.pldm_base.specs.Parts.{part_length};
 ghost use Rattle.record_base.specs.AttributeSizes.{most_value};
-ghost use Rattle.bmc_board.specs.Gives.{Appends};
+ghost use Rattle.bmc_board.specs.Gives.{AppendsReply};
 ghost use Rattle.bmc_board.specs.BiosTables.{values_in, table_asked, asked_part, longest_part, shown_part};
 
 use crate::board::serve::value_at;
@@ -18,12 +18,12 @@ const PENDING_TABLE: u8 = 3;
 
 /// The values of attributes, as their records stand.
 #[derive(Drop)]
-pub(super) struct Standing<'a, S: Store> {
+pub(super) struct RecordValues<'a, S: Store> {
     pub store: &'a S,
     ghost short: { (handle : ℕ) → length (values_in (S.records store.now) handle) ≤ most_value },
 }
 
-impl<S: Store> CurrentValues for Standing<'_, S> {
+impl<S: Store> CurrentValues for RecordValues<'_, S> {
     ghost use Rattle.bmc_board.specs.BiosTables.{values_in};
 
     ghost value_of = { λ s. values_in (S.records s.store.now) };
@@ -64,7 +64,7 @@ pub(super) fn push_part<B: Buffer>(part: &Part<'_>, to: &mut B)
 /// Appends the part of a table that the request asks for.
 pub(super) fn show_part<B: Buffer>(body: &[u8], table: &[u8], to: &mut B) -> Result<(), Code>
     requires room { length (B.bytes to.old) + longest_part ≤ B.capacity }
-    ensures { Appends B.bytes result to.old to.new (asked_part body.now table.now) }
+    ensures { AppendsReply B.bytes result to.old to.new (asked_part body.now table.now) }
 {
     let part = part(table, byte_at(body, 4), transfer_handle(body))?;
     push_part(&part, to);

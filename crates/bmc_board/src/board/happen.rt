@@ -10,14 +10,14 @@ use cfg_records::mask::has;
 use cfg_records::{Key, Sensor, Store, byte_at};
 use record_base::event_enable::SCANNING_PLACE;
 use sel_log::Sel;
-use sensor_recs::{Compared, Events};
+use sensor_recs::{Comparator, Events};
 use watch_boot::watchdog;
 
 /// The bit of the global enables that says whether events go into the System Event Log.
 const LOGGING_PLACE: usize = 3;
 
 /// Adds to the log each event that a reading of the sensor makes. A full log refuses, and notes that.
-fn log_events(log: &mut Sel, sensor: &Sensor, compared: &Compared, reading: u8, events: &Events)
+fn log_events(log: &mut Sel, sensor: &Sensor, compared: &Comparator, reading: u8, events: &Events)
     requires { All (λ event. event.place < 6) events.now.items }
     ensures { log.new ≡ after_events sensor.now compared.now reading events.now.items log.old }
 {
@@ -32,10 +32,10 @@ impl<S: Store> Board<S> {
     ghost use Rattle.bmc_board.specs.State.{state_of, IsUnchanged};
 
     /// What readings of the sensor are compared with.
-    fn compared(&self, sensor: &Sensor) -> Compared
+    fn compared(&self, sensor: &Sensor) -> Comparator
         ensures { result ≡ compared_at (S.records self.now.records.store) sensor.now }
     {
-        Compared::of(
+        Comparator::of(
             sensor.thresholds.masks,
             value_at(&self.records.store, &Key::Thresholds(sensor.number)),
             value_at(&self.records.store, &Key::Hysteresis(sensor.number)),

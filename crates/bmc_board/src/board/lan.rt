@@ -16,8 +16,8 @@ const REVISION: [u8; 1] = [0x11];
 const UNSUPPORTED_PARAMETER: u8 = 0x80;
 
 impl<S: Store> Board<S> {
-    ghost use Rattle.bmc_board.specs.Gives.{Appends};
-    ghost use Rattle.bmc_board.specs.Serves.{Fits, Serves};
+    ghost use Rattle.bmc_board.specs.Gives.{AppendsReply};
+    ghost use Rattle.bmc_board.specs.Serves.{ReplyFits, ServesRequest};
     ghost use Rattle.bmc_board.specs.Live.{longest_live_reply};
     ghost use Rattle.bmc_board.specs.LanCommands.{lan_set_asked, lan_get_asked, lan_answer};
 
@@ -29,7 +29,7 @@ impl<S: Store> Board<S> {
         to: &mut B,
     ) -> Result<(), Code>
         requires room { length (B.bytes to.old) + longest_live_reply ≤ B.capacity }
-        ensures { Appends B.bytes result to.old to.new
+        ensures { AppendsReply B.bytes result to.old to.new
             (lan_answer self.now.setup channel answer) }
     {
         if self.setup.lan(channel).is_none() {
@@ -44,8 +44,8 @@ impl<S: Store> Board<S> {
 
     /// Carries out Set LAN Configuration Parameters.
     pub(super) fn set_lan_param<B: Buffer>(&mut self, body: &[u8], to: &mut B) -> Result<(), Code>
-        requires { Fits (Ok (lan_set_asked body.now)) (B.bytes to.old) B.capacity }
-        ensures { Serves B.bytes self.old self.new (Ok (lan_set_asked body.now))
+        requires { ReplyFits (Ok (lan_set_asked body.now)) (B.bytes to.old) B.capacity }
+        ensures { ServesRequest B.bytes self.old self.new (Ok (lan_set_asked body.now))
             result to.old to.new }
     {
         match lan_request_in(body) {
@@ -58,8 +58,8 @@ impl<S: Store> Board<S> {
 
     /// Carries out Get LAN Configuration Parameters.
     pub(super) fn get_lan_param<B: Buffer>(&mut self, body: &[u8], to: &mut B) -> Result<(), Code>
-        requires { Fits (Ok (lan_get_asked body.now)) (B.bytes to.old) B.capacity }
-        ensures { Serves B.bytes self.old self.new (Ok (lan_get_asked body.now))
+        requires { ReplyFits (Ok (lan_get_asked body.now)) (B.bytes to.old) B.capacity }
+        ensures { ServesRequest B.bytes self.old self.new (Ok (lan_get_asked body.now))
             result to.old to.new }
     {
         match lan_shown_in(body) {

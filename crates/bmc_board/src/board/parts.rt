@@ -1,6 +1,6 @@
 //! The commands of attributes, with values that are whole or come in parts.
 ghost use Rattle.std.specs.Prelude.{◌+◌, ◌≤◌, length, Ok};
-ghost use Rattle.bmc_board.specs.Gives.{Appends};
+ghost use Rattle.bmc_board.specs.Gives.{AppendsReply};
 ghost use Rattle.bmc_board.specs.BiosTables.{longest_part};
 ghost use Rattle.bmc_board.specs.AttributeParts.{later_part};
 
@@ -19,7 +19,7 @@ use two_wire::{Buffer, Code};
 /// Appends a later part of an entry.
 fn show_later_part<B: Buffer>(entry: &[u8], transfer: u32, to: &mut B) -> Result<(), Code>
     requires room { length (B.bytes to.old) + longest_part ≤ B.capacity }
-    ensures { Appends B.bytes result to.old to.new (later_part entry.now transfer) }
+    ensures { AppendsReply B.bytes result to.old to.new (later_part entry.now transfer) }
 {
     let part = entry_part(entry, GET_NEXT_PART, transfer)?;
     push_part(&part, to);
@@ -31,13 +31,13 @@ impl<S: Store> Board<S> {
     ghost use Rattle.bios_attr.specs.BiosAttribute.{attribute_in};
     ghost use Rattle.attribute_parts.specs.SetParts.{part_in};
     ghost use Rattle.bmc_board.specs.AttributeCommands.{whole_asked, part_asked, attribute_set, attribute_get};
-    ghost use Rattle.bmc_board.specs.Serves.{Fits, Serves, serve_by};
+    ghost use Rattle.bmc_board.specs.Serves.{ReplyFits, ServesRequest, serve_by};
 
     /// Carries out the part of a Set that the data are.
     #[inline(never)]
     fn set_part<B: Buffer>(&mut self, from: u8, body: &[u8], to: &mut B) -> Result<(), Code>
-        requires { Fits (part_asked from body.now) (B.bytes to.old) B.capacity }
-        ensures { Serves B.bytes self.old self.new (part_asked from body.now)
+        requires { ReplyFits (part_asked from body.now) (B.bytes to.old) B.capacity }
+        ensures { ServesRequest B.bytes self.old self.new (part_asked from body.now)
             result to.old to.new }
     {
         let part = part_in(body)?;
@@ -55,8 +55,8 @@ impl<S: Store> Board<S> {
     /// Carries out the Set that the data are, whole.
     #[inline(never)]
     fn set_whole<B: Buffer>(&mut self, body: &[u8], to: &mut B) -> Result<(), Code>
-        requires { Fits (whole_asked body.now) (B.bytes to.old) B.capacity }
-        ensures { Serves B.bytes self.old self.new (whole_asked body.now)
+        requires { ReplyFits (whole_asked body.now) (B.bytes to.old) B.capacity }
+        ensures { ServesRequest B.bytes self.old self.new (whole_asked body.now)
             result to.old to.new }
     {
         let op = attribute_in(body)?;
@@ -70,8 +70,8 @@ impl<S: Store> Board<S> {
         body: &[u8],
         to: &mut B,
     ) -> Result<(), Code>
-        requires { Fits (attribute_set from body.now) (B.bytes to.old) B.capacity }
-        ensures { Serves B.bytes self.old self.new (attribute_set from body.now)
+        requires { ReplyFits (attribute_set from body.now) (B.bytes to.old) B.capacity }
+        ensures { ServesRequest B.bytes self.old self.new (attribute_set from body.now)
             result to.old to.new }
     {
         if byte_at(body, 4) == START_AND_END {
@@ -85,7 +85,7 @@ impl<S: Store> Board<S> {
     #[inline(never)]
     fn show_later<B: Buffer>(&self, handle: u16, transfer: u32, to: &mut B) -> Result<(), Code>
         requires room { length (B.bytes to.old) + longest_part ≤ B.capacity }
-        ensures { Appends B.bytes result to.old to.new
+        ensures { AppendsReply B.bytes result to.old to.new
             (serve_by self.now (request.LaterPart handle transfer)).0 }
     {
         let key = Key::BiosAttribute(handle);
@@ -101,8 +101,8 @@ impl<S: Store> Board<S> {
 
     /// Carries out GetBIOSAttributeCurrentValueByHandle.
     pub(super) fn get_attribute<B: Buffer>(&mut self, body: &[u8], to: &mut B) -> Result<(), Code>
-        requires { Fits (attribute_get body.now) (B.bytes to.old) B.capacity }
-        ensures { Serves B.bytes self.old self.new (attribute_get body.now)
+        requires { ReplyFits (attribute_get body.now) (B.bytes to.old) B.capacity }
+        ensures { ServesRequest B.bytes self.old self.new (attribute_get body.now)
             result to.old to.new }
     {
         match attribute_shown_in(body)? {

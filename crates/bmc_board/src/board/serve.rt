@@ -7,13 +7,13 @@ ghost use Rattle.record_base.specs.Meaning.{room_for};
 ghost use Rattle.record_base.specs.declared.message.Answered.{Answered as Reply};
 ghost use Rattle.bios_attr.specs.Tables.{AreTables};
 ghost use Rattle.bmc_board.specs.State.{opening};
-ghost use Rattle.bmc_board.specs.Gives.{Gives, Appends};
+ghost use Rattle.bmc_board.specs.Gives.{GivesReply, AppendsReply};
 ghost use Rattle.bmc_board.specs.Replies.{done};
 ghost use Rattle.bmc_board.specs.Sensing.{value_at};
 ghost use Rattle.bmc_board.specs.declared.board.Kept.TheVariants.{Stale};
 
 use crate::activity::Activity;
-use crate::board::bios::{Standing, show_part, table_asked};
+use crate::board::bios::{RecordValues, show_part, table_asked};
 use crate::board::{Board, Kept};
 use crate::command::Command;
 use crate::live::{
@@ -30,7 +30,7 @@ use cfg_records::{
 };
 use record_base::{AccessStore, ChannelNumber, SetChannelAccess, StoredAccess, UserNumber};
 use record_kinds::{PlainKind, Setup, of_each_plain_kind};
-use sensor_recs::taken::reading_data;
+use sensor_recs::readings::reading_data;
 use std::alloc::{AllocError, Global};
 use two_wire::size::MOST_PLDM_REPLY_DATA;
 use two_wire::{Buffer, Bytes, Code, code};
@@ -61,7 +61,7 @@ pub(super) fn value_at<'a, S: Store>(store: &'a S, key: &Key) -> &'a [u8]
 /// Appends the data of a reply that is always given.
 pub(super) fn show<B: Buffer>(shown: &[u8], to: &mut B) -> Result<(), Code>
     requires { length (B.bytes to.old) + length shown.now ≤ B.capacity }
-    ensures { Appends B.bytes result to.old to.new (done shown.now) }
+    ensures { AppendsReply B.bytes result to.old to.new (done shown.now) }
 {
     to.extend_from_slice(shown);
     Ok(())
@@ -78,7 +78,7 @@ pub(super) fn outdate(kept: &mut Kept)
 
 /// The answer of a call that appended its data to nothing.
 fn answered(done: Result<(), Code>, body: Bytes<{ MOST_PLDM_REPLY_DATA }>) -> Answered
-    ensures { (answer : Reply) → Gives done [] body answer → result ≡ answer }
+    ensures { (answer : Reply) → GivesReply done [] body answer → result ≡ answer }
 {
     match done {
         Ok(()) => Answered { code: 0, body },
@@ -95,7 +95,7 @@ struct Parts {
     made_over_ipmi: Box<Value>,
 }
 
-/// These parts, as they begin. The tables take memory between the two places, which so lie apart.
+/// The parts of a board, as they begin. The tables take memory between the two places, which so lie apart.
 fn opened_parts(alloc: Global, file: &BoardFile) -> Result<Parts, AllocError>
     ensures activity { IfOk result (λ parts. parts.activity ≡ opening file.now) }
     ensures tables { IfOk result (λ parts. AreTables file.now.attributes.items parts.tables) }
@@ -111,7 +111,7 @@ fn opened_parts(alloc: Global, file: &BoardFile) -> Result<Parts, AllocError>
 impl<S: Store> Board<S> {
     ghost use Rattle.bmc_board.specs.State.{opened, state_of};
     ghost use Rattle.bmc_board.specs.Live.{progress_answer, leave_answer, longest_live_reply, longest_live};
-    ghost use Rattle.bmc_board.specs.Serves.{given_by, serve_by, live_by, reading_by, table_by, part_by, Fits, Says, Serves, ServesSilently, Refuses};
+    ghost use Rattle.bmc_board.specs.Serves.{given_by, serve_by, live_by, reading_by, table_by, part_by, ReplyFits, AnswersCode, ServesRequest, ServesSilently, IsRefusal};
     ghost use Rattle.bmc_board.specs.declared.board.Kept.TheVariants as kept;
     ghost use Rattle.bios_attr.specs.declared.bios_table.BiosTable.TheVariants as bios_table;
     ghost use Rattle.bmc_board.specs.BiosTables.{longest_part};
@@ -160,7 +160,7 @@ impl<S: Store> Board<S> {
 
     /// Starts the watchdog timer, where it was set once.
     fn reset_watchdog(&mut self) -> Result<(), Code>
-        ensures answer { Says result (live_by self.old LiveCommand.ResetWatchdog []).0 }
+        ensures answer { AnswersCode result (live_by self.old LiveCommand.ResetWatchdog []).0 }
         ensures left { self.new.activity ≡
             (live_by self.old LiveCommand.ResetWatchdog []).1 }
         ensures records { S.records self.new.records.store ≡ S.records self.old.records.store }
@@ -180,7 +180,7 @@ impl<S: Store> Board<S> {
 
     /// Sets parameter 0 of the boot options, where a byte is given for it.
     fn set_boot_progress(&mut self, byte: Option<u8>) -> Result<(), Code>
-        ensures answer { Says result (progress_answer byte self.old.activity).0 }
+        ensures answer { AnswersCode result (progress_answer byte self.old.activity).0 }
         ensures left { self.new.activity ≡ (progress_answer byte self.old.activity).1 }
         ensures records { S.records self.new.records.store ≡ S.records self.old.records.store }
         ensures setup { self.new.setup ≡ self.old.setup }
@@ -199,7 +199,7 @@ impl<S: Store> Board<S> {
 
     /// Whether a channel has an access that could be set.
     fn leave_channel(&self, channel: ChannelNumber) -> Result<(), Code>
-        ensures { Says result (leave_answer self.now.setup channel) }
+        ensures { AnswersCode result (leave_answer self.now.setup channel) }
     {
         if self.setup.channel(channel).is_some() {
             return Ok(());
@@ -213,7 +213,7 @@ impl<S: Store> Board<S> {
 
     /// Carries out Set User Password. An unknown user is refused before the size of the password.
     fn set_password(&mut self, body: &[u8]) -> Result<(), Code>
-        ensures answer { Says result
+        ensures answer { AnswersCode result
             (live_by self.old LiveCommand.SetUserPassword body.now).0 }
         ensures left { self.new.activity ≡
             (live_by self.old LiveCommand.SetUserPassword body.now).1 }
@@ -238,7 +238,7 @@ impl<S: Store> Board<S> {
     /// Appends what Get Sensor Reading replies of the sensor of this number.
     fn show_reading<B: Buffer>(&self, sensor: u8, to: &mut B) -> Result<(), Code>
         requires room { length (B.bytes to.old) + longest_live_reply ≤ B.capacity }
-        ensures { Appends B.bytes result to.old to.new
+        ensures { AppendsReply B.bytes result to.old to.new
             (reading_by self.now sensor) }
     {
         let key = Key::EventEnable(sensor);
@@ -260,7 +260,7 @@ impl<S: Store> Board<S> {
         ensures setup { self.new.setup ≡ self.old.setup }
     {
         if self.kept == Kept::Stale {
-            self.tables.show(&Standing {
+            self.tables.show(&RecordValues {
                 store: &self.records.store,
             });
             self.kept = Kept::Current;
@@ -271,7 +271,7 @@ impl<S: Store> Board<S> {
     fn show_kept<B: Buffer>(&self, table: BiosTable, body: &[u8], to: &mut B) -> Result<(), Code>
         requires room { length (B.bytes to.old) + longest_part ≤ B.capacity }
         requires kept { table ≡ bios_table.Values → self.now.kept ≡ kept.Current }
-        ensures { Appends B.bytes result to.old to.new
+        ensures { AppendsReply B.bytes result to.old to.new
             (part_by self.now table body.now) }
     {
         show_part(body, self.tables.table(table), to)
@@ -281,7 +281,7 @@ impl<S: Store> Board<S> {
     #[inline(never)]
     fn show_table<B: Buffer>(&mut self, body: &[u8], to: &mut B) -> Result<(), Code>
         requires room { length (B.bytes to.old) + longest_part ≤ B.capacity }
-        ensures answer { Appends B.bytes result to.old to.new
+        ensures answer { AppendsReply B.bytes result to.old to.new
             (table_by self.old body.now) }
         ensures activity { self.new.activity ≡ self.old.activity }
         ensures store { self.new.records.store ≡ self.old.records.store }
@@ -303,7 +303,7 @@ impl<S: Store> Board<S> {
         to: &mut B,
     ) -> Result<(), Code>
         requires room { length (B.bytes to.old) + longest_live command ≤ B.capacity }
-        ensures { Serves B.bytes self.old self.new (live_asked command body.now)
+        ensures { ServesRequest B.bytes self.old self.new (live_asked command body.now)
             result to.old to.new }
     {
         match command {
@@ -339,8 +339,8 @@ impl<S: Store> Board<S> {
 
     /// Appends what a Get of the key's record replies.
     pub(super) fn get<B: Buffer>(&self, key: &Key, to: &mut B) -> Result<(), Code>
-        requires room { Fits (Ok (request.Get key.now)) (B.bytes to.old) B.capacity }
-        ensures { Appends B.bytes result to.old to.new
+        requires room { ReplyFits (Ok (request.Get key.now)) (B.bytes to.old) B.capacity }
+        ensures { AppendsReply B.bytes result to.old to.new
             (serve_by self.now (request.Get key.now)).0 }
     {
         match (self.setup.limits(key), self.records.store.get(key)) {
@@ -355,8 +355,8 @@ impl<S: Store> Board<S> {
     /// Carries out the operation, where its record takes it, and appends what the Set replies.
     #[inline(always)]
     pub(super) fn set<B: Buffer>(&mut self, op: &Op<'_>, to: &mut B) -> Result<(), Code>
-        requires room { Fits (Ok (request.Set op.now)) (B.bytes to.old) B.capacity }
-        ensures { Serves B.bytes self.old self.new (Ok (request.Set op.now))
+        requires room { ReplyFits (Ok (request.Set op.now)) (B.bytes to.old) B.capacity }
+        ensures { ServesRequest B.bytes self.old self.new (Ok (request.Set op.now))
             result to.old to.new }
     {
         self.records
@@ -373,8 +373,8 @@ impl<S: Store> Board<S> {
         body: &[u8],
         to: &mut B,
     ) -> Result<(), Code>
-        requires { Fits (set_read K.reader body.now) (B.bytes to.old) B.capacity }
-        ensures { Serves B.bytes self.old self.new (set_read K.reader body.now)
+        requires { ReplyFits (set_read K.reader body.now) (B.bytes to.old) B.capacity }
+        ensures { ServesRequest B.bytes self.old self.new (set_read K.reader body.now)
             result to.old to.new }
     {
         self.set(&K::op_in(body), to)
@@ -382,9 +382,9 @@ impl<S: Store> Board<S> {
 
     /// Carries out the command that changes a record of the kind.
     fn change<B: Buffer>(&mut self, kind: PlainKind, body: &[u8], to: &mut B) -> Result<(), Code>
-        requires { Fits (plain_set kind body.now) (B.bytes to.old)
+        requires { ReplyFits (plain_set kind body.now) (B.bytes to.old)
             B.capacity }
-        ensures { Serves B.bytes self.old self.new
+        ensures { ServesRequest B.bytes self.old self.new
             (plain_set kind body.now)
             result to.old to.new }
     {
@@ -393,8 +393,8 @@ impl<S: Store> Board<S> {
 
     /// Carries out Set System Boot Options.
     fn set_boot_options<B: Buffer>(&mut self, body: &[u8], to: &mut B) -> Result<(), Code>
-        requires { Fits (boot_set_asked body.now) (B.bytes to.old) B.capacity }
-        ensures { Serves B.bytes self.old self.new (boot_set_asked body.now)
+        requires { ReplyFits (boot_set_asked body.now) (B.bytes to.old) B.capacity }
+        ensures { ServesRequest B.bytes self.old self.new (boot_set_asked body.now)
             result to.old to.new }
     {
         match boot_request_in(body)? {
@@ -405,8 +405,8 @@ impl<S: Store> Board<S> {
 
     /// Carries out Get System Boot Options.
     fn get_boot_options<B: Buffer>(&mut self, body: &[u8], to: &mut B) -> Result<(), Code>
-        requires { Fits (boot_get_asked body.now) (B.bytes to.old) B.capacity }
-        ensures { Serves B.bytes self.old self.new (boot_get_asked body.now)
+        requires { ReplyFits (boot_get_asked body.now) (B.bytes to.old) B.capacity }
+        ensures { ServesRequest B.bytes self.old self.new (boot_get_asked body.now)
             result to.old to.new }
     {
         match boot_shown_in(body)? {
@@ -431,9 +431,9 @@ impl<S: Store> Board<S> {
 
     /// Carries out Set Channel Access.
     fn set_channel_access<B: Buffer>(&mut self, body: &[u8], to: &mut B) -> Result<(), Code>
-        requires { Fits (channel_set_asked body.now) (B.bytes to.old)
+        requires { ReplyFits (channel_set_asked body.now) (B.bytes to.old)
             B.capacity }
-        ensures { Serves B.bytes self.old self.new
+        ensures { ServesRequest B.bytes self.old self.new
             (channel_set_asked body.now)
             result to.old to.new }
     {
@@ -454,8 +454,8 @@ impl<S: Store> Board<S> {
         body: &[u8],
         to: &mut B,
     ) -> Result<(), Code>
-        requires room { Fits (asked_of from command body.now) (B.bytes to.old) B.capacity }
-        ensures { Serves B.bytes self.old self.new (asked_of from command body.now)
+        requires room { ReplyFits (asked_of from command body.now) (B.bytes to.old) B.capacity }
+        ensures { ServesRequest B.bytes self.old self.new (asked_of from command body.now)
             result to.old to.new }
     {
         match command? {
@@ -483,7 +483,7 @@ impl<S: Store> Board<S> {
         ensures setup { self.new.setup ≡ self.old.setup }
 
         // A refusal changes nothing, but that a full log which refuses a record notes that it overflowed.
-        ensures refused { Refuses self.old asked.now result self.new }
+        ensures refused { IsRefusal self.old asked.now result self.new }
         // The codes of a busy controller are not a board's.
         ensures not_busy { result.code ≢ node_busy }
         ensures ready { result.code ≢ pldm_not_ready }

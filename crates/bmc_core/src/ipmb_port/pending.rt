@@ -2,12 +2,12 @@
 ghost use Rattle.std.specs.Prelude.{◌≡◌, ◌≤◌, length, drop};
 ghost use Rattle.ipmb_frame.specs.Grammar.{request_bytes};
 ghost use Rattle.bmc_windows.specs.Heard.{request_of};
-ghost use Rattle.bmc_board.specs.Asking.{meant};
+ghost use Rattle.bmc_board.specs.Asking.{as_asked};
 ghost use Rattle.model_ports.specs.Bytes.{heard_in};
 ghost use Rattle.model_ports.specs.PortSteps.{asked_in};
 ghost use Rattle.bmc_core.specs.IpmbShown.{reading, HasUnits};
 
-use bmc_board::AskedHere;
+use bmc_board::AskedRef;
 use cfg_records::Asked;
 use ipmb_frame::{Header, Request};
 use std::marker::Model;
@@ -19,7 +19,7 @@ use two_wire::{Bytes, Data};
 #[derive(Drop)]
 pub(super) struct RequestInFrame<'a> {
     request: Request<'a>,
-    /// Its bytes behind the first that is compared.
+    /// The request's bytes behind the first that is compared.
     rest: &'a [u8],
 }
 
@@ -52,11 +52,11 @@ impl<'a> RequestInFrame<'a> {
 
     /// What it asks of the board.
     #[inline(always)]
-    pub fn asked(&self) -> AskedHere<'_>
-        ensures { meant result ≡ asked_in self.now }
+    pub fn asked(&self) -> AskedRef<'_>
+        ensures { as_asked result ≡ asked_in self.now }
     {
         let header = &self.request.header;
-        AskedHere::Ipmi {
+        AskedRef::Ipmi {
             from: header.requester.address.byte(),
             net_fn: header.net_fn,
             lun: header.responder.lun,
@@ -125,7 +125,7 @@ impl IpmbPending {
         }
     }
 
-    /// Its bytes behind the first that is compared.
+    /// The request's bytes behind the first that is compared.
     pub(super) fn rest(&self) -> Bytes<27>
         ensures { result ≡ drop 1 (request_bytes self.now) }
     {

@@ -2,12 +2,12 @@
 ghost use Rattle.std.specs.Prelude.{◌≡◌, ◌≤◌, ◌-◌, ◌∷◌, [], length, drop, slice_index, true, false, IfErr, OnErr};
 ghost use Rattle.two_wire.specs.Sizes.{most_ipmb_bytes, most_ipmi_reply_data};
 ghost use Rattle.two_wire.specs.declared.Bus.TheVariants.{Ipmb};
-ghost use Rattle.bmc_core.specs.Outs.{sends, AreRead};
-ghost use Rattle.bmc_core.specs.IpmbShown.{reading, HasUnits, IsFresh, RepeatsTo, Settles, IsKept, response_frame, ResponseIsRead, first_answer, first_response};
-ghost use Rattle.bmc_core.specs.IpmbServed.{IsBegun, IsEnded, AnswersBy, CarriesOut};
+ghost use Rattle.bmc_core.specs.Outs.{sends, ReadBack};
+ghost use Rattle.bmc_core.specs.IpmbShown.{reading, HasUnits, IsNewRequest, RepeatsTo, SettlesRequest, KeepsAnswer, response_frame, ResponseIsRead, first_answer, first_response};
+ghost use Rattle.bmc_core.specs.IpmbServed.{BeginsResponse, IsEnded, AnswersBy, CarriesOut};
 
 use super::pending::RequestInFrame;
-use crate::out::{Done, Out};
+use crate::out::{Disposition, Out};
 use bmc_board::Carrier;
 use bmc_windows::{Found, Windows};
 use cfg_records::{Answered, byte_at};
@@ -45,7 +45,7 @@ fn respond<C: Carrier>(
 /// Ends a response to which data were appended, or makes it that of a refusal.
 #[inline(always)]
 fn finish(frame: &mut Frame, header: &Header, given: Result<(), Code>)
-    requires { IsBegun header.now given frame.old }
+    requires { BeginsResponse header.now given frame.old }
     ensures { IsEnded header.now given frame.old frame.new }
 {
     match given {
@@ -107,18 +107,18 @@ fn repeat(out: &mut Out, header: &Header, kept: &[u8])
 
 /// Answers a request that isn't new: by the response that is kept for it, or that the port is busy. Returns whether it did.
 pub(super) fn settle(windows: &Kept, request: &RequestInFrame<'_>, out: &mut Out) -> bool
-    ensures fresh { result ≡ false → IsFresh windows.now request.now }
-    ensures settles { Settles windows.now request.now out.new result }
+    ensures fresh { result ≡ false → IsNewRequest windows.now request.now }
+    ensures settles { SettlesRequest windows.now request.now out.new result }
 {
     let heard = request.kept();
     match windows.find(&heard) {
         Found::Repeats(kept) => {
-            out.done = Done::Repeated;
+            out.done = Disposition::Repeated;
             repeat(out, request.header(), kept.as_slice());
             true
         }
         Found::Busy => {
-            out.done = Done::Busy;
+            out.done = Disposition::Busy;
             send(out, request.header(), code::NODE_BUSY.value(), &[]);
             true
         }
@@ -134,12 +134,12 @@ pub(super) fn keep_answer(
     out: &mut Out,
 )
     requires { length answered.now.body ≤ most_ipmi_reply_data }
-    ensures kept { IsKept windows.old request.now answered.now windows.new }
+    ensures kept { KeepsAnswer windows.old request.now answered.now windows.new }
     ensures sent { out.new ≡ first_answer request.now answered.now }
-    ensures read { AreRead Ipmb (first_response request.now answered.now ∷ []) }
+    ensures read { ReadBack Ipmb (first_response request.now answered.now ∷ []) }
 {
     let heard = request.kept();
-    out.done = Done::Answered;
+    out.done = Disposition::Answered;
     out.frames.keep_one();
     match out.frames.list.as_mut_slice() {
         [frame] => {
@@ -168,7 +168,7 @@ pub(super) fn carry_out<C: Carrier>(
     ensures refused { IfErr result (λ why. C.refuses carrier.now kept.old why kept.new) }
     ensures same { OnErr result (windows.new ≡ windows.old) }
 {
-    out.done = Done::Answered;
+    out.done = Disposition::Answered;
     out.frames.keep_one();
     match out.frames.list.as_mut_slice() {
         [frame] => match respond(carrier, kept, request, frame) {

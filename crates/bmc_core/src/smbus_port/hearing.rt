@@ -6,7 +6,7 @@ ghost use Rattle.bmc_core.specs.SmbusHeard.{message_in, control_in, pldm_in};
 
 use super::pending::RequestInMessage;
 use super::replying::send;
-use crate::out::{Done, Out, Reason};
+use crate::out::{Disposition, Out, Reason};
 use crate::port::At;
 use mctp_net::{Assembler, Endpoint, Envelope, Packet, Taken};
 use model_bus::{CONTROL_MESSAGE_TYPE, PLDM_MESSAGE_TYPE};
@@ -81,7 +81,7 @@ fn control(wire: Address, endpoint: &mut Endpoint, envelope: Envelope, body: &[u
                 wire,
                 eid: endpoint.eid(),
             };
-            out.done = Done::Control;
+            out.done = Disposition::Control;
             send(&at, &envelope, reply.as_slice(), out);
         }
         None => out.ignore(Reason::NotRequest),

@@ -2,7 +2,7 @@
 ghost use Rattle.std.specs.Prelude.{List};
 ghost use Rattle.cfg_records.specs.declared.board_file.BoardFile.{BoardFile};
 ghost use Rattle.model_ports.specs.PortSteps.{PortState};
-ghost use Rattle.bmc_core.specs.SmbusRuns.{AreHeardThenAnswered, Coming, KeepsTheRule, Ends, Happening, CarriesTheRule};
+ghost use Rattle.bmc_core.specs.SmbusRuns.{AreHeardThenAnswered, Arrival, KeepsTheRule, PortAndBoard, PortEvent, CarriesTheRule};
 
 /// A port of a board hears a packet, and then gets the board's answer to what the packet asks.
 pub fn a_packet_is_heard_and_then_answered()
@@ -12,11 +12,11 @@ pub fn a_packet_is_heard_and_then_answered()
 /// Over any list of packets, idle requesters and requests that get any answer or are dropped, the requests that a port carries out are
 /// those of the rule for repeated requests, over the requests that get answers.
 pub fn what_is_answered_is_kept_by_the_rule()
-    ensures { (port : PortState) (cs : List Coming) → KeepsTheRule port cs }
+    ensures { (port : PortState) (cs : List Arrival) → KeepsTheRule port cs }
 {}
 
 /// Over any list of packets and idle requesters, whatever others do to the board between, the requests that a port has carried out are
 /// those of the rule, over what is heard, each with the board's answer at that moment.
 pub fn what_is_heard_is_carried_out_by_the_rule()
-    ensures { (setup : BoardFile) (x : Ends) (es : List Happening) → CarriesTheRule setup x es }
+    ensures { (setup : BoardFile) (x : PortAndBoard) (es : List PortEvent) → CarriesTheRule setup x es }
 {}

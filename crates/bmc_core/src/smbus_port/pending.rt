@@ -3,11 +3,11 @@ ghost use Rattle.std.specs.Prelude.{◌≡◌, ◌≤◌, length};
 ghost use Rattle.two_wire.specs.Sizes.{most_message_bytes};
 ghost use Rattle.pldm_base.specs.Message.{request_bytes};
 ghost use Rattle.bmc_windows.specs.Heard.{request_of};
-ghost use Rattle.bmc_board.specs.Asking.{meant};
+ghost use Rattle.bmc_board.specs.Asking.{as_asked};
 ghost use Rattle.bmc_core.specs.SmbusHeard.{asking, asked_of, behind_first};
 ghost use Rattle.bmc_core.specs.SmbusShown.{pldm_reading, request_in, pending_of};
 
-use bmc_board::AskedHere;
+use bmc_board::AskedRef;
 use cfg_records::Asked;
 use mctp_net::Envelope;
 use pldm_base::{Header, PldmRequest, write_pldm};
@@ -25,7 +25,7 @@ pub(super) struct RequestInMessage<'a> {
     /// The envelope of its message.
     pub envelope: Envelope,
     pub request: PldmRequest<'a>,
-    /// Its bytes behind the first: the type, the command and the data.
+    /// The request's bytes behind the first: the type, the command and the data.
     rest: &'a [u8],
 }
 
@@ -70,8 +70,8 @@ impl<'a> RequestInMessage<'a> {
 
     /// What it asks of the board.
     #[inline(always)]
-    pub fn asked(&self) -> AskedHere<'_>
-        ensures { meant result ≡ asked_of self.now }
+    pub fn asked(&self) -> AskedRef<'_>
+        ensures { as_asked result ≡ asked_of self.now }
     {
         let Header {
             pldm_type,
@@ -79,7 +79,7 @@ impl<'a> RequestInMessage<'a> {
             ..
         } = self.request.header;
         let from = self.envelope.source_eid;
-        AskedHere::Pldm {
+        AskedRef::Pldm {
             from,
             kind: pldm_type,
             command,
@@ -122,7 +122,7 @@ impl SmbusPending {
         }
     }
 
-    /// Its bytes, with the ignored bit 0.
+    /// The request's bytes, with the ignored bit 0.
     pub(super) fn bytes(&self) -> Bytes<255>
         ensures { result ≡ request_bytes (request_in self.now).request }
     {

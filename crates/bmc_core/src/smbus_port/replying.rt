@@ -2,13 +2,13 @@
 ghost use Rattle.std.specs.Prelude.{◌≡◌, ◌<◌, ◌≤◌, length, IfErr, OnOk, OnErr};
 ghost use Rattle.two_wire.specs.Sizes.{most_message_bytes};
 ghost use Rattle.pldm_base.specs.Message.{IsHeader};
-ghost use Rattle.bmc_core.specs.declared.out.Done.TheVariants as done_as;
+ghost use Rattle.bmc_core.specs.declared.out.Disposition.TheVariants as done_as;
 ghost use Rattle.bmc_core.specs.SmbusHeard.{busy_reply, kept_with};
-ghost use Rattle.bmc_core.specs.SmbusShown.{Settles, IsKept, KeepsReply, Replies, RepliesWith};
+ghost use Rattle.bmc_core.specs.SmbusShown.{SettlesRequest, KeepsNewReply, KeepsReply, ReplyPackets, RepliesWith};
 ghost use Rattle.bmc_core.specs.SmbusServed.{reply_before_data, IsEnded, AnswersBy};
 
 use super::pending::RequestInMessage;
-use crate::out::{Done, Out};
+use crate::out::{Disposition, Out};
 use crate::port::At;
 use bmc_board::Carrier;
 use bmc_windows::{Found, Windows};
@@ -29,7 +29,7 @@ pub(super) type Reply = Bytes<{ MOST_MESSAGE_BYTES }>;
 /// Sends a reply of these bytes from this place to the sender of the envelope's message. The caller has noted in `out` what was done.
 pub(super) fn send(at: &At, to: &Envelope, body: &[u8], out: &mut Out)
     requires { length body.now ≤ most_message_bytes }
-    ensures { 0 < length body.now → Replies at.now to.now body.now out.old.done out.new }
+    ensures { 0 < length body.now → ReplyPackets at.now to.now body.now out.old.done out.new }
 {
     if body.is_empty() {
         return;
@@ -59,7 +59,7 @@ fn begin(header: &Header, code: u8, reply: &mut Reply)
 
 /// Answers that the port is busy.
 fn refuse(at: &At, request: &RequestInMessage<'_>, out: &mut Out)
-    ensures { Replies at.now request.now.envelope (busy_reply request.now) done_as.Busy out.new }
+    ensures { ReplyPackets at.now request.now.envelope (busy_reply request.now) done_as.Busy out.new }
 {
     let mut reply = Bytes::new();
     begin(
@@ -67,17 +67,17 @@ fn refuse(at: &At, request: &RequestInMessage<'_>, out: &mut Out)
         code::PLDM_NOT_READY.value(),
         &mut reply,
     );
-    out.done = Done::Busy;
+    out.done = Disposition::Busy;
     send(at, &request.envelope, reply.as_slice(), out);
 }
 
 /// Answers a request that isn't new: by the reply that is kept for it, or that the port is busy. Returns whether it did.
 pub(super) fn settle(windows: &Kept, at: &At, request: &RequestInMessage<'_>, out: &mut Out) -> bool
-    ensures { Settles at.now windows.now request.now out.old out.new result }
+    ensures { SettlesRequest at.now windows.now request.now out.old out.new result }
 {
     match windows.find(&request.kept()) {
         Found::Repeats(reply) => {
-            out.done = Done::Repeated;
+            out.done = Disposition::Repeated;
             send(at, &request.envelope, reply.as_slice(), out);
             true
         }
@@ -94,10 +94,10 @@ fn keep(windows: &mut Kept, at: &At, request: &RequestInMessage<'_>, reply: &[u8
     requires some { 0 < length reply.now }
     requires fits { length reply.now ≤ most_message_bytes }
     ensures kept { KeepsReply windows.old request.now reply.now windows.new }
-    ensures sent { Replies at.now request.now.envelope reply.now done_as.Answered out.new }
+    ensures sent { ReplyPackets at.now request.now.envelope reply.now done_as.Answered out.new }
 {
     windows.keep(&request.kept(), reply);
-    out.done = Done::Answered;
+    out.done = Disposition::Answered;
     send(at, &request.envelope, reply, out);
 }
 
@@ -110,7 +110,7 @@ pub(super) fn keep_answer(
     answered: &Answered,
     out: &mut Out,
 )
-    ensures kept { IsKept windows.old (kept_with request.now answered.now) windows.new }
+    ensures kept { KeepsNewReply windows.old (kept_with request.now answered.now) windows.new }
     ensures sent { RepliesWith at.now request.now answered.now out.new }
 {
     begin(&request.request.header, answered.code, made);
@@ -131,7 +131,7 @@ pub(super) fn carry_out<C: Carrier>(
     ensures answered { AnswersBy C.Carrier carrier.now kept.old request.now result
         made.new kept.new }
     ensures kept { OnOk result (KeepsReply windows.old request.now made.new windows.new) }
-    ensures sent { OnOk result (Replies at.now request.now.envelope made.new
+    ensures sent { OnOk result (ReplyPackets at.now request.now.envelope made.new
         done_as.Answered out.new) }
     ensures refused { IfErr result (λ why. C.refuses carrier.now kept.old why kept.new) }
     ensures same { OnErr result (windows.new ≡ windows.old) }

@@ -11,14 +11,14 @@ use Rattle.record_base.specs.declared.attribute_value.AttributeValue.TheVariants
 use Rattle.record_base.specs.AttributeValue.{type_of_value, value_bytes}
 use Rattle.record_base.specs.declared.bios_attribute.SetBiosAttribute.{SetBiosAttribute}
 use Rattle.text_fields.specs.declared.field.Field.TheVariants as field
-use Rattle.text_fields.specs.Trees.{IsNaturalIn, members_in, HasNumber, Lacks}
+use Rattle.text_fields.specs.Trees.{IsNaturalIn, members_in, HasNumber, LacksField}
 use Rattle.text_fields.specs.Attributes.{string_in}
 
 -- the step gives this value of an attribute, its indexes, its text or its number, and none besides
 abbrev pub GivesValue : Members → AttributeValue → Type 0
-GivesValue tree (attribute.Indexes indexes) = AllZip IsNaturalIn (members_in field.Indexes tree) indexes × (Lacks field.Text tree × Lacks field.Number tree)
-GivesValue tree (attribute.Text text) = (string_in field.Text tree ≡ Some text) × (Lacks field.Indexes tree × Lacks field.Number tree)
-GivesValue tree (attribute.Number n) = HasNumber field.Number tree n × (Lacks field.Indexes tree × Lacks field.Text tree)
+GivesValue tree (attribute.Indexes indexes) = AllZip IsNaturalIn (members_in field.Indexes tree) indexes × (LacksField field.Text tree × LacksField field.Number tree)
+GivesValue tree (attribute.Text text) = (string_in field.Text tree ≡ Some text) × (LacksField field.Indexes tree × LacksField field.Number tree)
+GivesValue tree (attribute.Number n) = HasNumber field.Number tree n × (LacksField field.Indexes tree × LacksField field.Text tree)
 
 -- the step holds a change of an attribute's value, to the one that it gives: the value's type, and its bytes
 pub record HoldsBiosAttribute (tree : Members) (set : SetBiosAttribute) : Type 0 where

@@ -12,14 +12,14 @@ use Rattle.text_fields.specs.declared.field.Field.TheVariants as field
 use Rattle.text_fields.specs.Trees.{in_field, bytes_in, HasNumber, HasFlag}
 
 -- what a step gives are these bytes: none where it gives nothing
-abbrev pub IsGiven : Option Data → List ℕ → Type 0
-IsGiven None bytes = bytes ≡ []
-IsGiven (Some d) bytes = bytes_in (length bytes) d ≡ Some bytes
+abbrev pub IsGivenData : Option Data → List ℕ → Type 0
+IsGivenData None bytes = bytes ≡ []
+IsGivenData (Some d) bytes = bytes_in (length bytes) d ≡ Some bytes
 
 -- the step says what becomes of a boot parameter's data
 pub record HoldsBootChange (tree : Members) (change : BootChange) : Type 0 where
   pub named : HasNumber field.Param tree (selector (parameter_of change))
-  pub given : IsGiven (in_field field.BootData tree) (change_bytes change)
+  pub given : IsGivenData (in_field field.BootData tree) (change_bytes change)
 
 -- the step holds a change of a boot parameter
 pub record HoldsBootParam (tree : Members) (set : SetBootParam) : Type 0 where

@@ -9,13 +9,13 @@ use Rattle.record_base.specs.declared.channel.ChannelChange.{ChannelChange}
 use Rattle.record_base.specs.declared.channel.ChannelChange.TheVariants as channel
 use Rattle.record_base.specs.declared.channel.SetChannelAccess.{SetChannelAccess}
 use Rattle.text_fields.specs.declared.field.Field.TheVariants as field
-use Rattle.text_fields.specs.Trees.{in_field, HasNumber, Lacks}
+use Rattle.text_fields.specs.Trees.{in_field, HasNumber, LacksField}
 use Rattle.text_fields.specs.Channels.{store_of}
 
 -- the step says what of a channel's access and limit changes: those that it gives
 abbrev pub HoldsChannelChange : Members → ChannelChange → Type 0
-HoldsChannelChange tree (channel.Access access) = HasNumber field.Access tree access.number × Lacks field.Limit tree
-HoldsChannelChange tree (channel.Limit limit) = Lacks field.Access tree × HasNumber field.Limit tree limit.number
+HoldsChannelChange tree (channel.Access access) = HasNumber field.Access tree access.number × LacksField field.Limit tree
+HoldsChannelChange tree (channel.Limit limit) = LacksField field.Access tree × HasNumber field.Limit tree limit.number
 HoldsChannelChange tree (channel.Both access limit) = HasNumber field.Access tree access.number × HasNumber field.Limit tree limit.number
 
 -- the step holds a change of a channel's access in one of its stores

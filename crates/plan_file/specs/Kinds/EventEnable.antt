@@ -25,14 +25,14 @@ pub record HoldsEvents (tree : Members) (events : EventMasks) : Type 0 where
   pub deassertions : HasEvents field.Deassert tree events.deassertions
 
 -- the step selects what becomes of events
-abbrev pub Selects : Members → List ℕ → Type 0
-Selects tree word = has_text field.Select word tree ≡ true
+abbrev pub SelectsMasks : Members → List ℕ → Type 0
+SelectsMasks tree word = has_text field.Select word tree ≡ true
 
 -- the step says what becomes of the enabled events
 abbrev pub HoldsChange : Members → EventChange → Type 0
-HoldsChange tree change.Leave = Selects tree (codes "leave")
-HoldsChange tree (change.Enable events) = Selects tree (codes "enable") × HoldsEvents tree events
-HoldsChange tree (change.Disable events) = Selects tree (codes "disable") × HoldsEvents tree events
+HoldsChange tree change.Leave = SelectsMasks tree (codes "leave")
+HoldsChange tree (change.Enable events) = SelectsMasks tree (codes "enable") × HoldsEvents tree events
+HoldsChange tree (change.Disable events) = SelectsMasks tree (codes "disable") × HoldsEvents tree events
 HoldsChange tree change.Reserved = ⊥
 
 -- the step holds a change of a sensor's events

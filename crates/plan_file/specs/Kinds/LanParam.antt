@@ -5,8 +5,8 @@ use Rattle.std.specs.Prelude.{◌≡◌, length, Some, option_and_then}
 use Rattle.toml.specs.Data.{Members}
 use Rattle.record_base.specs.declared.op.Op.{Op}
 use Rattle.record_base.specs.declared.op.Op.TheVariants as op
-use Rattle.record_base.specs.declared.lan.LanChange.{LanChange}
-use Rattle.record_base.specs.declared.lan.SetLanParam.{SetLanParam}
+use Rattle.record_base.specs.declared.lan_parameter.LanChange.{LanChange}
+use Rattle.record_base.specs.declared.lan_parameter.SetLanParam.{SetLanParam}
 use Rattle.record_base.specs.Lan.{lan_selector, changed_parameter, lan_data}
 use Rattle.text_fields.specs.declared.field.Field.TheVariants as field
 use Rattle.text_fields.specs.Trees.{in_field, bytes_in, HasNumber}

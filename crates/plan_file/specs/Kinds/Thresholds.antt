@@ -6,7 +6,7 @@ use Rattle.toml.specs.Data.{Members}
 use Rattle.record_base.specs.Masks.{has}
 use Rattle.record_base.specs.declared.op.Op.{Op}
 use Rattle.record_base.specs.declared.op.Op.TheVariants as op
-use Rattle.record_base.specs.declared.sensor_thresholds.SetThresholds.{SetThresholds}
+use Rattle.record_base.specs.declared.thresholds.SetThresholds.{SetThresholds}
 use Rattle.text_fields.specs.declared.field.Field.TheVariants as field
 use Rattle.plan_file.specs.declared.kind.thresholds.TheConstants.{LIMITS}
 use Rattle.text_fields.specs.Trees.{in_field, number_in, HasNumber}

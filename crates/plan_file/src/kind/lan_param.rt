@@ -4,7 +4,7 @@ ghost use Rattle.toml.specs.View.{table_view};
 ghost use Rattle.plan_file.specs.Kinds.LanParam.{HoldsLanChange, HoldsLanParam};
 
 use record_base::ChannelNumber;
-use record_base::lan::{LanChange, SetLanParam};
+use record_base::lan_parameter::{LanChange, SetLanParam};
 use text_fields::lan::{lan_change, lan_parameter_in};
 use text_fields::{Checked, Field, LanShape, Need, Row, Shape};
 

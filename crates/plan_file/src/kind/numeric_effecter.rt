@@ -1,7 +1,7 @@
 //! The step that sets the value of a numeric effecter.
 ghost use Rattle.std.specs.Prelude.{◌≡◌};
 ghost use Rattle.toml.specs.View.{table_view};
-ghost use Rattle.text_fields.specs.Numeric.{sized_bytes, AreBytes};
+ghost use Rattle.text_fields.specs.Numeric.{sized_bytes, AreValueBytes};
 ghost use Rattle.plan_file.specs.Kinds.NumericEffecter.{HoldsNumericEffecter};
 
 use record_base::{NumericBytes, SetNumericEffecter};
@@ -18,7 +18,7 @@ pub const FIELDS: [Row; 3] = [
 /// The bytes of the number that the step gives, of the size that it gives.
 fn numeric_value(step: &Checked<'_>) -> NumericBytes
     requires { step.now.rows.now ≡ FIELDS }
-    ensures { AreBytes result (sized_bytes Field.Value (table_view step.now.table.now)) }
+    ensures { AreValueBytes result (sized_bytes Field.Value (table_view step.now.table.now)) }
 {
     let size = size_in(step.table).unwrap();
     let number = sized_in(step.table, size, Field::Value).unwrap();

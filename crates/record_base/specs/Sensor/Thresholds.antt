@@ -2,7 +2,7 @@
 -- non-critical, lower critical, lower non-recoverable, upper non-critical, upper critical, upper non-recoverable.
 use Rattle.std.specs.Prelude.{◌≡◌, ℕ, ◌<◌, ◌≤◌, List, [], ◌∷◌, length, slice_index, Bool, ◌||◌, not, nat_le, ◌==◌, IsTrue, IsFalse}
 use Rattle.record_base.specs.Masks.{has, all_below}
-use Rattle.record_base.specs.declared.thresholds.ThresholdMasks.{ThresholdMasks}
+use Rattle.record_base.specs.declared.threshold_masks.ThresholdMasks.{ThresholdMasks}
 
 -- the sensor has the threshold at this place: it can be read or set
 abbrev pub is_there : ThresholdMasks → ℕ → Bool

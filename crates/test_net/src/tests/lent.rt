@@ -7,7 +7,7 @@ use super::shared::{close, expect_equal, open_shared};
 use super::wired::{open_sample, port_on};
 use app_serve::serve_periods;
 use bmc_board::{Board, Records};
-use bmc_ports::{End, Lane, Lanes, Opening, Seats, Shared, Sliced, Timetable, run_slices};
+use bmc_ports::{End, Lane, Lanes, Opening, RunResult, Seats, Shared, Timetable, run_slices};
 use std::alloc::Global;
 use std::marker::Brand;
 use std::process::Abort;
@@ -56,7 +56,7 @@ fn serve_shared<J: Opening + Send + Sync, R: Threads + Wait + Clock + Abort + Sy
 ) -> (Seats<J>, Lanes<MemLink, MemLink>, End) {
     let table = Timetable::new(&[], None);
     let sliced = run_slices(rt, shared, seats, lanes, table, &Open, None);
-    let Sliced {
+    let RunResult {
         seats,
         lanes,
         next: _,

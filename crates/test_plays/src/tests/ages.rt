@@ -1,17 +1,17 @@
 //! How long frames are live, worked by hand from the rule.
 
 use super::expect_equal;
-use lab_run::{Known, Mark};
+use lab_run::{BusAge, FrameAge};
 use two_wire::Bus;
 
 /// Whether the frame of request 3 and the reply to it are live once so many requests are begun.
 fn is_live(on: Bus, begun: usize) -> (bool, bool) {
-    let frame = Mark {
+    let frame = FrameAge {
         on,
         request: 3,
         idles: 0,
     };
-    let now = Known { begun, idles: 0 };
+    let now = BusAge { begun, idles: 0 };
     (frame.is_live(now), frame.reply(0).is_live(now))
 }
 
@@ -25,13 +25,13 @@ fn a_frame_is_live_for_eight_requests_on_smbus_and_thirty_two_on_ipmb(rt: HostRu
 
 #[test]
 fn no_frame_outlives_the_window(rt: HostRuntime) {
-    let frame = Mark {
+    let frame = FrameAge {
         on: Bus::Ipmb,
         request: 0,
         idles: 0,
     };
-    let again = Mark { idles: 1, ..frame };
-    let forgotten = Known { begun: 1, idles: 1 };
+    let again = FrameAge { idles: 1, ..frame };
+    let forgotten = BusAge { begun: 1, idles: 1 };
     let old = (frame.is_live(forgotten), frame.reply(0).is_live(forgotten));
     expect_equal(&rt, old, (false, false));
     let new = (again.is_live(forgotten), again.reply(1).is_live(forgotten));

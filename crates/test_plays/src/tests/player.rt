@@ -3,7 +3,7 @@ use super::expect_equal;
 use super::runs::push_came;
 use super::scene::Scene;
 use super::text::{parted, push_lines};
-use app_base::Unreadable;
+use app_base::UnreadFile;
 use std::alloc::{AllocError, Global};
 use std::process::Abort;
 use story_lines::NoOutcome;
@@ -191,8 +191,8 @@ impl<'s> Player<'s> {
             "make" => self.make(rest),
             "swap" => self.scene.swap(rest),
             "fails" => self.scene.fail(rest),
-            "unreadable" => self.scene.put(rest, Err(Unreadable::NoText)),
-            "memory" => self.scene.put(rest, Err(Unreadable::Memory)),
+            "unreadable" => self.scene.put(rest, Err(UnreadFile::NoText)),
+            "memory" => self.scene.put(rest, Err(UnreadFile::Memory)),
             _ => self.expect(),
         }
     }

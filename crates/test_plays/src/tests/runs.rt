@@ -5,7 +5,8 @@ use super::scene::Scene;
 use super::text::parted;
 use app_base::{Ending, Refusal, Report, refuse};
 use app_bmclab::{
-    Chances, Links, Percent, ScheduleFiles, Wanted, run_line, schedule_of_files, schedule_run,
+    Chances, Links, Percent, ScheduleFiles, ScheduleOptions, run_line, schedule_of_files,
+    schedule_run,
 };
 use app_play::{PlayFiles, Shown, chart_run, play_of_files, play_run, show};
 use bmc_lab::{frame_of_file, frame_run};
@@ -56,7 +57,7 @@ fn draw_late(alloc: Global, scene: &Scene, seed: &str, paper: &mut Paper) -> Res
         seed: seed.parse::<u64>()?,
         late_joins: true,
     };
-    let wanted = Wanted {
+    let wanted = ScheduleOptions {
         links: Links::Drawn(chances),
         undo: true,
     };
@@ -87,7 +88,7 @@ fn call(alloc: Global, scene: &Scene, name: &str, paper: &mut Paper) -> Result<u
         }
         "schedule_of_files" => {
             let files = ScheduleFiles { board, plan };
-            let wanted = Wanted {
+            let wanted = ScheduleOptions {
                 links: Links::Clean,
                 undo: true,
             };

@@ -1,13 +1,13 @@
 //! What the runs of a story find: its texts, as files in memory, `board.toml`, `plan.toml` and `schedule.txt`, and writers.
 use super::paper::{Paper, new_paper};
 use super::text::parted;
-use app_base::{TextFiles, Unreadable};
+use app_base::{TextFiles, UnreadFile};
 use app_bmclab::{Cause, TellsCause};
 use std::alloc::Global;
 use story_lines::NoOutcome;
 
 /// A file: its text, or why it isn't read.
-type File = Result<String, Unreadable>;
+type File = Result<String, UnreadFile>;
 
 /// Three files, of which no other can be read, and behind how many calls each writer fails, if it does.
 #[derive(Drop)]
@@ -25,7 +25,7 @@ impl Scene {
     pub fn new(alloc: Global) -> Scene {
         Scene {
             alloc,
-            board: Err(Unreadable::NoText),
+            board: Err(UnreadFile::NoText),
             plan: Ok(String::new(alloc)),
             schedule: Ok(String::new(alloc)),
             out_left: None,
@@ -34,12 +34,12 @@ impl Scene {
     }
 
     /// The text of the file of this word, or why it isn't read.
-    pub fn file(&self, word: &str) -> Result<&str, Unreadable> {
+    pub fn file(&self, word: &str) -> Result<&str, UnreadFile> {
         let file = match word {
             "board.toml" => &self.board,
             "plan.toml" => &self.plan,
             "schedule.txt" => &self.schedule,
-            _ => return Err(Unreadable::NoText),
+            _ => return Err(UnreadFile::NoText),
         };
         match file {
             Ok(text) => Ok(text.as_str()),
@@ -98,10 +98,10 @@ impl Scene {
 impl TextFiles for Scene {
     ghost gives = { λ files word given. Unit {0} };
 
-    fn text(&self, word: &str) -> Result<String, Unreadable> {
+    fn text(&self, word: &str) -> Result<String, UnreadFile> {
         match String::from_str(self.alloc, self.file(word)?) {
             Ok(text) => Ok(text),
-            Err(_) => Err(Unreadable::Memory),
+            Err(_) => Err(UnreadFile::Memory),
         }
     }
 }

@@ -1,7 +1,7 @@
 //! A port of either bus, by its calls.
 use super::expect_out;
 use bmc_board::{Board, Records};
-use bmc_core::{At, Done, Out, Port, Step};
+use bmc_core::{At, Disposition, Out, Port, Step};
 use mctp_net::EndpointId;
 use std::alloc::Global;
 use std::process::Abort;
@@ -35,8 +35,8 @@ pub fn expect_answers(rt: &impl Abort, alloc: Global, board: &mut Board<Records>
         }
         Step::Done => panic!(rt; "nothing is asked"),
     }
-    expect_out(rt, &out, Done::Answered, GOT);
+    expect_out(rt, &out, Disposition::Answered, GOT);
     port.on_frame(board, GET, &mut out);
-    expect_out(rt, &out, Done::Repeated, GOT);
+    expect_out(rt, &out, Disposition::Repeated, GOT);
     assert!(rt; port.idle(0x40));
 }

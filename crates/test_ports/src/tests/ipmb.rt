@@ -4,7 +4,7 @@ ghost use Rattle.two_wire.specs.Sizes.{most_ipmi_reply_data};
 
 use super::{expect_out, expect_told};
 use bmc_board::{Board, Records};
-use bmc_core::{Done, IpmbPending, IpmbPort, Out, Step};
+use bmc_core::{Disposition, IpmbPending, IpmbPort, Out, Step};
 use record_base::{Answered, Asked};
 use std::alloc::Global;
 use std::process::Abort;
@@ -344,9 +344,9 @@ fn a_reply_that_is_kept_goes_from_the_address_that_is_asked(rt: HostRuntime) {
     let mut out = Out::new();
     let pending = asked(&rt, &mut port, &mut out);
     other.answer(pending, &thresholds(), &mut out);
-    expect_out(&rt, &out, Done::Answered, GOT);
+    expect_out(&rt, &out, Disposition::Answered, GOT);
     assert!(rt; matches!(other.hear(GET_AT_22, &mut out), Step::Done));
-    expect_out(&rt, &out, Done::Repeated, GOT_AT_22);
+    expect_out(&rt, &out, Disposition::Repeated, GOT_AT_22);
     assert!(rt; other.idle(0x40) && !port.idle(0x40));
 }
 
@@ -355,7 +355,7 @@ pub fn expect_answer(rt: &impl Abort, alloc: Global, board: &mut Board<Records>)
     let mut port = port_at(rt, alloc, 0x20);
     let mut out = Out::new();
     port.on_frame(board, GET, &mut out);
-    expect_out(rt, &out, Done::Answered, GOT);
+    expect_out(rt, &out, Disposition::Answered, GOT);
 }
 
 #[test]

@@ -1,7 +1,7 @@
 //! Requests to a port on the System Management Bus, and what it keeps of them.
 use super::{expect_out, expect_told};
 use bmc_board::{Board, Records};
-use bmc_core::{At, Done, Out, SmbusPending, SmbusPort, Step};
+use bmc_core::{At, Disposition, Out, SmbusPending, SmbusPort, Step};
 use mctp_net::EndpointId;
 use record_base::{Answered, Asked};
 use std::alloc::Global;
@@ -137,7 +137,7 @@ fn expect_told_tid(
     port: &mut SmbusPort,
     pending: SmbusPending,
     number: u8,
-    done: Done,
+    done: Disposition,
     frame: &[u8],
 ) {
     let tid = Answered {
@@ -153,7 +153,7 @@ fn expect_told_tid(
 fn expect_repeated(rt: &impl Abort, port: &mut SmbusPort, frame: &[u8]) {
     let mut out = Out::new();
     assert!(rt; matches!(port.hear(GET_TID, &mut out), Step::Done));
-    expect_out(rt, &out, Done::Repeated, frame);
+    expect_out(rt, &out, Disposition::Repeated, frame);
 }
 
 #[test]
@@ -167,7 +167,14 @@ fn a_request_is_heard_and_told(rt: HostRuntime) {
         body: Bytes::new(),
     };
     assert!(rt; pending.asked().is(&wanted));
-    expect_told_tid(&rt, &mut port, pending, 0x05, Done::Answered, GOT_TID);
+    expect_told_tid(
+        &rt,
+        &mut port,
+        pending,
+        0x05,
+        Disposition::Answered,
+        GOT_TID,
+    );
     expect_repeated(&rt, &mut port, GOT_TID);
     assert!(rt; port.idle(0x08));
 }
@@ -203,11 +210,18 @@ fn of_a_request_that_is_told_twice_the_first_answer_is_kept(rt: HostRuntime) {
     let first = asked(&rt, &mut port, GET_TID, &mut out);
     let second = asked(&rt, &mut port, GET_TID, &mut out);
     let third = asked(&rt, &mut port, GET_TID, &mut out);
-    expect_told_tid(&rt, &mut port, first, 0x05, Done::Answered, GOT_TID);
-    expect_told_tid(&rt, &mut port, second, 0x06, Done::Repeated, GOT_TID);
+    expect_told_tid(&rt, &mut port, first, 0x05, Disposition::Answered, GOT_TID);
+    expect_told_tid(&rt, &mut port, second, 0x06, Disposition::Repeated, GOT_TID);
     let other = asked(&rt, &mut port, GET_TID_1, &mut out);
-    expect_told_tid(&rt, &mut port, other, 0x05, Done::Answered, GOT_TID_1);
-    expect_told_tid(&rt, &mut port, third, 0x06, Done::Repeated, GOT_TID);
+    expect_told_tid(
+        &rt,
+        &mut port,
+        other,
+        0x05,
+        Disposition::Answered,
+        GOT_TID_1,
+    );
+    expect_told_tid(&rt, &mut port, third, 0x06, Disposition::Repeated, GOT_TID);
     expect_repeated(&rt, &mut port, GOT_TID);
 }
 
@@ -219,10 +233,24 @@ fn an_answer_that_is_forgotten_makes_room_for_the_second(rt: HostRuntime) {
     let mut out = Out::new();
     let first = asked(&rt, &mut port, GET_TID, &mut out);
     let second = asked(&rt, &mut port, GET_TID, &mut out);
-    expect_told_tid(&rt, &mut port, first, 0x05, Done::Answered, GOT_TID);
+    expect_told_tid(&rt, &mut port, first, 0x05, Disposition::Answered, GOT_TID);
     let newer = asked(&rt, &mut port, GET_TID_16, &mut out);
-    expect_told_tid(&rt, &mut port, newer, 0x05, Done::Answered, GOT_TID_16);
-    expect_told_tid(&rt, &mut port, second, 0x06, Done::Answered, GOT_OTHER_TID);
+    expect_told_tid(
+        &rt,
+        &mut port,
+        newer,
+        0x05,
+        Disposition::Answered,
+        GOT_TID_16,
+    );
+    expect_told_tid(
+        &rt,
+        &mut port,
+        second,
+        0x06,
+        Disposition::Answered,
+        GOT_OTHER_TID,
+    );
     expect_repeated(&rt, &mut port, GOT_OTHER_TID);
 }
 
@@ -231,7 +259,7 @@ pub fn expect_answer(rt: &impl Abort, alloc: Global, board: &mut Board<Records>)
     let mut port = open_port(rt, alloc);
     let mut out = Out::new();
     port.on_frame(board, GET_TID, &mut out);
-    expect_out(rt, &out, Done::Answered, GOT_TID);
+    expect_out(rt, &out, Disposition::Answered, GOT_TID);
 }
 
 #[test]

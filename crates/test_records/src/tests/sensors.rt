@@ -4,7 +4,7 @@ ghost use Rattle.std.specs.Prelude.{◌≡◌, ◌<◌};
 use super::{expect_bytes, expect_equal};
 use cfg_records::{Live, RecordData, RecordKind, Value};
 use record_base::{EventMasks, Hysteresis, SetHysteresis, SetThresholds, ThresholdMasks};
-use sensor_recs::{Compared, Event, HysteresisLimits, ThresholdLimits};
+use sensor_recs::{Comparator, Event, HysteresisLimits, ThresholdLimits};
 use std::process::Abort;
 use two_wire::code::{Code, INVALID_DATA_FIELD};
 
@@ -56,8 +56,8 @@ fn replies_are_appended(rt: HostRuntime) {
 }
 
 /// The sensor, of whose events upper critical alone is enabled, in both directions.
-fn compared(rt: &impl Abort) -> Compared {
-    Compared {
+fn compared(rt: &impl Abort) -> Comparator {
+    Comparator {
         masks: ThresholdMasks::new(0x3F, 0x3F).expect(rt, "masks"),
         thresholds: THRESHOLDS,
         hysteresis: Hysteresis {

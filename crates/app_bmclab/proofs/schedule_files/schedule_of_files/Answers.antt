@@ -1,13 +1,13 @@
 use Rattle.std.proofs.Common.{inr}
 use Rattle.app_base.specs.EndingLaws.{run_ends_as}
-use Rattle.app_base.specs.Files.{Refuses}
-use Rattle.app_bmclab.specs.ScheduledFiles.{words_of, SaysOfFiles}
+use Rattle.app_base.specs.Files.{PrintsRefusal}
+use Rattle.app_bmclab.specs.ScheduledFiles.{words_of, PrintsScheduleOfFiles}
 use Rattle.app_bmclab.proofs.schedule_files.schedule_of_files.Goals as goal
 
 pub returns-in-Err : goal.returns-in-Err
 returns-in-Err g c =
-    run_ends_as g.W.Write.contents g.E.Write.contents (Refuses c.in-Err.unread.why c.in-Err.unread.word.now)
-    (SaysOfFiles (g.F.TextFiles.gives c.args.files.now) c.args.wanted (words_of c.args.words))
+    run_ends_as g.W.Write.contents g.E.Write.contents (PrintsRefusal c.in-Err.unread.why c.in-Err.unread.word.now)
+    (PrintsScheduleOfFiles (g.F.TextFiles.gives c.args.files.now) c.args.wanted (words_of c.args.words))
     c.args.console.now c.refuse.new.console c.refuse.result
     (λ stream text status said. inr (c.in-Err.unread.word.now, c.in-Err.unread.why, c.in-Err.ensures.unread, said))
     c.refuse.ensures

@@ -1,6 +1,6 @@
 use Rattle.std.proofs.Common.{◌≡◌, List, Ok, refl, string_bytes, subst}
 use Rattle.text_schedule.specs.declared.event.Event.{Event}
-use Rattle.text_schedule.specs.Schedule.{IsRead}
+use Rattle.text_schedule.specs.Schedule.{TextIsRead}
 use Rattle.text_schedule.specs.Written.{text_of}
 use Rattle.app_bmclab.proofs.schedule_text.written_report.Goals as goal
 
@@ -11,6 +11,6 @@ returns-clause-written c =
       events = c.in_ok-events.events.items;
       made = c.in_ok-events.ensures;
       written = subst (λ (events : List Event). text ≡ text_of events) c.as_slice.ensures.value c.in_ok-text.ensures.text;
-      read = subst (λ (events : List Event). IsRead text (Ok events)) c.as_slice.ensures.value c.in_ok-text.ensures.said;
+      read = subst (λ (events : List Event). TextIsRead text (Ok events)) c.as_slice.ensures.value c.in_ok-text.ensures.said;
       ended = refl;
     }

@@ -3,8 +3,8 @@ use Rattle.std.proofs.Common.{◌≡◌, ◌⊎◌, length, List, ℕ, inl, inr,
 use Rattle.plan_file.specs.declared.kind.Kind.{Kind}
 use Rattle.text_undo.specs.UndoText.{text_of}
 use Rattle.model_lab.specs.Meaning.{lab_names}
-use Rattle.app_run.specs.declared.files.Unwritten.{Unwritten}
-use Rattle.app_run.specs.Beside.{IsBeside, Puts}
+use Rattle.app_run.specs.declared.files.WriteFault.{WriteFault}
+use Rattle.app_run.specs.Beside.{IsBeside, PutsText}
 use Rattle.app_run.specs.Driven.{opened_with}
 use Rattle.app_run.specs.Told.{TellsWay}
 use Rattle.app_run.proofs.running.carry_out.Goals as goal
@@ -20,7 +20,7 @@ returns-in-Ok-Ok-clause-comes g c =
       (
         c.undo_list.result.now,
         c.undo_list.ensures lab_names opened shown,
-        subst (λ (a : Result (Unit {0}) Unwritten). Puts g.F.WritesFiles.takes g.F.WritesFiles.renames word (text_of c.undo_list.result.now) c.args.files.now a c.put_list.new.files)
+        subst (λ (a : Result (Unit {0}) WriteFault). PutsText g.F.WritesFiles.takes g.F.WritesFiles.renames word (text_of c.undo_list.result.now) c.args.files.now a c.put_list.new.files)
             c.in-Ok-Ok.field-0-is (c.in-Ok-Ok.ensures.put word is),
       ),
       c.run_made.ensures.comes word opened is shown,
@@ -38,7 +38,7 @@ returns-in-Ok-Err-clause-comes g c =
       (
         c.undo_list.result.now,
         c.undo_list.ensures lab_names opened shown,
-        subst (λ (a : Result (Unit {0}) Unwritten). Puts g.F.WritesFiles.takes g.F.WritesFiles.renames word (text_of c.undo_list.result.now) c.args.files.now a c.put_list.new.files)
+        subst (λ (a : Result (Unit {0}) WriteFault). PutsText g.F.WritesFiles.takes g.F.WritesFiles.renames word (text_of c.undo_list.result.now) c.args.files.now a c.put_list.new.files)
             c.in-Ok-Err.field-0-is (c.in-Ok-Err.ensures.put word is),
       ),
     ))

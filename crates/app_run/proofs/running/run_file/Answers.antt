@@ -1,6 +1,6 @@
 use Rattle.std.proofs.Common.{◌∙◌, refl, inr, ap}
 use Rattle.app_base.specs.EndingLaws.{run_ends_as}
-use Rattle.app_base.specs.Files.{Refuses}
+use Rattle.app_base.specs.Files.{PrintsRefusal}
 use Rattle.app_base.specs.Report.{file_line}
 use Rattle.app_run.specs.Run.{SaysUnread}
 use Rattle.app_run.proofs.running.run_file.Goals as goal
@@ -9,7 +9,7 @@ pub returns-in-Err-clause-ends : goal.returns-in-Err-clause-ends
 returns-in-Err-clause-ends g c =
     inr (
       refl,
-      run_ends_as g.W.Write.contents g.E.Write.contents (Refuses c.in-Err.unread.why c.in-Err.unread.word.now) (SaysUnread (g.F.TextFiles.gives c.args.files.now) c.args.word.now)
+      run_ends_as g.W.Write.contents g.E.Write.contents (PrintsRefusal c.in-Err.unread.why c.in-Err.unread.word.now) (SaysUnread (g.F.TextFiles.gives c.args.files.now) c.args.word.now)
           c.args.console.now c.refuse.new.console c.refuse.result
           (λ stream said status told. (c.in-Err.unread.why, c.in-Err.ensures.unread, (told.0, told.1, told.2 ∙ ap file_line c.in-Err.ensures.word, told.3)))
           c.refuse.ensures,

@@ -1,14 +1,14 @@
 use Rattle.std.proofs.Common.{◌-◌}
 use Rattle.model_lab.specs.Meaning.{lab_names}
-use Rattle.undo_core.specs.Shown.{Shows}
+use Rattle.undo_core.specs.Shown.{Represents}
 use Rattle.bmc_ports.specs.Driving.{both}
-use Rattle.app_run.specs.Driven.{State}
-use Rattle.app_run.specs.Moments.{Watched}
+use Rattle.app_run.specs.Driven.{DrivenState}
+use Rattle.app_run.specs.Moments.{WatchedStep}
 use Rattle.app_run.proofs.Tries.{Continues}
 use Rattle.app_run.proofs.trying.drive_again.Given as goal
 
 abbrev pub invariant-loop : goal.invariant-loop
 invariant-loop g l =
-    ((s : State) → Shows lab_names l.fn.manager s
+    ((s : DrivenState) → Represents lab_names l.fn.manager s
     → Continues l.agains l.fn.turns s (both (g.A.Link.counts_of l.fn.ipmb) (g.B.Link.counts_of l.fn.smbus)) (l.agains - l.counter) l.left l.manager (both (g.A.Link.counts_of l.ipmb) (g.B.Link.counts_of l.smbus)))
-    × Watched g.T.Watches.sees l.fn.manager l.manager (both (g.A.Link.counts_of l.fn.ipmb) (g.B.Link.counts_of l.fn.smbus)) (both (g.A.Link.counts_of l.ipmb) (g.B.Link.counts_of l.smbus)) l.fn.watch l.watch
+    × WatchedStep g.T.Watches.sees l.fn.manager l.manager (both (g.A.Link.counts_of l.fn.ipmb) (g.B.Link.counts_of l.fn.smbus)) (both (g.A.Link.counts_of l.ipmb) (g.B.Link.counts_of l.smbus)) l.fn.watch l.watch

@@ -1,13 +1,13 @@
 use Rattle.std.proofs.Common.{◌-◌}
 use Rattle.model_lab.specs.Meaning.{lab_names}
-use Rattle.undo_core.specs.Shown.{Shows}
+use Rattle.undo_core.specs.Shown.{Represents}
 use Rattle.bmc_ports.specs.Driving.{both}
-use Rattle.app_run.specs.Driven.{State}
-use Rattle.app_run.specs.Moments.{Watched}
+use Rattle.app_run.specs.Driven.{DrivenState}
+use Rattle.app_run.specs.Moments.{WatchedStep}
 use Rattle.app_run.proofs.Tries.{Going}
 use Rattle.app_run.proofs.trying.drive_heeded.Given as goal
 
 abbrev pub invariant-loop-made : goal.invariant-loop-made
 invariant-loop-made g l =
-    ((s : State) → Shows lab_names l.fn.manager s → Going (l.made - 1) s l.manager (both (g.A.Link.counts_of l.fn.ipmb) (g.B.Link.counts_of l.fn.smbus)) (both (g.A.Link.counts_of l.ipmb) (g.B.Link.counts_of l.smbus)))
-    × Watched g.T.Watches.sees l.fn.manager l.manager (both (g.A.Link.counts_of l.fn.ipmb) (g.B.Link.counts_of l.fn.smbus)) (both (g.A.Link.counts_of l.ipmb) (g.B.Link.counts_of l.smbus)) l.fn.watch l.watch
+    ((s : DrivenState) → Represents lab_names l.fn.manager s → Going (l.made - 1) s l.manager (both (g.A.Link.counts_of l.fn.ipmb) (g.B.Link.counts_of l.fn.smbus)) (both (g.A.Link.counts_of l.ipmb) (g.B.Link.counts_of l.smbus)))
+    × WatchedStep g.T.Watches.sees l.fn.manager l.manager (both (g.A.Link.counts_of l.fn.ipmb) (g.B.Link.counts_of l.fn.smbus)) (both (g.A.Link.counts_of l.ipmb) (g.B.Link.counts_of l.smbus)) l.fn.watch l.watch

@@ -1,7 +1,7 @@
 use Rattle.std.proofs.Common.{◌∙◌, subst}
 use Rattle.bmc_ports.specs.Driving.{Links, both}
 use Rattle.model_undo.specs.declared.call.Call.TheVariants.{Undo}
-use Rattle.app_run.specs.Driven.{Goes, resumed_from}
+use Rattle.app_run.specs.Driven.{CallRun, resumed_from}
 use Rattle.app_run.proofs.Driving.{fresh}
 use Rattle.app_run.proofs.Keeping.{stays_same}
 use Rattle.app_run.proofs.Ways.{told_undo}
@@ -10,7 +10,7 @@ use Rattle.app_run.proofs.undoing.undo_seen.Goals as goal
 pub returns-clause-undoes : goal.returns-clause-undoes
 returns-clause-undoes g c list shows = record {
   counts = both c.undo_watched-phase.new.ipmb.counts c.undo_watched-phase.new.smbus.counts;
-  goes = subst (λ (links : Links). Goes Undo c.args.turns (resumed_from list) c.undo_watched-phase.new.manager c.undo_watched-phase.result links (both c.undo_watched-phase.new.ipmb.counts c.undo_watched-phase.new.smbus.counts))
+  goes = subst (λ (links : Links). CallRun Undo c.args.turns (resumed_from list) c.undo_watched-phase.new.manager c.undo_watched-phase.result links (both c.undo_watched-phase.new.ipmb.counts c.undo_watched-phase.new.smbus.counts))
       (fresh _ _ c.requires.ipmb c.requires.smbus) (c.undo_watched-phase.ensures.goes (resumed_from list) shows);
 }
 

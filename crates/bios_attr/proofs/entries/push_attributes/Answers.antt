@@ -4,7 +4,7 @@ use Rattle.record_base.specs.declared.attribute.Attribute.{Attribute}
 use Rattle.bios_attr.specs.declared.bios_table.BiosTable.TheVariants.{Attributes}
 use Rattle.bios_attr.specs.Attributes.{attribute_entry, attribute_entries}
 use Rattle.bios_attr.specs.AttributeLaws.{pieces_more}
-use Rattle.bios_attr.specs.TableEntry.{AreOf}
+use Rattle.bios_attr.specs.TableEntry.{AreEntriesOf}
 use Rattle.bios_attr.specs.TableContents.{attribute_contents}
 use Rattle.bios_attr.proofs.Contents.{contents_more}
 use Rattle.bios_attr.proofs.entries.push_attributes.Goals as goal
@@ -23,7 +23,7 @@ loop-attribute-preserved c =
     ∙ append_assoc old (attribute_entries strings before) (attribute_entry strings item)
     ∙ sym (ap (λ (xs : List ℕ). old ++ xs) (ap (attribute_entries strings) more ∙ pieces_more (attribute_entry strings) before item)) in (
       bytes,
-      subst (λ (xs : List Attribute). AreOf Attributes (attribute_contents strings xs)) (sym more) (contents_more strings before item c.loop-attribute.invariant.1 c.in_ok-push_attribute.ensures.whole),
+      subst (λ (xs : List Attribute). AreEntriesOf Attributes (attribute_contents strings xs)) (sym more) (contents_more strings before item c.loop-attribute.invariant.1 c.in_ok-push_attribute.ensures.whole),
     )
 
 pub returns-clause-bytes : goal.returns-clause-bytes
@@ -33,4 +33,4 @@ returns-clause-bytes c =
 
 pub returns-clause-whole : goal.returns-clause-whole
 returns-clause-whole c =
-    subst (λ (xs : List Attribute). AreOf Attributes (attribute_contents c.args.strings.now xs)) (take_all c.loop-attribute.attribute-index c.args.attributes.now (omega arith)) c.loop-attribute.invariant.1
+    subst (λ (xs : List Attribute). AreEntriesOf Attributes (attribute_contents c.args.strings.now xs)) (take_all c.loop-attribute.attribute-index c.args.attributes.now (omega arith)) c.loop-attribute.invariant.1

@@ -1,5 +1,5 @@
 use Rattle.std.proofs.Common.{◌<◌, ◌+◌, List, ℕ, length, sym, arith, ◌∙◌, subst}
-use Rattle.bios_attr.specs.ValueEntry.{AreBytes}
+use Rattle.bios_attr.specs.ValueEntry.{IsByteList}
 use Rattle.bios_attr.proofs.BodyFacts.{SoFar, small_rest, one_more, behind_less, whole_body, no_entry, no_padding, begins}
 use Rattle.bios_attr.proofs.whole_table.count_entries.Goals as goal
 
@@ -12,13 +12,13 @@ returns-in_default c =
 
 pub loop-rest-smaller : goal.loop-rest-smaller
 loop-rest-smaller c =
-    let small : AreBytes c.loop-rest.rest.now = small_rest c.args.table c.args.bytes.now c.loop-rest.rest.now c.loop-rest.count c.loop-rest.invariant (λ i. let fits = c.type_inv.bytes i in omega (arith, fits)) in
+    let small : IsByteList c.loop-rest.rest.now = small_rest c.args.table c.args.bytes.now c.loop-rest.rest.now c.loop-rest.count c.loop-rest.invariant (λ i. let fits = c.type_inv.bytes i in omega (arith, fits)) in
     subst (λ (xs : List ℕ). length xs < length c.loop-rest.rest.now) (sym c.as_slice-rest.ensures)
     (behind_less c.args.table c.loop-rest.rest.now c.in-Some.behind c.in-Some.field-0-0 small (sym c.entry_at.ensures ∙ c.in-Some.is))
 
 pub loop-rest-preserved : goal.loop-rest-preserved
 loop-rest-preserved c =
-    let small : AreBytes c.loop-rest.rest.now = small_rest c.args.table c.args.bytes.now c.loop-rest.rest.now c.loop-rest.count c.loop-rest.invariant (λ i. let fits = c.type_inv.bytes i in omega (arith, fits)) in
+    let small : IsByteList c.loop-rest.rest.now = small_rest c.args.table c.args.bytes.now c.loop-rest.rest.now c.loop-rest.count c.loop-rest.invariant (λ i. let fits = c.type_inv.bytes i in omega (arith, fits)) in
     subst (λ (xs : List ℕ). SoFar c.args.table c.args.bytes.now xs (c.loop-rest.count + 1)) (sym c.as_slice-rest.ensures)
     (one_more c.args.table c.args.bytes.now c.loop-rest.rest.now c.in-Some.behind c.loop-rest.count c.in-Some.field-0-0 c.loop-rest.invariant small c.loop-rest-test.true (sym c.entry_at.ensures ∙ c.in-Some.is))
 

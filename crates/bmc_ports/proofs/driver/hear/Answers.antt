@@ -3,7 +3,7 @@ use Rattle.std.proofs.Common.{rules, ◌≡◌, ℕ, List, sym, ◌∙◌, ap, s
 use Rattle.wire_links.specs.declared.link.Heard.{Heard}
 use Rattle.wire_links.specs.declared.link.Heard.TheVariants.{Frame}
 use Rattle.wire_links.specs.declared.link.LinkFault.{LinkFault}
-use Rattle.undo_core.specs.Course.{Comes}
+use Rattle.undo_core.specs.Course.{InputResult}
 use Rattle.bmc_ports.specs.Driving.{Answers, call_for}
 use Rattle.bmc_ports.proofs.driver.hear.Goals as goal
 
@@ -14,7 +14,7 @@ returns-in-Ok-Frame g c =
       c.next.result,
       c.next.ensures,
       λ names s shows.
-          subst (λ (x : Result Heard LinkFault). Comes names (call_for (Answers c.args.bus x)) s c.on_frame.new.self c.on_frame.result) (sym is) (c.on_frame.ensures.heard names s shows),
+          subst (λ (x : Result Heard LinkFault). InputResult names (call_for (Answers c.args.bus x)) s c.on_frame.new.self c.on_frame.result) (sym is) (c.on_frame.ensures.heard names s shows),
     )
 
 pub returns-in-Ok-Quiet : goal.returns-in-Ok-Quiet

@@ -1,9 +1,9 @@
 use Rattle.undo_plans.specs.declared.names.Names.{Names}
-use Rattle.undo_core.specs.Shown.{Shows}
-use Rattle.bmc_ports.specs.Driving.{State, both, LeadsTo}
+use Rattle.undo_core.specs.Shown.{Represents}
+use Rattle.bmc_ports.specs.Driving.{DrivenState, both, LeadsTo}
 use Rattle.bmc_ports.proofs.driver.send_all.Given as goal
 
 abbrev pub invariant-loop : goal.invariant-loop
 invariant-loop g l =
-    (names : Names) (s : State names) → Shows names l.initial.manager s
+    (names : Names) (s : DrivenState names) → Represents names l.initial.manager s
     → LeadsTo names 0 s l.manager (both (g.A.Link.counts_of l.initial.ipmb) (g.B.Link.counts_of l.initial.smbus)) (both (g.A.Link.counts_of l.ipmb) (g.B.Link.counts_of l.smbus))

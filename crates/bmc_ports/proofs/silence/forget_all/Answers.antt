@@ -1,6 +1,6 @@
 use Rattle.std.proofs.Common.{◌≡◌, ◌∙◌, subst, sym, ℕ, List, refl, arith}
 use Rattle.model_ports.specs.PortSteps.{PortState}
-use Rattle.bmc_core.specs.Port.{Shows}
+use Rattle.bmc_core.specs.Port.{Represents}
 use Rattle.model_bus.specs.Request.{requester_bytes}
 use Rattle.bmc_ports.specs.Silence.{idles_all, silent_among}
 use Rattle.bmc_ports.proofs.Silent.{among_none, forgets_more}
@@ -8,7 +8,7 @@ use Rattle.bmc_ports.proofs.silence.forget_all.Goals as goal
 
 pub loop-who-init : goal.loop-who-init
 loop-who-init c = record {
-  forgets = λ p shows. subst (λ (gone : List ℕ). Shows c.args.port.now (idles_all gone p)) (sym (among_none c.args.turns c.args.silence.now)) shows;
+  forgets = λ p shows. subst (λ (gone : List ℕ). Represents c.args.port.now (idles_all gone p)) (sym (among_none c.args.turns c.args.silence.now)) shows;
   bus = refl;
 }
 
@@ -16,7 +16,7 @@ pub loop-who-preserved : goal.loop-who-preserved
 loop-who-preserved c = record {
   forgets = λ p shows.
       let gone : List ℕ = silent_among c.loop-who.who c.args.turns c.args.silence.now in
-      subst (λ (left : PortState). Shows c.forget_one.new.port left) (sym (forgets_more c.loop-who.who c.args.turns c.args.silence.now p))
+      subst (λ (left : PortState). Represents c.forget_one.new.port left) (sym (forgets_more c.loop-who.who c.args.turns c.args.silence.now p))
       (c.forget_one.ensures.forgets (idles_all gone p) (c.loop-who.invariant.forgets p shows));
   bus = c.forget_one.ensures.bus ∙ c.loop-who.invariant.bus;
 }
@@ -25,5 +25,5 @@ pub returns-clause-forgets : goal.returns-clause-forgets
 returns-clause-forgets c =
     let end : c.loop-who.who ≡ requester_bytes = omega arith in
     λ p shows.
-    subst (λ (who : ℕ). Shows c.loop-who.port (idles_all (silent_among who c.args.turns c.args.silence.now) p)) end
+    subst (λ (who : ℕ). Represents c.loop-who.port (idles_all (silent_among who c.args.turns c.args.silence.now) p)) end
     (c.loop-who.invariant.forgets p shows)

@@ -1,10 +1,10 @@
 use Rattle.std.proofs.Common.{◌+◌, ◌∷◌, ◌++◌, [], List, length, take, drop, sym, ◌∙◌, ap, subst, arith}
 use Rattle.std.proofs.lemmas.List.{take_more, take_all, length-take, take-append-drop, drop_more}
 use Rattle.text_schedule.specs.declared.event.Event.{Event}
-use Rattle.lab_play.specs.Runs.{Take}
+use Rattle.lab_play.specs.Runs.{TakesEvents}
 use Rattle.std.specs.List.{AllZip}
 use Rattle.lab_run.specs.declared.note.Note.{Note}
-use Rattle.lab_play.specs.Noted.{IsNote, Notes}
+use Rattle.lab_play.specs.Noted.{IsNote, NotesEvents}
 use Rattle.lab_play.specs.Watched.{WatchesAll}
 use Rattle.lab_play.proofs.Watching.{watches_more, watches_none, watches_before}
 use Rattle.lab_play.proofs.Running.{takes_one_more, stops_at}
@@ -27,7 +27,7 @@ returns-in-Err-clause-runs c =
 
 pub returns-clause-runs : goal.returns-clause-runs
 returns-clause-runs c =
-    subst (λ (es : List Event). Take es c.args.lab.now c.loop-place.lab) (take_all c.loop-place.place c.args.events.now c.loop-place-test.false) c.loop-place.invariant.0
+    subst (λ (es : List Event). TakesEvents es c.args.lab.now c.loop-place.lab) (take_all c.loop-place.place c.args.events.now c.loop-place-test.false) c.loop-place.invariant.0
 
 pub returns-in-Err-clause-noted : goal.returns-in-Err-clause-noted
 returns-in-Err-clause-noted c =
@@ -40,7 +40,7 @@ returns-clause-noted c =
     let over = c.loop-place-test.false in
     let long = c.loop-place.invariant.3 in
     let within = c.loop-place.invariant.4 in (
-      subst (λ (es : List Event). Notes es c.args.lab.now c.loop-place.notes.items) whole c.loop-place.invariant.2,
+      subst (λ (es : List Event). NotesEvents es c.args.lab.now c.loop-place.notes.items) whole c.loop-place.invariant.2,
       omega (arith, over, long, within),
     )
 
@@ -54,10 +54,10 @@ loop-place-preserved c =
     let longer = one_longer event c.loop-place.lab c.loop-place.notes.items c.step_noted.new.notes.items stepped.noted in
     let long = c.loop-place.invariant.3 in
     let within = c.loop-place-test.true in (
-      subst (λ (es : List Event). Take es c.args.lab.now c.step_noted.new.lab) next
+      subst (λ (es : List Event). TakesEvents es c.args.lab.now c.step_noted.new.lab) next
           (takes_one_more (take place events) event c.args.lab.now c.loop-place.lab c.step_noted.new.lab c.loop-place.invariant.0 stepped.steps),
       λ on. let one = stepped.few on in let before = c.loop-place.invariant.1 on in omega (arith, one, before),
-      subst (λ (es : List Event). Notes es c.args.lab.now c.step_noted.new.notes.items) next
+      subst (λ (es : List Event). NotesEvents es c.args.lab.now c.step_noted.new.notes.items) next
           (noted_step (take place events) event c.args.lab.now c.loop-place.lab c.loop-place.notes.items c.step_noted.new.notes.items c.loop-place.invariant.0 c.loop-place.invariant.2 stepped.noted),
       omega (arith, longer, long),
       omega (arith, within),

@@ -1,7 +1,7 @@
 use Rattle.std.proofs.Common.{◌+◌, ◌∷◌, ◌++◌, [], List, length, take, drop, sym, ◌∙◌, ap, subst, arith}
 use Rattle.std.proofs.lemmas.List.{take_more, take_all, length-take, take-append-drop, drop_more}
 use Rattle.text_schedule.specs.declared.event.Event.{Event}
-use Rattle.lab_play.specs.Runs.{Take}
+use Rattle.lab_play.specs.Runs.{TakesEvents}
 use Rattle.lab_play.specs.Watched.{WatchesAll}
 use Rattle.lab_play.proofs.Running.{takes_one_more, stops_at}
 use Rattle.lab_play.proofs.Watching.{watches_more, watches_none, watches_before}
@@ -27,7 +27,7 @@ loop-place-preserved c =
     let place = c.loop-place.place in
     let event = c.index-events-place.result in
     let next = ap (λ (e : Event). take place events ++ e ∷ []) c.index-events-place.is ∙ sym (take_more events place event c.loop-place-test.true) in (
-      subst (λ (es : List Event). Take es c.args.lab.now c.step_watched.new.lab) next
+      subst (λ (es : List Event). TakesEvents es c.args.lab.now c.step_watched.new.lab) next
           (takes_one_more (take place events) event c.args.lab.now c.loop-place.lab c.step_watched.new.lab c.loop-place.invariant.0 c.in_default.ensures.steps),
       λ on. let one = c.in_default.ensures.few on in let before = c.loop-place.invariant.1 on in omega (arith, one, before),
       subst (λ (es : List Event). WatchesAll es c.args.lab.now c.args.watch.now c.step_watched.new.watch) next
@@ -38,7 +38,7 @@ loop-place-preserved c =
 
 pub returns-clause-runs : goal.returns-clause-runs
 returns-clause-runs c =
-    subst (λ (es : List Event). Take es c.args.lab.now c.loop-place.lab) (take_all c.loop-place.place c.args.events.now c.loop-place-test.false) c.loop-place.invariant.0
+    subst (λ (es : List Event). TakesEvents es c.args.lab.now c.loop-place.lab) (take_all c.loop-place.place c.args.events.now c.loop-place-test.false) c.loop-place.invariant.0
 
 pub returns-in-Err-clause-watched : goal.returns-in-Err-clause-watched
 returns-in-Err-clause-watched c =

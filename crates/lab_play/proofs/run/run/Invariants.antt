@@ -1,10 +1,10 @@
 use Rattle.std.proofs.Common.{◌≤◌, take}
 use Rattle.two_wire.specs.declared.Bus.{Bus}
 use Rattle.lab_run.specs.Shown.{idles_in}
-use Rattle.lab_play.specs.Runs.{Take}
+use Rattle.lab_play.specs.Runs.{TakesEvents}
 use Rattle.lab_play.specs.Watched.{WatchesAll}
 use Rattle.lab_play.proofs.run.run.Given as goal
 
 abbrev pub invariant-loop-place : goal.invariant-loop-place
 invariant-loop-place l =
-    Take (take l.place l.events) l.initial.lab l.lab × ((on : Bus) → idles_in on l.lab.idles ≤ l.place) × WatchesAll (take l.place l.events) l.initial.lab l.initial.watch l.watch
+    TakesEvents (take l.place l.events) l.initial.lab l.lab × ((on : Bus) → idles_in on l.lab.idles ≤ l.place) × WatchesAll (take l.place l.events) l.initial.lab l.initial.watch l.watch

@@ -11,11 +11,11 @@ use Rattle.record_base.specs.declared.boot_param.BootChange.TheVariants as boot
 use Rattle.record_base.specs.declared.boot_param.SetBootParam.{SetBootParam}
 use Rattle.text_fields.specs.declared.field.Field.TheVariants as field
 use Rattle.text_fields.specs.Trees.{in_field, flag_in}
-use Rattle.plan_file.specs.Kinds.BootParam.{IsGiven, HoldsBootChange, HoldsBootParam, HoldsOp}
+use Rattle.plan_file.specs.Kinds.BootParam.{IsGivenData, HoldsBootChange, HoldsBootParam, HoldsOp}
 use Rattle.text_fields.proofs.Unique.{one_found, one_number, one_bytes, same_flags}
 use Rattle.plan_file.specs.StepKind.{IsOne}
 
-one_given : (found : Option Data) (ms ns : List ℕ) → IsGiven found ms → IsGiven found ns → ms ≡ ns
+one_given : (found : Option Data) (ms ns : List ℕ) → IsGivenData found ms → IsGivenData found ns → ms ≡ ns
 one_given None ms ns p q = p ∙ sym q
 one_given (Some d) ms ns p q = one_bytes d ms ns p q
 

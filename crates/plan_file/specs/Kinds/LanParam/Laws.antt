@@ -5,13 +5,13 @@ use Rattle.toml.specs.Data.{Data, Members}
 use Rattle.record_base.specs.NumberLaws.{same_field}
 use Rattle.record_base.specs.Lan.{lan_selector, lan_parameter_at, changed_parameter, lan_data, address_bytes}
 use Rattle.record_base.specs.declared.op.Op.TheVariants as op
-use Rattle.record_base.specs.declared.lan.LanAddress.TheVariants.{Ip, SubnetMask, DefaultGateway}
-use Rattle.record_base.specs.declared.lan.LanParameter.{LanParameter}
-use Rattle.record_base.specs.declared.lan.LanParameter.TheVariants as parameter
-use Rattle.record_base.specs.declared.lan.Ipv4Address.{Ipv4Address}
-use Rattle.record_base.specs.declared.lan.LanChange.{LanChange}
-use Rattle.record_base.specs.declared.lan.LanChange.TheVariants as change
-use Rattle.record_base.specs.declared.lan.SetLanParam.{SetLanParam}
+use Rattle.record_base.specs.declared.lan_parameter.LanAddress.TheVariants.{Ip, SubnetMask, DefaultGateway}
+use Rattle.record_base.specs.declared.lan_parameter.LanParameter.{LanParameter}
+use Rattle.record_base.specs.declared.lan_parameter.LanParameter.TheVariants as parameter
+use Rattle.record_base.specs.declared.lan_parameter.Ipv4Address.{Ipv4Address}
+use Rattle.record_base.specs.declared.lan_parameter.LanChange.{LanChange}
+use Rattle.record_base.specs.declared.lan_parameter.LanChange.TheVariants as change
+use Rattle.record_base.specs.declared.lan_parameter.SetLanParam.{SetLanParam}
 use Rattle.text_fields.specs.declared.field.Field.TheVariants as field
 use Rattle.text_fields.specs.Trees.{in_field, bytes_in}
 use Rattle.plan_file.specs.Kinds.LanParam.{HoldsLanChange, HoldsLanParam, HoldsOp}

@@ -6,12 +6,12 @@ use Rattle.record_base.specs.declared.numeric_effecter.NumericBytes.{NumericByte
 use Rattle.record_base.specs.declared.numeric_effecter.NumericBytes.TheVariants as bytes
 use Rattle.record_base.specs.declared.numeric_effecter.SetNumericEffecter.{SetNumericEffecter}
 use Rattle.text_fields.specs.declared.field.Field.TheVariants as field
-use Rattle.text_fields.specs.Numeric.{sized_bytes, AreBytes}
+use Rattle.text_fields.specs.Numeric.{sized_bytes, AreValueBytes}
 use Rattle.plan_file.specs.Kinds.NumericEffecter.{HoldsNumericEffecter, HoldsOp}
 use Rattle.text_fields.proofs.Unique.{one_found, one_number}
 use Rattle.plan_file.specs.StepKind.{IsOne}
 
-one_value : (a b : NumericBytes) (found : Option (List ℕ)) → AreBytes a found → AreBytes b found → a ≡ b
+one_value : (a b : NumericBytes) (found : Option (List ℕ)) → AreValueBytes a found → AreValueBytes b found → a ≡ b
 one_value (bytes.One a) (bytes.One b) found p q = let same = one_found found _ _ p q in cc same
 one_value (bytes.One a) (bytes.Two b c) found p q = let same = one_found found _ _ p q in cc same
 one_value (bytes.One a) (bytes.Four b c d e) found p q = let same = one_found found _ _ p q in cc same

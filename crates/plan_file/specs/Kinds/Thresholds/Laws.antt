@@ -3,7 +3,7 @@ use Rattle.std.proofs.Common.{◌≡◌, ◌∙◌, ℕ, List, length, sym, ap}
 use Rattle.std.proofs.Props.{props}
 use Rattle.toml.specs.Data.{Members}
 use Rattle.record_base.specs.declared.op.Op.TheVariants as op
-use Rattle.record_base.specs.declared.sensor_thresholds.SetThresholds.{SetThresholds}
+use Rattle.record_base.specs.declared.thresholds.SetThresholds.{SetThresholds}
 use Rattle.text_fields.specs.declared.field.Field.TheVariants as field
 use Rattle.plan_file.specs.Kinds.Thresholds.{HoldsThresholds, is_given, HoldsOp}
 use Rattle.text_fields.proofs.Unique.{same_made, one_number, one_mask}

@@ -1,6 +1,6 @@
 //! Files in memory.
-use app_base::{TextFiles, Unreadable};
-use app_run::{Unwritten, WritesFiles};
+use app_base::{TextFiles, UnreadFile};
+use app_run::{WriteFault, WritesFiles};
 use std::alloc::{AllocError, Global};
 
 /// Files that hold these texts, each by its word, and take others, unless they are locked.
@@ -43,9 +43,9 @@ impl<'a> FakeFiles<'a> {
     }
 
     /// One change less is left. Where none is, it fails.
-    fn change(&mut self) -> Result<(), Unwritten> {
+    fn change(&mut self) -> Result<(), WriteFault> {
         if self.changes_left == 0 {
-            return Err(Unwritten);
+            return Err(WriteFault);
         }
         self.changes_left -= 1;
         Ok(())
@@ -81,13 +81,13 @@ impl TextFiles for FakeFiles<'_> {
     // Nothing is promised of what these files hold.
     ghost gives = { λ files word given. Unit {0} };
 
-    fn text(&self, word: &str) -> Result<String, Unreadable> {
+    fn text(&self, word: &str) -> Result<String, UnreadFile> {
         for (name, text) in self.texts {
             if *name == word {
-                return String::from_str(self.alloc, text).map_err(|_| Unreadable::Memory);
+                return String::from_str(self.alloc, text).map_err(|_| UnreadFile::Memory);
             }
         }
-        Err(Unreadable::NoText)
+        Err(UnreadFile::NoText)
     }
 }
 
@@ -97,17 +97,17 @@ impl WritesFiles for FakeFiles<'_> {
 
     ghost renames = { λ before from to answer after. Unit {0} };
 
-    fn write(&mut self, word: &str, text: &str) -> Result<(), Unwritten> {
+    fn write(&mut self, word: &str, text: &str) -> Result<(), WriteFault> {
         self.change()?;
-        self.keep(word, text).map_err(|_| Unwritten)
+        self.keep(word, text).map_err(|_| WriteFault)
     }
 
-    fn rename(&mut self, from: &str, to: &str) -> Result<(), Unwritten> {
+    fn rename(&mut self, from: &str, to: &str) -> Result<(), WriteFault> {
         self.change()?;
         let Some(text) = self.remove(from) else {
-            return Err(Unwritten);
+            return Err(WriteFault);
         };
-        self.keep(to, text.as_str()).map_err(|_| Unwritten)?;
-        self.note(to, text.as_str()).map_err(|_| Unwritten)
+        self.keep(to, text.as_str()).map_err(|_| WriteFault)?;
+        self.note(to, text.as_str()).map_err(|_| WriteFault)
     }
 }

@@ -8,7 +8,7 @@ use super::{close, expect_equal, open_sample, open_shared};
 use bmc_board::{Bench, Board, Records};
 use bmc_core::{At, Port};
 use bmc_ports::{
-    Counts, Heard, History, Lane, Lanes, Link, LinkFault, Opening, Seats, Shared, Sliced, Timed,
+    Counts, Heard, History, Lane, Lanes, Link, LinkFault, Opening, RunResult, Seats, Shared, Timed,
     TimedEnd, Timetable, run_slices,
 };
 use mctp_net::EndpointId;
@@ -121,7 +121,7 @@ fn serve_shared<J: Opening + Send + Sync, R: Threads + Wait + Abort + Sync>(
     table: Timetable<'_>,
 ) -> (Seats<J>, usize, TimedEnd) {
     let sliced = run_slices(rt, shared, seats, lanes, table, &Open, None);
-    let Sliced {
+    let RunResult {
         seats,
         lanes: _,
         next,

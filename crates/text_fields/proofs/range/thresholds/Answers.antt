@@ -1,5 +1,5 @@
 use Rattle.std.proofs.Common.{◌≡◌, true, Some, length, rules, sym, ap, ◌∙◌}
-use Rattle.record_base.specs.declared.thresholds.ThresholdMasks.{ThresholdMasks}
+use Rattle.record_base.specs.declared.threshold_masks.ThresholdMasks.{ThresholdMasks}
 use Rattle.toml.specs.View.{view, table_view}
 use Rattle.text_fields.specs.Trees.{bytes_in, number_in}
 use Rattle.text_fields.specs.declared.field.Field.TheVariants as field

@@ -1,7 +1,7 @@
 use Rattle.std.proofs.Common.{◌+◌, ℕ, List, [], get_or, sym, ◌∙◌, subst, map, take}
 use Rattle.std.specs.Borrow.{Bor}
-use Rattle.text_schedule.specs.Line.{Says}
-use Rattle.text_schedule.specs.Schedule.{Say}
+use Rattle.text_schedule.specs.Line.{IsLineOf}
+use Rattle.text_schedule.specs.Schedule.{AreLinesOf}
 use Rattle.text_schedule.proofs.Lines.{pushed, refused, next_said, bad_first}
 use Rattle.text_schedule.proofs.schedule.events_of.Goals as goal
 
@@ -16,7 +16,7 @@ returns-in-Err-Bad c =
     let place = c.loop-place.place in
     bad_first lines place none c.loop-place-test.true c.loop-place.events.items c.loop-place.invariant (record {
       spoken = sym c.is_skipped.ensures ∙ c.if-is_skipped.false;
-      nothing = refused (Says (get_or lines place none).now) c.read_line.result c.in-Err-Bad.field-0 c.read_line.ensures c.in-Err-Bad.is c.in-Err-Bad.field-0-is;
+      nothing = refused (IsLineOf (get_or lines place none).now) c.read_line.result c.in-Err-Bad.field-0 c.read_line.ensures c.in-Err-Bad.is c.in-Err-Bad.field-0-is;
     })
 
 pub loop-place-preserved : goal.loop-place-preserved
@@ -27,4 +27,4 @@ loop-place-preserved c =
     let events = c.loop-place.events.items in
     let put = pushed c.push.result c.push.new.self.items events c.in-Ok.event c.push.ensures.items c.if-is_err.ensures.value in
     let spoke = sym c.is_skipped.ensures ∙ c.if-is_skipped.false in
-    subst (Say (map (λ x. x.now) (take (place + 1) lines))) (sym put) (next_said lines place none c.loop-place-test.true events c.in-Ok.event c.loop-place.invariant spoke c.in-Ok.ensures)
+    subst (AreLinesOf (map (λ x. x.now) (take (place + 1) lines))) (sym put) (next_said lines place none c.loop-place-test.true events c.in-Ok.event c.loop-place.invariant spoke c.in-Ok.ensures)

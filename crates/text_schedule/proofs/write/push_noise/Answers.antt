@@ -3,11 +3,11 @@ use Rattle.hex.specs.Hex.{IsBytes}
 use Rattle.two_wire.specs.declared.Bus.{Bus}
 use Rattle.text_schedule.specs.declared.event.Event.TheVariants.{Noise}
 use Rattle.text_schedule.specs.Line.{most_noise, AreSome}
-use Rattle.text_schedule.specs.Written.{line_of, Stands}
+use Rattle.text_schedule.specs.Written.{line_of, IsEventLine}
 use Rattle.text_schedule.proofs.Written.{stands, one_word, bus_word}
 use Rattle.text_schedule.proofs.write.push_noise.Goals as goal
 
-noise_stands : (on : Bus) (bytes : List ℕ) → IsBytes bytes → AreSome most_noise bytes → Stands (line_of (Noise on bytes)) (Noise on bytes)
+noise_stands : (on : Bus) (bytes : List ℕ) → IsBytes bytes → AreSome most_noise bytes → IsEventLine (line_of (Noise on bytes)) (Noise on bytes)
 noise_stands on bytes small some = stands (Noise on bytes) (one_word _ refl refl, (bus_word on, (small, tt))) some refl
 
 pub returns-in_err-digits-clause-stands : goal.returns-in_err-digits-clause-stands

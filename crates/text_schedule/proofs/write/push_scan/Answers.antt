@@ -2,14 +2,14 @@ use Rattle.std.proofs.Common.{ℕ, ◌<◌, arith, refl}
 use Rattle.text_schedule.specs.declared.event.BenchEvent.TheVariants.{Scan}
 use Rattle.text_schedule.specs.declared.event.Event.{Event}
 use Rattle.text_schedule.specs.declared.event.Event.TheVariants.{OnBench}
-use Rattle.text_schedule.specs.Written.{line_of, Stands}
+use Rattle.text_schedule.specs.Written.{line_of, IsEventLine}
 use Rattle.text_schedule.proofs.Written.{stands, one_word, small_byte}
 use Rattle.text_schedule.proofs.write.push_scan.Goals as goal
 
 abbrev scanned : ℕ → ℕ → Event
 scanned sensor reading = OnBench (Scan sensor reading)
 
-scan_stands : (sensor reading : ℕ) → sensor < 256 → reading < 256 → Stands (line_of (scanned sensor reading)) (scanned sensor reading)
+scan_stands : (sensor reading : ℕ) → sensor < 256 → reading < 256 → IsEventLine (line_of (scanned sensor reading)) (scanned sensor reading)
 scan_stands sensor reading one two = stands (scanned sensor reading) (one_word _ refl refl, (small_byte sensor one, (small_byte reading two, tt))) tt refl
 
 pub returns-in_err-sensor-clause-stands : goal.returns-in_err-sensor-clause-stands

@@ -2,7 +2,7 @@ use Rattle.std.proofs.Common.{rules, ◌≡◌, not, arith, ◌∙◌, ap}
 use Rattle.std.proofs.lemmas.Fn.{filter_same}
 use Rattle.std.proofs.lemmas.List.Elements.{All-filter}
 use Rattle.attribute_parts.specs.Stagings.{is_by, without}
-use Rattle.attribute_parts.specs.StagingsLaws.{IsBegun}
+use Rattle.attribute_parts.specs.StagingsLaws.{BeginsEntry}
 use Rattle.attribute_parts.proofs.stagings.Stagings.end.Goals as goal
 
 pub returns : goal.returns
@@ -14,5 +14,5 @@ invariant_of-self c =
     record {
       few = omega (arith, c.retain.ensures.bound, c.self.invariant.few);
       reserved = rw c.retain.ensures.capacity c.self.invariant.reserved;
-      begun = rw left (All-filter (λ s. not (is_by c.args.from s)) (λ s. IsBegun s.entry) c.self.inside.kept.items c.self.invariant.begun);
+      begun = rw left (All-filter (λ s. not (is_by c.args.from s)) (λ s. BeginsEntry s.entry) c.self.inside.kept.items c.self.invariant.begun);
     }

@@ -6,7 +6,7 @@ use Rattle.std.specs.Option.{IsSomeAnd}
 use Rattle.record_base.specs.declared.attribute_range.AttributeRange.{AttributeRange}
 use Rattle.record_base.specs.declared.attribute_value.AttributeValue.{AttributeValue}
 use Rattle.record_base.specs.declared.bios_attribute.SetBiosAttribute.{SetBiosAttribute}
-use Rattle.record_base.specs.AttributeRange.{type_of, Allows, allows, is_allowed}
+use Rattle.record_base.specs.AttributeRange.{type_of, AllowsValue, allows, is_allowed}
 use Rattle.record_base.specs.AttributeRangeLaws.{true_allows, allows_true}
 use Rattle.record_base.specs.AttributeValue.{value_in}
 use Rattle.bios_attr.specs.declared.bios_attribute.AttributeLimits.{AttributeLimits}
@@ -18,7 +18,7 @@ use Rattle.bios_attr.proofs.bios_attribute.AttributeLimitsRecordKind.apply.Goals
 sets_none : (limits : AttributeLimits) (op : SetBiosAttribute) (new : List ℕ) (value : AttributeValue) → value_in op.attribute_type op.value ≡ Some value → allows limits.range value ≡ false → SetsAttribute limits op new → ⊥
 sets_none limits op new value found refused s =
     let typed : value_in (type_of limits.range) new ≡ Some value = ap (λ (code : ℕ). value_in code new) (sym s.of_type) ∙ ap (value_in op.attribute_type) s.is_new ∙ found in
-    let can : Allows limits.range value = subst (λ (o : Option AttributeValue). IsSomeAnd o (Allows limits.range)) typed s.is_value in
+    let can : AllowsValue limits.range value = subst (λ (o : Option AttributeValue). IsSomeAnd o (AllowsValue limits.range)) typed s.is_value in
     let allowed : allows limits.range value ≡ true = allows_true limits.range value can in
     cc
 
@@ -32,7 +32,7 @@ pub returns-clause-decides : goal.returns-clause-decides
 returns-clause-decides c =
     let allowed : AttributeRange = c.args.self.now.range in
     let of_type = c.if-op-type_code.false ∙ c.type_code.ensures in
-    let can : Allows allowed c.in-Some.value = true_allows allowed c.in-Some.value (sym c.allows.ensures ∙ c.if-not-allows.false) in
+    let can : AllowsValue allowed c.in-Some.value = true_allows allowed c.in-Some.value (sym c.allows.ensures ∙ c.if-not-allows.false) in
     let found : value_in (type_of allowed) c.replace.new.self ≡ Some c.in-Some.value =
     ap (value_in (type_of allowed)) c.replace.ensures ∙ ap (λ (code : ℕ). value_in code c.as_slice-bytes.result.now) (sym of_type) ∙ sym c.value_in.ensures ∙ c.in-Some.is in
     record {
@@ -40,14 +40,14 @@ returns-clause-decides c =
       of_type = of_type;
       can_be_set = c.if-self.false;
       is_new = c.replace.ensures ∙ c.as_slice-bytes.ensures.value;
-      is_value = subst (λ (o : Option AttributeValue). IsSomeAnd o (Allows allowed)) (sym found) can;
+      is_value = subst (λ (o : Option AttributeValue). IsSomeAnd o (AllowsValue allowed)) (sym found) can;
     }
 
 -- an operation with bytes that are no value of the attribute's type sets nothing
 none_sets : (limits : AttributeLimits) (op : SetBiosAttribute) (new : List ℕ) → value_in op.attribute_type op.value ≡ None → SetsAttribute limits op new → ⊥
 none_sets limits op new none s =
     let typed : value_in (type_of limits.range) new ≡ None = ap (λ (code : ℕ). value_in code new) (sym s.of_type) ∙ ap (value_in op.attribute_type) s.is_new ∙ none in
-    subst (λ (o : Option AttributeValue). IsSomeAnd o (Allows limits.range)) typed s.is_value
+    subst (λ (o : Option AttributeValue). IsSomeAnd o (AllowsValue limits.range)) typed s.is_value
 
 pub returns-in_default-clause-decides : goal.returns-in_default-clause-decides
 returns-in_default-clause-decides c = λ new s.

@@ -3,7 +3,7 @@ use Rattle.std.proofs.lemmas.List.{append-nil}
 use Rattle.std.specs.Int.{w16, w32, to_le_bytes}
 use Rattle.sel_log.specs.Clock.{clock_at}
 use Rattle.bmc_board.specs.declared.live.LiveCommand.TheVariants as live
-use Rattle.bmc_board.specs.Gives.{Appends}
+use Rattle.bmc_board.specs.Gives.{AppendsReply}
 use Rattle.bmc_board.specs.Live.{device_data}
 use Rattle.bmc_board.specs.Storage.{sel_info, sdr_part, sel_part}
 use Rattle.bmc_board.specs.Serves.{reading_by}
@@ -33,7 +33,7 @@ pub returns-in-GetSensorReading : goal.returns-in-GetSensorReading
 returns-in-GetSensorReading g c =
     served g.B.Buffer.bytes c.args.self.now _ c.args.body.now c.show_reading.result c.args.to.now c.show_reading.new.to
     live.GetSensorReading c.in-GetSensorReading.is
-    (subst (λ (sensor : ℕ). Appends g.B.Buffer.bytes c.show_reading.result c.args.to.now c.show_reading.new.to (reading_by c.args.self.now sensor)) c.byte_at.ensures c.show_reading.ensures) refl refl refl
+    (subst (λ (sensor : ℕ). AppendsReply g.B.Buffer.bytes c.show_reading.result c.args.to.now c.show_reading.new.to (reading_by c.args.self.now sensor)) c.byte_at.ensures c.show_reading.ensures) refl refl refl
 
 pub returns-in-GetSdrRepositoryInfo : goal.returns-in-GetSdrRepositoryInfo
 returns-in-GetSdrRepositoryInfo g c =
@@ -52,7 +52,7 @@ pub returns-in-GetSdr : goal.returns-in-GetSdr
 returns-in-GetSdr g c =
     served g.B.Buffer.bytes c.args.self.now _ c.args.body.now c.show_sdr.result c.args.to.now c.show_sdr.new.to
     live.GetSdr c.in-GetSdr.is
-    (subst (λ asked. Appends g.B.Buffer.bytes c.show_sdr.result c.args.to.now c.show_sdr.new.to (sdr_part c.args.self.now.activity.sdr asked)) c.part_in.ensures c.show_sdr.ensures) refl refl refl
+    (subst (λ asked. AppendsReply g.B.Buffer.bytes c.show_sdr.result c.args.to.now c.show_sdr.new.to (sdr_part c.args.self.now.activity.sdr asked)) c.part_in.ensures c.show_sdr.ensures) refl refl refl
 
 pub returns-in-GetSelInfo : goal.returns-in-GetSelInfo
 returns-in-GetSelInfo g c =
@@ -71,7 +71,7 @@ pub returns-in-GetSelEntry : goal.returns-in-GetSelEntry
 returns-in-GetSelEntry g c =
     served g.B.Buffer.bytes c.args.self.now _ c.args.body.now c.show_entry.result c.args.to.now c.show_entry.new.to
     live.GetSelEntry c.in-GetSelEntry.is
-    (subst (λ asked. Appends g.B.Buffer.bytes c.show_entry.result c.args.to.now c.show_entry.new.to (sel_part c.args.self.now.activity.log asked)) c.part_in-in-GetSelEntry.ensures c.show_entry.ensures) refl refl refl
+    (subst (λ asked. AppendsReply g.B.Buffer.bytes c.show_entry.result c.args.to.now c.show_entry.new.to (sel_part c.args.self.now.activity.log asked)) c.part_in-in-GetSelEntry.ensures c.show_entry.ensures) refl refl refl
 
 pub returns-in-AddSelEntry : goal.returns-in-AddSelEntry
 returns-in-AddSelEntry g c =

@@ -2,7 +2,7 @@ use Rattle.std.proofs.Common.{◌≡◌, ℕ, List, true, false, sym, ◌∙◌,
 use Rattle.record_base.specs.Sensor.EventEnable.{is_scanning}
 use Rattle.record_base.specs.Requests.{byte_at}
 use Rattle.record_base.specs.declared.key.Key.TheVariants as key
-use Rattle.sensor_recs.specs.declared.compared.Taken.{Taken}
+use Rattle.sensor_recs.specs.declared.comparator.LastReading.{LastReading}
 use Rattle.sensor_recs.specs.Taken.{with_reading}
 use Rattle.bmc_board.specs.Sensing.{value_at, logs}
 use Rattle.bmc_board.proofs.SensingFacts.{logged, not_logged, takes}
@@ -19,7 +19,7 @@ returns-then-logs_events-clause-left g c =
     ap (λ (v : List ℕ). is_scanning (byte_at v 0)) (sym c.value_at-events.ensures) ∙ ap is_scanning (sym c.byte_at.ensures) ∙ sym c.has.ensures ∙ c.if-not-has.false in
     let on : logs records ≡ true = sym c.logs_events.ensures ∙ c.if-logs_events.true in
     takes records sensor s last c.args.reading before c.put.new.self c.log_events.new.log scans c.compared-compared.ensures c.last-last.ensures
-    (c.put.ensures ∙ ap (λ (t : Taken). with_reading before.readings sensor.number t) c.take-events.ensures.taken)
+    (c.put.ensures ∙ ap (λ (t : LastReading). with_reading before.readings sensor.number t) c.take-events.ensures.taken)
     (logged records sensor s last c.args.reading before.log c.log_events.new.log c.take-events.result.1.items on c.log_events.ensures c.take-events.ensures.events)
 
 pub returns-else-logs_events-clause-left : goal.returns-else-logs_events-clause-left
@@ -33,5 +33,5 @@ returns-else-logs_events-clause-left g c =
     ap (λ (v : List ℕ). is_scanning (byte_at v 0)) (sym c.value_at-events.ensures) ∙ ap is_scanning (sym c.byte_at.ensures) ∙ sym c.has.ensures ∙ c.if-not-has.false in
     let off : logs records ≡ false = sym c.logs_events.ensures ∙ c.if-logs_events.false in
     takes records sensor s last c.args.reading before c.put.new.self before.log scans c.compared-compared.ensures c.last-last.ensures
-    (c.put.ensures ∙ ap (λ (t : Taken). with_reading before.readings sensor.number t) c.take-events.ensures.taken)
+    (c.put.ensures ∙ ap (λ (t : LastReading). with_reading before.readings sensor.number t) c.take-events.ensures.taken)
     (not_logged records sensor s last c.args.reading before.log off)

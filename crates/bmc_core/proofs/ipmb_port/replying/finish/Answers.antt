@@ -4,21 +4,21 @@ use Rattle.two_wire.specs.Sizes.{most_frame_bytes}
 use Rattle.ipmb_frame.specs.declared.message.Header.{Header}
 use Rattle.ipmb_frame.specs.Grammar.{response_start}
 use Rattle.record_base.specs.declared.message.Answered.{Answered as Reply}
-use Rattle.bmc_board.specs.Gives.{Gives}
+use Rattle.bmc_board.specs.Gives.{GivesReply}
 use Rattle.bmc_core.proofs.ipmb_port.replying.finish.Goals as goal
 
 -- the data of an answer stand behind the start of its response
 done_frame : {A : Type 0} (a : A) (result : Result A ℕ) (h : Header) (start whole : List ℕ) (answer : Reply)
-    → result ≡ Ok a → start ≡ response_start h 0 → Gives result start whole answer → whole ≡ response_start h answer.code ++ answer.body
+    → result ≡ Ok a → start ≡ response_start h 0 → GivesReply result start whole answer → whole ≡ response_start h answer.code ++ answer.body
 done_frame {A} a result h start whole answer is starts gives =
-    let at : Gives (let r : Result A ℕ = Ok a in r) start whole answer = subst (λ (r : Result A ℕ). Gives r start whole answer) is gives in
+    let at : GivesReply (let r : Result A ℕ = Ok a in r) start whole answer = subst (λ (r : Result A ℕ). GivesReply r start whole answer) is gives in
     at.1 ∙ ap (λ (xs : List ℕ). xs ++ answer.body) (starts ∙ ap (response_start h) (sym at.0))
 
 -- a refusal is the start alone
 refused_frame : {A : Type 0} (code : ℕ) (result : Result A ℕ) (h : Header) (start whole made : List ℕ) (answer : Reply)
-    → result ≡ Err code → made ≡ response_start h code → Gives result start whole answer → made ≡ response_start h answer.code ++ answer.body
+    → result ≡ Err code → made ≡ response_start h code → GivesReply result start whole answer → made ≡ response_start h answer.code ++ answer.body
 refused_frame {A} code result h start whole made answer is starts gives =
-    let at : Gives (let r : Result A ℕ = Err code in r) start whole answer = subst (λ (r : Result A ℕ). Gives r start whole answer) is gives in
+    let at : GivesReply (let r : Result A ℕ = Err code in r) start whole answer = subst (λ (r : Result A ℕ). GivesReply r start whole answer) is gives in
     starts ∙ sym (append-nil (response_start h code)) ∙ ap (λ (a : Reply). response_start h a.code ++ a.body) (sym at.0)
 
 -- the frame of a response with so few bytes of data has a start, and room for its check byte

@@ -3,8 +3,8 @@ use Rattle.ipmb_frame.specs.declared.message.Header.{Header}
 use Rattle.ipmb_frame.specs.Grammar.{response_start, IsResponse}
 use Rattle.record_base.specs.declared.message.Asked.{Asked}
 use Rattle.record_base.specs.Meaning.{room_for}
-use Rattle.bmc_board.specs.Gives.{Gives}
-use Rattle.bmc_board.specs.Asking.{meant}
+use Rattle.bmc_board.specs.Gives.{GivesReply}
+use Rattle.bmc_board.specs.Asking.{as_asked}
 use Rattle.bmc_core.specs.IpmbShown.{response}
 use Rattle.bmc_core.proofs.ipmb_port.replying.respond.Goals as goal
 
@@ -13,7 +13,7 @@ carry-requires g c =
     let header = c.header-header.result.now in
     let start : length (response_start header 0) ≤ 8 = lit≤ tt in
     let whole : length c.begin_response.new.frame ≡ length (response_start header 0) = ap length c.begin_response.ensures.started in
-    let room : room_for (meant c.asked.result) ≡ 24 = ap room_for c.asked.ensures in
+    let room : room_for (as_asked c.asked.result) ≡ 24 = ap room_for c.asked.ensures in
     record { room = omega (arith, start, whole, room) }
 
 pub finish-requires : goal.finish-requires
@@ -22,7 +22,7 @@ finish-requires g c =
     record {
       header = c.begin_response.ensures.header;
       answered = done.answered;
-      gives = subst (λ (xs : List ℕ). Gives c.in-Ok.given xs c.carry.new.reply done.answered) c.begin_response.ensures.started done.gives;
+      gives = subst (λ (xs : List ℕ). GivesReply c.in-Ok.given xs c.carry.new.reply done.answered) c.begin_response.ensures.started done.gives;
       fits = subst (λ (q : Asked). length done.answered.body ≤ room_for q) c.asked.ensures done.fits;
     }
 
@@ -33,6 +33,6 @@ returns-in-Ok-clause-answered g c =
       answered = done.answered;
       carried = subst (λ (q : Asked). g.C.Carrier.carries c.args.carrier.now c.args.kept.now q done.answered c.carry.new.kept) c.asked.ensures done.carried;
       response = subst (λ (h : Header). IsResponse (response h done.answered.code done.answered.body) c.finish.new.frame) c.header-header.ensures
-          (c.finish.ensures done.answered (subst (λ (xs : List ℕ). Gives c.in-Ok.given xs c.carry.new.reply done.answered) c.begin_response.ensures.started done.gives)
+          (c.finish.ensures done.answered (subst (λ (xs : List ℕ). GivesReply c.in-Ok.given xs c.carry.new.reply done.answered) c.begin_response.ensures.started done.gives)
           (subst (λ (q : Asked). length done.answered.body ≤ room_for q) c.asked.ensures done.fits));
     }

@@ -3,11 +3,11 @@ use Rattle.model_bus.specs.Request.{Request as Asking}
 use Rattle.model_bus.specs.Numbering.{is_above}
 use Rattle.model_bus.specs.Carried.{Outcome, Repeats, outcome}
 use Rattle.bmc_windows.specs.Heard.{outcome_of_found}
-use Rattle.bmc_core.specs.declared.out.Done.TheVariants as done
+use Rattle.bmc_core.specs.declared.out.Disposition.TheVariants as done
 use Rattle.bmc_core.specs.Outs.{sends}
 use Rattle.model_ports.specs.Bytes.{heard_in}
 use Rattle.model_ports.specs.PortSteps.{response_after}
-use Rattle.bmc_core.specs.IpmbShown.{reading, whole, IsAnswered, IsSent, response, response_frame, IsSettled}
+use Rattle.bmc_core.specs.IpmbShown.{reading, whole, IsKeptResponse, IsSent, response, response_frame, IsSettled}
 use Rattle.bmc_core.proofs.OwnBytes.{response_read}
 use Rattle.bmc_core.proofs.IpmbRepeats.{found_answers}
 use Rattle.bmc_core.proofs.ipmb_port.replying.settle.Goals as goal
@@ -24,7 +24,7 @@ returns-in-Repeats-clause-settles c p of =
     (ap (outcome_of_found reading) (sym c.in-Repeats.is) ∙ c.find.ensures reading p.log of.keeps ∙ ap (λ (q : Asking). outcome (is_above 64) q p.log) same) (
       refl,
       subst (λ (kept : List ℕ). IsSent (response_after r (Some (reading.reply kept))) done.Repeated c.repeat.new.out) c.as_slice.ensures.value
-          (c.repeat.ensures r (sym c.header.ensures) (subst (λ (kept : List ℕ). IsAnswered (record { request = heard_in r; reply = kept })) (sym c.as_slice.ensures.value) (found_answers (heard_in r) of.frames.log kept found of.frames.answered))),
+          (c.repeat.ensures r (sym c.header.ensures) (subst (λ (kept : List ℕ). IsKeptResponse (record { request = heard_in r; reply = kept })) (sym c.as_slice.ensures.value) (found_answers (heard_in r) of.frames.log kept found of.frames.answered))),
     )
 
 pub returns-in-Busy-clause-settles : goal.returns-in-Busy-clause-settles

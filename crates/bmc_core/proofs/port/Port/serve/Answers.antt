@@ -1,7 +1,7 @@
 use Rattle.std.proofs.Common.{sym, subst}
 use Rattle.bmc_core.specs.declared.port.Port.{Port}
 use Rattle.bmc_core.specs.declared.port.Port.TheVariants.{Ipmb, Smbus}
-use Rattle.bmc_core.specs.Port.{Serves}
+use Rattle.bmc_core.specs.Port.{ServesFrameBy}
 use Rattle.bmc_core.proofs.PortServing.{of_ipmb, of_smbus}
 use Rattle.bmc_core.proofs.port.Port.serve.Goals as goal
 
@@ -11,7 +11,7 @@ returns-in-Ipmb-clause-served g c =
     let carries = g.C.Carrier.carries c.args.carrier.now before in
     let refuses = g.C.Carrier.refuses c.args.carrier.now before in
     let s = c.serve.new in
-    subst (λ (port : Port). Serves carries refuses port c.args.bytes.now before c.serve.result (Ipmb s.self) s.out s.kept) (sym c.in-Ipmb.is)
+    subst (λ (port : Port). ServesFrameBy carries refuses port c.args.bytes.now before c.serve.result (Ipmb s.self) s.out s.kept) (sym c.in-Ipmb.is)
     (of_ipmb carries refuses c.args.bytes.now before c.in-Ipmb.port s.self s.out s.kept c.serve.result c.serve.ensures)
 
 pub returns-in-Smbus-clause-served : goal.returns-in-Smbus-clause-served
@@ -20,5 +20,5 @@ returns-in-Smbus-clause-served g c =
     let carries = g.C.Carrier.carries c.args.carrier.now before in
     let refuses = g.C.Carrier.refuses c.args.carrier.now before in
     let s = c.serve-in-Smbus.new in
-    subst (λ (port : Port). Serves carries refuses port c.args.bytes.now before c.serve-in-Smbus.result (Smbus s.self) s.out s.kept) (sym c.in-Smbus.is)
+    subst (λ (port : Port). ServesFrameBy carries refuses port c.args.bytes.now before c.serve-in-Smbus.result (Smbus s.self) s.out s.kept) (sym c.in-Smbus.is)
     (of_smbus carries refuses c.args.bytes.now before c.in-Smbus.port s.self s.out s.kept c.serve-in-Smbus.result c.serve-in-Smbus.ensures)

@@ -1,6 +1,6 @@
 use Rattle.std.proofs.Common.{◌<◌, ℕ, List, length, sym, ◌∙◌, subst, arith}
-use Rattle.bmc_core.specs.declared.out.Done.TheVariants as done_as
-use Rattle.bmc_core.specs.SmbusShown.{KeepsReply, Replies}
+use Rattle.bmc_core.specs.declared.out.Disposition.TheVariants as done_as
+use Rattle.bmc_core.specs.SmbusShown.{KeepsReply, ReplyPackets}
 use Rattle.bmc_core.proofs.smbus_port.replying.carry_out.Goals as goal
 
 pub keep-requires : goal.keep-requires
@@ -17,5 +17,5 @@ returns-in-Ok-clause-kept g c =
 
 pub returns-in-Ok-clause-sent : goal.returns-in-Ok-clause-sent
 returns-in-Ok-clause-sent g c =
-    subst (λ (xs : List ℕ). Replies c.args.at.now c.args.request.now.envelope xs done_as.Answered c.keep.new.out) c.as_slice.ensures.value
+    subst (λ (xs : List ℕ). ReplyPackets c.args.at.now c.args.request.now.envelope xs done_as.Answered c.keep.new.out) c.as_slice.ensures.value
     c.keep.ensures.sent

@@ -3,8 +3,8 @@ use Rattle.pldm_base.specs.declared.message.Header.{Header}
 use Rattle.pldm_base.specs.Message.{reply_start}
 use Rattle.record_base.specs.declared.message.Asked.{Asked}
 use Rattle.record_base.specs.Meaning.{room_for}
-use Rattle.bmc_board.specs.Gives.{Gives}
-use Rattle.bmc_board.specs.Asking.{meant}
+use Rattle.bmc_board.specs.Gives.{GivesReply}
+use Rattle.bmc_board.specs.Asking.{as_asked}
 use Rattle.bmc_core.specs.SmbusHeard.{InMessage}
 use Rattle.bmc_core.proofs.SmbusReplies.{spelled_so}
 use Rattle.bmc_core.proofs.smbus_port.replying.respond.Goals as goal
@@ -14,7 +14,7 @@ carry-requires g c =
     let header = c.request.inside.request.header in
     let start : length (1 ∷ reply_start header 0) ≤ 5 = lit≤ tt in
     let whole : length c.begin.new.reply ≡ length (1 ∷ reply_start header 0) = ap length c.begin.ensures.started in
-    let room : room_for (meant c.asked.result) ≡ 251 = ap room_for c.asked.ensures in
+    let room : room_for (as_asked c.asked.result) ≡ 251 = ap room_for c.asked.ensures in
     record { room = omega (arith, start, whole, room) }
 
 pub returns-in-Ok-clause-answered : goal.returns-in-Ok-clause-answered
@@ -26,7 +26,7 @@ returns-in-Ok-clause-answered g c =
     record {
       answered = a;
       carried = subst (λ (q : Asked). g.C.Carrier.carries c.args.carrier.now c.args.kept.now q a c.carry.new.kept) c.asked.ensures done.carried;
-      reply_is = c.finish.ensures a (subst (λ (xs : List ℕ). Gives c.in-Ok.given xs c.carry.new.reply a) c.begin.ensures.started done.gives)
+      reply_is = c.finish.ensures a (subst (λ (xs : List ℕ). GivesReply c.in-Ok.given xs c.carry.new.reply a) c.begin.ensures.started done.gives)
           ∙ ap (λ (h : Header). (1 ∷ reply_start h a.code) ++ a.body) header
           ∙ sym (spelled_so m a (subst (λ (h : Header). h.instance < 32) header c.begin.ensures.header.instance));
     }

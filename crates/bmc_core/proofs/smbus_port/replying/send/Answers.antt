@@ -2,7 +2,7 @@ use Rattle.std.proofs.Common.{◌≡◌, ◌<◌, ◌≤◌, ℕ, List, length, 
 use Rattle.two_wire.specs.declared.Bus.TheVariants.{Smbus}
 use Rattle.mctp_net.specs.declared.message.Message.{Message}
 use Rattle.model_ports.specs.Values.{Part, written, parts_of}
-use Rattle.bmc_core.specs.Outs.{sends, AreRead}
+use Rattle.bmc_core.specs.Outs.{sends, ReadBack}
 use Rattle.bmc_core.specs.SmbusShown.{frames_from}
 use Rattle.bmc_core.proofs.OwnBytes.{message_read}
 use Rattle.model_ports.proofs.Written.{message_written}
@@ -24,7 +24,7 @@ returns c some =
     record {
       sent = ap (λ (xs : List (List ℕ)). sends xs c.args.out.now.done) frames;
       read =
-          subst (λ (m : Message). AreRead Smbus (map (λ p. Part p) (parts_of m)))
+          subst (λ (m : Message). ReadBack Smbus (map (λ p. Part p) (parts_of m)))
           (λ i. record {
             envelope = record { destination = to.source; source = at.wire; destination_eid = to.source_eid; source_eid = c.byte.ensures.value i; tag_owner = false; tag = to.tag };
             body = c.new.ensures i;

@@ -5,8 +5,8 @@ use Rattle.model_bus.specs.Numbering.{is_above}
 use Rattle.model_bus.specs.Carried.{Outcome, Repeats, IsBusy, IsNew, outcome}
 use Rattle.model_ports.specs.Values.{Value}
 use Rattle.model_ports.specs.Bytes.{said}
-use Rattle.bmc_core.specs.declared.out.Done.TheVariants as done
-use Rattle.bmc_core.specs.Outs.{sends, AreRead}
+use Rattle.bmc_core.specs.declared.out.Disposition.TheVariants as done
+use Rattle.bmc_core.specs.Outs.{sends, ReadBack}
 use Rattle.bmc_core.specs.SmbusHeard.{InMessage, asking}
 use Rattle.bmc_core.specs.SmbusShown.{pldm_reading, parts_from, frames_from, IsSettled}
 use Rattle.bmc_core.proofs.SmbusReplies.{OutcomeHasBytes, repeats_bytes}
@@ -24,8 +24,8 @@ returns-in-Repeats c log h =
     let envelope : c.request.inside.envelope ≡ m.envelope = ap (λ (x : InMessage). x.envelope) c.request.view_is in
     let sent : c.send.new.out ≡ sends (frames_from at.wire at.eid m.envelope c.in-Repeats.reply) done.Repeated =
     (c.send.ensures has).sent ∙ (λ i. sends (frames_from at.wire at.eid (envelope i) (bytes i)) done.Repeated) in
-    let read : AreRead Smbus (parts_from at.wire at.eid m.envelope c.in-Repeats.reply) =
-    subst (λ (vs : List Value). AreRead Smbus vs) (λ i. parts_from at.wire at.eid (envelope i) (bytes i)) (c.send.ensures has).read in
+    let read : ReadBack Smbus (parts_from at.wire at.eid m.envelope c.in-Repeats.reply) =
+    subst (λ (vs : List Value). ReadBack Smbus vs) (λ i. parts_from at.wire at.eid (envelope i) (bytes i)) (c.send.ensures has).read in
     subst (λ (o : Outcome). IsSettled o (said Smbus (asking m) None) (parts_from at.wire at.eid m.envelope) c.args.out.now c.send.new.out true) is (refl, sent, read)
 
 pub returns-in-Busy : goal.returns-in-Busy

@@ -5,7 +5,7 @@ use Rattle.bmc_board.specs.Sensing.{bench_of}
 use Rattle.bmc_board.specs.declared.bench.NoSensor.{NoSensor}
 use Rattle.bmc_history.specs.declared.event.Event.{Event}
 use Rattle.bmc_history.specs.declared.event.Call.TheVariants.{Benched}
-use Rattle.bmc_history.specs.Replay.{Replays}
+use Rattle.bmc_history.specs.Replay.{IsReplay}
 use Rattle.bmc_history.proofs.Replaying.{goes_on_to}
 use Rattle.bmc_history.proofs.held.Held.happen.Goals as goal
 
@@ -18,5 +18,5 @@ invariant_of-self-clause-replays g c =
     let after : State = state_of c.bench-answered.new.self in
     let is : (let given : Result (Unit {0}) NoSensor × State = (c.bench-answered.result, after) in given) ≡ bench_of g.J.Opening.setup before c.args.bench.now =
     subst (λ (setup : BoardFile). (let given : Result (Unit {0}) NoSensor × State = (c.bench-answered.result, after) in given) ≡ bench_of setup before c.args.bench.now) old.setup c.bench-answered.ensures.happens in
-    subst (λ (events : List Event). Replays g.J.Opening.setup g.J.Opening.opening events after) (sym pushed)
+    subst (λ (events : List Event). IsReplay g.J.Opening.setup g.J.Opening.opening events after) (sym pushed)
     (goes_on_to g.J.Opening.setup g.J.Opening.opening old.history.items before after event old.replays (ap (λ (given : Result (Unit {0}) NoSensor × State). given.0) (sym is)) (ap (λ (given : Result (Unit {0}) NoSensor × State). given.1) (sym is)))

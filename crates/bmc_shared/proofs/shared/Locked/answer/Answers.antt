@@ -1,11 +1,11 @@
 use Rattle.std.proofs.Common.{ℕ, ◌+◌, ◌∙◌, ap}
-use Rattle.bmc_board.specs.Asking.{meant}
+use Rattle.bmc_board.specs.Asking.{as_asked}
 use Rattle.bmc_history.specs.declared.event.Call.TheVariants.{Exchanged}
 use Rattle.bmc_shared.proofs.Keeping.{has_place_left, has_part, one_more_counted, clash}
 use Rattle.bmc_shared.proofs.shared.Locked.answer.Goals as goal
 
-pub exchange_here-requires : goal.exchange_here-requires
-exchange_here-requires g c = record { room = c.requires.room }
+pub exchange_into-requires : goal.exchange_into-requires
+exchange_into-requires g c = record { room = c.requires.room }
 
 pub add-requires : goal.add-requires
 add-requires g c = has_part c.audit.new.share.parts c.args.share.now.parts c.audit.ensures.parts c.requires.part
@@ -14,8 +14,8 @@ pub invariant_of-self : goal.invariant_of-self
 invariant_of-self g c =
     let done = c.in-Ok.ensures.exchanged in
     record {
-      counted = one_more_counted c.args.self.now.held.history.items c.exchange_here.new.self.history.items
-          (record { seat = c.args.number; call = Exchanged (meant c.args.asked.now) done.answered })
+      counted = one_more_counted c.args.self.now.held.history.items c.exchange_into.new.self.history.items
+          (record { seat = c.args.number; call = Exchanged (as_asked c.args.asked.now) done.answered })
           c.args.self.now.book.total c.audit.new.self.total c.add.new.self.total
           c.args.self.now.counted done.gained c.audit.ensures.total c.add.ensures.total;
     }

@@ -1,5 +1,5 @@
 use Rattle.std.proofs.Common.{◌≡◌, List, ℕ, ◌∷◌, Some, true, false, arith, refl, sym, ◌∙◌, ap}
-use Rattle.bmc_windows.specs.Window.{Pair}
+use Rattle.bmc_windows.specs.Window.{WindowEntry}
 use Rattle.bmc_windows.proofs.Rooms.{found_here}
 use Rattle.bmc_windows.proofs.window.Window.find.Goals as goal
 
@@ -11,7 +11,7 @@ as_slice-requires g c = omega arith
 
 pub returns-then-is : goal.returns-then-is
 returns-then-is g c =
-    let reply : c.new.result ≡ c.index-place.result.now.reply = c.new.ensures ∙ c.as_slice.ensures.value ∙ ap (λ (p : Pair). p.reply) c.place.view_is in
+    let reply : c.new.result ≡ c.index-place.result.now.reply = c.new.ensures ∙ c.as_slice.ensures.value ∙ ap (λ (p : WindowEntry). p.reply) c.place.view_is in
     ap (λ (r : List ℕ). Some r) reply
     ∙ sym (found_here g.row.NUMBERS c.args.number c.args.number c.from.result (c.args.first ∷ c.args.rest.now) c.index-place.result.now true _ _ c.self.view_is refl c.from.ensures
     c.if-self-number-eq0.false c.self.invariant.0 c.requires c.index-place.ensures (sym c.if-is.true ∙ c.is.ensures))

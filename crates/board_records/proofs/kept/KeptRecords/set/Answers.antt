@@ -5,7 +5,7 @@ use Rattle.record_base.specs.declared.op.Op.{Op}
 use Rattle.cfg_records.specs.Records.{Records, with_record}
 use Rattle.record_kinds.specs.Limits.{key_of}
 use Rattle.record_kinds.specs.LimitsLaws as laws
-use Rattle.record_kinds.specs.Sound.{IsSound}
+use Rattle.record_kinds.specs.Sound.{AreSoundRecords}
 use Rattle.record_kinds.specs.SoundLaws.{sound_with}
 use Rattle.board_records.proofs.Written.{IsWritten, written}
 use Rattle.board_records.proofs.kept.KeptRecords.set.Goals as goal
@@ -28,5 +28,5 @@ returns-clause-still g c =
     let records : Records = g.S.Store.records c.args.self.now.store in
     let is : IsWritten setup op new = written setup records _ _ _ op new refl refl c.requires.sound (sym c.in_ok-place.ensures.made) in
     let wrote : g.S.Store.records c.write.new.self ≡ with_record records (key_of op) new = c.write.ensures.records (key_of op) c.in_ok-place.ensures.place ∙ ap (with_record records (key_of op)) c.as_slice.ensures.value in
-    let is_sound : IsSound setup (with_record records (key_of op) new) = sound_with setup records (key_of op) is.limits new c.requires.sound is.at is.is_valid in
-    subst (IsSound setup) (sym wrote) is_sound
+    let is_sound : AreSoundRecords setup (with_record records (key_of op) new) = sound_with setup records (key_of op) is.limits new c.requires.sound is.at is.is_valid in
+    subst (AreSoundRecords setup) (sym wrote) is_sound

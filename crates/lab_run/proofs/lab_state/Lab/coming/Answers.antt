@@ -3,7 +3,7 @@ use Rattle.two_wire.specs.declared.Bus.{Bus}
 use Rattle.model_lab.specs.Faults.{begun_on}
 use Rattle.model_lab.specs.Meaning.{lab_names}
 use Rattle.model_lab.specs.Played.{plans}
-use Rattle.lab_run.specs.declared.note.Came.{Came}
+use Rattle.lab_run.specs.declared.note.Delivery.{Delivery}
 use Rattle.lab_run.specs.Shown.{IsSentFrame}
 use Rattle.lab_run.specs.Coming.{comes}
 use Rattle.lab_run.proofs.Sent.{beside, none_beside}
@@ -17,8 +17,8 @@ returns c file x shows =
     let s = c.in-Some.frame.now in
     let at = beside IsSentFrame c.args.self.now.frames x.frames c.args.number s shows.frames c.in-Some.ensures.some in
     let mark = at.2.is.mark in
-    let late : ℕ → Option Came = λ n. Some (record { on = s.mark.on; late = nat_lt 1 n }) in
-    let came : Bus → ℕ → ℕ → Option Came = λ on begun request. Some (record { on = on; late = nat_lt 1 (begun - request) }) in
+    let late : ℕ → Option Delivery = λ n. Some (record { on = s.mark.on; late = nat_lt 1 n }) in
+    let came : Bus → ℕ → ℕ → Option Delivery = λ on begun request. Some (record { on = on; late = nat_lt 1 (begun - request) }) in
     ap (λ (n : ℕ). late n) c.saturating_sub.ensures
     ∙ ap (λ (n : ℕ). came s.mark.on n s.mark.request) (c.begun-begun.ensures lab_names x.manager shows.manager)
     ∙ ap (λ (t : Bus × ℕ). came t.0 (begun_on plans.words t.0 x.manager.machine) t.1) (λ i. (sym mark.on i, sym mark.request i))

@@ -10,26 +10,26 @@ use Rattle.text_schedule.specs.declared.event.Event.{Event}
 use Rattle.model_lab.specs.Faults.{is_frame}
 use Rattle.model_lab.specs.Played.{fault_at, happens}
 use Rattle.lab_run.specs.declared.lab_state.Lab.{Lab}
-use Rattle.lab_run.specs.Shown.{Shows, Becomes}
+use Rattle.lab_run.specs.Shown.{Represents, BecomesLab}
 use Rattle.lab_run.specs.Makes.{benches}
-use Rattle.lab_run.specs.Hearing.{Ignores, Did}
+use Rattle.lab_run.specs.Hearing.{IgnoresFrame, EventResult}
 use Rattle.lab_run.proofs.Sent.{on_ok, on_any}
 use Rattle.lab_run.proofs.Silence.{is_no_frame}
 use Rattle.lab_run.proofs.lab_state.Lab.happen.Goals as goal
 
 -- the lab becomes what it is after an event
 abbrev After : Lab → Lab → Event → Type 0
-After old new e = Becomes old new (λ file. happens file e)
+After old new e = BecomesLab old new (λ file. happens file e)
 
 -- the lab becomes what it is once this happened on the board
 abbrev Benched : Lab → Lab → Bench → Type 0
-Benched old new happened = Becomes old new (benches happened)
+Benched old new happened = BecomesLab old new (benches happened)
 
 -- what happens on the bench leaves what is staged
 benched : (old new : Lab) (happened : Bench) → Benched old new happened
-    → Becomes old new (λ file x. record x { board = on_bench x.board (bench_of file x.board happened).1.activity })
+    → BecomesLab old new (λ file x. record x { board = on_bench x.board (bench_of file x.board happened).1.activity })
 benched old new happened becomes file x shows =
-    subst (λ (board : State). Shows file new (record x { board = board })) (sym (benched_so file x.board happened)) (becomes file x shows)
+    subst (λ (board : State). Represents file new (record x { board = board })) (sym (benched_so file x.board happened)) (becomes file x shows)
 
 pub returns-in-Calls-clause-becomes : goal.returns-in-Calls-clause-becomes
 unfolding step
@@ -76,29 +76,29 @@ returns-in-OnBench-clause-becomes c =
 -- ---- what the controller did
 
 pub returns-in-ToBmc-clause-done : goal.returns-in-ToBmc-clause-done
-returns-in-ToBmc-clause-done c = subst (λ (e : Event). OnOk c.to_port.result (Did e c.args.self.now c.to_port.new.self)) (sym c.in-ToBmc.is) c.to_port.ensures.done
+returns-in-ToBmc-clause-done c = subst (λ (e : Event). OnOk c.to_port.result (EventResult e c.args.self.now c.to_port.new.self)) (sym c.in-ToBmc.is) c.to_port.ensures.done
 
 pub returns-in-Calls-clause-done : goal.returns-in-Calls-clause-done
-returns-in-Calls-clause-done c = subst (λ (e : Event). OnOk c.call.result (Did e c.args.self.now c.call.new.self)) (sym c.in-Calls.is) (on_any c.call.result tt)
+returns-in-Calls-clause-done c = subst (λ (e : Event). OnOk c.call.result (EventResult e c.args.self.now c.call.new.self)) (sym c.in-Calls.is) (on_any c.call.result tt)
 
 pub returns-in-ToMgr-clause-done : goal.returns-in-ToMgr-clause-done
-returns-in-ToMgr-clause-done c = subst (λ (e : Event). OnOk c.to_manager.result (Did e c.args.self.now c.to_manager.new.self)) (sym c.in-ToMgr.is) (on_any c.to_manager.result tt)
+returns-in-ToMgr-clause-done c = subst (λ (e : Event). OnOk c.to_manager.result (EventResult e c.args.self.now c.to_manager.new.self)) (sym c.in-ToMgr.is) (on_any c.to_manager.result tt)
 
 pub returns-in-OtherIpmb-clause-done : goal.returns-in-OtherIpmb-clause-done
-returns-in-OtherIpmb-clause-done c = subst (λ (e : Event). OnOk c.other_request.result (Did e c.args.self.now c.other_request.new.self)) (sym c.in-OtherIpmb.is) (on_any c.other_request.result tt)
+returns-in-OtherIpmb-clause-done c = subst (λ (e : Event). OnOk c.other_request.result (EventResult e c.args.self.now c.other_request.new.self)) (sym c.in-OtherIpmb.is) (on_any c.other_request.result tt)
 
 pub returns-in-OtherSmbus-clause-done : goal.returns-in-OtherSmbus-clause-done
-returns-in-OtherSmbus-clause-done c = subst (λ (e : Event). OnOk c.other_message.result (Did e c.args.self.now c.other_message.new.self)) (sym c.in-OtherSmbus.is) (on_any c.other_message.result tt)
+returns-in-OtherSmbus-clause-done c = subst (λ (e : Event). OnOk c.other_message.result (EventResult e c.args.self.now c.other_message.new.self)) (sym c.in-OtherSmbus.is) (on_any c.other_message.result tt)
 
 pub returns-in-Noise-clause-done : goal.returns-in-Noise-clause-done
 returns-in-Noise-clause-done c =
     let is = c.as_slice.ensures.value in
-    subst (λ (e : Event). OnOk c.noise.result (Did e c.args.self.now c.noise.new.self)) (sym c.in-Noise.is)
-    (on_ok c.noise.result c.noise.ensures.ignored (λ ignored file x shows. subst (λ (bytes : List ℕ). Ignores c.in-Noise.on bytes c.noise.new.self.out.done) is (ignored file x shows
+    subst (λ (e : Event). OnOk c.noise.result (EventResult e c.args.self.now c.noise.new.self)) (sym c.in-Noise.is)
+    (on_ok c.noise.result c.noise.ensures.ignored (λ ignored file x shows. subst (λ (bytes : List ℕ). IgnoresFrame c.in-Noise.on bytes c.noise.new.self.out.done) is (ignored file x shows
     (ap (is_frame c.in-Noise.on) is ∙ is_no_frame c.in-Noise.on c.in-Noise.bytes x (ap (fault_at file x) (sym c.in-Noise.is) ∙ c.requires.taken file x shows)))))
 
 pub returns-in-Idle-clause-done : goal.returns-in-Idle-clause-done
-returns-in-Idle-clause-done c = subst (λ (e : Event). Did e c.args.self.now c.idle.new.self) (sym c.in-Idle.is) tt
+returns-in-Idle-clause-done c = subst (λ (e : Event). EventResult e c.args.self.now c.idle.new.self) (sym c.in-Idle.is) tt
 
 pub returns-in-OnBench-clause-done : goal.returns-in-OnBench-clause-done
-returns-in-OnBench-clause-done c = subst (λ (e : Event). Did e c.args.self.now c.bench.new.self) (sym c.in-OnBench.is) tt
+returns-in-OnBench-clause-done c = subst (λ (e : Event). EventResult e c.args.self.now c.bench.new.self) (sym c.in-OnBench.is) tt

@@ -1,12 +1,12 @@
 use Rattle.std.proofs.Common.{◌≡◌, sym, ◌∙◌, ap, subst}
-use Rattle.lab_run.specs.declared.marks.Mark.{Mark}
+use Rattle.lab_run.specs.declared.ages.FrameAge.{FrameAge}
 use Rattle.model_ports.specs.Values.{IsFrameOn}
 use Rattle.model_ports.specs.PortSteps.{hears}
 use Rattle.model_lab.specs.declared.way.Way.TheVariants.{ToManager}
 use Rattle.model_lab.specs.Lab.{port_on, with_port, with_frames}
 use Rattle.bmc_core.specs.declared.out.Out.{Out}
 use Rattle.model_lab.specs.Played.{plans}
-use Rattle.lab_run.specs.Shown.{Shows}
+use Rattle.lab_run.specs.Shown.{Represents}
 use Rattle.lab_run.specs.Hearing.{HasFrames, done_on}
 use Rattle.lab_run.proofs.Sent.{on_ok, on_any}
 use Rattle.lab_run.proofs.PortSide.{delivered_shown, not_delivered, done_shown, none_done}
@@ -25,8 +25,8 @@ returns-clause-becomes c = on_ok c.send_out.result c.send_out.ensures.sent (λ s
     let d = hears file (port_on plans s.mark.on y) y.board v in
     let z = with_port plans s.mark.on d.port (record y { board = d.board }) in
     let heard = c.hear.ensures.port.heard file y v shown (subst (IsFrameOn s.mark.on v) (sym bytes) is) in
-    subst (λ (m : Mark). Shows file new (with_frames plans m.on ToManager m.request d.sent z)) mark
-    (sends file z d.sent heard.shows (subst (λ (m : Mark). HasFrames m.on d.sent c.hear.new.self.out) (sym mark) heard.out))))
+    subst (λ (m : FrameAge). Represents file new (with_frames plans m.on ToManager m.request d.sent z)) mark
+    (sends file z d.sent heard.shows (subst (λ (m : FrameAge). HasFrames m.on d.sent c.hear.new.self.out) (sym mark) heard.out))))
 
 pub returns-in_default-clause-done : goal.returns-in_default-clause-done
 returns-in_default-clause-done c file x f shows is =

@@ -1,7 +1,7 @@
 use Rattle.std.proofs.Common.{◌<◌, length, subst, arith}
 use Rattle.text_schedule.specs.declared.event.Event.TheVariants.{Calls}
-use Rattle.lab_schedule.specs.declared.drawing.Offer.{Offer}
-use Rattle.lab_schedule.specs.Drawn.{Offered}
+use Rattle.lab_schedule.specs.declared.drawing.OfferResult.{OfferResult}
+use Rattle.lab_schedule.specs.Drawn.{OffersEvent}
 use Rattle.lab_schedule.proofs.Deliveries.{frames_are}
 use Rattle.lab_schedule.proofs.Carried.{carries_full, carries_on}
 use Rattle.lab_schedule.proofs.drawing.Drawing.carry_out.Goals as goal
@@ -14,5 +14,5 @@ returns-in_default-clause-carries c =
 pub returns-in-Taken-clause-carries : goal.returns-in-Taken-clause-carries
 returns-in-Taken-clause-carries c =
     carries_on c.deliver_from.result c.args.call c.args.self.now c.offer.new.self c.deliver_from.new.self c.frames.result.now c.in-Ok.first (frames_are c.args.self.now c.deref.result.now c.frames.result.now c.deref.ensures c.frames.ensures) c.in-Ok.ensures.1
-    (subst (λ (o : Offer). Offered (Calls c.args.call) c.args.self.now o c.offer.new.self) c.in-Taken.is c.in_ok-offer.ensures.offered)
+    (subst (λ (o : OfferResult). OffersEvent (Calls c.args.call) c.args.self.now o c.offer.new.self) c.in-Taken.is c.in_ok-offer.ensures.offered)
     c.deliver_from.ensures.delivers

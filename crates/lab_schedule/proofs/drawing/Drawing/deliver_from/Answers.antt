@@ -1,6 +1,6 @@
 use Rattle.std.proofs.Common.{sym, ◌∙◌, subst}
-use Rattle.lab_schedule.specs.declared.drawing.Offer.{Offer}
-use Rattle.lab_schedule.specs.Drawn.{Offered}
+use Rattle.lab_schedule.specs.declared.drawing.OfferResult.{OfferResult}
+use Rattle.lab_schedule.specs.Drawn.{OffersEvent}
 use Rattle.lab_schedule.proofs.Deliveries.{frames_are, delivers_ended, delivers_full, delivers_faulty, delivers_more}
 use Rattle.lab_schedule.proofs.drawing.Drawing.deliver_from.Goals as goal
 
@@ -11,12 +11,12 @@ returns-in_default-clause-delivers c =
 pub returns-in-Faulty-clause-delivers : goal.returns-in-Faulty-clause-delivers
 returns-in-Faulty-clause-delivers c =
     delivers_faulty c.args.first c.loop-number.number c.args.self.now c.loop-number.self c.offer.new.self c.frames.result.now c.in-Some.event _ c.loop-number.invariant (frames_are c.loop-number.self c.deref.result.now c.frames.result.now c.deref.ensures c.frames.ensures) (sym c.delivery.ensures ∙ c.in-Some.is)
-    (subst (λ (o : Offer). Offered c.in-Some.event c.loop-number.self o c.offer.new.self) c.in-Faulty.is c.in_ok-offer.ensures.offered)
+    (subst (λ (o : OfferResult). OffersEvent c.in-Some.event c.loop-number.self o c.offer.new.self) c.in-Faulty.is c.in_ok-offer.ensures.offered)
 
 pub loop-number-preserved : goal.loop-number-preserved
 loop-number-preserved c =
     delivers_more c.args.first c.loop-number.number c.args.self.now c.loop-number.self c.offer.new.self c.frames.result.now c.in-Some.event c.loop-number.invariant (frames_are c.loop-number.self c.deref.result.now c.frames.result.now c.deref.ensures c.frames.ensures) (sym c.delivery.ensures ∙ c.in-Some.is) c.loop-number-test.true
-    (subst (λ (o : Offer). Offered c.in-Some.event c.loop-number.self o c.offer.new.self) c.in-Taken.is c.in_ok-offer.ensures.offered)
+    (subst (λ (o : OfferResult). OffersEvent c.in-Some.event c.loop-number.self o c.offer.new.self) c.in-Taken.is c.in_ok-offer.ensures.offered)
     c.in_ok-offer.ensures.few c.in_ok-offer.ensures.short
 
 pub returns-clause-delivers : goal.returns-clause-delivers

@@ -1,7 +1,7 @@
 use Rattle.std.proofs.Common.{◌+◌, refl, sym, ◌∙◌, subst, true≢false}
 use Rattle.model_lab.specs.Played.{after}
 use Rattle.lab_run.specs.declared.lab_state.Lab.{Lab}
-use Rattle.lab_run.specs.Shown.{Shows}
+use Rattle.lab_run.specs.Shown.{Represents}
 use Rattle.lab_schedule.proofs.Offers.{drawn_more, not_taken}
 use Rattle.lab_schedule.proofs.drawing.Drawing.offer.Goals as goal
 use Rattle.lab_schedule.proofs.drawing.Drawing.offer.Goals.{else-not-self-via-then-not-self+else-may_join_late, else-not-self-via-else-not-self}
@@ -15,7 +15,7 @@ returns-in_ok-push-in-Ok-clause-offered c = (
       c.in-Ok.ensures.steps c.in-Ok.ensures.watched c.in_ok-push-in-Ok.ensures.items refl (sym c.has_line.ensures ∙ c.if-not-has_line.false)
       (λ never. elim c.else-not-self.branch [
         | else-not-self-via-then-not-self+else-may_join_late w ↦ w.may_join_late.ensures w.if-may_join_late.false file (after file c.args.self.now.events.items first)
-            (subst (λ (l : Lab). Shows file l (after file c.args.self.now.events.items first)) (sym w.deref.ensures) drawn.shows) drawn.watches
+            (subst (λ (l : Lab). Represents file l (after file c.args.self.now.events.items first)) (sym w.deref.ensures) drawn.shows) drawn.watches
         | else-not-self-via-else-not-self w ↦ absurd (true≢false (sym w.if-not-self.false ∙ never))
       ]),
 )

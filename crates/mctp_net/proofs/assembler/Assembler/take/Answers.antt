@@ -1,6 +1,6 @@
 use Rattle.std.proofs.Common.{◌≡◌, ◌∙◌, Some, None, sym, ap, subst}
 use Rattle.mctp_net.specs.Assembly.{name_of, drop_cause, ended, kept_with, after_where}
-use Rattle.mctp_net.specs.Places.{assemblies_in, seen, AreSound, IsPlaceOf, under_in}
+use Rattle.mctp_net.specs.Places.{assemblies_in, seen, AreSoundPlaces, IsPlaceOf, under_in}
 use Rattle.mctp_net.specs.Cut.{EachFrom}
 use Rattle.mctp_net.specs.Sound.{IsWaitingAt}
 use Rattle.mctp_net.proofs.Causes.{passes}
@@ -43,7 +43,7 @@ returns-in-None c =
     let inside : c.self.inside.places.items ≡ c.args.self.now.places = ap (λ k. k.places) c.self.view_is in
     let none : drop_cause c.args.own (seen c.args.self.now) c.args.packet.now ≡ None =
     sym (c.in-None.ensures ∙ ap (λ ps. drop_cause c.args.own (assemblies_in ps None) c.args.packet.now) (c.as_slice-2.ensures.value ∙ inside)) in
-    let sound : AreSound c.args.self.now.places = subst AreSound inside c.self.invariant.0 in
+    let sound : AreSoundPlaces c.args.self.now.places = subst AreSoundPlaces inside c.self.invariant.0 in
     let at : IsPlaceOf (Some (name_of c.args.packet.now.envelope)) c.args.self.now.places c.place_of-place.result =
     subst (λ n. IsPlaceOf (Some n) c.args.self.now.places c.place_of-place.result) c.name.ensures (subst (λ ps. IsPlaceOf (Some c.name.result) ps c.place_of-place.result) (c.as_slice.ensures.value ∙ inside) c.place_of-place.ensures) in
     let waits : EachFrom IsWaitingAt 0 (under_in c.args.self.now.places (name_of c.args.packet.now.envelope)) = placed-waits (name_of c.args.packet.now.envelope) c.args.self.now.places c.place_of-place.result sound at in

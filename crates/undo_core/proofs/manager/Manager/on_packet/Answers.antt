@@ -2,11 +2,11 @@ use Rattle.std.proofs.Common.{rules, ◌≡◌, ◌↔◌, ℕ, List, Bool, true
 use Rattle.two_wire.specs.declared.Bus.TheVariants.{Smbus}
 use Rattle.mctp_net.specs.declared.taken.Taken.{Taken}
 use Rattle.mctp_net.specs.declared.taken.Taken.TheVariants.{Waiting}
-use Rattle.mctp_net.specs.Assembly.{Assemblies, drop_cause, dropped_for, after as kept_after, message_of, IsTaken}
+use Rattle.mctp_net.specs.Assembly.{Assemblies, drop_cause, dropped_for, after as kept_after, message_of, IsPieceTaken}
 use Rattle.mctp_net.specs.Places.{seen}
 use Rattle.undo_plans.specs.declared.names.Names.{Names}
 use Rattle.model_lab.specs.ManagerSteps.{board_plans, rests, joins, hears_packet, hears_reply}
-use Rattle.undo_core.specs.Shown.{Does}
+use Rattle.undo_core.specs.Shown.{IsStepResult}
 use Rattle.undo_core.proofs.Heard.{joined_with, whole_joins, whole_ends}
 use Rattle.undo_core.proofs.manager.Manager.on_packet.Goals as goal
 
@@ -21,7 +21,7 @@ returns c names s shows =
     let here : drop_cause m.names.own_eid (seen m.joined) p ≡ None = sym c.take.ensures.dropped ∙ ap dropped_for c.in-Whole.is in
     let none : drop_cause s.names.own_eid s.joined p ≡ None = (λ i. drop_cause (own i) (shows.joined i) p) ∙ here in
     let ended : p.end ≡ true = whole_ends m.names.own_eid (seen m.joined) p here
-    (subst (λ (t : Taken). (t ≡ Waiting) ↔ IsTaken m.names.own_eid (seen m.joined) p) c.in-Whole.is c.take.ensures.waiting) in
+    (subst (λ (t : Taken). (t ≡ Waiting) ↔ IsPieceTaken m.names.own_eid (seen m.joined) p) c.in-Whole.is c.take.ensures.waiting) in
     let ours : c.joins.result ≡ true = search rules in
     let after = joined_with names p s in
     let body : c.as_slice.result.now ≡ (message_of after.joined p).body =
@@ -29,7 +29,7 @@ returns c names s shows =
     let hears : hears_packet P p s ≡ hears_reply P Smbus c.as_slice.result.now after =
     c.joins.ensures names s shows ∙ ap (λ (b : Bool). if b then joins P p s else rests P s) ours ∙ whole_joins names s p none ended
     ∙ ap (λ (bytes : List ℕ). hears_reply P Smbus bytes after) (sym body) in
-    subst (Does names c.on_message.new.self c.on_message.result) (sym hears) (c.on_message.ensures names after (record {
+    subst (IsStepResult names c.on_message.new.self c.on_message.result) (sym hears) (c.on_message.ensures names after (record {
       named = shows.named;
       is_named = shows.is_named;
       listed = shows.listed;
