@@ -18,7 +18,7 @@ use Rattle.model_undo.specs.Wires.{Wires}
 use Rattle.model_undo.specs.Line.{Line}
 use Rattle.model_undo.specs.declared.call.Call.TheVariants.{Start, Quiet, Stop, Again, Undo}
 use Rattle.model_undo.specs.World as world
-use Rattle.model_undo.specs.World.{States, World, Happening, Calls, Resume, Restart, ToManager, OnBus, OnBench, happens, run, opening}
+use Rattle.model_undo.specs.World.{World, Happening, Calls, Resume, Restart, ToManager, OnBus, OnBench, happens, run, opening}
 
 module _ (M : Words) where
   abbrev quiet_calls : ℕ → List Input
