@@ -9,7 +9,7 @@ use Rattle.record_base.specs.declared.lan_parameter.LanAddress.TheVariants.{Ip, 
 use Rattle.record_base.specs.declared.lan_parameter.LanParameter.{LanParameter}
 use Rattle.record_base.specs.declared.lan_parameter.LanParameter.TheVariants.{Address, AddressSource, Vlan}
 use Rattle.record_base.specs.declared.lan_parameter.ParameterOnChannel.{ParameterOnChannel}
-use Rattle.record_base.specs.contracts.lan.LanParameterOrd.TheImpl as parameter_ord
+use Rattle.record_base.specs.contracts.lan_parameter.LanParameterOrd.TheImpl as parameter_ord
 use Rattle.record_base.specs.Lan.{IsLanData, IsLanParam}
 
 IsLanData-prop : (parameter : LanParameter) (value : List ℕ) → IsProp (IsLanData parameter value)
