@@ -1,4 +1,4 @@
-"""What tshark shows of the captures that tools/capture writes."""
+"""What tshark shows of the captures that clients/capture writes."""
 import os
 import shlex
 import subprocess
@@ -25,7 +25,7 @@ def test_ports(tests, bmcnet, room):
     out = f"{room}/ports.pcapng"
     with served(bmcnet, "sample.toml") as ports:
         try:
-            with started([f"{TOP}/tools/capture", "ports", *map(str, ports), out], "ipmb on port"):
+            with started([f"{TOP}/clients/capture", "ports", *map(str, ports), out], "ipmb on port"):
                 wait_for_controller(ports[0])
                 wait_for_packets(out)
         except Failure as fault:

@@ -1,4 +1,4 @@
-"""Clients of others that ask a served controller through tools/lan-bridge."""
+"""Clients of others that ask a served controller through clients/lan-bridge."""
 import concurrent.futures
 import contextlib
 import shlex
@@ -6,7 +6,7 @@ import shlex
 import program
 from lossy_link import HARSH, LOSING, LossyLink
 
-from .page import code_in, rows_of, squeezed
+from .page import code_in, rows_of, rows_of_front_page, squeezed
 from .programs import TOP, called, served, started
 
 # How many requests, of which the controller counts those that it carries out, go over lossy links, and how many come at once.
@@ -48,7 +48,7 @@ def bridged(bmcnet, board, link=lambda port, _: contextlib.nullcontext(port)):
 @contextlib.contextmanager
 def bridge(p0):
     """Gives the port of a bridge to the controller's port."""
-    with started([f"{TOP}/tools/lan-bridge", "--port", "0", str(p0)], r"lan on [0-9.]+:([0-9]+)") as told:
+    with started([f"{TOP}/clients/lan-bridge", "--port", "0", str(p0)], r"lan on [0-9.]+:([0-9]+)") as told:
         yield int(told[1])
 
 
@@ -80,6 +80,18 @@ def test_rows(tests, heading, whole, room):
         lacking = [it for it in texts if squeezed(it) not in squeezed(text)]
         is_right = not lacking and (texts or not text.strip()) and str(status) == wanted_status
         tests.expect(is_right, f"{shlex.join(words)} ends with {status} and prints\n{text}\nwithout {lacking}")
+
+
+def test_front_page(tests, bmcnet, room):
+    """Runs and undoes the plan of README.md, and has ipmitool read what the page says before, between and behind."""
+    asked, rows = rows_of_front_page()
+    with served(bmcnet, "sample.toml") as ports, bridge(ports[0]) as port:
+        own = {"./bmcnet": bmcnet, "4000": str(ports[0]), "4001": str(ports[1]), "undo.txt": f"{room}/front-page-undo.txt"}
+        for call, wanted in rows:
+            status = called([own.get(word, word) for word in call], room)[0] if call else 0
+            _, text = called(ipmitool_words(str(port), asked), room)
+            tests.expect(status == 0 and squeezed(text) == wanted, f"behind {shlex.join(call)}, which ends with {status}, ipmitool prints {text}")
+    tests.expect(len({text for _, text in rows}) > 1 and rows[0][1] == rows[-1][1], "README.md shows nothing that changed and came back")
 
 
 def test_once(tests, bmcnet, seed, room):
@@ -127,6 +139,7 @@ def test_clients(tests, bmcnet, seed, room):
     if not ipmitool:
         tests.tell("skipped", "the rows of FreeIPMI and pyipmi, which stand behind those of ipmitool")
         return
+    test_front_page(tests, bmcnet, room)
     with bridged(bmcnet, "sample.toml") as port:
         test_rows(tests, "ipmitool on the sample board", lambda words: ipmitool_words(port, words), room)
         test_at_once(tests, port, room)

@@ -1,4 +1,4 @@
-"""What docs/CLIENTS.md shows: tables of commands, and calls with what they print."""
+"""What docs/CLIENTS.md shows: tables of commands, and calls with what they print; and what README.md shows ipmitool to print."""
 import re
 import shlex
 
@@ -29,3 +29,13 @@ def calls_of(heading):
 def squeezed(text):
     """Returns a text whose blanks, line ends and bars are single blanks."""
     return re.sub(r"[\s|]+", " ", text).strip()
+
+
+def rows_of_front_page():
+    """Returns what ipmitool is asked on README.md, and the rows of that table: the call of this tree before it, if there is one, and what is printed."""
+    with open(f"{TOP}/README.md", encoding="utf-8") as file:
+        lines = file.read().splitlines()
+    first = next(place for place, line in enumerate(lines) if line.startswith("| | `ipmitool .. "))
+    asked = shlex.split(code_in(lines[first])[0])[2:]
+    rows = [code_in(line) for line in lines[first + 2 : lines.index("", first)]]
+    return asked, [(shlex.split(row[0]) if len(row) > 1 else [], row[-1]) for row in rows]

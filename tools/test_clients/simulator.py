@@ -1,4 +1,4 @@
-"""A plan on OpenIPMI's simulator, through tools/controller-bridge and a lossy link."""
+"""A plan on OpenIPMI's simulator, through clients/controller-bridge and a lossy link."""
 import contextlib
 import shlex
 import subprocess
@@ -122,7 +122,7 @@ def test_simulator(tests, bmcnet, seeds, room):
         return
     plans = ((PLAN, "Done"), (halting_plan(room), HALTED))
     with simulator(ipmi_sim, room) as ask:
-        bridge = [f"{TOP}/tools/controller-bridge", "--plan", PLAN, "--forget", str(FORGET), "0", "--", *ask]
+        bridge = [f"{TOP}/clients/controller-bridge", "--plan", PLAN, "--forget", str(FORGET), "0", "--", *ask]
         with started(bridge, r"ipmb on [0-9.]+:([0-9]+)") as told:
             for seed in seeds:
                 test_over_link(tests, bmcnet, ask, plans, LossyLink(int(told[1]), seed), room)

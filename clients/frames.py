@@ -1,4 +1,4 @@
-"""The frames of both buses, for the tools beside this file: IPMB messages, and MCTP packets over SMBus, read from bytes and written.
+"""The frames of both buses, for the programs beside this file: IPMB messages, and MCTP packets over SMBus, read from bytes and written.
 
 A reader raises `Fault` with the name of the first fault, as `bmclab frame` names it (docs/CODES.md). Addresses are bytes with bit 0 clear.
 """

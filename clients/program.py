@@ -1,4 +1,4 @@
-"""What the programs among these tools share with `bmclab` and `bmcnet`: how words are refused, statuses, and ports of this host."""
+"""What the programs beside this file share with `bmclab` and `bmcnet`: how words are refused, statuses, and ports of this host."""
 import argparse
 import re
 import signal
