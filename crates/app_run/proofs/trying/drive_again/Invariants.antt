@@ -11,4 +11,4 @@ abbrev pub invariant-loop : goal.invariant-loop
 invariant-loop g l =
     ((s : DrivenState) → Represents lab_names l.fn.manager s
     → Continues l.agains l.fn.turns s (both (g.A.Link.counts_of l.fn.ipmb) (g.B.Link.counts_of l.fn.smbus)) (l.agains - l.counter) l.left l.manager (both (g.A.Link.counts_of l.ipmb) (g.B.Link.counts_of l.smbus)))
-    × WatchedStep g.T.Watches.sees l.fn.manager l.manager (both (g.A.Link.counts_of l.fn.ipmb) (g.B.Link.counts_of l.fn.smbus)) (both (g.A.Link.counts_of l.ipmb) (g.B.Link.counts_of l.smbus)) l.fn.watch l.watch
+    × WatchedStep g.T.Observer.sees l.fn.manager l.manager (both (g.A.Link.counts_of l.fn.ipmb) (g.B.Link.counts_of l.fn.smbus)) (both (g.A.Link.counts_of l.ipmb) (g.B.Link.counts_of l.smbus)) l.fn.watch l.watch

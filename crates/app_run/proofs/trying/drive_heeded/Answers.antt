@@ -12,7 +12,7 @@ loop-made-init g c = (
     drives = c.drive_on-begun.ensures.drives s shows;
     is_heeded = inl refl;
   },
-  drove g.T.Watches.sees 0 c.args.manager.now c.drive_on-begun.new.manager c.drive_on-begun.result (both (g.A.Link.counts_of c.args.ipmb.now) (g.B.Link.counts_of c.args.smbus.now))
+  drove g.T.Observer.sees 0 c.args.manager.now c.drive_on-begun.new.manager c.drive_on-begun.result (both (g.A.Link.counts_of c.args.ipmb.now) (g.B.Link.counts_of c.args.smbus.now))
       (both (g.A.Link.counts_of c.drive_on-begun.new.ipmb) (g.B.Link.counts_of c.drive_on-begun.new.smbus)) c.args.watch.now c.drive_on-begun.new.watch (omega arith)
       c.drive_on-begun.ensures.drives c.drive_on-begun.ensures.seen,
 )
@@ -24,14 +24,14 @@ loop-made-preserved g c = (
       goes_one_more (c.loop-made.made - 1) _ s c.loop-made.manager c.drive_on-phase.new.manager c.drive_on-phase.result (both (g.A.Link.counts_of c.args.ipmb.now) (g.B.Link.counts_of c.args.smbus.now))
       (both (g.A.Link.counts_of c.loop-made.ipmb) (g.B.Link.counts_of c.loop-made.smbus)) (both (g.A.Link.counts_of c.drive_on-phase.new.ipmb) (g.B.Link.counts_of c.drive_on-phase.new.smbus))
       (omega arith) going (c.drive_on-phase.ensures.drives going.drives.after going.drives.shown) (sym c.is_unsettled.ensures ∙ c.if-is_unsettled.false),
-  looked_on g.T.Watches.sees c.args.manager.now c.loop-made.manager c.drive_on-phase.new.manager c.drive_on-phase.result (both (g.A.Link.counts_of c.args.ipmb.now) (g.B.Link.counts_of c.args.smbus.now))
+  looked_on g.T.Observer.sees c.args.manager.now c.loop-made.manager c.drive_on-phase.new.manager c.drive_on-phase.result (both (g.A.Link.counts_of c.args.ipmb.now) (g.B.Link.counts_of c.args.smbus.now))
       (both (g.A.Link.counts_of c.loop-made.ipmb) (g.B.Link.counts_of c.loop-made.smbus)) (both (g.A.Link.counts_of c.drive_on-phase.new.ipmb) (g.B.Link.counts_of c.drive_on-phase.new.smbus)) c.args.watch.now c.loop-made.watch c.drive_on-phase.new.watch
       c.loop-made.invariant.1 c.drive_on-phase.ensures.drives c.drive_on-phase.ensures.seen,
 )
 
 pub returns-then-turns-eq0-clause-watched : goal.returns-then-turns-eq0-clause-watched
 returns-then-turns-eq0-clause-watched g c =
-    drove g.T.Watches.sees 0 c.args.manager.now c.drive_on-begun.new.manager c.drive_on-begun.result (both (g.A.Link.counts_of c.args.ipmb.now) (g.B.Link.counts_of c.args.smbus.now))
+    drove g.T.Observer.sees 0 c.args.manager.now c.drive_on-begun.new.manager c.drive_on-begun.result (both (g.A.Link.counts_of c.args.ipmb.now) (g.B.Link.counts_of c.args.smbus.now))
     (both (g.A.Link.counts_of c.drive_on-begun.new.ipmb) (g.B.Link.counts_of c.drive_on-begun.new.smbus)) c.args.watch.now c.drive_on-begun.new.watch (omega arith)
     c.drive_on-begun.ensures.drives c.drive_on-begun.ensures.seen
 
@@ -70,18 +70,18 @@ returns-clause-stops g c s shows =
 
 pub returns-then-is_unsettled-clause-watched : goal.returns-then-is_unsettled-clause-watched
 returns-then-is_unsettled-clause-watched g c =
-    looked_on g.T.Watches.sees c.args.manager.now c.loop-made.manager c.drive_on-phase.new.manager c.drive_on-phase.result (both (g.A.Link.counts_of c.args.ipmb.now) (g.B.Link.counts_of c.args.smbus.now))
+    looked_on g.T.Observer.sees c.args.manager.now c.loop-made.manager c.drive_on-phase.new.manager c.drive_on-phase.result (both (g.A.Link.counts_of c.args.ipmb.now) (g.B.Link.counts_of c.args.smbus.now))
     (both (g.A.Link.counts_of c.loop-made.ipmb) (g.B.Link.counts_of c.loop-made.smbus)) (both (g.A.Link.counts_of c.drive_on-phase.new.ipmb) (g.B.Link.counts_of c.drive_on-phase.new.smbus)) c.args.watch.now c.loop-made.watch c.drive_on-phase.new.watch
     c.loop-made.invariant.1 c.drive_on-phase.ensures.drives c.drive_on-phase.ensures.seen
 
 pub returns-in_default-clause-watched : goal.returns-in_default-clause-watched
 returns-in_default-clause-watched g c =
-    looked_on g.T.Watches.sees c.args.manager.now c.loop-made.manager c.drive_on-phase.new.manager c.drive_on-phase.result (both (g.A.Link.counts_of c.args.ipmb.now) (g.B.Link.counts_of c.args.smbus.now))
+    looked_on g.T.Observer.sees c.args.manager.now c.loop-made.manager c.drive_on-phase.new.manager c.drive_on-phase.result (both (g.A.Link.counts_of c.args.ipmb.now) (g.B.Link.counts_of c.args.smbus.now))
     (both (g.A.Link.counts_of c.loop-made.ipmb) (g.B.Link.counts_of c.loop-made.smbus)) (both (g.A.Link.counts_of c.drive_on-phase.new.ipmb) (g.B.Link.counts_of c.drive_on-phase.new.smbus)) c.args.watch.now c.loop-made.watch c.drive_on-phase.new.watch
     c.loop-made.invariant.1 c.drive_on-phase.ensures.drives c.drive_on-phase.ensures.seen
 
 pub returns-clause-watched : goal.returns-clause-watched
 returns-clause-watched g c =
-    looked_on g.T.Watches.sees c.args.manager.now c.loop-made.manager c.drive_on-ended.new.manager c.drive_on-ended.result (both (g.A.Link.counts_of c.args.ipmb.now) (g.B.Link.counts_of c.args.smbus.now))
+    looked_on g.T.Observer.sees c.args.manager.now c.loop-made.manager c.drive_on-ended.new.manager c.drive_on-ended.result (both (g.A.Link.counts_of c.args.ipmb.now) (g.B.Link.counts_of c.args.smbus.now))
     (both (g.A.Link.counts_of c.loop-made.ipmb) (g.B.Link.counts_of c.loop-made.smbus)) (both (g.A.Link.counts_of c.drive_on-ended.new.ipmb) (g.B.Link.counts_of c.drive_on-ended.new.smbus)) c.args.watch.now c.loop-made.watch c.drive_on-ended.new.watch
     c.loop-made.invariant.1 c.drive_on-ended.ensures.drives c.drive_on-ended.ensures.seen

@@ -10,4 +10,4 @@ use Rattle.app_run.proofs.trying.drive_heeded.Given as goal
 abbrev pub invariant-loop-made : goal.invariant-loop-made
 invariant-loop-made g l =
     ((s : DrivenState) → Represents lab_names l.fn.manager s → Going (l.made - 1) s l.manager (both (g.A.Link.counts_of l.fn.ipmb) (g.B.Link.counts_of l.fn.smbus)) (both (g.A.Link.counts_of l.ipmb) (g.B.Link.counts_of l.smbus)))
-    × WatchedStep g.T.Watches.sees l.fn.manager l.manager (both (g.A.Link.counts_of l.fn.ipmb) (g.B.Link.counts_of l.fn.smbus)) (both (g.A.Link.counts_of l.ipmb) (g.B.Link.counts_of l.smbus)) l.fn.watch l.watch
+    × WatchedStep g.T.Observer.sees l.fn.manager l.manager (both (g.A.Link.counts_of l.fn.ipmb) (g.B.Link.counts_of l.fn.smbus)) (both (g.A.Link.counts_of l.ipmb) (g.B.Link.counts_of l.smbus)) l.fn.watch l.watch

@@ -8,7 +8,7 @@ use Rattle.app_run.proofs.trying.drive_watched.Goals as goal
 pub loop-init : goal.loop-init
 loop-init g c = (
   c.drive_on-phase.ensures.drives,
-  drove g.T.Watches.sees 0 c.args.manager.now c.drive_on-phase.new.manager c.drive_on-phase.result (both (g.A.Link.counts_of c.args.ipmb.now) (g.B.Link.counts_of c.args.smbus.now))
+  drove g.T.Observer.sees 0 c.args.manager.now c.drive_on-phase.new.manager c.drive_on-phase.result (both (g.A.Link.counts_of c.args.ipmb.now) (g.B.Link.counts_of c.args.smbus.now))
       (both (g.A.Link.counts_of c.drive_on-phase.new.ipmb) (g.B.Link.counts_of c.drive_on-phase.new.smbus)) c.args.watch.now c.drive_on-phase.new.watch (omega arith)
       c.drive_on-phase.ensures.drives c.drive_on-phase.ensures.seen,
 )
@@ -20,7 +20,7 @@ loop-preserved g c = (
       join c.loop.counter 1 s c.loop.manager c.drive_on-phase-in-loop.new.manager c.loop.phase c.drive_on-phase-in-loop.result (both (g.A.Link.counts_of c.args.ipmb.now) (g.B.Link.counts_of c.args.smbus.now))
       (both (g.A.Link.counts_of c.loop.ipmb) (g.B.Link.counts_of c.loop.smbus)) (both (g.A.Link.counts_of c.drive_on-phase-in-loop.new.ipmb) (g.B.Link.counts_of c.drive_on-phase-in-loop.new.smbus))
       on (c.drive_on-phase-in-loop.ensures.drives on.after on.shown),
-  looked_on g.T.Watches.sees c.args.manager.now c.loop.manager c.drive_on-phase-in-loop.new.manager c.drive_on-phase-in-loop.result (both (g.A.Link.counts_of c.args.ipmb.now) (g.B.Link.counts_of c.args.smbus.now))
+  looked_on g.T.Observer.sees c.args.manager.now c.loop.manager c.drive_on-phase-in-loop.new.manager c.drive_on-phase-in-loop.result (both (g.A.Link.counts_of c.args.ipmb.now) (g.B.Link.counts_of c.args.smbus.now))
       (both (g.A.Link.counts_of c.loop.ipmb) (g.B.Link.counts_of c.loop.smbus)) (both (g.A.Link.counts_of c.drive_on-phase-in-loop.new.ipmb) (g.B.Link.counts_of c.drive_on-phase-in-loop.new.smbus)) c.args.watch.now c.loop.watch c.drive_on-phase-in-loop.new.watch
       c.loop.invariant.1 c.drive_on-phase-in-loop.ensures.drives c.drive_on-phase-in-loop.ensures.seen,
 )

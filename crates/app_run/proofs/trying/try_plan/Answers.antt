@@ -15,8 +15,8 @@ returns-in-Ok-clause-goes g c before shows =
 
 pub returns-in-Ok-clause-watched : goal.returns-in-Ok-clause-watched
 returns-in-Ok-clause-watched g c =
-    joined g.T.Watches.sees c.args.manager.now c.start.new.self c.drive_again.new.manager (both (g.A.Link.counts_of c.args.ipmb.now) (g.B.Link.counts_of c.args.smbus.now)) (both (g.A.Link.counts_of c.args.ipmb.now) (g.B.Link.counts_of c.args.smbus.now)) (both (g.A.Link.counts_of c.drive_again.new.ipmb) (g.B.Link.counts_of c.drive_again.new.smbus)) c.args.watch.now c.look.new.self c.drive_again.new.watch
-    (was_called g.T.Watches.sees Start c.args.manager.now c.start.new.self c.in-Ok.first (both (g.A.Link.counts_of c.args.ipmb.now) (g.B.Link.counts_of c.args.smbus.now)) c.args.watch.now c.look.new.self (inl refl) (c.in-Ok.ensures lab_names) c.look.ensures)
+    joined g.T.Observer.sees c.args.manager.now c.start.new.self c.drive_again.new.manager (both (g.A.Link.counts_of c.args.ipmb.now) (g.B.Link.counts_of c.args.smbus.now)) (both (g.A.Link.counts_of c.args.ipmb.now) (g.B.Link.counts_of c.args.smbus.now)) (both (g.A.Link.counts_of c.drive_again.new.ipmb) (g.B.Link.counts_of c.drive_again.new.smbus)) c.args.watch.now c.look.new.self c.drive_again.new.watch
+    (was_called g.T.Observer.sees Start c.args.manager.now c.start.new.self c.in-Ok.first (both (g.A.Link.counts_of c.args.ipmb.now) (g.B.Link.counts_of c.args.smbus.now)) c.args.watch.now c.look.new.self (inl refl) (c.in-Ok.ensures lab_names) c.look.ensures)
     c.drive_again.ensures.watched
 
 pub returns-in-Err-clause-goes : goal.returns-in-Err-clause-goes
@@ -26,4 +26,4 @@ returns-in-Err-clause-goes g c before shows =
 
 pub returns-in-Err-clause-watched : goal.returns-in-Err-clause-watched
 returns-in-Err-clause-watched g c =
-    was_refused g.T.Watches.sees Start c.args.manager.now c.start.new.self c.in-Err.field-0 (both (g.A.Link.counts_of c.args.ipmb.now) (g.B.Link.counts_of c.args.smbus.now)) c.args.watch.now (c.in-Err.ensures lab_names)
+    was_refused g.T.Observer.sees Start c.args.manager.now c.start.new.self c.in-Err.field-0 (both (g.A.Link.counts_of c.args.ipmb.now) (g.B.Link.counts_of c.args.smbus.now)) c.args.watch.now (c.in-Err.ensures lab_names)

@@ -1,6 +1,6 @@
 use Rattle.bmc_board.specs.Serves.{given_by}
 use Rattle.bmc_board.specs.Asking.{as_asked}
-use Rattle.bmc_board.proofs.direct_carrier.AloneCarrier.carry.Goals as goal
+use Rattle.bmc_board.proofs.direct_carrier.DirectCarrierCarrier.carry.Goals as goal
 
 pub returns-clause-carried : goal.returns-clause-carried
 returns-clause-carried g c =

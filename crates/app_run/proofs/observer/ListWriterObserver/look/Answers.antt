@@ -1,7 +1,7 @@
 use Rattle.std.proofs.Common.{inl, refl, arith}
 use Rattle.model_lab.specs.Meaning.{lab_names}
 use Rattle.app_run.proofs.Keeping.{put_or_not}
-use Rattle.app_run.proofs.observer.KeeperWatches.look.Goals as goal
+use Rattle.app_run.proofs.observer.ListWriterObserver.look.Goals as goal
 
 pub returns-then-self-known : goal.returns-then-self-known
 returns-then-self-known g c = (
