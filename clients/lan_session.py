@@ -2,12 +2,13 @@
 
 Nothing here opens a socket or reads a clock: `Lan.hear` is given a datagram and the time.
 """
-import collections
 import secrets
 import struct
 
 import frames
-from repeats import Entry, Window
+from lan_channel import ACTIVATE, ADMINISTRATOR, APP, BAD_DATA, CAPABILITIES, CHALLENGE, USER, Channel
+from lan_requests import Sessions
+from repeats import Window
 
 RMCP = b"\x06\x00\xff"
 CLASS_ASF = 0x06
@@ -17,31 +18,10 @@ ASF = 4542
 PING = 0x80
 PONG = 0x40
 
-APP = 0x06
-CAPABILITIES = 0x38
-CHALLENGE = 0x39
-ACTIVATE = 0x3A
-PRIVILEGE = 0x3B
-CLOSE = 0x3C
-
-BAD_DATA = 0xCC
 NO_SLOT = 0x81
-ABOVE_LIMIT = 0x81
-NO_SESSION = 0x87
-
-USER = 2
-ADMINISTRATOR = 4
-THIS_CHANNEL = 0x0E
-CHANNEL = 1
-# Authentication none alone; neither messages nor users are authenticated, and any name is taken.
+# Authentication none alone: any name is taken.
 NO_AUTHENTICATION = 0x00
-TAKES_NONE = 0x01
-STATUS = 0x1F
 
-MOST_SESSIONS = 8
-# Those that wait, or are closed; the oldest goes first.
-MOST_OTHERS = 16
-LONGEST_SILENCE = 60.0
 # How far a packet's sequence number may be from the highest that was heard.
 REACH = 16
 WRAP = 1 << 32
@@ -49,9 +29,6 @@ WRAP = 1 << 32
 WAITING = "waiting"
 OPEN = "open"
 CLOSED = "closed"
-
-Ask = collections.namedtuple("Ask", "session entry message")
-Ask.__doc__ = "A request for the controller: `entry.reply` is None until `Lan.told` has it."
 
 
 class Session:
@@ -73,6 +50,15 @@ class Session:
             self.level = min(limit, USER)
             self.highest = self.begin_inbound
             self.outbound = outbound
+
+    def is_open(self):
+        return self.state == OPEN
+
+    def is_closed(self):
+        return self.state == CLOSED
+
+    def end(self):
+        self.state = CLOSED
 
     def is_near(self, sequence):
         """Returns whether a packet of this sequence number is heard: one from long ago isn't."""
@@ -98,11 +84,16 @@ def read_packet(datagram):
     if len(datagram) < 14 or datagram[4] != NO_AUTHENTICATION:
         return None
     sequence, identifier, length = struct.unpack_from("<IIB", datagram, 5)
-    message = datagram[14 : 14 + length]
+    read = request_in(datagram[14 : 14 + length], length)
+    return (identifier, sequence, read) if read else None
+
+
+def request_in(message, length):
+    """Returns the request that these bytes are, so many, or None."""
     if len(message) != length or length < 7 or frames.sum8(message[:3]) or frames.sum8(message[3:]):
         return None
     read = frames.message_in(message)
-    return (identifier, sequence, read) if read.to == frames.CONTROLLER and frames.is_request(read) else None
+    return read if read.to == frames.CONTROLLER and frames.is_request(read) else None
 
 
 def pong(datagram):
@@ -112,11 +103,11 @@ def pong(datagram):
     return RMCP + bytes([CLASS_ASF]) + struct.pack(">IBBBB", ASF, PONG, datagram[9], 0, 16) + struct.pack(">II", ASF, 0) + bytes([0x81, 0]) + bytes(6)
 
 
-class Lan:
-    """The sessions of one port."""
+class Lan(Sessions):
+    """The sessions of one port, without authentication."""
 
-    def __init__(self):
-        self.sessions = {}
+    def __init__(self, channel=None):
+        super().__init__(channel or Channel())
 
     def hear(self, datagram, now):
         """Returns the datagram that answers this one, an `Ask` for the controller, or None."""
@@ -131,7 +122,7 @@ class Lan:
     def hear_message(self, identifier, sequence, message, now):
         command = (message.net_fn, message.command)
         if command == (APP, CAPABILITIES) and identifier == 0:
-            return write_packet(answer(message, *capabilities(message.data)))
+            return write_packet(answer(message, *self.channel.capabilities(message.data)))
         if command == (APP, CHALLENGE) and identifier == 0:
             return write_packet(answer(message, *self.challenged(message.data, now)))
         session = self.sessions.get(identifier)
@@ -140,11 +131,8 @@ class Lan:
         if not session or session.state == WAITING or not session.is_near(sequence):
             return None
         session.heard_at = now
-        return self.hear_in(session, message)
-
-    def forget_silent(self, now):
-        """Ends the sessions of which nothing was heard for a minute."""
-        self.sessions = {it: session for it, session in self.sessions.items() if now - session.heard_at <= LONGEST_SILENCE}
+        heard = self.reply_or_ask(session, message)
+        return written(session, message, heard) if isinstance(heard, bytes) else heard
 
     def challenged(self, data, now):
         """Returns the code and the data that answer Get Session Challenge."""
@@ -152,9 +140,7 @@ class Lan:
             return frames.LENGTH, b""
         if data[0] != NO_AUTHENTICATION:
             return BAD_DATA, b""
-        others = [it for it, session in self.sessions.items() if session.state != OPEN]
-        if len(others) >= MOST_OTHERS:
-            del self.sessions[others[0]]
+        self.make_room()
         identifier = 0
         while identifier == 0 or identifier in self.sessions:
             identifier = secrets.randbelow(WRAP)
@@ -177,78 +163,21 @@ class Lan:
             return BAD_DATA, b""
         if session.state == CLOSED:
             return BAD_DATA, b""
-        if session.state == WAITING and sum(it.state == OPEN for it in self.sessions.values()) >= MOST_SESSIONS:
+        if session.state == WAITING and self.is_full():
             return NO_SLOT, b""
         session.activate(limit, outbound or 1)
         return frames.OK, struct.pack("<BIIB", kind, session.identifier, session.begin_inbound, session.limit)
 
-    def hear_in(self, session, message):
-        """Returns what a request within a session gets: what was kept, an answer of the session's own, or an `Ask`."""
-        asked = (message.net_fn, message.to_lun, message.command, message.data)
-        entry = session.window.find(message.number, asked)
-        if entry and entry.reply:
-            return write_packet(answer(message, entry.reply[0], entry.reply[1:]), session.identifier, session.next_outbound())
-        if session.state == CLOSED:
-            return None
-        entry = entry or session.window.keep(message.number, Entry(asked))
-        own = self.own_answer(session, message)
-        return self.told(Ask(session, entry, message), own) if own else Ask(session, entry, message)
-
-    def own_answer(self, session, message):
-        """Returns the code and the data where the request is answered here, in the controller's place; else None."""
-        command = (message.net_fn, message.command) if message.to_lun == 0 else None
-        if command == (APP, CAPABILITIES):
-            code, data = capabilities(message.data)
-        elif command == (APP, PRIVILEGE):
-            code, data = set_privilege(session, message.data)
-        elif command == (APP, CLOSE):
-            code, data = self.close(message.data)
-        elif len(message.data) > frames.MOST_ASKED:
-            code, data = frames.LENGTH, b""
-        else:
-            return None
-        return bytes([code]) + data
-
-    def close(self, data):
-        """Returns the answer to Close Session, which closes the session that it names."""
-        if len(data) != 4:
-            return frames.LENGTH, b""
-        named = self.sessions.get(struct.unpack("<I", data)[0])
-        if not named or named.state != OPEN:
-            return NO_SESSION, b""
-        named.state = CLOSED
-        return frames.OK, b""
-
     def told(self, ask, reply):
-        """Returns the datagram with the reply to what was asked: the completion code, and the data. A busy controller carried nothing out, so a
-        repeat is a new request then."""
-        ask.entry.reply = reply
-        if reply[0] == frames.BUSY and ask.session.window.find(ask.message.number, ask.entry.asked) is ask.entry:
-            ask.session.window.forget(ask.message.number)
-        return write_packet(answer(ask.message, reply[0], reply[1:]), ask.session.identifier, ask.session.next_outbound())
+        """Returns the datagram with the reply to what was asked: the completion code, and the data."""
+        return written(ask.session, ask.message, self.kept(ask, reply))
+
+
+def written(session, message, reply):
+    """Returns the datagram with a reply within a session."""
+    return write_packet(answer(message, reply[0], reply[1:]), session.identifier, session.next_outbound())
 
 
 def answer(message, code, data=b""):
     """Returns the bytes of the reply to a message over LAN."""
     return frames.write_ipmb(frames.reply_to(message, code, data))
-
-
-def capabilities(data):
-    """Returns the code and the data that answer Get Channel Authentication Capabilities."""
-    if len(data) != 2:
-        return frames.LENGTH, b""
-    channel = data[0] & 0x0F
-    return frames.OK, bytes([CHANNEL if channel == THIS_CHANNEL else channel, TAKES_NONE, STATUS, 0, 0, 0, 0, 0])
-
-
-def set_privilege(session, data):
-    """Returns the answer to Set Session Privilege Level; 0 asks for the present one."""
-    if len(data) != 1:
-        return frames.LENGTH, b""
-    level = data[0] & 0x0F
-    if level and not USER <= level <= ADMINISTRATOR:
-        return BAD_DATA, b""
-    if level > session.limit:
-        return ABOVE_LIMIT, b""
-    session.level = level or session.level
-    return frames.OK, bytes([session.level])

@@ -7,7 +7,12 @@ import sys
 
 # Where parts may be, beside what PATH has.
 SEARCHED = os.environ.get("PATH", os.defpath) + ":/usr/sbin:/sbin"
-PACKAGES = {"ipmitool": "ipmitool", "bmc-info": "freeipmi-tools", "pyipmi": "python3-pyipmi", "ipmi_sim": "openipmi", "tshark": "tshark"}
+PACKAGES = {
+    **{"ipmitool": "ipmitool", "bmc-info": "freeipmi-tools", "pyipmi": "python3-pyipmi", "pyghmi": "python3-pyghmi"},
+    **{"ipmi_sim": "openipmi", "openipmish": "openipmi", "tshark": "tshark"},
+}
+# What Python has to have, by its module.
+MODULES = ("pyipmi", "pyghmi")
 
 
 class Failure(Exception):
@@ -30,17 +35,17 @@ class Tests:
 
     def part(self, name):
         """Returns where a part is installed; one that isn't is told of."""
-        found = python_of_pyipmi() if name == "pyipmi" else shutil.which(name, path=SEARCHED)
+        found = python_with(name) if name in MODULES else shutil.which(name, path=SEARCHED)
         if not found:
             self.tell("skipped", f"{name} isn't installed; the package {PACKAGES[name]} has it")
         return found
 
 
-def python_of_pyipmi():
-    """Returns a Python that has pyipmi, or None."""
+def python_with(module):
+    """Returns a Python that has the module, or None."""
     for python in (sys.executable, "/usr/bin/python3"):
         with contextlib.suppress(OSError):
-            call = [python, "-c", "import pyipmi"]
+            call = [python, "-c", f"import {module}"]
             if subprocess.run(call, stdin=subprocess.DEVNULL, stderr=subprocess.DEVNULL, check=False).returncode == 0:
                 return python
     return None

@@ -6,7 +6,7 @@ import tempfile
 import time
 
 import program
-from lossy_link import LossyLink
+from lossy_link import LossyLink, Troubles
 
 from .parts import Failure
 from .programs import TOP, called, free_port, started
@@ -42,6 +42,8 @@ sensor_set_event_support 0x20 0 5 enable scanning per-state 000111111111111 0001
 mc_enable 0x20
 """
 PLAN = f"{TOP}/examples/six_kinds.toml"
+# What the link between the manager and the bridge does.
+HARSH = Troubles(lose=8, repeat=15, delay=15)
 # A step behind those that the simulator refuses over LAN, and where the plan halts then.
 REFUSED_STEP = '\n[[step]]\nkind = "global-enables"\nvalue = 0\n'
 HALTED = "Halted 6 Refused D4"
@@ -125,16 +127,15 @@ def test_simulator(tests, bmcnet, seeds, room):
         bridge = [f"{TOP}/clients/controller-bridge", "--plan", PLAN, "--forget", str(FORGET), "0", "--", *ask]
         with started(bridge, r"ipmb on [0-9.]+:([0-9]+)") as told:
             for seed in seeds:
-                test_over_link(tests, bmcnet, ask, plans, LossyLink(int(told[1]), seed), room)
+                test_over_link(tests, bmcnet, ask, plans, LossyLink(int(told[1]), seed, HARSH), room)
 
 
 def test_over_link(tests, bmcnet, ask, plans, link, room):
     """Runs and undoes these plans over a link."""
-    try:
+    with link:
         for plan, wanted in plans:
             test_plan(tests, bmcnet, ask, str(link.port), plan, wanted, room)
             # A run begins at number 0, so what is kept of the one before is to be forgotten.
             time.sleep(FORGET + 0.5)
-        tests.expect(all(link.counts.values()), f"the link was to lose, repeat and delay: {link.counts}")
-    finally:
-        link.close()
+        is_met = all(link.counts[name] for name in ("lose", "repeat", "delay"))
+        tests.expect(is_met, f"the link was to lose, repeat and delay: {link.counts}")

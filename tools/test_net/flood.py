@@ -72,7 +72,7 @@ class FloodProxy(Proxy):
         super().__init__(bus, server_port, "flood")
         self.flood = flood
 
-    def hand_on(self, to_server, datagram):
-        if to_server:
+    def hand_on(self, seen, to_server=None, data=None):
+        if seen.to_server:
             self.flood.come(self.bus)
-        super().hand_on(to_server, datagram)
+        super().hand_on(seen, to_server, data)
