@@ -68,10 +68,6 @@ module _ (names : Names) where
   goes_back [] m = refl
   goes_back (back ∷ rest) m = refl
 
-  picks : (call : Call) (made : List ℕ) (b : Bool) (A B : machine.Turn M) (m : Manager) (s t : Turn) → IsTurn call made (Some A) m s → IsTurn call made (Some B) m t → IsTurn call made (cond b (Some A) (Some B)) m (cond b s t)
-  picks call made true A B m s t x y = x
-  picks call made false A B m s t x y = y
-
   module _ (made : List ℕ) (m : Manager) where
     pub call_turn : (call : Call) (phase : Phase) → IsTurn call made (turn_at call (stage_of names phase) (machine_of names (at_phase phase m))) (at_phase phase m) (called call phase (at_phase phase m))
     call_turn Start Fresh = (begins (slice_get m.plan 0) (at_phase Fresh m), record { made_then = made; is = waits_same (next_step false 0 (slice_get m.plan 0)) })

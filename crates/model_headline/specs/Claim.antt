@@ -20,8 +20,6 @@ use Rattle.model_headline.specs.Frames.{Bus, Ipmb, Smbus, Packet, Value, Part, s
 use Rattle.model_headline.specs.Manager.{success, Op, Asked, Ipmi, Pldm, Answered, Names, Stop, Why, Stopped, GetRefused, SetRefused, NotRestorable, Gets, Sets, Undoes, Phase, Fresh, Open, Done, Halted, Undone, UndoRefused, own_on, by_manager, Series, Reads, sends, first_of, next_after, request_after, first_shown, joined, open_in}
 use Rattle.model_headline.specs.Lab.{PldmRequest, Controller, Heard, Carried, heard_in, pldm_heard, Way, ToPort, ToManager, Frame, Event, Calls, ToBmc, ToMgr, OtherIpmb, OtherSmbus, Noise, Idles, OnBench, Lab, port_on, idles_on, step, run, opening}
 
--- ---- what commands do to records
-
 module _ (setup : BoardFile) where
   -- the operation is accepted at these records, and leaves those: its own record is changed, and no other
   pub record SetsTo (op : Op) (old new : Records) : Type 0 where
@@ -57,8 +55,6 @@ module _ (setup : BoardFile) where
   abbrev pub ours : Controller
   ours = record { begins = opened setup; answer = answer_of setup; control = λ eid body. option_map (λ request. (eid_after eid request.command request.content, reply_to eid request)) (request_of body) }
 
-  -- ---- what a phase says of the records
-
   -- the records are those at the start with the first steps of the plan done, in order
   abbrev pub IsAfter : List Op → (start : Records) → (steps : ℕ) → Records → Type 0
   IsAfter plan start zero now = now ≡ start
@@ -88,19 +84,17 @@ module _ (setup : BoardFile) where
   ShowsSameParts controller first second = (handle transfer : ℕ) (one other : Asked) → asked_by one ≡ Ok (LaterPart handle transfer)
       → asked_by other ≡ Ok (LaterPart handle transfer) → (controller.answer second other).0 ≡ (controller.answer first one).0
 
--- ---- honest events
-
--- how many requests of the manager were begun on a bus: those that were answered, and the open one
+-- how many requests of the manager are open on a bus: one or none
 abbrev pub open_on : Bus → Option Asked → ℕ
 open_on Ipmb (Some (Ipmi from net_fn lun command body)) = 1
 open_on Smbus (Some (Pldm from kind command body)) = 1
 open_on on asked = 0
 
+-- how many requests of the manager were begun on a bus: those that were answered, and the open one
 abbrev pub begun : Names → Bus → Lab → ℕ
 begun names on lab = lab.manager.answered on + open_on on (open_in names lab.manager.phase)
 
--- The frame of this place was sent, and is delivered to the end for which it is meant. Fewer newer requests of the manager than the span
--- were begun on its bus, and the manager's window there wasn't forgotten since it was sent.
+-- The frame of this place was sent, to this end; fewer newer requests than the span were begun on its bus, and its window wasn't forgotten since.
 pub record IsDelivered (names : Names) (way : Way) (lab : Lab) (place : ℕ) : Type 0 where
   pub frame : Frame
   pub sent : slice_get lab.frames place ≡ Some frame
@@ -145,10 +139,7 @@ module _ (controller : Controller) (names : Names) where
   AllHonest [] lab = Unit {0}
   AllHonest (event ∷ events) lab = IsHonest lab event × AllHonest events (step controller names lab event)
 
--- ---- the claim
-
--- The requests of a series from this request on, if any is left, were answered in order up to the last, each with 00h and these data. The replies to
--- the requests before have the data `before`. `Given` says which answers were given.
+-- The requests of a series from this one on, if any is left, were each answered (`Given`) with 00h and these data, behind replies with `before`.
 abbrev pub AreGiven : (Given : Asked → Answered → Type 0) → Series → (before : List (List ℕ)) → Option Asked → (bodies : List (List ℕ)) → Type 0
 AreGiven Given series before None [] = Unit {0}
 AreGiven Given series before (Some asked) (body ∷ bodies) =
@@ -156,10 +147,11 @@ AreGiven Given series before (Some asked) (body ∷ bodies) =
 AreGiven Given series before asked bodies = ⊥
 
 module _ (setup : BoardFile) (controller : Controller) (names : Names) (plan : List Op) (retries : ℕ) where
-  -- the lab as it begins, and after events
+  -- the lab as it begins
   abbrev pub first : Lab
   first = opening controller names plan retries
 
+  -- the lab after events
   abbrev pub after : List Event → Lab
   after events = run controller names events first
 

@@ -29,8 +29,6 @@ abbrev pub span : Bus → ℕ
 span Ipmb = 32
 span Smbus = tags
 
--- ---- a message as packets
-
 -- to and from these two-wire addresses and these endpoints
 abbrev pub envelope : (to from to_eid from_eid : ℕ) → Bool → ℕ → Envelope
 envelope to from to_eid from_eid owner tag =

@@ -18,8 +18,6 @@ pub record Controller : Type 0 where
   pub answer : State → Asked → Answered × State
   pub control : (eid : ℕ) → List ℕ → Option (ℕ × List ℕ)
 
--- ---- the controller's ports: which requests they carry out, which repeat one, and what they send
-
 -- a request: who asks, the number, its bytes but addresses and checks, and what it asks of the board
 pub record Heard : Type 0 where
   pub requester : ℕ
@@ -81,6 +79,7 @@ turn_where None true on request controller log before = record { log = log; boar
 turn_where None false on request controller log before =
     let given = controller.answer before request.asked in record { log = Carried request given.0 ∷ log; board = given.1; answer = given.0 }
 
+-- what comes of a request on a bus: whether it repeats one, and whether its requester would be a ninth, is told by the log
 unfoldable pub turn : Bus → Heard → Controller → List Entry → State → Outcome
 turn on request controller log before = turn_where (repeated on request [] log) (is_ninth request.requester (requesters log)) on request controller log before
 
@@ -100,6 +99,7 @@ heard_in request =
     let asked = Ipmi request.header.requester.address request.header.net_fn request.header.responder.lun request.header.command request.body in
     record { requester = request.header.requester.address; number = request.header.sequence; bytes = request_bytes request; asked = asked }
 
+-- the port and the board after a request on IPMB, and the response that is sent
 abbrev pub hears_request : Controller → Port → State → Request → StepResult
 hears_request controller port before request =
     let outcome = turn Ipmb (heard_in request) controller port.log before in
@@ -119,6 +119,7 @@ hears_control port before asking (Some effect) =
 abbrev pub pldm_heard : ℕ → PldmRequest → Heard
 pldm_heard from request = record { requester = from; number = request.header.instance; bytes = 1 ∷ pldm_bytes request; asked = Pldm from request.header.pldm_type request.header.command request.body }
 
+-- the same after a PLDM message, which is nothing to the port where it is no request
 abbrev pub hears_pldm : Controller → Port → State → Envelope → Option PldmRequest → StepResult
 hears_pldm controller port before asking None = stays port before
 hears_pldm controller port before asking (Some request) =
@@ -154,8 +155,6 @@ hears controller port before (Asks request) = if request.header.responder.addres
 hears controller port before (Tells request) = stays port before
 hears controller port before (Part packet) = if packet.envelope.destination == port.wire then hears_packet controller port before packet else stays port before
 
--- ---- the lab
-
 -- to whom a frame goes
 pub data Way : Type 0 where
   ToPort ToManager ToOthers : Way
@@ -185,6 +184,7 @@ pub data Event : Type 0 where
   -- what isn't configuration becomes this
   OnBench : Activity → Event
 
+-- a lab at a moment: the controller's board and ports, the manager, and every frame that was sent
 pub record Lab : Type 0 where
   pub board : State
   pub ipmb : Port
@@ -194,10 +194,12 @@ pub record Lab : Type 0 where
   -- under each tag, the manager's request whose first packet came last to the port's endpoint
   pub opened : ℕ → ℕ
 
+-- the port of a bus
 abbrev pub port_on : Bus → Lab → Port
 port_on Ipmb lab = lab.ipmb
 port_on Smbus lab = lab.smbus
 
+-- a lab with another port on a bus
 abbrev pub with_port : Bus → Port → Lab → Lab
 with_port Ipmb port lab = record lab { ipmb = port }
 with_port Smbus port lab = record lab { smbus = port }
@@ -238,11 +240,12 @@ opens (Part packet) request lab =
 opens value request lab = lab
 
 module _ (controller : Controller) (names : Names) where
-  -- a frame comes to the port, or to the manager, if there is such a frame
+  -- a frame comes to the port, if there is such a frame
   abbrev pub delivered : Option Frame → Lab → Lab
   delivered None lab = lab
   delivered (Some frame) lab = port_does names frame.on ToManager frame.request (hears controller (port_on frame.on lab) lab.board frame.value) (opens frame.value frame.request lab)
 
+  -- a frame comes to the manager, if there is such a frame
   abbrev pub returned : Option Frame → Lab → Lab
   returned None lab = lab
   returned (Some frame) lab = goes_on names (manager_hears names frame.value lab.manager.phase lab.manager) lab

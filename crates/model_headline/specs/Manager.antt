@@ -39,6 +39,7 @@ pub data Phase : Type 0 where
   Halted : (steps : ℕ) (why : Why) → Phase
   UndoRefused : (steps code : ℕ) → Phase
 
+-- a manager: its plan, how far it is, and what it remembers
 pub record Manager : Type 0 where
   pub plan : List Op
   -- how often the frames of a request may be sent again, and how often those of the open one were, since it was opened or heeded again
@@ -54,8 +55,6 @@ pub record Manager : Type 0 where
   -- the packets that wait
   pub waits : List Packet
 
--- ---- requests
-
 -- by which the manager is known as a requester on a bus
 abbrev pub own_on : Bus → Names → ℕ
 own_on Ipmb names = names.own_address
@@ -70,12 +69,13 @@ bus_of (Pldm from kind command body) = Smbus
 abbrev pub by_manager : Names → Asked → Asked
 by_manager names asked = sent_by (own_on (bus_of asked) names) asked
 
--- the requests of a task, and the one after replies with these data
+-- the requests of a task
 abbrev pub series_of : Task → Series
 series_of (Gets step op) = Reads (key_of op)
 series_of (Sets step op back) = sends op
 series_of (Undoes back rest) = sends back
 
+-- the request of a task after replies with these data
 abbrev pub asked_for : Names → Task → (bodies : List (List ℕ)) → Asked
 asked_for names task bodies = by_manager names (request_after (series_of task) bodies)
 
@@ -92,8 +92,7 @@ frames_of names number (Pldm from kind command body) =
     map Part (packets_of (envelope names.peer_wire names.own_wire names.peer_eid names.own_eid true (number % tags))
     (1 ∷ request_bytes (record { header = record { instance = number % circle Smbus; pldm_type = kind; command = command }; body = body })))
 
--- ---- what becomes of the manager, and whether it sends the frames of its open request then
-
+-- what becomes of the manager, and whether it sends the frames of its open request then
 pub record Turn : Type 0 where
   pub manager : Manager
   pub sends : Bool
@@ -165,8 +164,6 @@ answered_by names task bodies (Some answered) manager =
     if answered.code == node_busy || answered.code == pldm_not_ready then rests manager
     else if answered.code == success then carried_out (next_after (series_of task) with_it) task with_it next
     else refused task answered.code next
-
--- ---- frames
 
 -- the answer that a response gives to the request of this number: it has the same netFn, number and command
 abbrev pub answer_in : ℕ → Asked → Response → Option Answered
