@@ -1,7 +1,7 @@
 use Rattle.std.proofs.Common.{sym, ◌∙◌, ap}
 use Rattle.lab_play.specs.Watched.{took_by}
 use Rattle.lab_run.proofs.Coming.{done_is}
-use Rattle.lab_play.proofs.Observer.{no_packet, a_packet}
+use Rattle.lab_play.proofs.Watches.{no_packet, a_packet}
 use Rattle.lab_play.proofs.watch.step_watched.Goals as goal
 
 pub returns-in_default-clause-watched : goal.returns-in_default-clause-watched
