@@ -20,7 +20,7 @@ use Rattle.lab_run.specs.Coming.{done_at}
 use Rattle.lab_play.specs.declared.watch.Watch.{Watch}
 use Rattle.lab_play.specs.Watched.{took_by, waits_long, opened_in, broken_at, WatchRepresents, TellsNext, WatchesStep}
 use Rattle.lab_play.proofs.Running.{after_more}
-use Rattle.lab_play.proofs.Observer.{no_packet, a_packet}
+use Rattle.lab_play.proofs.Watches.{no_packet, a_packet}
 use Rattle.lab_schedule.specs.declared.drawing.Drawing.{Drawing}
 use Rattle.lab_schedule.specs.declared.drawing.OfferResult.{OfferResult}
 use Rattle.lab_schedule.specs.Drawn.{IsDrawnSchedule, NotTaken, OffersEvent}
