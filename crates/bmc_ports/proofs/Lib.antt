@@ -5,6 +5,6 @@ pub mod Silent
 pub mod Slicing
 pub mod Rounds
 pub mod Timing
-pub mod Calls
+pub mod DriveCalls
 pub mod Turns
 pub mod Halves

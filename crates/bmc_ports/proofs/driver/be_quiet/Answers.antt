@@ -1,5 +1,5 @@
 use Rattle.std.proofs.Common.{Ok, Err}
-use Rattle.bmc_ports.proofs.Calls.{quiet_comes}
+use Rattle.bmc_ports.proofs.DriveCalls.{quiet_comes}
 use Rattle.bmc_ports.proofs.driver.be_quiet.Goals as goal
 
 pub returns-in-Ok : goal.returns-in-Ok
