@@ -6,6 +6,7 @@ mod charts;
 mod drawn;
 mod faults;
 mod frames;
+mod greeting;
 mod host_files;
 mod lines;
 mod long_texts;
