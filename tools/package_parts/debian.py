@@ -107,5 +107,5 @@ def archive(roots, out, version, epoch):
             else:
                 tar.addfile(member)
     with open(path, "wb") as file:
-        file.write(gzip.compress(plain.getvalue(), 9, mtime=0))
+        file.write(gzip.compress(plain.getvalue(), 6, mtime=0))
     return path
