@@ -79,7 +79,7 @@ def build(package, root, out, version, epoch, needed):
     settle(root, epoch)
     path = f"{out}/{package}_{version}_{architecture}.deb"
     os.environ["SOURCE_DATE_EPOCH"] = str(epoch)
-    said(["dpkg-deb", "--root-owner-group", "--threads-max=1", "-Zxz", "--build", root, os.path.abspath(path)])
+    said(["dpkg-deb", "--root-owner-group", "--threads-max=1", "-Zxz", "-z2", "--build", root, os.path.abspath(path)])
     return path
 
 
