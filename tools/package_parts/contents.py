@@ -15,7 +15,10 @@ PROGRAMS = ("bmclab", "bmcnet")
 TRIALS = {"bmclab": ["frame", "2018C82C0001D3"], "bmcnet": ["pair", "sample.toml", "examples/reply_lost/plan.toml", "20"]}
 # The clients' folder, and what a client is called among all programs of a machine.
 CLIENTS = "usr/share/hozterqui-clients"
-NAMES = {"lan-bridge": "lan-bridge", "controller-bridge": "controller-bridge", "capture": "hozterqui-capture", "chart-svg": "hozterqui-chart-svg"}
+NAMES = {
+    **{name: name for name in ("lan-bridge", "controller-bridge", "lossy-link")},
+    **{name: f"hozterqui-{name}" for name in ("new-board", "capture", "chart-svg")},
+}
 UNITS = {"bmcnet-serve@.service": "hozterqui", "lan-bridge@.service": "hozterqui-clients"}
 MAINTAINER = "Hozterqui maintainers <maintainers@users.noreply.hozterqui.example>"
 
@@ -86,10 +89,10 @@ def client_text(name):
 
 
 def put_clients(root):
-    for name in sorted(os.listdir(f"{TOP}/clients")):
-        # A link that loses frames is for tests.
-        if os.path.isfile(f"{TOP}/clients/{name}") and name not in ("lossy_link.py", "README.md"):
-            write(f"{root}/{CLIENTS}/{name}", client_text(name), 0o755 if name in NAMES else 0o644)
+    for folder in ("", "python/"):
+        for name in sorted(os.listdir(f"{TOP}/clients/{folder}")):
+            if name in NAMES or name.endswith(".py"):
+                write(f"{root}/{CLIENTS}/{folder}{name}", client_text(f"{folder}{name}"), 0o755 if name in NAMES else 0o644)
     os.makedirs(f"{root}/usr/bin")
     for name, named in NAMES.items():
         os.symlink(f"../share/{os.path.basename(CLIENTS)}/{name}", f"{root}/usr/bin/{named}")

@@ -24,12 +24,14 @@ PACKAGES = {
     ),
     "hozterqui-clients": (
         "all",
-        ["Depends: python3 (>= 3.9)", "Suggests: hozterqui (= {version}), ipmitool"],
+        ["Depends: python3 (>= 3.9), python3-pyghmi", "Suggests: hozterqui (= {version}), ipmitool"],
         "bridges between hozterqui and IPMI over LAN",
         """lan-bridge lets clients of IPMI over LAN, as ipmitool, reach the controller
  that bmcnet serves. controller-bridge lets bmcnet run a plan on another
- maker's controller, through a command as ipmitool. Two more tools write
- captures for Wireshark, and draw a play as a picture.""",
+ maker's controller, through a command as ipmitool. lossy-link fails by a
+ seed between two ports. More tools make a board of a short list, write
+ captures for Wireshark, and draw a play as a picture; served_board.py serves
+ a board in a test of Python.""",
     ),
 }
 

@@ -15,7 +15,20 @@ DOCS = "/usr/share/doc/hozterqui"
 # How far code is set in, and how many columns it has behind that.
 INDENT, COLUMNS = 4, 76
 MARKDOWN = "markdown-smart-citations-tex_math_dollars-raw_tex-raw_html-subscript-superscript-strikeout-implicit_figures"
-# Name and section of a manual page; the package; the program whose help it shows; the page; and the parts of the page, or all but some.
+# What tests show of clients, which the page has.
+TRIED = [
+    "ipmitool over lanplus",
+    "FreeIPMI over LAN_2_0",
+    "pyghmi",
+    "ipmitool on a board that looks like a server",
+    "The same commands here and on `ipmi_sim`",
+    "ipmitool on the sample board",
+    "ipmitool on a board whose sensors are listed",
+    "FreeIPMI",
+    "pyipmi",
+]
+# Name and section of a manual page; the package; the program whose help it shows; the page; the parts of the page, or all; and those left out, of
+# whatever depth.
 MANUALS = {
     "bmclab.1": ("hozterqui", "bmclab", "BMCLAB.md", None, ["The script `./bmclab`"]),
     "bmcnet.1": ("hozterqui", "bmcnet", "BMCNET.md", None, ["The script `./bmcnet`", "The undo text"]),
@@ -24,8 +37,10 @@ MANUALS = {
     "hozterqui-plan.5": ("hozterqui", None, "PLAN_FILES.md", None, []),
     "hozterqui-undo.5": ("hozterqui", None, "BMCNET.md", ["The undo text", "The list so far"], []),
     "hozterqui-schedule.5": ("hozterqui", None, "SCHEDULES.md", None, []),
-    "lan-bridge.1": ("hozterqui-clients", "lan-bridge", "CLIENTS.md", ["Clients reach the controller"], []),
+    "lan-bridge.1": ("hozterqui-clients", "lan-bridge", "CLIENTS.md", ["Clients reach the controller"], TRIED),
     "controller-bridge.1": ("hozterqui-clients", "controller-bridge", "CLIENTS.md", ["A plan on somebody else's controller"], []),
+    "lossy-link.1": ("hozterqui-clients", "lossy-link", "CLIENTS.md", ["A bus that fails on request"], []),
+    "hozterqui-new-board.1": ("hozterqui-clients", "hozterqui-new-board", "CLIENTS.md", ["Boards that look like servers"], []),
     "hozterqui-capture.1": ("hozterqui-clients", "hozterqui-capture", "CLIENTS.md", ["Captures"], []),
     "hozterqui-chart-svg.1": ("hozterqui-clients", "hozterqui-chart-svg", None, None, []),
 }
@@ -48,6 +63,16 @@ def parts_of(text):
         elif not (line.startswith("# ") and not is_fenced):
             lines.append(line)
     yield title, lines
+
+
+def without_parts(lines, left):
+    """Returns the lines of a part without those of its own parts that have these headings."""
+    made, is_left = [], False
+    for line in lines:
+        if line.startswith("### "):
+            is_left = line[4:] in left
+        made += [] if is_left else [line]
+    return made
 
 
 def cells_of(line):
@@ -110,8 +135,8 @@ def where(name):
 def for_calls(text):
     """Returns text with calls as they are where the package is installed."""
     text = re.sub(r"(?<!\w)\./(bmclab|bmcnet)\b", r"\1", text)
-    text = re.sub(r"\bclients/(lan-bridge|controller-bridge)\b", r"\1", text)
-    return re.sub(r"\bclients/(capture|chart-svg)\b", r"hozterqui-\1", text)
+    text = re.sub(r"\bclients/(lan-bridge|controller-bridge|lossy-link)\b", r"\1", text)
+    return re.sub(r"\bclients/(capture|chart-svg|new-board)\b", r"hozterqui-\1", text)
 
 
 def for_package(text):
@@ -126,9 +151,10 @@ def for_package(text):
 def body_of(top, page, taken, left):
     """Returns the parts of a page that a manual has, under heads of a manual."""
     with open(f"{top}/docs/{page}", encoding="utf-8") as file:
-        parts = list(parts_of(file.read()))
-    found = [(title, lines) for title, lines in parts if (title in taken if taken else title not in left)]
-    if len(found) != (len(taken) if taken else len(parts) - len(left)):
+        text = file.read()
+    parts = list(parts_of(text))
+    found = [(title, without_parts(lines, left)) for title, lines in parts if title in (taken or {title}) and title not in left]
+    if not {*(taken or ()), *left} <= set(re.findall(r"(?m)^###? (.*)", text)):
         raise SystemExit(f"docs/{page} lacks a part that a manual page names")
     made = []
     for title, lines in found:
