@@ -5,6 +5,7 @@ import re
 import shutil
 import subprocess
 import sys
+import textwrap
 import time
 
 from package_parts import completions, manuals
@@ -76,7 +77,8 @@ def changelog_of(package):
     """Returns the changes as Debian's policy has them."""
     made = []
     for version, date, text in versions():
-        lines = "\n".join(f"  {line}" for line in re.sub(r"(?m)^- ", "* ", text.strip()).splitlines())
+        items = [" ".join(item.split()) for item in re.split(r"(?m)^- ", text.strip())[1:]]
+        lines = "\n".join(textwrap.fill(item, 78, initial_indent="  * ", subsequent_indent="    ", break_on_hyphens=False) for item in items)
         day = time.strftime("%a, %d %b %Y 00:00:00 +0000", time.strptime(date, "%Y-%m-%d"))
         made.append(f"{package} ({version}) unstable; urgency=medium\n\n{lines}\n\n -- {MAINTAINER}  {day}\n")
     return "\n".join(made)
