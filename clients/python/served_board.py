@@ -16,8 +16,11 @@ import sys
 import tempfile
 import time
 
-TOP = os.path.dirname(os.path.dirname(os.path.dirname(os.path.realpath(__file__))))
-sys.path.insert(1, f"{TOP}/clients")
+CLIENTS = os.path.dirname(os.path.dirname(os.path.realpath(__file__)))
+TOP = os.path.dirname(CLIENTS)
+# The script of a checkout, or else the program that is installed.
+BMCNET = f"{TOP}/bmcnet" if os.path.exists(f"{TOP}/bmcnet") else "bmcnet"
+sys.path.insert(1, CLIENTS)
 import frames
 from lossy_link import LossyLink, Troubles
 from lossy_log import Log
@@ -58,7 +61,7 @@ def board(path, *, loss=0, repeat=0, delay=0, damage=0, seed=0, log=None, lan=Fa
     `log` is a file that says what the links did, as a schedule. `options` are those of `bmcnet serve`. Raises `NotServed`."""
     troubles = Troubles(lose=loss, repeat=repeat, delay=delay, damage=damage)
     with contextlib.ExitStack() as stack:
-        served = stack.enter_context(started([f"{TOP}/bmcnet", "serve", *options, os.path.abspath(path), "0", "0", str(TURNS)], SERVED))
+        served = stack.enter_context(started([BMCNET, "serve", *options, os.path.abspath(path), "0", "0", str(TURNS)], SERVED))
         ports = [int(port) for port in served.groups()]
         wait_for_answer(ports[0])
         links = []
@@ -68,7 +71,7 @@ def board(path, *, loss=0, repeat=0, delay=0, damage=0, seed=0, log=None, lan=Fa
         lan_port = None
         if lan or users:
             words = stack.enter_context(authentication(users))
-            told = stack.enter_context(started([f"{TOP}/clients/lan-bridge", *words, "--port", "0", str(ports[0])], BRIDGED))
+            told = stack.enter_context(started([f"{CLIENTS}/lan-bridge", *words, "--port", "0", str(ports[0])], BRIDGED))
             lan_port = int(told[1])
         yield Board(*ports, lan_port, links)
 
