@@ -26,3 +26,4 @@ pub mod Schedules
 pub mod Windows
 pub mod WindowSteps
 pub mod Greeting
+pub mod GreetingTags

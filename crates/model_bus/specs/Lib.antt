@@ -26,3 +26,5 @@ pub mod Circle
 pub mod Premise
 pub mod Greeting
 pub mod GreetingPackets
+pub mod GreetingTags
+pub mod GreetingExample

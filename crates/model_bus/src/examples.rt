@@ -5,6 +5,7 @@ ghost use Rattle.model_bus.specs.Example.{EndsAnswered, ShowsRepeats, ipmb_examp
 ghost use Rattle.model_bus.specs.Premise.{Counts, InUseAtStart, too_old, forgotten_while_open, older_than_idle, in_the_managers_name, resumed_while_open};
 ghost use Rattle.model_bus.specs.Greeting.{OneIsNotEnough, BothAreEnough, HalfIsEnough};
 ghost use Rattle.model_bus.specs.GreetingPackets.{EachTagIsNeeded, SinglesClear};
+ghost use Rattle.model_bus.specs.GreetingExample.{ConstantsAreNotEnough, CountedIsEnough, LateCopiesForget};
 ghost use Rattle.model_bus.specs.PacketExample.{PacketsEndAnswered, PacketsShowRepeats, CarriesWhatNobodySent, example_bus, packet_example, stale_assembly};
 
 /// On IPMB, with sequence numbers from 60 on: a busy answer, an idle, a lost frame, a delayed reply, a second manager in the
@@ -52,4 +53,11 @@ pub fn greetings_are_two()
     ensures half { HalfIsEnough }
     ensures tags { EachTagIsNeeded }
     ensures clear { SinglesClear }
+{}
+
+/// Why the numbers of a greeting count from the manager's next request, and why no late copies of both greetings may come.
+pub fn greetings_count_from_the_next()
+    ensures constants { ConstantsAreNotEnough }
+    ensures counted { CountedIsEnough }
+    ensures late { LateCopiesForget }
 {}

@@ -5,6 +5,7 @@ ghost use Rattle.model_bus.specs.Request.{Entry};
 ghost use Rattle.model_bus.specs.Numbering.{ipmb, smbus, is_above};
 ghost use Rattle.model_bus.specs.Repeat.{RuleIsSentence, RequestersOf, EightSuffice};
 ghost use Rattle.model_bus.specs.Greeting.{GreetingForgets};
+ghost use Rattle.model_bus.specs.GreetingTags.{GreetingClears};
 ghost use Rattle.model_bus.specs.Window.{RowsAreTheRule, WindowsApart};
 ghost use Rattle.model_bus.specs.Schedule.{NoneOpenIsHonest, TestTells};
 ghost use Rattle.model_bus.specs.AtMostOnce.{AlwaysAtMostOnce};
@@ -158,4 +159,10 @@ pub fn greeting_is_a_fresh_start()
         → GreetingForgets sequence_numbers (ipmb manager controller first) }
     ensures smbus { (manager controller first : ℕ)
         → GreetingForgets instances (smbus manager controller first) }
+{}
+
+/// A manager that greets in packets, with one request under each of the eight tags, clears what waits at the port under its requests' names,
+/// whatever a run before it left there.
+pub fn greeting_clears_what_waits()
+    ensures { GreetingClears }
 {}
