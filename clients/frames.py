@@ -21,6 +21,10 @@ UNIT = 64
 NUMBERS = 64
 FORGOTTEN = 32
 
+# The data of a greeting's requests on IPMB, and their numbers where the requests behind them count from 0 (crates/undo_greeting).
+GREETING = b"HELO"
+GREETING_NUMBERS = (31, 63)
+
 # Completion codes of IPMI.
 OK = 0x00
 BUSY = 0xC0

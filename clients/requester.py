@@ -1,5 +1,4 @@
 """One requester on IPMB over UDP: its requests are numbered, and each is carried out once, however often it is sent."""
-import secrets
 import select
 import sys
 import time
@@ -22,6 +21,7 @@ class Requester:
         self.begun = 0
         self.open = {}
         self.is_heard = False
+        self.is_busy = False
 
     def send(self, frame):
         """Sends a frame; one that nobody takes is lost."""
@@ -72,23 +72,28 @@ class Requester:
         return None
 
     def is_answered(self, asked):
-        """Sends a request until its reply comes, a few times."""
+        """Sends a request until its reply comes, a few times. A reply that says that the controller is busy is none."""
         count = self.begin(asked)
+        frame = self.open[count]
         for _ in range(TRIES):
             until = time.monotonic() + WAIT
             while select.select([self.link], [], [], max(0, until - time.monotonic()))[0]:
-                if self.hear():
-                    return True
+                heard = self.hear()
+                if heard:
+                    self.is_busy = heard[1][:1] == bytes([frames.BUSY])
+                    if not self.is_busy:
+                        return True
+                self.open[count] = frame
                 time.sleep(0.01)
-            self.send(self.open[count])
+            self.send(frame)
         return False
 
-    def forget_former(self):
-        """Has the controller forget what it kept of a former requester at this address: two requests that nobody sent before, half the numbers apart.
+    def greet(self):
+        """Has the controller forget what it kept of a former requester at this address: the greeting of `bmcnet`, two requests half the numbers
+        apart, each sent until it is answered. Both have data that Get Device ID hasn't, so each is refused and changes nothing.
 
-        Their sixteen random bytes are data that Get Device ID hasn't, so each is refused and changes nothing."""
-        for _ in range(2):
-            if not self.is_answered((0x06, 0, 0x01, secrets.token_bytes(16))):
+        From then on the numbers count from 0."""
+        for self.begun in frames.GREETING_NUMBERS:
+            if not self.is_answered((0x06, 0, 0x01, frames.GREETING)):
                 return False
-            self.begun += frames.FORGOTTEN - 1
         return True
