@@ -24,7 +24,7 @@ PACKAGES = {
     ),
     "hozterqui-clients": (
         "all",
-        ["Depends: python3 (>= 3.9), python3-pyghmi", "Suggests: hozterqui (= {version}), ipmitool"],
+        ["Depends: python3 (>= 3.11), python3-pyghmi", "Suggests: hozterqui (= {version}), ipmitool"],
         "bridges between hozterqui and IPMI over LAN",
         """lan-bridge lets clients of IPMI over LAN, as ipmitool, reach the controller
  that bmcnet serves. controller-bridge lets bmcnet run a plan on another
