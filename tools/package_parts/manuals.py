@@ -15,18 +15,6 @@ DOCS = "/usr/share/doc/hozterqui"
 # How far code is set in, and how many columns it has behind that.
 INDENT, COLUMNS = 4, 76
 MARKDOWN = "markdown-smart-citations-tex_math_dollars-raw_tex-raw_html-subscript-superscript-strikeout-implicit_figures"
-# What tests show of clients, which the page has.
-TRIED = [
-    "ipmitool over lanplus",
-    "FreeIPMI over LAN_2_0",
-    "pyghmi",
-    "ipmitool on a board that looks like a server",
-    "The same commands here and on `ipmi_sim`",
-    "ipmitool on the sample board",
-    "ipmitool on a board whose sensors are listed",
-    "FreeIPMI",
-    "pyipmi",
-]
 # Name and section of a manual page; the package; the program whose help it shows; the page; the parts of the page, or all; and those left out, of
 # whatever depth.
 MANUALS = {
@@ -37,7 +25,7 @@ MANUALS = {
     "hozterqui-plan.5": ("hozterqui", None, "PLAN_FILES.md", None, []),
     "hozterqui-undo.5": ("hozterqui", None, "BMCNET.md", ["The undo text", "The list so far"], []),
     "hozterqui-schedule.5": ("hozterqui", None, "SCHEDULES.md", None, []),
-    "lan-bridge.1": ("hozterqui-clients", "lan-bridge", "CLIENTS.md", ["Clients reach the controller"], TRIED),
+    "lan-bridge.1": ("hozterqui-clients", "lan-bridge", "CLIENTS.md", ["Clients reach the controller"], []),
     "controller-bridge.1": ("hozterqui-clients", "controller-bridge", "CLIENTS.md", ["A plan on somebody else's controller"], []),
     "lossy-link.1": ("hozterqui-clients", "lossy-link", "CLIENTS.md", ["A bus that fails on request"], []),
     "hozterqui-new-board.1": ("hozterqui-clients", "hozterqui-new-board", "CLIENTS.md", ["Boards that look like servers"], []),

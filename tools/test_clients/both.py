@@ -1,4 +1,4 @@
-"""The same commands of ipmitool on a served board and on OpenIPMI's simulator: docs/CLIENTS.md says which answer."""
+"""The same commands of ipmitool on a served board and on OpenIPMI's simulator: examples/clients.md says which answer."""
 import shlex
 
 from .clients import authenticated, bridged, lanplus_words

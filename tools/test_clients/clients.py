@@ -21,7 +21,7 @@ LONGEST_LOSSY = 60
 RESERVE = ["raw", "0x0a", "0x42"]
 # The words of a bridge of IPMI 1.5.
 PLAIN = ["--unauthenticated"]
-# What docs/CLIENTS.md has for the users and the GUID of a bridge of IPMI 2.0.
+# What examples/clients.md has for the users and the GUID of a bridge of IPMI 2.0.
 USERS = "admin secret\noperator opsecret operator\nguest visitor user\n"
 GUID = "3f2b8c1e-5d4a-4e6f-9a7b-0c1d2e3f4a5b"
 # How OpenIPMI prints that: the bytes as they come, the node first.

@@ -1,14 +1,20 @@
-"""What docs/CLIENTS.md shows: tables of commands, and calls with what they print; and what README.md shows ipmitool to print."""
+"""What pages show: tables of commands and calls with what they print, of examples/clients.md and docs/CLIENTS.md; and README.md's of ipmitool."""
 import re
 import shlex
 
 from .programs import TOP
 
 
+PAGES = ("examples/clients.md", "docs/CLIENTS.md")
+
+
 def below(heading):
-    """Returns the text below a heading, up to the next one."""
-    with open(f"{TOP}/docs/CLIENTS.md", encoding="utf-8") as file:
-        return file.read().split(f"### {heading}\n")[1].split("\n#")[0]
+    """Returns the text below a heading of the pages, up to the next one."""
+    texts = []
+    for page in PAGES:
+        with open(f"{TOP}/{page}", encoding="utf-8") as file:
+            texts.append(file.read())
+    return "\n".join(texts).split(f"### {heading}\n")[1].split("\n#")[0]
 
 
 def rows_of(heading):
