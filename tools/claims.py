@@ -3,7 +3,7 @@
 A claim's cell is one sentence. A sentence ends at a full stop, a question mark or an exclamation mark with a blank or the cell's end behind it, and a
 semicolon is an end, too; what stands in backquotes or brackets has none. It begins with no word that leans on the line above (LEANING). The cell of a
 contract isn't empty. Of what stands in backquotes there each name is one of the tree: a path that begins with a crate has its other parts in that
-crate, `Type::function` has the function in a file with an `impl` of that type or in the trait itself, a file is there, and any other name is a
+crate, `Type::function` has the function, or the variant, in a file with that type or an `impl` of it, a file is there, and any other name is a
 function, a type, a clause or a word of `specs/`.
 """
 import os
@@ -72,7 +72,7 @@ class Names:
         found |= {it for names in re.findall(r"(?m)^(?:ghost |pub )*use [\w.]+\{([^}]*)\}", text) for it in re.findall(r"\w+", names)}
         self.of_crate[crate] |= found | {stem}
         if ending == ".rt":
-            for head in re.findall(r"\b(?:impl|trait)\b[^{;]*", text):
+            for head in re.findall(r"\b(?:impl|trait|enum|struct)\b[^{;]*", text):
                 for kind in re.findall(r"\b[A-Z]\w*", head):
                     self.of_type.setdefault(kind, set()).update(found)
 
