@@ -4,7 +4,7 @@
         ask(b.ipmb_port)
 
 The board is served by `bmcnet` of the tree that this file stands in, on ports of 127.0.0.1 that are free, and has ended behind the `with`.
-docs/CLIENTS.md ("A board in a test") has an example. The first call of a tree compiles the program, in a minute or two.
+examples/test_thresholds.py is an example. The first call of a tree compiles the program, in a minute or two.
 """
 import contextlib
 import os

@@ -1,7 +1,4 @@
-"""The helper for tests of others, clients/python/served_board.py: what docs/CLIENTS.md shows of it, and what it refuses."""
-import re
-
-from .page import below
+"""The helper for tests of others, clients/python/served_board.py: its example, and what it refuses."""
 from .programs import TOP, called
 
 LONGEST = 120
@@ -32,10 +29,11 @@ def run(python, script, room):
 
 
 def test_served(tests, room):
-    """Runs the example of the page, by a Python that has pyipmi."""
+    """Runs the example of a test, by a Python that has pyipmi."""
     python, pyghmi = tests.part("pyipmi"), tests.part("pyghmi")
     if python:
-        script = re.search(r"```python\n(.*?)```", below("A board in a test"), re.S)[1]
+        with open(f"{TOP}/examples/test_thresholds.py", encoding="utf-8") as file:
+            script = file.read()
         status, text = run(python, script + CALLS, room)
         tests.expect((status, text.strip()) == (0, "passed test_thresholds_over_a_lossy_bus"), f"the example ends with {status}: {text}")
         status, text = run(python, REFUSED, room)
