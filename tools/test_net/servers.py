@@ -13,10 +13,12 @@ import frames
 HOST = "127.0.0.1"
 # How long a call, the start of a server and its end may take, in seconds.
 CALL = 120
-START = 20
+START = 60
 END = 60
 # How long one quiet turn of the program lasts.
 QUIET = 0.2
+# Get Endpoint ID, from an address and an endpoint of its own: a port answers it by itself, so the board isn't asked and no requester gets a window.
+IS_THERE = frames.split(b"\x00\x80\x02", frames.CONTROLLER, 0x44, frames.CONTROLLER_EID, 0x0D, 1, 0)[0]
 
 
 class Failed(Exception):
@@ -83,7 +85,21 @@ class Server:
             self.stop()
             raise Failed(f"serve isn't there, status {self.process.returncode}: {self.line + self.process.stderr.read()!r}")
         self.ports = int(told[1]), int(told[2])
+        self.wait_until_served()
         return self
+
+    def wait_until_served(self):
+        """Waits until a worker hears: between the line of the ports and that lies the opening of the board, which takes its time on a busy machine."""
+        until = time.monotonic() + END
+        with socket.socket(socket.AF_INET, socket.SOCK_DGRAM) as probe:
+            probe.settimeout(1)
+            while self.process.poll() is None and time.monotonic() < until:
+                probe.sendto(IS_THERE, (HOST, self.ports[1]))
+                try:
+                    probe.recv(2048)
+                    return
+                except (TimeoutError, ConnectionRefusedError):
+                    continue
 
     def first_line(self):
         """Returns the first line on standard error, or what there is of it once that ends or has stayed quiet for too long. Nothing behind it is read."""
