@@ -6,7 +6,7 @@ use Rattle.undo_greeting.specs.declared.greeting.Greeting.{Greeting}
 use Rattle.undo_greeting.specs.declared.greeting.Stage.{Stage}
 use Rattle.undo_greeting.specs.declared.greeting.Stage.TheVariants.{AtStart, Opened, Answered}
 use Rattle.undo_greeting.specs.declared.greeting.WrongPhase.{WrongPhase}
-use Rattle.undo_greeting.specs.Requests.{IsGreetingFrame, IsAnswer}
+use Rattle.undo_greeting.specs.Requests.{IsGreetingFrame, IsAnswer, SaysBusy}
 
 -- the first place of the greeting's requests above this one
 abbrev pub place_after : Bus → ℕ → Option ℕ
@@ -74,7 +74,13 @@ pub record IsHeard (greeting : Greeting) (bus : Bus) (bytes : List ℕ) (place :
   pub same_bus : greeting.bus ≡ bus
   pub answers : IsAnswer greeting.names bus (count_at greeting place) bytes
 
--- they answer none
+-- the bytes, which came on this bus, say of the open request that the controller is busy, and that is heeded
+pub record IsToldBusy (greeting : Greeting) (bus : Bus) (bytes : List ℕ) (place : ℕ) : Type 0 where
+  pub heeded : greeting.stage ≡ Opened true place
+  pub same_bus : greeting.bus ≡ bus
+  pub says : SaysBusy greeting.names bus (count_at greeting place) bytes
+
+-- the bytes answer none
 abbrev pub IsIgnored : Greeting → Bus → List ℕ → Type 0
 IsIgnored greeting bus bytes = (place : ℕ) → IsHeard greeting bus bytes place → ⊥
 
@@ -83,6 +89,11 @@ IsIgnored greeting bus bytes = (place : ℕ) → IsHeard greeting bus bytes plac
 abbrev pub is_open : Stage → Bool
 is_open (Opened heeded place) = true
 is_open _ = false
+
+-- a request is open, and heeded
+abbrev pub is_heeded : Stage → Bool
+is_heeded (Opened true place) = true
+is_heeded _ = false
 
 abbrev pub is_over : Stage → Bool
 is_over Answered = true

@@ -84,37 +84,50 @@ is_part names count packet =
     (packet.envelope.destination == names.own_wire && packet.envelope.source == names.peer_wire)
     && (packet.envelope.source_eid == names.peer_eid && (not packet.envelope.tag_owner && packet.envelope.tag == count % tags))
 
--- The response answers the request of this count: it goes from the controller to the manager, has the request's number, network function
--- and command, and no code of a busy controller.
-abbrev pub is_answered_by : Names → ℕ → Response → Bool
-is_answered_by names count response =
+-- of a code: that it says that the controller is busy, or that it doesn't
+abbrev pub is_code : (busy : Bool) → ℕ → Bool
+is_code true code = is_busy_code code
+is_code false code = not (is_busy_code code)
+
+-- The response is the reply to the request of this count: it goes from the controller to the manager, and has the request's number, network
+-- function and command, and such a code.
+abbrev pub is_told_by : (busy : Bool) → Names → ℕ → Response → Bool
+is_told_by busy names count response =
     is_from_controller names response
-    && ((response.header.net_fn == application && response.header.sequence == count % sequence_numbers) && (response.header.command == get_device_id && not (is_busy_code response.code)))
+    && ((response.header.net_fn == application && response.header.sequence == count % sequence_numbers) && (response.header.command == get_device_id && is_code busy response.code))
 
--- the reply has the number, the type and the command of the request of this count, and no code of a busy controller
-abbrev pub replies_to : ℕ → PldmReply → Bool
-replies_to count reply =
-    (reply.header.instance == count % instances && reply.header.pldm_type == messaging_control) && (reply.header.command == get_tid && not (is_busy_code reply.code))
+-- the reply has the number, the type and the command of the request of this count, and such a code
+abbrev pub replies_to : (busy : Bool) → ℕ → PldmReply → Bool
+replies_to busy count reply =
+    (reply.header.instance == count % instances && reply.header.pldm_type == messaging_control) && (reply.header.command == get_tid && is_code busy reply.code)
 
-abbrev pub replies_in : ℕ → Option PldmReply → Bool
-replies_in count None = false
-replies_in count (Some reply) = replies_to count reply
+abbrev pub replies_in : (busy : Bool) → ℕ → Option PldmReply → Bool
+replies_in busy count None = false
+replies_in busy count (Some reply) = replies_to busy count reply
 
 -- the message is such a reply
-abbrev pub is_reply : ℕ → List ℕ → Bool
-is_reply count [] = false
-is_reply count (kind ∷ bytes) = kind == pldm_message_type && replies_in count (reply_in bytes)
+abbrev pub is_reply : (busy : Bool) → ℕ → List ℕ → Bool
+is_reply busy count [] = false
+is_reply busy count (kind ∷ bytes) = kind == pldm_message_type && replies_in busy count (reply_in bytes)
 
 -- the packet is a whole message
 abbrev pub is_single : Packet → Bool
 is_single packet = (packet.start && packet.end) && packet.sequence == 0
 
--- The packet answers the request of this count: it goes from the controller to the manager's endpoint, under the request's tag, and is a
--- whole message, which is such a reply.
-abbrev pub is_answered_in : Names → ℕ → Packet → Bool
-is_answered_in names count packet = (is_part names count packet && is_ours names.own_eid packet) && (is_single packet && is_reply count packet.payload)
+-- The packet is the reply to the request of this count: it goes from the controller to the manager's endpoint, under the request's tag, and
+-- is a whole message, which is such a reply.
+abbrev pub is_told_in : (busy : Bool) → Names → ℕ → Packet → Bool
+is_told_in busy names count packet = (is_part names count packet && is_ours names.own_eid packet) && (is_single packet && is_reply busy count packet.payload)
 
--- the bytes answer the greeting's request of this count on the bus
+-- the bytes are the reply to the greeting's request of this count on the bus, with such a code
+abbrev pub IsReplyTo : (busy : Bool) → Names → Bus → (count : ℕ) → List ℕ → Type 0
+IsReplyTo busy names Ipmb count bytes = (response : Response) × IsResponse response bytes × IsTrue (is_told_by busy names count response)
+IsReplyTo busy names Smbus count bytes = (packet : Packet) × IsPacket packet bytes × IsTrue (is_told_in busy names count packet)
+
+-- they answer it: the reply has any other code than those of a busy controller
 abbrev pub IsAnswer : Names → Bus → (count : ℕ) → List ℕ → Type 0
-IsAnswer names Ipmb count bytes = (response : Response) × IsResponse response bytes × IsTrue (is_answered_by names count response)
-IsAnswer names Smbus count bytes = (packet : Packet) × IsPacket packet bytes × IsTrue (is_answered_in names count packet)
+IsAnswer names on count bytes = IsReplyTo false names on count bytes
+
+-- they say that the controller is busy
+abbrev pub SaysBusy : Names → Bus → (count : ℕ) → List ℕ → Type 0
+SaysBusy names on count bytes = IsReplyTo true names on count bytes

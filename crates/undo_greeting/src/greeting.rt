@@ -1,7 +1,7 @@
 //! A greeting.
 ghost use Rattle.std.specs.Prelude.{◌≡◌, Some, None, if◌then◌else◌};
 ghost use Rattle.undo_greeting.specs.declared.greeting.Stage.TheVariants as stage;
-ghost use Rattle.undo_greeting.specs.Greeter.{is_open, is_over};
+ghost use Rattle.undo_greeting.specs.Greeter.{is_heeded, is_open, is_over};
 
 use two_wire::{Bus, Retries};
 use undo_plans::Names;
@@ -63,6 +63,16 @@ impl Greeting {
         ensures { result ≡ is_over self.now.stage }
     {
         matches!(self.stage, Stage::Answered)
+    }
+
+    /// The bus, while an answer is awaited: a request is open, and is heeded.
+    pub fn awaits(&self) -> Option<Bus>
+        ensures { result ≡ (if is_heeded self.now.stage then Some self.now.bus else None) }
+    {
+        match self.stage {
+            Stage::Opened { heeded: true, .. } => Some(self.bus),
+            _ => None,
+        }
     }
 
     /// The bus, while a request is open, also one that isn't heeded.

@@ -1,7 +1,7 @@
 //! Frames that come to a greeting.
 ghost use Rattle.std.specs.Prelude.{◌≡◌, ◌↔◌, ◌≤◌, ℕ, length, None, IsTrue};
-ghost use Rattle.undo_greeting.specs.Requests.{IsAnswer, is_answered_by, is_answered_in, is_from_controller as goes_to_manager, is_part as is_part_of, is_single as is_single_packet, is_reply as is_reply_to, replies_to};
-ghost use Rattle.undo_greeting.specs.Greeter.{place_after, begins, IsStepResult, IsHeard, IsIgnored};
+ghost use Rattle.undo_greeting.specs.Requests.{IsReplyTo, is_code, is_told_by, is_told_in, is_from_controller as goes_to_manager, is_part as is_part_of, is_single as is_single_packet, is_reply as is_reply_of, replies_to};
+ghost use Rattle.undo_greeting.specs.Greeter.{place_after, begins, IsStepResult, IsHeard, IsIgnored, IsToldBusy};
 ghost use Rattle.mctp_net.specs.Assembly.{is_ours as goes_to};
 ghost use Rattle.model_bus.specs.Bytes.{is_busy_code};
 
@@ -33,39 +33,55 @@ impl Greeting {
         else {
             return None;
         };
-        if self.bus != bus || !is_answer(&self.names, bus, self.count(place), bytes) {
+        if self.bus != bus || !is_reply_to(false, &self.names, bus, self.count(place), bytes) {
             return None;
         }
         self.begin_after(place)
     }
+
+    /// Whether the bytes of a frame say of the open request that the controller is busy. Such a
+    /// frame answers nothing.
+    pub fn is_told_busy(&self, bus: Bus, bytes: &[u8]) -> bool
+        ensures { IsTrue result ↔ ((place : ℕ) × IsToldBusy self.now bus bytes.now place) }
+    {
+        let Stage::Opened {
+            heeded: true,
+            place,
+        } = self.stage
+        else {
+            return false;
+        };
+        self.bus == bus && is_reply_to(true, &self.names, bus, self.count(place), bytes)
+    }
 }
 
-/// Whether the bytes answer the greeting's request of this count.
-fn is_answer(names: &Names, bus: Bus, count: u16, bytes: &[u8]) -> bool
-    ensures { IsTrue result ↔ IsAnswer names.now bus count bytes.now }
+/// Whether the bytes are the reply to the greeting's request of this count, with a code of a busy
+/// controller, or with another.
+fn is_reply_to(busy: bool, names: &Names, bus: Bus, count: u16, bytes: &[u8]) -> bool
+    ensures { IsTrue result ↔ IsReplyTo busy names.now bus count bytes.now }
 {
     match bus {
         Bus::Ipmb => match read_frame(bytes) {
-            Ok(Msg::Response(response)) => is_answered_by(names, count, &response),
+            Ok(Msg::Response(response)) => is_told_by(busy, names, count, &response),
             _ => false,
         },
         Bus::Smbus => match read_packet(bytes) {
-            Ok(packet) => is_answered_in(names, count, &packet),
+            Ok(packet) => is_told_in(busy, names, count, &packet),
             Err(_) => false,
         },
     }
 }
 
-/// Whether the response answers it.
-fn is_answered_by(names: &Names, count: u16, response: &Response<'_>) -> bool
-    ensures { result ≡ is_answered_by names.now count response.now }
+/// Whether the response is that reply.
+fn is_told_by(busy: bool, names: &Names, count: u16, response: &Response<'_>) -> bool
+    ensures { result ≡ is_told_by busy names.now count response.now }
 {
     let header = &response.header;
     is_from_controller(names, response)
         && header.net_fn.number() == APPLICATION
         && header.sequence == sequence_at(count)
         && header.command == GET_DEVICE_ID
-        && !is_busy(response.code)
+        && has_code(busy, response.code)
 }
 
 /// Whether the response goes from the controller to the manager.
@@ -76,14 +92,14 @@ fn is_from_controller(names: &Names, response: &Response<'_>) -> bool
     header.requester.address == names.own_address && header.responder.address == names.peer_address
 }
 
-/// Whether the packet answers it.
-fn is_answered_in(names: &Names, count: u16, packet: &Packet<'_>) -> bool
-    ensures { result ≡ is_answered_in names.now count packet.now }
+/// Whether the packet is that reply.
+fn is_told_in(busy: bool, names: &Names, count: u16, packet: &Packet<'_>) -> bool
+    ensures { result ≡ is_told_in busy names.now count packet.now }
 {
     is_part(names, count, packet)
         && is_ours(names, packet)
         && is_single(packet)
-        && is_reply(count, packet.payload.as_slice())
+        && is_reply(busy, count, packet.payload.as_slice())
 }
 
 /// Whether the packet goes from the controller to the manager, under the request's tag.
@@ -114,9 +130,9 @@ fn is_single(packet: &Packet<'_>) -> bool
 }
 
 /// Whether the message is the reply to the request.
-fn is_reply(count: u16, message: &[u8]) -> bool
+fn is_reply(busy: bool, count: u16, message: &[u8]) -> bool
     requires { length message.now ≤ 64 }
-    ensures { result ≡ is_reply_to count message.now }
+    ensures { result ≡ is_reply_of busy count message.now }
 {
     let [kind, bytes @ ..] = message else {
         return false;
@@ -125,21 +141,27 @@ fn is_reply(count: u16, message: &[u8]) -> bool
         return false;
     }
     match read_pldm_reply(&PldmBytes::new(bytes)) {
-        Ok(reply) => replies_to(count, &reply),
+        Ok(reply) => replies_to(busy, count, &reply),
         Err(_) => false,
     }
 }
 
-/// Whether the reply has the number, the type and the command of the request, and no code of a busy
-/// controller.
-fn replies_to(count: u16, reply: &PldmReply<'_>) -> bool
-    ensures { result ≡ replies_to count reply.now }
+/// Whether the reply has the number, the type and the command of the request, and such a code.
+fn replies_to(busy: bool, count: u16, reply: &PldmReply<'_>) -> bool
+    ensures { result ≡ replies_to busy count reply.now }
 {
     let header = &reply.header;
     header.instance == instance_at(count)
         && header.pldm_type.number() == MESSAGING_CONTROL
         && header.command == GET_TID
-        && !is_busy(reply.code)
+        && has_code(busy, reply.code)
+}
+
+/// Whether the code is one of a busy controller, or isn't, as it is to be.
+fn has_code(busy: bool, code: u8) -> bool
+    ensures { result ≡ is_code busy code }
+{
+    is_busy(code) == busy
 }
 
 /// Whether the code is one of a busy controller.
