@@ -114,11 +114,17 @@ fn largest() -> String {
     )
 }
 
+/// The sample board, but with a text of up to 1,024 bytes.
+fn long_text() -> String {
+    SAMPLE.replace("most = 200", "most = 1024")
+}
+
 /// Which board serves the frames.
 #[derive(Clone, Copy, Debug, PartialEq, Eq)]
 pub enum Board {
     Sample,
     Of32,
+    LongText,
     Largest,
 }
 
@@ -126,10 +132,12 @@ impl Board {
     /// Its board file.
     pub fn text(self) -> &'static str {
         static OF_32: OnceLock<String> = OnceLock::new();
+        static LONG_TEXT: OnceLock<String> = OnceLock::new();
         static LARGEST: OnceLock<String> = OnceLock::new();
         match self {
             Board::Sample => SAMPLE,
             Board::Of32 => OF_32.get_or_init(of_32),
+            Board::LongText => LONG_TEXT.get_or_init(long_text),
             Board::Largest => LARGEST.get_or_init(largest),
         }
     }

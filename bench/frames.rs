@@ -160,6 +160,220 @@ fn attributes() -> Vec<Vec<u8>> {
         .collect()
 }
 
+/// How many bytes each part of an entry has but the last.
+const PART: usize = 192;
+
+/// The transfer flags of parts: the first, one between, and the last.
+const START: u8 = 1;
+const MIDDLE: u8 = 2;
+const END: u8 = 4;
+
+/// The transfer operations: the first part, and the next.
+const FIRST: u8 = 1;
+const NEXT: u8 = 0;
+
+/// The entry of the asset's name, so many times this letter.
+fn asset_entry(letter: u8, length: usize) -> Vec<u8> {
+    let mut entry = vec![1, 0, 1];
+    entry.extend((length as u16).to_le_bytes());
+    entry.extend(vec![letter; length]);
+    entry
+}
+
+/// A Set of some bytes of an entry.
+fn set_part(numbers: u8, handle: u32, flag: u8, bytes: &[u8]) -> Vec<u8> {
+    let mut message = vec![1, numbers, 3, 7];
+    message.extend(handle.to_le_bytes());
+    message.push(flag);
+    message.extend(bytes);
+    message
+}
+
+/// A Get of an attribute's value, or of a part of its entry.
+fn get_part(numbers: u8, handle: u32, operation: u8, attribute: u8) -> Vec<u8> {
+    let mut message = vec![1, numbers, 3, 8];
+    message.extend(handle.to_le_bytes());
+    message.extend([operation, attribute, 0]);
+    message
+}
+
+/// The Sets of an entry in parts, without their numbers.
+fn set_in_parts(entry: &[u8]) -> Vec<Vec<u8>> {
+    let count = entry.chunks(PART).count();
+    (entry.chunks(PART).enumerate())
+        .map(|(place, bytes)| {
+            let flag = match place {
+                0 => START,
+                _ if place + 1 == count => END,
+                _ => MIDDLE,
+            };
+            set_part(0, (PART * place) as u32, flag, bytes)
+        })
+        .collect()
+}
+
+/// The Gets of an entry of three parts, without their numbers.
+fn get_in_parts() -> Vec<Vec<u8>> {
+    vec![
+        get_part(0, 0, FIRST, 1),
+        get_part(0, 192, NEXT, 1),
+        get_part(0, 384, NEXT, 1),
+    ]
+}
+
+/// A PLDM message, and the endpoint that sends it.
+type Told = (u8, Vec<u8>);
+
+/// The messages by one endpoint.
+fn by(eid: u8, messages: Vec<Vec<u8>>) -> Vec<Told> {
+    messages.into_iter().map(|it| (eid, it)).collect()
+}
+
+/// The packets of requests, whose instances and tags are counted on.
+fn numbered(messages: Vec<Told>) -> Vec<Vec<u8>> {
+    (messages.into_iter().enumerate())
+        .flat_map(|(place, (eid, mut message))| {
+            message[1] = 0x80 | place as u8 % 32;
+            packets(eid, place as u8 % 8, &message)
+        })
+        .collect()
+}
+
+/// Sets of a text of 400 bytes in three parts and Gets of it in three, each Set with another text than the last.
+fn long_texts() -> Vec<Vec<u8>> {
+    let turn = |turn: u8| {
+        let sets = set_in_parts(&asset_entry(0x41 + turn, 400));
+        by(8, [sets, get_in_parts()].concat())
+    };
+    numbered((0..16).flat_map(turn).collect())
+}
+
+/// Gets of a text of 400 bytes in parts, behind a Set of it.
+fn long_gets() -> Vec<Vec<u8>> {
+    let sets = set_in_parts(&asset_entry(0x41, 400));
+    let gets = get_in_parts().into_iter().cycle().take(93);
+    numbered(by(8, sets.into_iter().chain(gets).collect()))
+}
+
+/// First parts of which none is taken: too short, of no attribute, of another type, of no string, of another length, of an entry that isn't
+/// over one part, and of a text that is too long.
+fn refused_firsts() -> Vec<Vec<u8>> {
+    let entry = asset_entry(0x41, 400);
+    let named = |attribute, kind| [&[attribute, 0, kind], &entry[3..PART]].concat();
+    let first = |bytes: &[u8]| set_part(0, 0, START, bytes);
+    let mut firsts = vec![
+        first(&[]),
+        first(&[1]),
+        first(&[1, 0]),
+        first(&[1, 0, 1]),
+        first(&named(3, 1)),
+        first(&named(1, 0)),
+        first(&named(1, 0x81)),
+        first(&named(0, 1)),
+        first(&named(0, 0)),
+        first(&named(2, 3)),
+        first(&entry[..PART - 1]),
+        first(&entry[..PART + 1]),
+    ];
+    for length in [0, 186, 187, 1025, 0xFFFF] {
+        let entry = asset_entry(0x41, length);
+        let filled = [&entry[..], &[0x41; PART]].concat();
+        firsts.push(first(&filled[..PART]));
+    }
+    firsts
+}
+
+/// Later parts of which none is taken where 192 bytes of 405 are staged, or 384, or none: at another place, and of another length.
+fn refused_laters(staged: u32) -> Vec<Vec<u8>> {
+    let letters = [0x42; PART + 1];
+    let mut laters = Vec::new();
+    for handle in [0, 191, 193, 192, 384, 405] {
+        for flag in [MIDDLE, END] {
+            for length in [0, 1, 20, 22, PART - 1, PART + 1] {
+                laters.push(set_part(0, handle, flag, &letters[..length]));
+            }
+            if handle != staged {
+                laters.push(set_part(0, handle, flag, &letters[..PART]));
+                laters.push(set_part(0, handle, flag, &letters[..21]));
+            }
+        }
+    }
+    for flag in [0, 3, 6, 7, 8, 0x81, 0xFF] {
+        laters.push(set_part(0, staged, flag, &letters[..PART]));
+    }
+    laters
+}
+
+/// Gets that no part answers: of another operation, at another place, of no attribute, of an entry that is shown whole, and of another length.
+fn refused_gets() -> Vec<Vec<u8>> {
+    let mut gets = vec![
+        get_part(0, 0, 2, 1),
+        get_part(0, 192, 0xFF, 1),
+        get_part(0, 192, NEXT, 3),
+        get_part(0, 0, NEXT, 0),
+        get_part(0, 192, NEXT, 2),
+    ];
+    for handle in [0, 1, 191, 193, 405, 576, 0xFFFF_FFC0] {
+        gets.push(get_part(0, handle, NEXT, 1));
+    }
+    for length in [4, 5, 8, 10, 12] {
+        let mut get = get_part(0, 192, NEXT, 1);
+        get.resize(length, 0);
+        gets.push(get);
+    }
+    gets
+}
+
+/// Parts that are refused before each part of a text that is set, and behind it.
+fn refused_parts() -> Vec<Vec<u8>> {
+    let mut told = Vec::new();
+    for (place, set) in set_in_parts(&asset_entry(0x43, 400))
+        .into_iter()
+        .enumerate()
+    {
+        let staged = (PART * place) as u32;
+        told.extend(by(8, [refused_firsts(), refused_laters(staged)].concat()));
+        told.extend(by(8, [get_in_parts(), vec![set]].concat()));
+    }
+    let laters = [refused_laters(0), refused_gets(), get_in_parts()].concat();
+    told.extend(by(8, laters));
+    numbered(told)
+}
+
+/// Texts of eight requesters, of whom each sends a part in turn, those of odd numbers from the last to the first; and a whole entry of one who
+/// has a part staged, and a first part anew.
+fn parts_in_turn() -> Vec<Vec<u8>> {
+    let parts = |eid: u8| set_in_parts(&asset_entry(0x41 + eid, 400 - usize::from(eid)));
+    let mut told = Vec::new();
+    for place in 0..3 {
+        for turn in 0..8 {
+            let eid = 8 + if place == 1 { 7 - turn } else { turn };
+            told.push((eid, parts(eid).swap_remove(place)));
+            told.push((8 + (eid + 1) % 8, set_part(0, 191, MIDDLE, &[0x41; PART])));
+        }
+        told.push((9, set_part(0, 0, 5, &asset_entry(0x61, 24))));
+        told.extend(by(10, get_in_parts()));
+    }
+    let again = [&parts(8)[..1], &set_in_parts(&asset_entry(0x62, 300))].concat();
+    told.extend(by(8, [again, get_in_parts()].concat()));
+    numbered(told)
+}
+
+/// What is compared, and not measured.
+pub fn refused_works() -> Vec<Work> {
+    let (smbus, long) = (Bus::Smbus, Board::LongText);
+    vec![
+        work("parts that are refused", smbus, long, refused_parts()),
+        work(
+            "parts that are refused, sample board",
+            smbus,
+            Board::Sample,
+            refused_parts(),
+        ),
+        work("parts of eight requesters", smbus, long, parts_in_turn()),
+    ]
+}
+
 /// What is measured.
 pub fn works() -> Vec<Work> {
     let all: Vec<u8> = (0..32).collect();
@@ -186,6 +400,13 @@ pub fn works() -> Vec<Work> {
             Board::Largest,
             attributes(),
         ),
+        work(
+            "Set and Get of a long text",
+            smbus,
+            Board::LongText,
+            long_texts(),
+        ),
+        work("Gets of a long text", smbus, Board::LongText, long_gets()),
     ]
 }
 
@@ -305,13 +526,45 @@ impl Random {
         message
     }
 
+    /// A part of a text, which is set or got, mostly of a right form and often at its place.
+    fn of_parts(&mut self, numbers: u8) -> Vec<u8> {
+        if self.below(4) == 0 {
+            let operation = self.one_of(&[FIRST, NEXT, NEXT, 2]);
+            let handle = self.one_of(&[0, 192, 192, 384, 384, 191, 576]);
+            return get_part(numbers, handle, operation, self.one_of(&[1, 1, 1, 0, 3]));
+        }
+        let length = self.one_of(&[195, 200, 400, 400]);
+        let entry = asset_entry(0x41 + self.byte() % 26, length);
+        let place = self.below(3).min(entry.len() / PART);
+        let mut bytes = entry[PART * place..entry.len().min(PART * (place + 1))].to_vec();
+        let mut handle = (PART * place) as u32;
+        let right = if PART * (place + 1) >= entry.len() {
+            END
+        } else {
+            [START, MIDDLE][place.min(1)]
+        };
+        let mut flag = right;
+        match self.below(12) {
+            0 => handle = self.one_of(&[0, 1, 191, 192, 384]),
+            1 => flag = self.byte() % 8,
+            2 => bytes.push(0x41),
+            3 => drop(bytes.pop()),
+            4 => bytes[0] = self.one_of(&[0, 2, 3]),
+            _ => {}
+        }
+        set_part(numbers, handle, flag, &bytes)
+    }
+
     /// The packets of a message to the endpoint, or of one with a byte changed.
     fn smbus(&mut self) -> Vec<Vec<u8>> {
         let eid = self.one_of(&[8, 8, 8, 9, 0x0B, 0x0C, 0x0D, 0x0E, 0x0F, 0x10, 0x11, 0x12]);
         let length = self.one_of(&[0, 0, 0, 0, 0, 0, 0, 1, 60, 61, 130, 252]);
         let numbers = self.one_of(&[0x80, 0x80, 0x80, 0xA0, 0x00]) | self.byte() % 32;
         if self.below(4) == 0 {
-            let message = self.of_attributes(numbers);
+            let message = match self.below(2) {
+                0 => self.of_attributes(numbers),
+                _ => self.of_parts(numbers),
+            };
             return packets(eid, self.byte() % 8, &message);
         }
         let mut message = match self.below(4) {

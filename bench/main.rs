@@ -1,9 +1,13 @@
 //! Measures the proved controller beside one in plain Rust, over the same frames, and checks that both send the same bytes.
 
+mod agree;
+mod attributes;
 mod boards;
+#[allow(dead_code, reason = "bench/run same uses more of it")]
 mod frames;
 mod plain;
 mod proved;
+#[allow(dead_code, reason = "bench/run same uses more of it")]
 mod serve;
 mod shared;
 mod slots;
@@ -13,16 +17,16 @@ mod table;
 mod two;
 mod windows;
 
-use boards::Board;
+use agree::{Controller, Sent};
 use frames::Work;
-use slots::{Bus, Kind, Slot};
+use slots::{Kind, Slot};
 use std::io;
 use std::process::ExitCode;
 use std::time::Instant;
 use table::Table;
 use two::Two;
 
-/// How many frames that look random both controllers get, of each kind.
+/// How many frames that look random all controllers get, of each kind.
 const RANDOM: usize = 4000;
 
 /// How often each list of frames is measured, once with each controller in turn.
@@ -37,69 +41,39 @@ type Serve = fn(Kind, &[Slot], u64, &mut [Slot]);
 /// The plain controllers, of which the faster counts.
 const PLAIN: [Serve; 2] = [serve::by_options, serve::by_words];
 
-/// The controllers that have to send what the proved one sends: that over the other store, and the plain ones.
-const OTHERS: [(&str, Serve); 3] = [
-    ("list", proved::over_list),
-    ("options", serve::by_options),
-    ("words", serve::by_words),
-];
-
-fn replies_of(serve: Serve, kind: Kind, frames: &[Slot], rounds: u64) -> Vec<Slot> {
-    let mut replies = vec![Slot::new(&[]); frames.len()];
-    serve(kind, frames, rounds, &mut replies);
-    replies
-}
-
-/// Whether all controllers send the same, after one round and after two.
-fn agree(name: &str, kind: Kind, frames: &[Slot]) -> bool {
-    let mut same = true;
+/// Of what a controller sends to each frame the first, which it leaves: after one round, and then after two.
+fn first_sent(serve: Serve, kind: Kind, frames: &[Slot]) -> io::Result<Vec<Sent>> {
+    let mut sent = Vec::new();
     for rounds in [0, 1] {
-        let proved = replies_of(proved::serve, kind, frames, rounds);
-        for (other, serve) in OTHERS {
-            let replies = replies_of(serve, kind, frames, rounds);
-            for ((frame, a), b) in frames.iter().zip(&proved).zip(&replies) {
-                if a.as_slice() != b.as_slice() {
-                    eprintln!(
-                        "bench: {name}, {} round(s): to {:02X?}",
-                        rounds + 1,
-                        frame.as_slice()
-                    );
-                    eprintln!("bench:   proved {:02X?}", a.as_slice());
-                    eprintln!("bench:   {other} {:02X?}", b.as_slice());
-                    same = false;
-                }
+        let mut replies = vec![Slot::new(&[]); frames.len()];
+        serve(kind, frames, rounds, &mut replies);
+        let first = |reply: Slot| {
+            if reply.length == 0 {
+                vec![]
+            } else {
+                vec![reply]
             }
-        }
+        };
+        sent.extend(replies.into_iter().map(first));
     }
-    same
+    Ok(sent)
 }
 
-/// How many of the replies have this code at this place.
-fn count(replies: &[Slot], place: usize, code: u8) -> usize {
-    replies
-        .iter()
-        .filter(|reply| reply.length as usize > place + 1 && reply.bytes[place] == code)
-        .count()
-}
-
-fn random_agree(kind: Kind) -> bool {
-    let frames = frames::random(kind, RANDOM);
-    let replies = replies_of(proved::serve, kind, &frames, 0);
-    let silent = replies.iter().filter(|reply| reply.length == 0).count();
-    eprint!(
-        "bench: {} frames that look random, {kind:?}: {silent} with no reply",
-        frames.len()
-    );
-    let (place, codes): (usize, &[u8]) = match kind.bus {
-        Bus::Ipmb => (6, &[0x00, 0xC0, 0xC1, 0xC2, 0xC7, 0xCB, 0xCC]),
-        Bus::Smbus => (12, &[0x00, 0x02, 0x03, 0x04, 0x05, 0x20, 0x88]),
-    };
-    for code in codes {
-        eprint!(", {} with {code:02X}h", count(&replies, place, *code));
-    }
-    eprintln!();
-    agree("random", kind, &frames)
-}
+/// All controllers, of which the others have to send what the first does.
+const CONTROLLERS: [Controller; 4] = [
+    ("proved", |kind, frames| {
+        first_sent(proved::serve, kind, frames)
+    }),
+    ("list", |kind, frames| {
+        first_sent(proved::over_list, kind, frames)
+    }),
+    ("options", |kind, frames| {
+        first_sent(serve::by_options, kind, frames)
+    }),
+    ("words", |kind, frames| {
+        first_sent(serve::by_words, kind, frames)
+    }),
+];
 
 /// The seconds that a fresh controller takes to serve the frames so many times over and once more.
 fn seconds(serve: Serve, work: &Work, rounds: u64, replies: &mut [Slot]) -> f64 {
@@ -144,22 +118,6 @@ fn measure(table: &mut Table, work: &Work) {
     ]);
 }
 
-/// Whether all controllers send the same to each list, and to frames that look random.
-fn all_agree(works: &[Work]) -> bool {
-    let mut same = true;
-    for (bus, board) in [
-        (Bus::Ipmb, Board::Sample),
-        (Bus::Smbus, Board::Sample),
-        (Bus::Ipmb, Board::Of32),
-    ] {
-        same &= random_agree(Kind { bus, board });
-    }
-    for work in works {
-        same &= agree(work.name, work.kind, &work.frames);
-    }
-    same
-}
-
 fn measure_lists(works: &[Work], is_page: bool) {
     let heads = [
         "List",
@@ -192,7 +150,7 @@ fn run(word: Option<&str>, is_page: bool) -> io::Result<bool> {
         two_of(&works)?.measure(is_page)?;
         return Ok(true);
     }
-    if !all_agree(&works) {
+    if !agree::all_agree(&CONTROLLERS, works.iter(), RANDOM)? {
         return Ok(false);
     }
     match word {
@@ -200,7 +158,6 @@ fn run(word: Option<&str>, is_page: bool) -> io::Result<bool> {
             measure_lists(&works, is_page);
             two_of(&works)?.measure(is_page)?;
         }
-        Some("same") => println!("the controllers send the same bytes"),
         // One list with the proved controller alone, for a profiler.
         Some(place) => {
             let place: usize = place.parse().map_err(io::Error::other)?;

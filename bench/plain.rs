@@ -1,6 +1,7 @@
 //! The board and the port on IPMB once more in plain Rust, with no proof: the same commands on the same boards, the same checks in the
 //! same order.
 
+use crate::slots::Out;
 use crate::windows::{Found, Windows};
 
 const OK: u8 = 0x00;
@@ -168,13 +169,13 @@ impl Watchdog {
     }
 }
 
-/// A reply as it grows: its data follow its code.
-pub struct Reply<'a> {
-    pub bytes: &'a mut [u8; 80],
+/// A reply as it grows: its data follow its code. A frame has room for what the commands of IPMI reply.
+pub struct Reply<'a, const ROOM: usize = 80> {
+    pub bytes: &'a mut [u8; ROOM],
     pub length: usize,
 }
 
-impl Reply<'_> {
+impl<const ROOM: usize> Reply<'_, ROOM> {
     pub fn push(&mut self, byte: u8) {
         self.bytes[self.length] = byte;
         self.length += 1;
@@ -184,7 +185,9 @@ impl Reply<'_> {
         self.bytes[self.length..self.length + bytes.len()].copy_from_slice(bytes);
         self.length += bytes.len();
     }
+}
 
+impl Reply<'_> {
     /// Puts the code in its place.
     fn code(&mut self, code: u8) {
         self.bytes[6] = code;
@@ -394,9 +397,9 @@ impl<W: Windows> Port<W> {
         Port { windows: W::new() }
     }
 
-    /// Takes a frame that was heard, writes the reply's frame and gives its length, 0 where none is sent.
-    pub fn on_frame(&mut self, board: &mut Board, frame: &[u8], bytes: &mut [u8; 80]) -> usize {
-        self.on_frame_by(frame, bytes, |frame, reply| board.serve(frame, reply))
+    /// Takes a frame that was heard, and sends the reply's frame.
+    pub fn on_frame(&mut self, board: &mut Board, frame: &[u8], out: &mut Out) {
+        self.on_frame_by(frame, out, |frame, reply| board.serve(frame, reply))
     }
 
     /// The same, where `serve` carries a request out, puts its data into the reply and gives its code.
@@ -404,12 +407,23 @@ impl<W: Windows> Port<W> {
     pub fn on_frame_by(
         &mut self,
         frame: &[u8],
+        out: &mut Out,
+        serve: impl FnOnce(&[u8], &mut Reply) -> u8,
+    ) {
+        out.clear();
+        if is_frame(frame) && frame[0] == WIRE && frame[1] >> 2 & 1 == 0 {
+            out.send(|bytes| self.reply(frame, bytes, serve));
+        }
+    }
+
+    /// Writes the frame of the reply to a request, and gives its length.
+    #[inline(always)]
+    fn reply(
+        &mut self,
+        frame: &[u8],
         bytes: &mut [u8; 80],
         serve: impl FnOnce(&[u8], &mut Reply) -> u8,
     ) -> usize {
-        if !is_frame(frame) || frame[0] != WIRE || frame[1] >> 2 & 1 == 1 {
-            return 0;
-        }
         let (requester, number) = (frame[3], frame[4] >> 2);
         let found = self.windows.find(requester, number, frame);
         if let Found::Repeats(reply) = found {

@@ -1,6 +1,9 @@
 //! The plain controller with both of its ports: they share one board under a lock, which keeps a list of what it was asked and answered.
 
+use crate::attributes::{Attributes, SAMPLE_TEXT};
 use crate::plain::Reply;
+use crate::slots::Out;
+use crate::smbus::MessageReply;
 use crate::windows::Words;
 use crate::{plain, smbus};
 use std::sync::Mutex;
@@ -90,7 +93,7 @@ impl Event {
 /// What lies under the lock.
 struct Locked {
     board: plain::Board,
-    attributes: smbus::Attributes,
+    attributes: Attributes,
     events: Vec<Event>,
 }
 
@@ -119,7 +122,7 @@ impl Shared {
         Shared {
             lock: Mutex::new(Locked {
                 board: plain::Board::sample(),
-                attributes: smbus::Attributes::sample(),
+                attributes: Attributes::new(SAMPLE_TEXT),
                 events: Vec::with_capacity(MOST_EVENTS),
             }),
         }
@@ -139,9 +142,9 @@ impl Shared {
 pub trait Port: Send {
     fn new() -> Self;
 
-    /// Takes a frame that was heard, writes the reply's frame and gives its length, 0 where none is sent. It holds the lock while the board
-    /// carries a request out and the list gains it.
-    fn on_frame(&mut self, shared: &Shared, frame: &[u8], bytes: &mut [u8; 80]) -> usize;
+    /// Takes a frame that was heard, and sends the reply's frames. It holds the lock while the board carries a request out and the list
+    /// gains it.
+    fn on_frame(&mut self, shared: &Shared, frame: &[u8], out: &mut Out);
 }
 
 /// The port on IPMB.
@@ -155,22 +158,21 @@ impl Port for Ipmb {
         Ipmb(plain::Port::new())
     }
 
-    fn on_frame(&mut self, shared: &Shared, frame: &[u8], bytes: &mut [u8; 80]) -> usize {
-        self.0
-            .on_frame_by(frame, bytes, |frame, reply: &mut Reply| {
-                let start = reply.length;
-                let mut locked = shared.lock.lock().expect("no thread panicked");
-                let code = locked.board.serve(frame, reply);
-                let asked = Asked::Ipmi {
-                    from: frame[3],
-                    net_fn: frame[1] >> 2,
-                    lun: frame[1] & 3,
-                    command: frame[5],
-                    body: Bytes::new(&frame[6..frame.len() - 1]),
-                };
-                locked.add(0, asked, code, &reply.bytes[start..reply.length]);
-                code
-            })
+    fn on_frame(&mut self, shared: &Shared, frame: &[u8], out: &mut Out) {
+        self.0.on_frame_by(frame, out, |frame, reply: &mut Reply| {
+            let start = reply.length;
+            let mut locked = shared.lock.lock().expect("no thread panicked");
+            let code = locked.board.serve(frame, reply);
+            let asked = Asked::Ipmi {
+                from: frame[3],
+                net_fn: frame[1] >> 2,
+                lun: frame[1] & 3,
+                command: frame[5],
+                body: Bytes::new(&frame[6..frame.len() - 1]),
+            };
+            locked.add(0, asked, code, &reply.bytes[start..reply.length]);
+            code
+        })
     }
 }
 
@@ -179,21 +181,20 @@ impl Port for Smbus {
         Smbus(smbus::Port::new())
     }
 
-    fn on_frame(&mut self, shared: &Shared, frame: &[u8], bytes: &mut [u8; 80]) -> usize {
-        let from = frame.get(6).copied().unwrap_or(0);
-        self.0
-            .on_frame_by(frame, bytes, |message, reply: &mut Reply| {
-                let start = reply.length;
-                let mut locked = shared.lock.lock().expect("no thread panicked");
-                let code = locked.attributes.serve(message, reply);
-                let asked = Asked::Pldm {
-                    from,
-                    kind: message[2] & 0x3F,
-                    command: message[3],
-                    body: Bytes::new(&message[4..]),
-                };
-                locked.add(1, asked, code, &reply.bytes[start..reply.length]);
-                code
-            })
+    fn on_frame(&mut self, shared: &Shared, frame: &[u8], out: &mut Out) {
+        let serve = |from: u8, message: &[u8], reply: &mut MessageReply| {
+            let start = reply.length;
+            let mut locked = shared.lock.lock().expect("no thread panicked");
+            let code = locked.attributes.serve(from, message, reply);
+            let asked = Asked::Pldm {
+                from,
+                kind: message[2] & 0x3F,
+                command: message[3],
+                body: Bytes::new(&message[4..]),
+            };
+            locked.add(1, asked, code, &reply.bytes[start..reply.length]);
+            code
+        };
+        self.0.on_frame_by(frame, out, serve)
     }
 }

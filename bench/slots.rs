@@ -26,6 +26,41 @@ impl Slot {
     }
 }
 
+/// How many frames a reply goes in at most.
+const MOST_FRAMES: usize = 4;
+
+/// What a plain port sends to a frame that it heard.
+pub struct Out {
+    frames: [Slot; MOST_FRAMES],
+    count: usize,
+}
+
+impl Out {
+    pub fn new() -> Out {
+        Out {
+            frames: [Slot::new(&[]); MOST_FRAMES],
+            count: 0,
+        }
+    }
+
+    /// The frames that were sent.
+    pub fn sent(&self) -> &[Slot] {
+        &self.frames[..self.count]
+    }
+
+    /// Nothing is sent.
+    pub fn clear(&mut self) {
+        self.count = 0;
+    }
+
+    /// Sends one more frame, which this writes, giving its length.
+    pub fn send(&mut self, write: impl FnOnce(&mut [u8; 80]) -> usize) {
+        let frame = &mut self.frames[self.count];
+        frame.length = write(&mut frame.bytes) as u8;
+        self.count += 1;
+    }
+}
+
 /// Which bus the frames go over.
 #[derive(Clone, Copy, Debug, PartialEq, Eq)]
 pub enum Bus {

@@ -1,7 +1,8 @@
-//! The port on the System Management Bus once more in plain Rust, with no proof: packets, messages, the endpoint's control commands,
-//! PLDM, and the values of BIOS attributes.
+//! The port on the System Management Bus once more in plain Rust, with no proof: packets, messages, and the endpoint's control commands.
 
+use crate::attributes::Attributes;
 use crate::plain::{Reply, WIRE};
+use crate::slots::Out;
 use crate::windows::{Found, Windows};
 
 /// How many bytes of a message each packet carries but the last.
@@ -10,6 +11,15 @@ const UNIT_SIZE: usize = 64;
 /// At most so many messages are put together at a time.
 const MOST_ASSEMBLIES: usize = 8;
 
+/// How many bytes a message that a port sends has at most.
+const MOST_MESSAGE: usize = 256;
+
+/// A message of PLDM as it grows: its data follow its code.
+pub type MessageReply<'a> = Reply<'a, MOST_MESSAGE>;
+
+/// How many bytes a control reply has at most.
+const CONTROL_REPLY: usize = 8;
+
 const CONTROL: u8 = 0x00;
 const PLDM: u8 = 0x01;
 
@@ -17,14 +27,6 @@ const INVALID_DATA: u8 = 0x02;
 const INVALID_LENGTH: u8 = 0x03;
 const NOT_READY: u8 = 0x04;
 const UNSUPPORTED_COMMAND: u8 = 0x05;
-const INVALID_TYPE: u8 = 0x20;
-const INVALID_ATTRIBUTE: u8 = 0x88;
-
-/// The terminus of the sample board.
-const TID: u8 = 5;
-
-/// What GetPLDMTypes replies.
-const TYPES: [u8; 8] = [0x0D, 0, 0, 0, 0, 0, 0, 0];
 
 const fn crc_table() -> [u8; 256] {
     let mut table = [0; 256];
@@ -122,135 +124,31 @@ impl Assembler {
     }
 }
 
-/// The values of the sample board's attributes: an enumeration of two values, a text of at most 200 bytes, and a number.
-pub struct Attributes {
-    quiet: Vec<u8>,
-    asset: [u8; 200],
-    length: usize,
-    delay: u64,
-}
-
-impl Attributes {
-    pub fn sample() -> Self {
-        let mut asset = [0; 200];
-        asset[..6].copy_from_slice(b"rack-1");
-        Attributes {
-            quiet: Vec::from([0]),
-            asset,
-            length: 6,
-            delay: 30,
-        }
-    }
-
-    /// Sets the value of the entry, and says with which completion code.
-    fn set(&mut self, data: &[u8]) -> u8 {
-        if data.len() < 8 {
-            return INVALID_LENGTH;
-        }
-        let (handle, kind, value) = (u16::from_le_bytes([data[5], data[6]]), data[7], &data[8..]);
-        if data[4] != 5 {
-            return INVALID_DATA;
-        }
-        if handle > 2 {
-            return INVALID_ATTRIBUTE;
-        }
-        match (handle, kind) {
-            (0, 0) => match value {
-                [count, indexes @ ..] if indexes.len() == *count as usize => {
-                    if !matches!(indexes, [0 | 1] | [0 | 1, 0 | 1]) {
-                        return INVALID_DATA;
-                    }
-                    self.quiet.clear();
-                    self.quiet.extend(indexes);
-                }
-                _ => return INVALID_LENGTH,
-            },
-            (1, 1) => match value {
-                [low, high, text @ ..]
-                    if text.len() == u16::from_le_bytes([*low, *high]) as usize =>
-                {
-                    if text.len() > 200 {
-                        return INVALID_DATA;
-                    }
-                    self.asset[..text.len()].copy_from_slice(text);
-                    self.length = text.len();
-                }
-                _ => return INVALID_LENGTH,
-            },
-            (2, 3) => {
-                let Ok(number) = value.try_into() else {
-                    return INVALID_LENGTH;
-                };
-                let number = u64::from_le_bytes(number);
-                if number > 300 || number % 10 != 0 {
-                    return INVALID_DATA;
-                }
-                self.delay = number;
-            }
-            _ => return INVALID_DATA,
-        }
-        0
-    }
-
-    /// Appends the entry that is asked for, behind its handle and flag, or says why not.
-    fn get(&self, data: &[u8], reply: &mut Reply) -> u8 {
-        let &[_, _, _, _, operation, low, high] = data else {
-            return INVALID_LENGTH;
-        };
-        if operation != 1 {
-            return INVALID_DATA;
-        }
-        let handle = u16::from_le_bytes([low, high]);
-        if handle > 2 {
-            return INVALID_ATTRIBUTE;
-        }
-        reply.extend(&[0, 0, 0, 0, 5, low, high]);
-        match handle {
-            0 => {
-                reply.extend(&[0, self.quiet.len() as u8]);
-                reply.extend(&self.quiet);
-            }
-            1 => {
-                reply.push(1);
-                reply.extend(&(self.length as u16).to_le_bytes());
-                reply.extend(&self.asset[..self.length]);
-            }
-            _ => {
-                reply.push(3);
-                reply.extend(&self.delay.to_le_bytes());
-            }
-        }
-        0
-    }
-
-    /// What a PLDM request is replied, behind its completion code.
-    pub fn serve(&mut self, message: &[u8], reply: &mut Reply) -> u8 {
-        let (kind, command, data) = (message[2], message[3], &message[4..]);
-        match (kind, command) {
-            (0, 2 | 4) if !data.is_empty() => return INVALID_LENGTH,
-            (0, 2) => reply.push(TID),
-            (0, 4) => reply.extend(&TYPES),
-            (3, 7) => {
-                let code = self.set(data);
-                if code == 0 {
-                    reply.extend(&[0; 4]);
-                }
-                return code;
-            }
-            (3, 8) => return self.get(data, reply),
-            (0 | 2 | 3, _) => return UNSUPPORTED_COMMAND,
-            _ => return INVALID_TYPE,
-        }
-        0
+/// Sends a message in packets, each from its start to the packet error code.
+fn send(out: &mut Out, packet: &[u8], own: u8, message: &[u8]) {
+    let last = (message.len() - 1) / UNIT_SIZE;
+    for (place, payload) in message.chunks(UNIT_SIZE).enumerate() {
+        let start = if place == 0 { 0x80 } else { 0 };
+        let end = if place == last { 0x40 } else { 0 };
+        let flags = start | end | (place as u8) << 4 | packet[7] & 7;
+        out.send(|bytes| write_packet(bytes, packet, own, flags, payload));
     }
 }
 
-/// A reply in one packet, from its start to the packet error code.
-fn send(bytes: &mut [u8; 80], packet: &[u8], own: u8, body: &[u8]) -> usize {
+/// Writes a packet to the sender of this one, and gives its length.
+fn write_packet(bytes: &mut [u8; 80], packet: &[u8], own: u8, flags: u8, payload: &[u8]) -> usize {
     let mut reply = Reply { bytes, length: 0 };
-    reply.extend(&[packet[3] - 1, 0x0F, body.len() as u8 + 5, WIRE + 1, 1]);
-    reply.extend(&[packet[6], own, 0xC0 | packet[7] & 7]);
-    reply.extend(body);
+    reply.extend(&[
+        packet[3] - 1,
+        0x0F,
+        payload.len() as u8 + 5,
+        WIRE + 1,
+        1,
+        packet[6],
+        own,
+        flags,
+    ]);
+    reply.extend(payload);
     let check = pec(&reply.bytes[..reply.length]);
     reply.push(check);
     reply.length
@@ -261,6 +159,8 @@ pub struct Port<W> {
     own: u8,
     assembler: Assembler,
     windows: W,
+    /// Where the message is written that is sent.
+    message: [u8; MOST_MESSAGE],
 }
 
 impl<W: Windows> Port<W> {
@@ -269,11 +169,12 @@ impl<W: Windows> Port<W> {
             own: 0x0A,
             assembler: Assembler::new(),
             windows: W::new(),
+            message: [0; MOST_MESSAGE],
         }
     }
 
     /// What the endpoint replies to a control request, behind its completion code.
-    fn control(&mut self, command: u8, data: &[u8], reply: &mut Reply) -> u8 {
+    fn control(&mut self, command: u8, data: &[u8], reply: &mut Reply<CONTROL_REPLY>) -> u8 {
         match (command, data) {
             (1, [operation, eid]) => {
                 if operation & 3 > 1 || *eid < 8 || *eid == 0xFF {
@@ -290,49 +191,45 @@ impl<W: Windows> Port<W> {
         0
     }
 
-    /// Takes a frame that was heard, writes the reply's frame and gives its length, 0 where none is sent.
-    pub fn on_frame(
-        &mut self,
-        attributes: &mut Attributes,
-        frame: &[u8],
-        bytes: &mut [u8; 80],
-    ) -> usize {
-        self.on_frame_by(frame, bytes, |message, reply| {
-            attributes.serve(message, reply)
+    /// Takes a frame that was heard, and sends the reply's frames.
+    pub fn on_frame(&mut self, attributes: &mut Attributes, frame: &[u8], out: &mut Out) {
+        self.on_frame_by(frame, out, |from, message, reply| {
+            attributes.serve(from, message, reply)
         })
     }
 
-    /// The same, where `serve` carries a PLDM request out, puts its data into the reply and gives its code.
+    /// The same, where `serve` carries a PLDM request of this endpoint out, puts its data into the reply and gives its code.
     #[inline(always)]
     pub fn on_frame_by(
         &mut self,
         frame: &[u8],
-        bytes: &mut [u8; 80],
-        serve: impl FnOnce(&[u8], &mut Reply) -> u8,
-    ) -> usize {
+        out: &mut Out,
+        serve: impl FnOnce(u8, &[u8], &mut MessageReply) -> u8,
+    ) {
+        out.clear();
         let length = frame.len();
         if length < 10 || frame[1] != 0x0F || frame[0] & 1 == 1 || frame[3] & 1 == 0 {
-            return 0;
+            return;
         }
         if frame[2] as usize + 4 != length || length > 73 {
-            return 0;
+            return;
         }
         if pec(&frame[..length - 1]) != frame[length - 1] || frame[4] & 15 != 1 {
-            return 0;
+            return;
         }
         if frame[0] != WIRE || frame[5] != self.own && frame[5] != 0 {
-            return 0;
+            return;
         }
         let payload = &frame[8..length - 1];
         let name = (frame[6], frame[7] & 15);
         match self.assembler.take(name, frame[7], payload) {
-            None => 0,
-            Some(Whole::InPacket) => self.on_message(frame, payload, bytes, serve),
+            None => {}
+            Some(Whole::InPacket) => self.on_message(frame, payload, out, serve),
             Some(Whole::At(place)) => {
                 // The port replies beside the message.
                 let assembly = &self.assembler.assemblies[place];
                 let (message, length) = (assembly.bytes, assembly.length);
-                self.on_message(frame, &message[..length], bytes, serve)
+                self.on_message(frame, &message[..length], out, serve)
             }
         }
     }
@@ -342,24 +239,24 @@ impl<W: Windows> Port<W> {
         &mut self,
         packet: &[u8],
         message: &[u8],
-        bytes: &mut [u8; 80],
-        serve: impl FnOnce(&[u8], &mut Reply) -> u8,
-    ) -> usize {
+        out: &mut Out,
+        serve: impl FnOnce(u8, &[u8], &mut MessageReply) -> u8,
+    ) {
         if packet[7] & 8 == 0 {
-            return 0;
+            return;
         }
         match message[0] {
-            CONTROL => self.on_control(packet, message, bytes),
-            PLDM => self.on_pldm(packet, message, bytes, serve),
-            _ => 0,
+            CONTROL => self.on_control(packet, message, out),
+            PLDM => self.on_pldm(packet, message, out, serve),
+            _ => {}
         }
     }
 
-    fn on_control(&mut self, packet: &[u8], message: &[u8], bytes: &mut [u8; 80]) -> usize {
+    fn on_control(&mut self, packet: &[u8], message: &[u8], out: &mut Out) {
         if message.len() < 3 || message[1] >> 6 != 2 {
-            return 0;
+            return;
         }
-        let mut body = [0; 80];
+        let mut body = [0; CONTROL_REPLY];
         let mut reply = Reply {
             bytes: &mut body,
             length: 0,
@@ -368,40 +265,40 @@ impl<W: Windows> Port<W> {
         let code = self.control(message[2], &message[3..], &mut reply);
         reply.bytes[3] = code;
         let length = reply.length;
-        send(bytes, packet, self.own, &body[..length])
+        send(out, packet, self.own, &body[..length]);
     }
 
     fn on_pldm(
         &mut self,
         packet: &[u8],
         message: &[u8],
-        bytes: &mut [u8; 80],
-        serve: impl FnOnce(&[u8], &mut Reply) -> u8,
-    ) -> usize {
+        out: &mut Out,
+        serve: impl FnOnce(u8, &[u8], &mut MessageReply) -> u8,
+    ) {
         if message.len() < 4 || message[2] >> 6 != 0 || message[1] >> 6 != 2 {
-            return 0;
+            return;
         }
         // The ignored bit is no part of the request: what is kept begins behind its byte, and the number stands for that.
         let (eid, number, rest) = (packet[6], message[1] & 31, &message[2..]);
         let found = self.windows.find(eid, number, rest);
         if let Found::Repeats(reply) = found {
-            return send(bytes, packet, self.own, reply);
+            return send(out, packet, self.own, reply);
         }
         let is_busy = matches!(found, Found::Busy);
-        let mut body = [0; 80];
         let mut reply = Reply {
-            bytes: &mut body,
+            bytes: &mut self.message,
             length: 0,
         };
         reply.extend(&[PLDM, number, message[2], message[3], NOT_READY]);
         if !is_busy {
-            let code = serve(message, &mut reply);
+            let code = serve(eid, message, &mut reply);
             reply.bytes[4] = code;
         }
         let length = reply.length;
+        let reply = &self.message[..length];
         if !is_busy {
-            self.windows.keep(eid, number, rest, &body[..length]);
+            self.windows.keep(eid, number, rest, reply);
         }
-        send(bytes, packet, self.own, &body[..length])
+        send(out, packet, self.own, reply);
     }
 }

@@ -2,7 +2,7 @@
 
 use crate::frames::Work;
 use crate::shared::{Ipmb, MOST_EVENTS, Port, Shared, Smbus};
-use crate::slots::Slot;
+use crate::slots::{Out, Slot};
 use crate::table::Table;
 use std::collections::HashMap;
 use std::fmt::Write;
@@ -32,11 +32,11 @@ pub struct Two<'a> {
 /// Hands a port the frames so many times over.
 fn work<P: Port>(shared: &Shared, frames: &[Slot], times: usize) {
     let mut port = P::new();
-    let mut reply = [0; 80];
+    let mut out = Out::new();
     for _ in 0..times {
         for frame in frames {
-            black_box(port.on_frame(shared, frame.as_slice(), &mut reply));
-            black_box(&reply);
+            port.on_frame(shared, frame.as_slice(), &mut out);
+            black_box(&out);
         }
     }
 }
@@ -76,16 +76,25 @@ impl<'a> Two<'a> {
     /// The nanoseconds of a round of the proved controller, by the names that the program gives them.
     fn proved_rounds(&self) -> io::Result<HashMap<String, u64>> {
         let (times, rounds) = (self.times.to_string(), (ROUNDS - 1).to_string());
-        let said = Command::new(PROGRAM).args(FILES).args([times, rounds]).output()?;
+        let said = Command::new(PROGRAM)
+            .args(FILES)
+            .args([times, rounds])
+            .output()?;
         if !said.status.success() {
-            return Err(io::Error::other(format!("{PROGRAM} ended with {}", said.status)));
+            return Err(io::Error::other(format!(
+                "{PROGRAM} ended with {}",
+                said.status
+            )));
         }
         let numbers: HashMap<String, u64> = String::from_utf8_lossy(&said.stdout)
             .lines()
             .filter_map(|line| line.split_once(' '))
             .filter_map(|(name, number)| Some((name.to_string(), number.parse().ok()?)))
             .collect();
-        assert_eq!(numbers["events"], MOST_EVENTS as u64, "each frame is a request");
+        assert_eq!(
+            numbers["events"], MOST_EVENTS as u64,
+            "each frame is a request"
+        );
         Ok(numbers)
     }
 
@@ -103,7 +112,15 @@ impl<'a> Two<'a> {
             let least = (0..ROUNDS).map(|_| self.plain_round()).min();
             plain = plain.min(least.unwrap_or(plain));
         }
-        let heads = ["Two workers, one board", "two", "in turn", "history", "alone", "plain, two", "ratio"];
+        let heads = [
+            "Two workers, one board",
+            "two",
+            "in turn",
+            "history",
+            "alone",
+            "plain, two",
+            "ratio",
+        ];
         let mut table = Table::new(is_page, heads);
         let each = |round: u64| round as f64 / MOST_EVENTS as f64;
         let plain = each(plain.as_nanos() as u64);

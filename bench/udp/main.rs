@@ -1,6 +1,9 @@
 //! Measures `bmcnet serve` over UDP beside an echo in C and the plain controller, and looks at each reply. `bench/net` starts it.
 
 #[allow(dead_code, reason = "bench/run uses more of it")]
+#[path = "../attributes.rs"]
+mod attributes;
+#[allow(dead_code, reason = "bench/run uses more of it")]
 #[path = "../boards.rs"]
 mod boards;
 mod calls;
@@ -35,6 +38,7 @@ use measures::Measure;
 use place::Place;
 use servers::{Programs, Running, SERVERS, Server};
 use shared::{Ipmb, MOST_EVENTS, Port, Shared, Smbus};
+use slots::Out;
 use std::io;
 use std::process::ExitCode;
 use std::sync::Barrier;
@@ -63,9 +67,12 @@ fn replies_of<P: Port>(requests: &[Vec<u8>]) -> Vec<Vec<u8>> {
     requests
         .iter()
         .map(|request| {
-            let mut bytes = [0; 80];
-            let length = port.on_frame(&shared, request, &mut bytes);
-            bytes[..length].to_vec()
+            let mut out = Out::new();
+            port.on_frame(&shared, request, &mut out);
+            match out.sent() {
+                [reply] => reply.as_slice().to_vec(),
+                replies => panic!("{} frames to one", replies.len()),
+            }
         })
         .collect()
 }

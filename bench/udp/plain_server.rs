@@ -1,6 +1,7 @@
 //! The plain controller behind two UDP ports, with a thread for each, as `bmcnet serve` has: `net serve P0 P1 TURNS`.
 
 use crate::shared::{Ipmb, Port, Shared, Smbus};
+use crate::slots::Out;
 use std::io;
 use std::net::{Ipv4Addr, UdpSocket};
 use std::time::Duration;
@@ -16,16 +17,16 @@ fn open(port: u16) -> io::Result<UdpSocket> {
 
 /// Listens so many times, and answers what is heard. A datagram of over 80 bytes is no frame.
 fn work<P: Port>(shared: &Shared, mut port: P, socket: &UdpSocket, turns: u32) {
+    let mut out = Out::new();
     for _ in 0..turns {
         let mut bytes = [0; 81];
         let Ok((length, sender)) = socket.recv_from(&mut bytes) else {
             continue;
         };
         let frame = if length > 80 { &[] } else { &bytes[..length] };
-        let mut reply = [0; 80];
-        let length = port.on_frame(shared, frame, &mut reply);
-        if length > 0 {
-            let _ = socket.send_to(&reply[..length], sender);
+        port.on_frame(shared, frame, &mut out);
+        for reply in out.sent() {
+            let _ = socket.send_to(reply.as_slice(), sender);
         }
     }
 }
