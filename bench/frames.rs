@@ -283,13 +283,16 @@ fn refused_firsts() -> Vec<Vec<u8>> {
     firsts
 }
 
+/// How many bytes come behind the first part of an entry of 405.
+const WHOLE_REST: usize = 405 - PART;
+
 /// Later parts of which none is taken where 192 bytes of 405 are staged, or 384, or none: at another place, and of another length.
 fn refused_laters(staged: u32) -> Vec<Vec<u8>> {
-    let letters = [0x42; PART + 1];
+    let letters = [0x42; WHOLE_REST];
     let mut laters = Vec::new();
     for handle in [0, 191, 193, 192, 384, 405] {
         for flag in [MIDDLE, END] {
-            for length in [0, 1, 20, 22, PART - 1, PART + 1] {
+            for length in [0, 1, 20, 22, PART - 1, PART + 1, WHOLE_REST] {
                 laters.push(set_part(0, handle, flag, &letters[..length]));
             }
             if handle != staged {
@@ -324,6 +327,14 @@ fn refused_gets() -> Vec<Vec<u8>> {
     gets
 }
 
+/// A text whose entry has just two parts: the second isn't taken as one between, but as the last.
+fn just_two_parts() -> Vec<Vec<u8>> {
+    let mut told = set_in_parts(&asset_entry(0x44, 2 * PART - 5));
+    let between = set_part(0, PART as u32, MIDDLE, &[0x44; PART]);
+    told.insert(1, between);
+    [told, get_in_parts()].concat()
+}
+
 /// Parts that are refused before each part of a text that is set, and behind it.
 fn refused_parts() -> Vec<Vec<u8>> {
     let mut told = Vec::new();
@@ -337,6 +348,7 @@ fn refused_parts() -> Vec<Vec<u8>> {
     }
     let laters = [refused_laters(0), refused_gets(), get_in_parts()].concat();
     told.extend(by(8, laters));
+    told.extend(by(8, just_two_parts()));
     numbered(told)
 }
 

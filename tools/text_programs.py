@@ -50,5 +50,5 @@ def readers_program(room):
         dice = file.read()
     os.mkdir(f"{room}/tree")
     crate = copied_program(f"{room}/tree", "text_reads", BELOW, [("files.rt", files), ("dice.rt", dice)])
-    compiled(crate, f"{room}/reads", ["prefixes", "undo"])
+    compiled(crate, f"{room}/reads", ["prefixes", "undo", "1"])
     return f"{room}/reads"

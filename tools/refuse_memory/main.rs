@@ -2,12 +2,15 @@
 //! tree, and refuses its allocations.
 #![tactic(auto)]
 
+mod asked;
 mod called;
+mod codes;
 mod controller;
 mod files;
 mod manager;
 mod serving;
 mod shared;
+mod sharing;
 mod texts;
 
 use called::Unwell;
@@ -57,6 +60,7 @@ fn main(rt: HostRuntime) -> ExitCode {
     let ran = match word.as_ref().map(|word| word.as_str()) {
         Some("run_two") => shared::two(&rt, alloc),
         Some("serving") => serving::serve(&rt, alloc),
+        Some("serving, shared") => sharing::serve(&rt, alloc),
         Some(name) => call(&rt, alloc, name),
         None => Err(Unwell::Input),
     };

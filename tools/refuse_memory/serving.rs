@@ -1,6 +1,8 @@
 //! Serving, running and undoing, which take no memory.
+use super::asked::{ON_IPMB, ON_SMBUS};
 use super::called::{Unwell, some};
-use super::controller::{GET_DEVICE_ID, GET_TID, open_sample, place};
+use super::codes::{Codes, open_board};
+use super::controller::{GET_DEVICE_ID, GET_TID, place};
 use super::manager::file_plan;
 use bmc_board::{Bench, Board, Records};
 use bmc_core::{Out, Port, Step};
@@ -15,7 +17,8 @@ use undo_core::{Manager, Phase, Sent};
 /// How many frames a manager sends at most.
 const MOST: usize = 20;
 
-/// A board with its history, its ports, a link that hears what others ask, and a manager: all that is opened before.
+/// A board with its history, its ports, a link that hears what others ask, a manager, and room for the codes of replies: all that is opened
+/// before.
 #[derive(Drop)]
 struct Opened<J: Opening> {
     held: Held<J, Records>,
@@ -24,17 +27,19 @@ struct Opened<J: Opening> {
     link: MemLink,
     out: Out,
     manager: Manager,
+    codes: Codes,
 }
 
 fn open<J: Opening>(alloc: Global) -> Result<Opened<J>, Unwell> {
     let at = place()?;
     Ok(Opened {
-        held: some(Held::open(alloc, open_sample(alloc)?, 64).ok())?,
+        held: some(Held::open(alloc, open_board(alloc)?, 256).ok())?,
         ipmb: Port::new(alloc, Bus::Ipmb, at)?,
         smbus: Port::new(alloc, Bus::Smbus, at)?,
         link: some(MemLink::new(alloc, &[GET_DEVICE_ID, GET_DEVICE_ID, &[0x20], &[]]).ok())?,
         out: Out::new(),
         manager: some(Manager::open(alloc, file_plan(alloc)?, lab_names(), 3).ok())?,
+        codes: Codes::new(alloc)?,
     })
 }
 
@@ -48,6 +53,16 @@ impl<J: Opening> Opened<J> {
         if let Step::Ask(pending) = port.hear(bytes, &mut self.out) {
             if let Ok(answered) = self.held.exchange(bus as u8, &pending.asked()) {
                 port.answer(pending, &answered, &mut self.out);
+            }
+        }
+    }
+
+    /// The board is asked for all that it can be asked to set, over both buses.
+    fn hear_commands(&mut self) {
+        for (bus, frames) in [(Bus::Ipmb, ON_IPMB), (Bus::Smbus, ON_SMBUS)] {
+            for frame in frames {
+                self.hear(bus, frame);
+                self.codes.note(bus, self.out.frames.as_slice());
             }
         }
     }
@@ -102,10 +117,11 @@ fn serve_opened<J: Opening, R: Print>(rt: &R, alloc: Global) -> Result<(), Unwel
     let undone = some(opened.manager.undo().ok())?;
     let undone = opened.run(undone);
     let again = opened.serve();
+    opened.hear_commands();
     println!(rt; "called")?;
     let events = opened.held.len();
-    println!(rt; "came served {served} {done:?} {ticked} {undone:?} served {again} events {events}")?;
-    Ok(())
+    print!(rt; "came served {served} {done:?} {ticked} {undone:?} served {again} events {events} codes ")?;
+    opened.codes.print(rt)
 }
 
 pub fn serve<R: Print>(rt: &R, alloc: Global) -> Result<(), Unwell> {

@@ -104,7 +104,7 @@ pub fn shared<R: Print>(rt: &R, alloc: Global) -> Result<(), Unwell> {
 }
 
 /// A gate that holds nobody.
-struct OpenGate;
+pub struct OpenGate;
 
 impl Gate for OpenGate {
     fn pass(&self, _port: u8, _n: u64) {}

@@ -21,7 +21,7 @@ WAIT, QUIET_TURNS = 50, 10
 
 def wait_for(asker, raw):
     """Reads sensor 5 until it has this reading."""
-    until = time.monotonic() + servers.END / 2
+    until = time.monotonic() + servers.CALL
     while asker.get(*READING)[1] != raw:
         if time.monotonic() > until:
             raise Failed(f"sensor 5 never has the reading {raw:02X}")
@@ -51,8 +51,8 @@ def happens_in_time(program, folder, board):
 
 
 def goes_on(program, folder, board):
-    """More happens than one period has room for: the rest happens in the next ones, while a client asks."""
-    ticks = 2 * ROOM
+    """More happens than one period has room for, over a hundred thousand events: the rest happens in the next ones, while a client asks."""
+    ticks = 25 * ROOM
     path = servers.write(f"{folder}/readings.txt", "0 tick\n" * ticks + f"0 scan 05 {HOT:02X}\n")
     with Server(program, board, TURNS, "--periods", "--readings", path) as server:
         with Asker(server.ports) as asker:

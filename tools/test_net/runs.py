@@ -9,8 +9,8 @@ from .plans import IPMB, steps_by, text_of
 from .proxy import Proxies, Troubles
 from .servers import HOST, Asker, Failed, Server, expect
 
-# How long one quiet turn of these runs lasts, in milliseconds.
-WAIT = 50
+# How long one quiet turn of these runs lasts, in milliseconds; and of those that a reply has to reach, however busy the machine is.
+WAIT, LONG_WAIT = 50, 1000
 TURNS = 2000
 # How many datagrams are lost while a link is silent: ten of them are five requests, each sent twice.
 MOST_LOST = 10
@@ -25,10 +25,10 @@ def ipmb_steps(seed, number):
 
 
 class Run:
-    """A call of `bmcnet run` that goes on. At the end of a `with` it has ended, by itself or by its process id."""
+    """A call of `bmcnet run`, or of another task, that goes on. At the end of a `with` it has ended, by itself or by its process id."""
 
-    def __init__(self, program, *words):
-        self.words = [program, "run", *map(str, words)]
+    def __init__(self, program, *words, task="run"):
+        self.words = [program, task, *map(str, words)]
 
     def __enter__(self):
         self.process = subprocess.Popen(self.words, stdin=subprocess.DEVNULL, stdout=subprocess.PIPE, stderr=subprocess.PIPE, text=True)
@@ -66,7 +66,7 @@ def tries_again(program, folder, board):
     plan, undo = servers.write(f"{folder}/plan.toml", text_of(steps, 1)), f"{folder}/undo.txt"
     with Server(program, board, 3000) as server, Proxies(server.ports, 1) as proxies:
         silent = Troubles(silent_from=SILENT_FROM)
-        said = proxies.call(silent, program, "run", plan, 40, f"{folder}/lost.txt", "--wait", WAIT)
+        said = proxies.call(silent, program, "run", plan, 12, f"{folder}/lost.txt", "--wait", LONG_WAIT)
         expect("run, silent", said, (0, "phase Unsettled 1\n", ""))
         expect("its undo text", os.path.exists(f"{folder}/lost.txt"), False)
         server.ended()
@@ -83,7 +83,7 @@ def tries_again(program, folder, board):
             expect("run, silent for a while", run.ended(), (0, "phase Done\n", ""))
         if [get for get in gets if asker.get_all(gets)[get] == before[get]]:
             raise Failed("the run changed no record")
-        expect("undo", proxies.call(Troubles(), program, "undo", undo, TURNS, "--wait", WAIT), (0, "phase Undone\n", ""))
+        expect("undo", proxies.call(Troubles(), program, "undo", undo, TURNS, "--wait", LONG_WAIT), (0, "phase Undone\n", ""))
         expect("the records behind the undo", asker.get_all(gets), before)
         expect("serve", server.ended(), (0, f"served {3 * STEPS + sum(asker.asked)}\nrecords same\n", ""))
 

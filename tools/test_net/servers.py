@@ -25,6 +25,10 @@ class Failed(Exception):
     """What came otherwise than it must."""
 
 
+class Skipped(Exception):
+    """Why a test isn't made on this machine."""
+
+
 def expect(what, found, wanted):
     if found != wanted:
         raise Failed(f"{what}: {found!r} in place of {wanted!r}")
@@ -198,7 +202,7 @@ class Asker:
 
     def ask(self, bus, frame):
         """Returns what the controller answers to a request, which is sent again where it stays quiet."""
-        for _ in range(25):
+        for _ in range(int(START / QUIET)):
             self.links[bus].send(frame)
             reply = self.heard(bus, number_of(bus, frame))
             if reply is not None:

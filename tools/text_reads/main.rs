@@ -16,10 +16,19 @@ use std::io::Print;
 use std::process::ExitCode;
 use std::time::Clock;
 
-/// Reads each prefix of the text.
-fn read_prefixes<R: Clock + Print>(rt: &R, alloc: Global, form: Form, tally: &mut Tally) -> Result<(), Unwell> {
+/// Reads the whole text, and of its prefixes each of so many, the empty one first.
+fn read_prefixes<R: Clock + Print>(
+    rt: &R,
+    alloc: Global,
+    form: Form,
+    every: u64,
+    tally: &mut Tally,
+) -> Result<(), Unwell> {
     let text = text_of(form);
     for end in 0..=text.len() {
+        if end as u64 % every != 0 && end != text.len() {
+            continue;
+        }
         if let Some(prefix) = text.get(..end) {
             tally.count(read_timed(rt, alloc, form, prefix)?, prefix.len());
         }
@@ -70,12 +79,15 @@ fn number_at(words: &[String], place: usize) -> Result<u64, Unwell> {
     word_at(words, place)?.parse().ok().ok_or(Unwell::Words)
 }
 
-/// `prefixes FORM`, `edits FORM SEED MANY` or `long NAME MANY TIMES`.
+/// `prefixes FORM EVERY`, `edits FORM SEED MANY` or `long NAME MANY TIMES`.
 fn run<R: Clock + Print>(rt: &R, alloc: Global, words: &[String]) -> Result<(), Unwell> {
     let name = word_at(words, 2)?;
     let mut tally = Tally::NOTHING;
     match word_at(words, 1)? {
-        "prefixes" => read_prefixes(rt, alloc, Form::of(name)?, &mut tally),
+        "prefixes" => {
+            let every = number_at(words, 3)?.max(1);
+            read_prefixes(rt, alloc, Form::of(name)?, every, &mut tally)
+        }
         "edits" => {
             let seeds = (number_at(words, 3)?, number_at(words, 4)?);
             read_edits(rt, alloc, Form::of(name)?, seeds, &mut tally)
