@@ -11,3 +11,6 @@ pub mod Replied
 pub mod ShortValues
 pub mod JoinedBodies
 pub mod Begun
+pub mod Placed
+pub mod Journals
+pub mod Revived

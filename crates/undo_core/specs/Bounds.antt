@@ -1,14 +1,15 @@
 -- How far a manager's numbers go.
-use Rattle.std.specs.Prelude.{ℕ, suc, ◌+◌, ◌-◌, ◌*◌, ◌<◌, ◌≤◌, List, [], length, drop}
+use Rattle.std.specs.Prelude.{ℕ, suc, ◌<◌, ◌≤◌, List, [], length, drop}
 use Rattle.record_base.specs.declared.op.Op.{Op}
-use Rattle.undo_plans.specs.Steps.{most_steps}
-use Rattle.undo_plans.specs.Fitting.{most_requests}
 use Rattle.undo_plans.specs.Requests.{RequestList}
 use Rattle.undo_core.specs.declared.stage.Task.{Task}
 use Rattle.undo_core.specs.declared.stage.Task.TheVariants.{Gets, Sets, Undoes}
 use Rattle.undo_core.specs.declared.stage.Stage.{Stage}
-use Rattle.undo_core.specs.declared.stage.Stage.TheVariants.{AtStart, Opened, AtEnd, AtHalt, AtUndone, AtRefused}
+use Rattle.undo_core.specs.declared.stage.Stage.TheVariants.{AtStart, Opened}
 use Rattle.undo_core.specs.Joining.{most_joined}
+use Rattle.undo_core.specs.Stages.{kept_task, kept_stage}
+use Rattle.undo_journal.specs.Bounds as kept
+pub use Rattle.undo_journal.specs.Bounds.{replies_of_step, most_replies}
 
 -- how many requests of the stage's task were answered
 abbrev pub parts_at : Stage → ℕ
@@ -46,36 +47,17 @@ undone_needed _ = 0
 
 -- how many there are at most
 abbrev pub task_backs : Task → ℕ
-task_backs (Gets step) = step
-task_backs (Sets step) = step
-task_backs (Undoes step) = most_steps
+task_backs task = kept.task_backs (kept_task task)
 
 abbrev pub most_backs : Stage → ℕ
-most_backs AtStart = 0
-most_backs (Opened heeded task parts asked) = task_backs task
-most_backs _ = most_steps
-
--- how many replies a manager takes for a step at most: to its Gets, to its Sets, and to the requests that undo it
-abbrev pub replies_of_step : ℕ
-replies_of_step = 3 * most_requests
-
--- how many it takes at most: those for each step of a plan, and those to the requests that undo the steps of a list
-abbrev pub most_replies : ℕ
-most_replies = replies_of_step * most_steps + most_requests * most_steps
+most_backs stage = kept.most_backs (kept_stage stage)
 
 -- how many replies the manager may still take, of a plan of so many steps, with so many requests that undo, once it took so many of this task's
 abbrev pub task_left : (steps backs : ℕ) → Task → (parts : ℕ) → ℕ
-task_left steps backs (Gets step) parts = replies_of_step * (steps - step) - parts + most_requests * backs
-task_left steps backs (Sets step) parts = replies_of_step * (steps - step) - most_requests - parts + most_requests * backs
-task_left steps backs (Undoes step) parts = most_requests * suc step - parts
+task_left steps backs task parts = kept.task_left steps backs (kept_task task) parts
 
 abbrev pub replies_left : (steps backs : ℕ) → Stage → ℕ
-replies_left steps backs AtStart = replies_of_step * steps
-replies_left steps backs (Opened heeded task parts asked) = task_left steps backs task parts
-replies_left steps backs AtEnd = most_requests * backs
-replies_left steps backs (AtHalt step why) = most_requests * backs
-replies_left steps backs AtUndone = 0
-replies_left steps backs (AtRefused step code) = 0
+replies_left steps backs stage = kept.replies_left steps backs (kept_stage stage)
 
 -- how many replies are left to a plan with these requests that undo
 abbrev pub left_at : List Op → RequestList → Stage → ℕ

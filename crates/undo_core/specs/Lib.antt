@@ -1,9 +1,12 @@
 pub mod Counted
 pub mod Joining
-pub mod Bounds
 pub mod Stages
+pub mod Bounds
+pub mod Placed
+pub mod PlacedLaws
 pub mod Room
 pub mod Shown
+pub mod Journals
 pub mod Entered
 pub mod Exchange
 pub mod Course

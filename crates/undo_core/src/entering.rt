@@ -1,5 +1,5 @@
 //! The stages that a manager enters, and what a reply does with the list of requests that undo.
-ghost use Rattle.std.specs.Prelude.{◌≡◌, ◌*◌, ◌≤◌, ◌<◌, ℕ, suc, length, drop, List};
+ghost use Rattle.std.specs.Prelude.{◌≡◌, ◌*◌, ◌≤◌, ◌<◌, ℕ, suc, length, drop, List, IsSome};
 ghost use Rattle.record_base.specs.declared.op.Op.{Op};
 ghost use Rattle.undo_plans.specs.Fitting.{most_requests};
 ghost use Rattle.undo_plans.specs.Steps.{most_steps};
@@ -8,6 +8,9 @@ ghost use Rattle.undo_core.specs.Joining.{most_joined};
 ghost use Rattle.undo_core.specs.Entered.{EntersStep, EntersUndo, AfterTask, AfterSet, AfterUndo};
 ghost use Rattle.undo_core.specs.Bounds.{parts_at, most_got, most_replied, task_steps, steps_needed, task_undone, undone_needed, task_backs, most_backs, replies_left, FewerAreLeft, LeavesFewer, LeavesNoMore, task_ahead, steps_ahead};
 ghost use Rattle.undo_core.specs.Room.{HasRoom, NeedsNoMoreRoom, NeedsNoRoom};
+ghost use Rattle.undo_journal.specs.Kept.{Waits};
+ghost use Rattle.undo_core.specs.Stages.{kept_task};
+ghost use Rattle.undo_core.specs.Placed.{IsPlaced, IsPlacedIn, IsPlacedAmong};
 
 use crate::Why;
 use crate::getting::after_get;
@@ -35,6 +38,7 @@ pub(crate) fn step_stage(steps: &Steps, stopped: bool, step: usize) -> Stage
     ensures left { LeavesNoMore steps.now (IsGets step) 0 result }
     ensures room { NeedsNoMoreRoom steps.now step result }
     ensures first { parts_at result ≡ 0 }
+    ensures placed { IsPlacedIn steps.now result }
 {
     let _steps = steps.len();
     match steps.get(step) {
@@ -64,6 +68,7 @@ pub(crate) fn undo_stage(requests: &Requests, left: usize) -> Stage
         → replies_left steps undone result ≤ most_requests * left }
     ensures room { NeedsNoRoom result }
     ensures first { parts_at result ≡ 0 }
+    ensures placed { IsPlacedAmong requests.now result }
 {
     if left == 0 {
         return Stage::AtUndone;
@@ -96,6 +101,7 @@ pub(crate) fn stage_after(
     requires room { HasRoom (task_ahead steps.now task) requests.old }
     requires parts { parts < most_requests }
     requires filled { length replies.old ≤ most_got task parts }
+    requires waits { Waits requests.old.waiting (kept_task task) }
     ensures after { AfterTask steps.now stopped task parts reply.entry
         requests.old requests.new replies.old replies.new result }
     ensures planned { steps_needed result ≤ length steps.now }
@@ -105,6 +111,7 @@ pub(crate) fn stage_after(
     ensures room { HasRoom (steps_ahead steps.now result) requests.new }
     ensures parted { parts_at result < most_requests }
     ensures filled { length replies.new ≤ most_replied result }
+    ensures placed { IsPlaced steps.now requests.new result }
 {
     let _replies = replies.as_slice();
     match task {
@@ -127,6 +134,7 @@ fn after_set(
     requires few { length requests.old.members ≤ step }
     requires room { HasRoom (drop (suc step) steps.now) requests.old }
     requires parts { parts < most_requests }
+    requires waits { IsSome requests.old.waiting }
     ensures after { AfterSet steps.now stopped step parts
         reply.entry requests.old requests.new result }
     ensures planned { steps_needed result ≤ length steps.now }
@@ -136,6 +144,7 @@ fn after_set(
     ensures room { HasRoom (steps_ahead steps.now result) requests.new }
     ensures parted { parts_at result < most_requests }
     ensures free { most_replied result ≡ most_joined 0 }
+    ensures placed { IsPlaced steps.now requests.new result }
 {
     let _steps = steps.len();
     let op = steps.get(step).unwrap();
@@ -168,7 +177,9 @@ fn after_undo(requests: &Requests, step: usize, parts: u8, reply: Reply<'_>) -> 
     ensures room { NeedsNoRoom result }
     ensures parted { parts_at result < most_requests }
     ensures free { most_replied result ≡ most_joined 0 }
+    ensures placed { IsPlacedAmong requests.now result }
 {
+    let _members = requests.len();
     let member = requests.get(step).unwrap();
     if let Some(code) = Code::new(reply.code) {
         return Stage::AtRefused(step, code);

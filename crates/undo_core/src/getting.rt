@@ -6,6 +6,7 @@ ghost use Rattle.undo_core.specs.Joining.{most_joined, IsFullPart, get_after_rep
 ghost use Rattle.undo_core.specs.Entered.{EntersSet, AfterGet};
 ghost use Rattle.undo_core.specs.Bounds.{parts_at, most_replied, steps_needed, undone_needed, most_backs, LeavesFewer, LeavesNoMore, steps_ahead};
 ghost use Rattle.undo_core.specs.Room.{HasRoom};
+ghost use Rattle.undo_core.specs.Placed.{IsPlaced};
 
 use crate::Why;
 use crate::entering::Reply;
@@ -17,7 +18,7 @@ use cfg_records::{Asked, Key, RecordKind};
 use pldm_base::PART_LENGTH;
 use record_kinds::Limits;
 use two_wire::Code;
-use undo_plans::{Requests, Steps};
+use undo_plans::{Requests, Steps, shown_alone};
 
 /// The request for the next part of a record, after so many replies of which this is the last.
 fn next_part(key: &Key, count: u8, body: &[u8]) -> Option<Asked>
@@ -55,6 +56,7 @@ pub(crate) fn after_get(
     ensures room { HasRoom (steps_ahead steps.now result) requests.new }
     ensures parted { parts_at result < most_requests }
     ensures filled { length replies.new ≤ most_replied result }
+    ensures placed { IsPlaced steps.now requests.new result }
 {
     let _steps = steps.len();
     let _replies = replies.as_slice();
@@ -75,7 +77,8 @@ pub(crate) fn after_get(
         };
     }
     if parts == 0 {
-        return got_stage(steps, stopped, requests, step, reply.body);
+        let shown = shown_alone(&Limits::key(&op), reply.body);
+        return got_stage(steps, stopped, requests, step, shown);
     }
     replies.end(parts, reply.body);
     got_stage(steps, stopped, requests, step, replies.as_slice())
@@ -101,6 +104,7 @@ fn got_stage(
     ensures room { HasRoom (steps_ahead steps.now result) requests.new }
     ensures first { parts_at result ≡ 0 }
     ensures free { most_replied result ≡ most_joined 0 }
+    ensures placed { IsPlaced steps.now requests.new result }
 {
     let _steps = steps.len();
     let op = steps.get(step).unwrap();

@@ -48,6 +48,16 @@ impl JoinedReplies {
         })
     }
 
+    /// These data, and the memory for all.
+    pub(crate) fn of(alloc: Global, bytes: &[u8]) -> Result<Self, AllocError>
+        requires { length bytes.now ≤ before_part + most_entry }
+        ensures { IfOk result (λ replies. replies ≡ bytes.now) }
+    {
+        let mut replies = JoinedReplies::open(alloc)?;
+        replies.bytes.extend_from_slice(bytes).unwrap();
+        Ok(replies)
+    }
+
     /// The data.
     pub(crate) fn as_slice(&self) -> &[u8]
         ensures value { result.now ≡ self.now }

@@ -4,6 +4,7 @@ ghost use Rattle.model_undo.specs.Unsettled.{UnsettledByQuiet};
 ghost use Rattle.undo_core.specs.Shown.{words_of};
 ghost use Rattle.undo_core.specs.Course.{GoesOnOverFrames};
 ghost use Rattle.undo_core.specs.Exchange.{RequestsAreHeard, RepliesAreTaken};
+ghost use Rattle.undo_core.specs.Journals.{RevivingIsRestarting};
 
 /// The controller's port reads the frames of a manager's request as that request, and as nothing else: it carries that request out, repeats
 /// its reply or says that it is busy, and writes the reply to it.
@@ -27,4 +28,9 @@ pub fn resumed_sends_the_same_frames()
 /// since `again`.
 pub fn unsettled_only_by_quiet()
     ensures { (names : Names) → UnsettledByQuiet (words_of names) }
+{}
+
+/// A manager that is made of another's journal is that one after a restart: whatever machine the other showed, it shows the one that is made again.
+pub fn reviving_is_restarting()
+    ensures { RevivingIsRestarting }
 {}

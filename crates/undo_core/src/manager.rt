@@ -3,6 +3,9 @@ ghost use Rattle.std.specs.Prelude.{◌+◌, ◌≤◌, ◌<◌, length};
 ghost use Rattle.undo_core.specs.Bounds.{steps_needed, undone_needed, most_backs, replies_left, most_replies, steps_ahead, parts_at, most_replied};
 ghost use Rattle.undo_plans.specs.Fitting.{most_requests};
 ghost use Rattle.undo_core.specs.Room.{HasRoom};
+ghost use Rattle.undo_core.specs.Stages.{kept_stage};
+ghost use Rattle.undo_core.specs.Placed.{IsPlaced, IsUnsent};
+ghost use Rattle.undo_core.specs.PlacedLaws.{IsPlaced-prop, IsUnsent-prop};
 
 use crate::joining::JoinedReplies;
 use crate::sending::Counts;
@@ -55,6 +58,8 @@ pub struct Manager {
     ghost roomy: { HasRoom (steps_ahead steps stage) undo.requests },
     ghost parted: { parts_at stage < most_requests },
     ghost filled: { length replies ≤ most_replied stage },
+    ghost placed: { IsPlaced steps undo.requests stage } by { IsPlaced-prop steps undo.requests stage },
+    ghost unsent: { IsUnsent (kept_stage stage) resent } by { IsUnsent-prop (kept_stage stage) resent },
 }
 
 // Written out: the crates above would prove a derived one anew.

@@ -121,7 +121,7 @@ fn are_others(names: &Names, listed: &Option<Names>) -> bool
 }
 
 /// The number of retries, or nothing where it is above `MOST_RETRIES`.
-fn retries_of(number: u8) -> Option<Retries>
+pub(crate) fn retries_of(number: u8) -> Option<Retries>
     ensures { SomeIff result (number ≤ most_retries) number }
 {
     if number > MOST_RETRIES {

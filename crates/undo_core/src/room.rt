@@ -1,5 +1,5 @@
 //! How much room the requests need that undo a plan.
-ghost use Rattle.std.specs.Prelude.{◌≡◌, ◌≤◌, [], IfOk};
+ghost use Rattle.std.specs.Prelude.{◌≡◌, ◌≤◌, [], IfOk, OnOk};
 ghost use Rattle.undo_plans.specs.Requests.{most_undo_data};
 ghost use Rattle.undo_core.specs.Room.{most_data, data_for, HasRoom};
 
@@ -29,6 +29,15 @@ fn bytes_for(steps: &Steps) -> usize
         bytes += most_bytes(&op);
     }
     bytes
+}
+
+/// Takes the memory for the requests that undo these steps, behind those that there are.
+pub(crate) fn make_room(requests: &mut Requests, steps: &Steps) -> Result<(), AllocError>
+    ensures members { requests.new.members ≡ requests.old.members }
+    ensures waiting { requests.new.waiting ≡ requests.old.waiting }
+    ensures room { OnOk result (HasRoom steps.now requests.new) }
+{
+    requests.reserve(steps.len(), bytes_for(steps))
 }
 
 /// No request, with the room for those that undo these steps.

@@ -4,12 +4,13 @@ ghost use Rattle.undo_core.specs.declared.stage.Stage.TheVariants.{AtEnd as IsAt
 ghost use Rattle.model_undo.specs.declared.phase.Why.{Why as AnyWhy};
 ghost use Rattle.model_undo.specs.Machine as machine;
 ghost use Rattle.undo_core.specs.Shown.{words_of, ForTask, ForStage};
-ghost use Rattle.undo_core.specs.Stages.{IsOpen, ForOpen, IsHeededOn, ForHeededOn, IsHalted};
+ghost use Rattle.undo_core.specs.Stages.{IsOpen, ForOpen, IsHeededOn, ForHeededOn, IsHalted, kept_task, kept_stage};
 
 use crate::sending::bus_of;
 use crate::{Phase, Why};
 use cfg_records::Asked;
 use two_wire::{Bus, Code};
+use undo_journal::{KeptStage, KeptTask};
 
 /// One step of the way there or back.
 #[derive(Clone, Copy)]
@@ -60,6 +61,17 @@ impl Task {
             Task::Undoes(step) => Phase::Undoing(*step),
         }
     }
+
+    /// The task as a journal has it.
+    fn kept(&self) -> KeptTask
+        ensures { result ≡ kept_task self.now }
+    {
+        match self {
+            Task::Gets(step) => KeptTask::Get(*step),
+            Task::Sets(step) => KeptTask::Set(*step),
+            Task::Undoes(step) => KeptTask::Undo(*step),
+        }
+    }
 }
 
 impl Stage {
@@ -83,6 +95,23 @@ impl Stage {
             Stage::AtHalt(step, why) => Phase::Halted(*step, *why),
             Stage::AtUndone => Phase::Undone,
             Stage::AtRefused(step, code) => Phase::UndoRefused(*step, *code),
+        }
+    }
+
+    /// The stage as a journal has it.
+    pub(crate) fn kept(&self) -> KeptStage
+        ensures { result ≡ kept_stage self.now }
+    {
+        match self {
+            Stage::AtStart => KeptStage::Fresh,
+            Stage::Opened { task, parts, .. } => KeptStage::Open {
+                task: task.kept(),
+                part: *parts,
+            },
+            Stage::AtEnd => KeptStage::Done,
+            Stage::AtHalt(step, why) => KeptStage::Halted(*step, *why),
+            Stage::AtUndone => KeptStage::Undone,
+            Stage::AtRefused(step, code) => KeptStage::UndoRefused(*step, *code),
         }
     }
 

@@ -28,3 +28,20 @@ goes_alone (Pldm from kind command body) none = at (kind == bios && command == s
       cc both
   at true false is made = refl
   at false goes is made = refl
+
+first_part_at : (body : List ℕ) → goes_in_parts body ≡ true → part_at body 0 ≡ Some (set_part (entry_in body) 0)
+first_part_at body goes =
+    let long : not (goes_whole (entry_in body)) ≡ true = (both_true (byte_at body 4 == start_and_end) (not (goes_whole (entry_in body))) goes).1 in
+    let some : nat_lt (part_length * 0) (length (entry_in body)) ≡ true = grind (arith, nat_tests) in
+    ap (λ (b : Bool). if b then Some (set_part (entry_in body) 0) else None) some
+
+-- the one of place 0 is the first
+pub begins_at : (asked : Asked) → request_at asked 0 ≡ Some (first_request asked)
+begins_at (Ipmi from net_fn lun command body) = refl
+begins_at (Pldm from kind command body) = at (kind == bios && command == set_current_value) (goes_in_parts body) refl where
+  at : (sets goes : Bool) → goes_in_parts body ≡ goes
+      → (if sets && goes then option_map (Pldm from kind command) (part_at body 0) else Some (Pldm from kind command body))
+      ≡ Some (Pldm from kind command (if sets && goes then set_part (entry_in body) 0 else body))
+  at true true is = ap (option_map (Pldm from kind command)) (first_part_at body is)
+  at true false is = refl
+  at false goes is = refl

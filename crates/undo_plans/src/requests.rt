@@ -2,7 +2,7 @@
 //!
 //! The data of the requests lie one behind another, and each request has a mark that says where. A request is written where it will lie
 //! before it counts.
-ghost use Rattle.std.specs.Prelude.{◌≡◌, ◌+◌, ◌<◌, ◌≤◌, [], ◌∷◌, ◌++◌, suc, length, reverse, slice_get, IfOk, IfSome, IfNone, OnOk, None, Some};
+ghost use Rattle.std.specs.Prelude.{◌≡◌, ◌+◌, ◌<◌, ◌≤◌, [], ◌∷◌, ◌++◌, suc, length, reverse, slice_get, IfOk, IfSome, IfNone, OnErr, OnOk, None, Some};
 ghost use Rattle.std.specs.Option.{option_to_list};
 ghost use Rattle.undo_plans.specs.Steps.{most_steps};
 ghost use Rattle.undo_plans.specs.Requests.{meant, data_of};
@@ -91,6 +91,17 @@ impl Requests {
         }
     }
 
+    /// The request that is written behind those that count.
+    pub fn waiting(&self) -> Option<UndoRequest<'_>>
+        ensures there { IfSome result (λ request. self.now.waiting ≡ Some (meant request)) }
+        ensures missing { IfNone result (self.now.waiting ≡ None) }
+    {
+        match self.marks.get(self.counted) {
+            Some(mark) => Some(mark.request(self.bytes.as_slice())),
+            None => None,
+        }
+    }
+
     /// Writes the request that undoes the next step behind those that count, in place of one that waits there.
     pub fn prepare(&mut self, request: &UndoRequest<'_>)
         requires few { length self.old.members < most_steps }
@@ -123,16 +134,27 @@ impl Requests {
         self.kept = self.bytes.len();
     }
 
-    /// Takes the memory that one more request with so many bytes of data needs.
-    fn reserve(&mut self, body: usize) -> Result<(), AllocError>
-        requires { self.old.waiting ≡ None }
+    /// Takes the memory that so many more requests need, with so many bytes of data together.
+    pub fn reserve(&mut self, places: usize, room: usize) -> Result<(), AllocError>
         ensures members { self.new.members ≡ self.old.members }
-        ensures waiting { self.new.waiting ≡ None }
-        ensures place { OnOk result (0 < self.new.places) }
-        ensures room { OnOk result (body ≤ self.new.room) }
+        ensures waiting { self.new.waiting ≡ self.old.waiting }
+        ensures places { OnOk result (places ≤ self.new.places) }
+        ensures room { OnOk result (room ≤ self.new.room) }
     {
-        self.marks.reserve(1)?;
-        self.bytes.reserve(body)
+        self.marks.reserve(places)?;
+        self.bytes.reserve(room)
+    }
+
+    /// Writes the request that undoes the next step behind those that count, in place of one that waits there, and takes the memory that it needs.
+    pub fn hold(&mut self, request: &UndoRequest<'_>) -> Result<(), AllocError>
+        requires { length self.old.members < most_steps }
+        ensures members { self.new.members ≡ self.old.members }
+        ensures waiting { OnOk result (self.new.waiting ≡ Some (meant request.now)) }
+        ensures kept { OnErr result (self.new.waiting ≡ self.old.waiting) }
+    {
+        self.reserve(1, request.body().len())?;
+        self.prepare(request);
+        Ok(())
     }
 
     /// Adds the request that undoes the next step, and takes the memory that it needs.
@@ -143,8 +165,7 @@ impl Requests {
             ≡ self.old.members ++ meant request.now ∷ []) }
         ensures waiting { self.new.waiting ≡ None }
     {
-        self.reserve(request.body().len())?;
-        self.prepare(request);
+        self.hold(request)?;
         self.keep();
         Ok(())
     }

@@ -9,6 +9,9 @@ use record_base::Asked;
 use two_wire::size::MOST_IPMI_REQUEST_DATA;
 use two_wire::{Below, Bytes, Data, Lun, NetFn};
 
+/// How many requests carry one out at most: one for each part of the longest entry of an attribute.
+pub const MOST_REQUESTS: u8 = 6;
+
 /// A request that undoes a step, without a sender. Its data lie where somebody else keeps them, as in `Requests`.
 #[derive(Debug, Drop)]
 pub enum UndoRequest<'a> {

@@ -15,6 +15,7 @@ use Rattle.undo_core.specs.declared.stage.Stage.TheVariants.{Opened}
 use Rattle.undo_core.specs.declared.stage.Task.TheVariants.{Sets}
 use Rattle.undo_core.proofs.Replied as replied
 use Rattle.undo_core.proofs.Begun.{is_there, none_replied}
+use Rattle.undo_core.proofs.Placed.{set_placed}
 use Rattle.undo_core.proofs.entering.after_set.Goals as goal
 
 pub returns-in-Some-clause-after : goal.returns-in-Some-clause-after
@@ -104,3 +105,12 @@ step_stage-requires c = omega (arith, c.requires.step)
 
 pub overflow_add-step : goal.overflow_add-step
 overflow_add-step c = omega (arith, c.requires.step, c.len-steps.ensures, c.len-steps.type_inv)
+
+pub returns-in-Some-set_next-clause-placed : goal.returns-in-Some-set_next-clause-placed
+returns-in-Some-set_next-clause-placed c =
+    let there : slice_get c.args.steps.now c.args.step ≡ Some c.unwrap-op.result = sym c.get.ensures ∙ c.unwrap-op.ensures in
+    let made : request_at (set_whole c.unwrap-op.result) (c.args.parts + 1) ≡ Some c.in-Some-set_next.asked = sym c.set_next.ensures ∙ c.in-Some-set_next.is in
+    set_placed c.args.steps.now c.args.requests.now c.args.step (c.args.parts + 1) c.unwrap-op.result c.in-Some-set_next.asked there made c.requires.waits
+
+pub returns-in-None-clause-placed : goal.returns-in-None-clause-placed
+returns-in-None-clause-placed c = c.step_stage.ensures.placed c.keep.new.self

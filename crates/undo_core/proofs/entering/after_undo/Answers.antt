@@ -9,6 +9,7 @@ use Rattle.undo_core.specs.declared.stage.Stage.TheVariants.{Opened, AtRefused}
 use Rattle.undo_core.specs.declared.stage.Task.TheVariants.{Undoes}
 use Rattle.undo_core.proofs.Begun.{none_replied}
 use Rattle.undo_core.proofs.Replied as replied
+use Rattle.undo_core.proofs.Placed.{undo_placed}
 use Rattle.undo_core.proofs.entering.after_undo.Goals as goal
 
 pub returns-in-Some-clause-after : goal.returns-in-Some-clause-after
@@ -47,3 +48,12 @@ returns-in-None-clause-left c plan any = omega (arith, c.requires.parts, c.undo_
 
 pub returns-in-None-clause-free : goal.returns-in-None-clause-free
 returns-in-None-clause-free c = none_replied c.undo_stage.result c.undo_stage.ensures.first
+
+pub returns-in-Some-request-clause-placed : goal.returns-in-Some-request-clause-placed
+returns-in-Some-request-clause-placed c plan =
+    let there : slice_get c.args.requests.now.members c.args.step ≡ Some (meant c.unwrap-member.result) = rw c.unwrap-member.ensures at c.get.ensures.there in
+    let made : request_at (meant c.unwrap-member.result) (c.args.parts + 1) ≡ Some c.in-Some-request.asked = sym c.request.ensures.request ∙ c.in-Some-request.is in
+    undo_placed plan c.args.requests.now c.args.step (c.args.parts + 1) (meant c.unwrap-member.result) c.in-Some-request.asked there made
+
+pub returns-in-Some-clause-placed : goal.returns-in-Some-clause-placed
+returns-in-Some-clause-placed c plan = omega (arith, c.requires.step, c.len-members.ensures.value, c.len-members.ensures.few)

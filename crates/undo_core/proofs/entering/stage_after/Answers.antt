@@ -4,6 +4,8 @@ use Rattle.undo_core.specs.declared.stage.Task.{Task}
 use Rattle.undo_core.specs.declared.stage.Task.TheVariants.{Gets}
 use Rattle.undo_core.specs.Bounds.{replies_left, left_of, FewerAreLeft}
 use Rattle.undo_core.specs.Entered.{AfterTask}
+use Rattle.undo_core.specs.Stages.{kept_task}
+use Rattle.undo_journal.specs.Kept.{Waits}
 use Rattle.undo_core.proofs.entering.stage_after.Goals as goal
 
 pub returns-in-Gets-clause-after : goal.returns-in-Gets-clause-after
@@ -31,3 +33,9 @@ pub returns-in-Undoes-clause-left : goal.returns-in-Undoes-clause-left
 returns-in-Undoes-clause-left c =
     subst (λ (t : Task). FewerAreLeft c.args.steps.now c.args.requests.now c.args.requests.now t c.args.parts c.after_undo.result) (sym c.in-Undoes.is)
     (c.after_undo.ensures.left c.args.steps.now c.args.requests.now)
+
+pub after_set-requires-clause-waits : goal.after_set-requires-clause-waits
+after_set-requires-clause-waits c = subst (λ (t : Task). Waits c.args.requests.now.waiting (kept_task t)) c.in-Sets.is c.requires.waits
+
+pub returns-in-Undoes-clause-placed : goal.returns-in-Undoes-clause-placed
+returns-in-Undoes-clause-placed c = c.after_undo.ensures.placed c.args.steps.now

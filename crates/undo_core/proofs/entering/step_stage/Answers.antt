@@ -8,6 +8,7 @@ use Rattle.model_undo.specs.declared.phase.Why.TheVariants.{Stop}
 use Rattle.undo_core.specs.Shown.{words_of, own, IsStage}
 use Rattle.undo_core.specs.declared.stage.Stage.TheVariants.{Opened, AtHalt}
 use Rattle.undo_core.specs.declared.stage.Task.TheVariants.{Gets}
+use Rattle.undo_core.proofs.Placed.{got_placed}
 use Rattle.undo_core.proofs.entering.step_stage.Goals as goal
 
 pub returns-then-stopped-clause-stage : goal.returns-then-stopped-clause-stage
@@ -29,3 +30,8 @@ returns-else-stopped-clause-stage c names requests replies =
 pub returns-else-stopped-clause-planned : goal.returns-else-stopped-clause-planned
 returns-else-stopped-clause-planned c =
     omega (arith, slice_get_within c.args.steps.now c.args.step c.in-Some.op (sym c.get.ensures ∙ c.in-Some.is))
+
+pub returns-else-stopped-clause-placed : goal.returns-else-stopped-clause-placed
+returns-else-stopped-clause-placed c any =
+    let there : slice_get c.args.steps.now c.args.step ≡ Some c.in-Some.op = sym c.get.ensures ∙ c.in-Some.is in
+    got_placed c.args.steps.now any c.args.step 0 c.in-Some.op c.get_asked.result there (ap Some (sym (c.get_asked.ensures ∙ ap get_asked c.key.ensures)))

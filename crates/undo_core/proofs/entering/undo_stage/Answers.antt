@@ -1,9 +1,11 @@
-use Rattle.std.proofs.Common.{rules, ℕ, take, sym, subst, arith}
+use Rattle.std.proofs.Common.{rules, ℕ, ◌-◌, take, Some, sym, ◌∙◌, ap, subst, arith}
 use Rattle.undo_plans.specs.Requests.{meant}
 use Rattle.model_undo.specs.Machine as machine
 use Rattle.undo_core.specs.declared.stage.Stage.TheVariants.{AtUndone}
 use Rattle.undo_core.specs.Shown.{words_of, backs, IsStage}
 use Rattle.undo_core.proofs.Backs.{undoes_next}
+use Rattle.undo_plans.proofs.FirstRequest.{begins_at}
+use Rattle.undo_core.proofs.Placed.{undo_placed}
 use Rattle.undo_core.proofs.entering.undo_stage.Goals as goal
 
 pub returns-in-Some-clause-stage : goal.returns-in-Some-clause-stage
@@ -16,3 +18,7 @@ returns-then-left-eq0-clause-stage c names plan replies =
 
 pub returns-then-left-eq0-clause-left : goal.returns-then-left-eq0-clause-left
 returns-then-left-eq0-clause-left c steps undone = omega arith
+
+pub returns-in-Some-clause-placed : goal.returns-in-Some-clause-placed
+returns-in-Some-clause-placed c plan =
+    undo_placed plan c.args.requests.now (c.args.left - 1) 0 (meant c.in-Some.request) c.first.result (search rules) (begins_at (meant c.in-Some.request) ∙ ap Some (sym c.first.ensures))

@@ -14,6 +14,10 @@ use Rattle.undo_core.specs.Room.{most_data}
 use Rattle.undo_core.proofs.Rooms.{begins_with, same_kind, place_for, bytes_for_one, room_left}
 use Rattle.undo_core.proofs.ShortValues.{short_undo}
 use Rattle.undo_core.proofs.Begun.{is_there}
+use Rattle.undo_plans.proofs.FirstRequest.{begins_at}
+use Rattle.bios_attr.specs.EntryParts.{request_at}
+use Rattle.std.specs.Prelude.{IsSome}
+use Rattle.undo_core.proofs.Placed.{set_placed}
 use Rattle.undo_core.proofs.getting.got_stage.Goals as goal
 
 pub returns-in_default-clause-stage : goal.returns-in_default-clause-stage
@@ -62,3 +66,10 @@ returns-clause-room c =
 
 pub unwrap-op-requires : goal.unwrap-op-requires
 unwrap-op-requires c = is_there c.args.steps.now c.args.step c.get.result c.get.ensures c.requires.step
+
+pub returns-clause-placed : goal.returns-clause-placed
+returns-clause-placed c =
+    let op = c.unwrap-op.result in
+    let there : slice_get c.args.steps.now c.args.step ≡ Some op = sym c.get.ensures ∙ c.unwrap-op.ensures in
+    let asks : request_at (set_whole op) 0 ≡ Some c.set_asked.result = begins_at (set_whole op) ∙ ap Some (begins_with op ∙ sym c.set_asked.ensures) in
+    set_placed c.args.steps.now c.prepare_set.new.requests c.args.step 0 op c.set_asked.result there asks (subst IsSome (sym c.prepare_set.ensures.waiting) refl)

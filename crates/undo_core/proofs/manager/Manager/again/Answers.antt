@@ -7,6 +7,7 @@ use Rattle.undo_core.specs.declared.stage.Task.{Task}
 use Rattle.undo_core.specs.declared.stage.Stage.{Stage}
 use Rattle.undo_core.specs.declared.stage.Stage.TheVariants as stage
 use Rattle.undo_core.proofs.Calling.{refused, made, no_again, shows_opened, again_turn, enters_does}
+use Rattle.undo_core.specs.Placed.{IsPlaced}
 use Rattle.undo_core.proofs.manager.Manager.again.Goals as goal
 
 pub returns-in_default : goal.returns-in_default
@@ -78,3 +79,9 @@ returns c names s shows =
       joined = shows.joined;
     })
     (c.open_frames.ensures names c.args.self.now.steps c.args.self.now.undo.requests c.args.self.now.replies (machine.Opened true o.of o.part) shows.named at))
+
+pub invariant_of-self-then-heeded-clause-placed : goal.invariant_of-self-then-heeded-clause-placed
+invariant_of-self-then-heeded-clause-placed c = subst (IsPlaced c.args.self.now.steps c.args.self.now.undo.requests) c.in-Opened.is c.args.self.now.placed
+
+pub invariant_of-self-2-clause-placed : goal.invariant_of-self-2-clause-placed
+invariant_of-self-2-clause-placed c = subst (IsPlaced c.args.self.now.steps c.args.self.now.undo.requests) c.in-Opened.is c.args.self.now.placed

@@ -54,4 +54,6 @@ invariant_of-self c = record {
   roomy = c.args.self.now.roomy;
   parted = c.args.self.now.parted;
   filled = c.args.self.now.filled;
+  placed = c.args.self.now.placed;
+  unsent = c.args.self.now.unsent;
 }

@@ -11,6 +11,8 @@ use Rattle.undo_core.specs.Bounds.{steps_needed, undone_needed, most_backs, left
 use Rattle.undo_core.specs.Room.{HasRoom}
 use Rattle.undo_core.specs.Counted.{counts_of}
 use Rattle.undo_core.proofs.Replies.{took_reply}
+use Rattle.undo_core.specs.Placed.{IsPlaced}
+use Rattle.undo_core.proofs.Placed.{unsent_at_first}
 use Rattle.undo_core.proofs.manager.Manager.on_reply.Goals as goal
 
 pub invariant_of-self : goal.invariant_of-self
@@ -29,6 +31,8 @@ invariant_of-self c =
       roomy = c.stage_after-self.ensures.room;
       parted = c.stage_after-self.ensures.parted;
       filled = c.stage_after-self.ensures.filled;
+      placed = c.stage_after-self.ensures.placed;
+      unsent = unsent_at_first c.stage_after-self.result;
     }
 
 pub returns : goal.returns
@@ -77,3 +81,8 @@ stage_after-self-requires-clause-parts c = subst (λ (s : Stage). parts_at s < m
 
 pub stage_after-self-requires-clause-filled : goal.stage_after-self-requires-clause-filled
 stage_after-self-requires-clause-filled c = subst (λ (s : Stage). length c.args.self.now.replies ≤ most_replied s) c.in-Opened-true-default-default-default.is c.args.self.now.filled
+
+pub stage_after-self-requires-clause-waits : goal.stage_after-self-requires-clause-waits
+stage_after-self-requires-clause-waits c =
+    let self = c.args.self.now in
+    (subst (IsPlaced self.steps self.undo.requests) c.in-Opened-true-default-default-default.is self.placed).waits

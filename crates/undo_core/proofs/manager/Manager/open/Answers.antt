@@ -34,4 +34,6 @@ invariant_of-result c =
       roomy = c.in-Ok-room_for.ensures.room;
       parted = lit< tt;
       filled = omega (arith, empty);
+      placed = tt;
+      unsent = refl;
     }

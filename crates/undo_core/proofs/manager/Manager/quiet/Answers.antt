@@ -8,6 +8,7 @@ use Rattle.undo_core.specs.declared.stage.Task.{Task}
 use Rattle.undo_core.specs.declared.stage.Stage.{Stage}
 use Rattle.undo_core.specs.declared.stage.Stage.TheVariants as stage
 use Rattle.undo_core.proofs.Calling.{refused, made, no_quiet, shows_opened, quiet_resends, quiet_unsettles, resends_does, rests_does}
+use Rattle.undo_core.specs.Placed.{IsPlaced}
 use Rattle.undo_core.proofs.manager.Manager.quiet.Goals as goal
 
 pub returns-in_default : goal.returns-in_default
@@ -103,3 +104,12 @@ returns c names s shows =
       joined = shows.joined;
     })
     (c.open_frames.ensures names c.args.self.now.steps c.args.self.now.undo.requests c.args.self.now.replies s.machine.stage shows.named stays))
+
+pub invariant_of-self-then-not-heeded-clause-placed : goal.invariant_of-self-then-not-heeded-clause-placed
+invariant_of-self-then-not-heeded-clause-placed c = subst (IsPlaced c.args.self.now.steps c.args.self.now.undo.requests) c.in-Opened.is c.args.self.now.placed
+
+pub invariant_of-self-then-self-number-clause-placed : goal.invariant_of-self-then-self-number-clause-placed
+invariant_of-self-then-self-number-clause-placed c = subst (IsPlaced c.args.self.now.steps c.args.self.now.undo.requests) c.in-Opened.is c.args.self.now.placed
+
+pub invariant_of-self-2-clause-placed : goal.invariant_of-self-2-clause-placed
+invariant_of-self-2-clause-placed c = subst (IsPlaced c.args.self.now.steps c.args.self.now.undo.requests) c.in-Opened.is c.args.self.now.placed

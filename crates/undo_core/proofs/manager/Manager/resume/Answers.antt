@@ -32,4 +32,6 @@ invariant_of-result c =
       roomy = record { places = omega arith; room = omega arith };
       parted = lit< tt;
       filled = omega (arith, empty);
+      placed = omega (arith, c.len.ensures.value, c.len.ensures.few);
+      unsent = refl;
     }

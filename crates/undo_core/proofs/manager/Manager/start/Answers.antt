@@ -6,6 +6,7 @@ use Rattle.undo_core.specs.Shown.{words_of, IsStage}
 use Rattle.record_base.specs.declared.op.Op.{Op}
 use Rattle.undo_core.specs.declared.stage.Stage.{Stage}
 use Rattle.undo_core.proofs.Calling.{refused, made, no_start, shows_start, start_turn, first_is_next, enters_does}
+use Rattle.undo_core.proofs.Placed.{unsent_at_first}
 use Rattle.undo_core.proofs.manager.Manager.start.Goals as goal
 
 pub returns-in_default : goal.returns-in_default
@@ -37,3 +38,9 @@ returns c names s shows =
       joined = shows.joined;
     })
     (c.open_frames.ensures names c.args.self.now.steps c.args.self.now.undo.requests c.args.self.now.replies t shows.named at))
+
+pub invariant_of-self-clause-placed : goal.invariant_of-self-clause-placed
+invariant_of-self-clause-placed c = c.step_stage-self.ensures.placed c.args.self.now.undo.requests
+
+pub invariant_of-self-clause-unsent : goal.invariant_of-self-clause-unsent
+invariant_of-self-clause-unsent c = unsent_at_first c.step_stage-self.result

@@ -6,6 +6,7 @@ use Rattle.model_undo.specs.declared.call.Call.TheVariants.{Undo}
 use Rattle.model_undo.specs.Machine as machine
 use Rattle.undo_core.specs.Shown.{words_of, backs, IsStage}
 use Rattle.undo_core.proofs.Calling.{refused, made, no_undo, undo_turn, enters_does}
+use Rattle.undo_core.proofs.Placed.{unsent_at_first}
 use Rattle.undo_core.proofs.manager.Manager.undo.Goals as goal
 
 pub returns-then-not-is_over : goal.returns-then-not-is_over
@@ -39,3 +40,9 @@ returns c names s shows =
       joined = sym c.clear.ensures;
     })
     (c.open_frames.ensures names c.args.self.now.steps requests c.args.self.now.replies t shows.named at))
+
+pub invariant_of-self-clause-placed : goal.invariant_of-self-clause-placed
+invariant_of-self-clause-placed c = c.undo_stage-self.ensures.placed c.args.self.now.steps
+
+pub invariant_of-self-clause-unsent : goal.invariant_of-self-clause-unsent
+invariant_of-self-clause-unsent c = unsent_at_first c.undo_stage-self.result

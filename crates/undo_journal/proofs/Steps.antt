@@ -1,0 +1,1 @@
+-- The step of a task that asks for something is there.

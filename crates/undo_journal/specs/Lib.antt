@@ -1,0 +1,5 @@
+pub mod Asking
+pub mod Bounds
+pub mod Kept
+pub mod KeptLaws
+pub mod Journals
