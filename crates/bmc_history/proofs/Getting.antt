@@ -1,5 +1,5 @@
 -- A Get shows what was set.
-use Rattle.std.proofs.Common.{◌≡◌, ◌<◌, ◌++◌, ℕ, List, [], ◌∷◌, Option, Some, None, Result, Ok, Err, Bool, true, false, if◌then◌else◌, inl, inr, refl, sym, ap, ◌∙◌, subst, arith}
+use Rattle.std.proofs.Common.{◌≡◌, ◌≢◌, ◌<◌, ◌++◌, ◌⊎◌, ℕ, List, [], ◌∷◌, Option, Some, None, Result, Ok, Err, Bool, true, false, if◌then◌else◌, inl, inr, refl, sym, ap, ◌∙◌, subst, arith}
 use Rattle.two_wire.specs.Codes.{success}
 use Rattle.record_base.specs.Meaning.{DecidesValue}
 use Rattle.record_base.specs.Keys.{same_key}
@@ -20,17 +20,21 @@ use Rattle.attribute_parts.specs.declared.set_part.SetPart.TheVariants.{Start, M
 use Rattle.attribute_parts.specs.Stagings.{start_outcome, add_outcome, end_outcome}
 use Rattle.bmc_board.specs.Request.{Request}
 use Rattle.bmc_board.specs.Request.{Live, Get, Set, SetStores, PartOfSet, LaterPart}
+use Rattle.board_records.specs.Sets.{set_outcome}
 use Rattle.bmc_board.specs.Request.{asked_by}
 use Rattle.bmc_board.specs.State.{State}
 use Rattle.bmc_board.specs.Replies.{unknown_code}
 use Rattle.bmc_board.specs.Answer.{AnswerAndState, get_answer, set_result, set_answer, outcome_at, both_given, set_at, end_staging, ended, reply}
 use Rattle.bmc_board.specs.AttributeParts.{named_in, limits_named, later_answer}
+use Rattle.bmc_board.specs.Stores.{ChangesBoth, ChangesNeither}
 use Rattle.bmc_board.proofs.LiveFacts.{unknown_is_refused}
 use Rattle.bmc_board.proofs.PartFacts.{staged_records, unstaged_records}
+use Rattle.bmc_board.proofs.StoresFacts.{both_or_none}
 use Rattle.bmc_history.specs.declared.event.Call.{Call}
 use Rattle.bmc_history.specs.declared.event.Call.TheVariants.{Exchanged, Benched}
 use Rattle.bmc_history.specs.declared.event.Event.{Event}
 use Rattle.bmc_history.specs.Replay.{IsReplay, IsAnsweredCall, after_call}
+use Rattle.bmc_history.proofs.TwoStores.{NamesTwo, names_two}
 use Rattle.bmc_history.specs.Gets.{state_after, IsSetBy, WritesRecord, MayWrite, NoneWrites, IsGetOf, shown_by, GetsWhatWasSet}
 
 -- ---- calls that don't write a record keep it
@@ -73,7 +77,8 @@ reply_keeps setup before (Ok (Live command body)) key not = refl
 reply_keeps setup before (Ok (Get other)) key not = refl
 reply_keeps setup before (Ok (Set op)) key not = set_keeps (limits_at setup (key_of op)) (before.records (key_of op)) (unknown_code setup (key_of op)) op before key (λ is. not (op, refl, is))
 reply_keeps setup before (Ok (SetStores first second)) key not =
-    both_keep (outcome_at setup before (of_kind.ChannelAccess first)) (outcome_at setup before (of_kind.ChannelAccess second)) (key_of (of_kind.ChannelAccess first)) (key_of (of_kind.ChannelAccess second)) before key (λ is. not (inl is)) (λ is. not (inr is))
+    both_keep (outcome_at setup before (of_kind.ChannelAccess first)) (outcome_at setup before (of_kind.ChannelAccess second)) (key_of (of_kind.ChannelAccess first)) (key_of (of_kind.ChannelAccess second)) before key
+    (λ is. not (of_kind.ChannelAccess first, inl refl, is)) (λ is. not (of_kind.ChannelAccess second, inr refl, is))
 reply_keeps setup before (Ok (PartOfSet from (Start entry))) key not = ap (λ (r : Records). r key) (staged_records from before (start_outcome (limits_named setup (named_in entry)) before.activity.stagings from entry))
 reply_keeps setup before (Ok (PartOfSet from (Middle handle bytes))) key not = ap (λ (r : Records). r key) (staged_records from before (add_outcome before.activity.stagings from handle bytes))
 reply_keeps setup before (Ok (PartOfSet from (End handle bytes))) key not =
@@ -132,24 +137,84 @@ ended_written setup from before (Ok other) change e carried =
     subst (λ (c : SetBiosAttribute). Written (limits_at setup (key_of (of_kind.BiosAttribute c))) (before.records (key_of (of_kind.BiosAttribute c))) (of_kind.BiosAttribute c) before (end_staging from given)) same whole
 ended_written setup from before (Err code) change e carried = cc
 
+-- what an operation makes of its record, where it is accepted
+record Made (limits : Option Limits) (value : Option (List ℕ)) (op : Op) (new : List ℕ) : Type 0 where
+  of : Limits
+  old : List ℕ
+  limits_are : limits ≡ Some of
+  had : value ≡ Some old
+  was_set : sets of op old new
+
+made_where : (limits : Option Limits) (value : Option (List ℕ)) (unknown : ℕ) (op : Op) (new : List ℕ) → set_outcome limits value unknown op ≡ Ok new → Made limits value op new
+made_where (Some of) (Some old) unknown op new is = record {
+  of = of;
+  old = old;
+  limits_are = refl;
+  had = refl;
+  was_set = subst (λ (r : Result (List ℕ) ℕ). DecidesValue r (sets of op old)) is ((laws.record_laws of).decides op old);
+}
+made_where (Some of) None unknown op new is = absurd cc
+made_where None (Some old) unknown op new is = absurd cc
+made_where None None unknown op new is = absurd cc
+
+made_at : (setup : BoardFile) (before : State) (op : Op) (new : List ℕ) → outcome_at setup before op ≡ Ok new → Made (limits_at setup (key_of op)) (before.records (key_of op)) op new
+made_at setup before op new is = made_where (limits_at setup (key_of op)) (before.records (key_of op)) (unknown_code setup (key_of op)) op new is
+
+-- Two operations on two records were carried out, so both were.
+both_written : (setup : BoardFile) (before : State) (first second op : Op) (given : AnswerAndState) → (key_of first ≢ key_of second) → ChangesBoth setup before first second given
+    → (first ≡ op) ⊎ (second ≡ op) → Written (limits_at setup (key_of op)) (before.records (key_of op)) op before given
+both_written setup before first second op given apart both (inl is) =
+    let made : Made (limits_at setup (key_of first)) (before.records (key_of first)) first both.new = made_at setup before first both.new both.first_made in
+    let once : Records = with_record before.records (key_of first) both.new in
+    let whole : Written (limits_at setup (key_of first)) (before.records (key_of first)) first before given = record {
+      of = made.of;
+      old = made.old;
+      new = both.new;
+      limits_are = made.limits_are;
+      had = made.had;
+      was_set = made.was_set;
+      has = ap (λ (s : State). s.records (key_of first)) both.left ∙ kept once (key_of second) (key_of first) both.other (λ e. apart (sym e)) ∙ with_record_same before.records (key_of first) both.new;
+    } in
+    subst (λ (o : Op). Written (limits_at setup (key_of o)) (before.records (key_of o)) o before given) is whole
+both_written setup before first second op given apart both (inr is) =
+    let made : Made (limits_at setup (key_of second)) (before.records (key_of second)) second both.other = made_at setup before second both.other both.second_made in
+    let once : Records = with_record before.records (key_of first) both.new in
+    let whole : Written (limits_at setup (key_of second)) (before.records (key_of second)) second before given = record {
+      of = made.of;
+      old = made.old;
+      new = both.other;
+      limits_are = made.limits_are;
+      had = made.had;
+      was_set = made.was_set;
+      has = ap (λ (s : State). s.records (key_of second)) both.left ∙ with_record_same once (key_of second) both.other;
+    } in
+    subst (λ (o : Op). Written (limits_at setup (key_of o)) (before.records (key_of o)) o before given) is whole
+
+stores_written : (setup : BoardFile) (before : State) (first second op : Op) (given : AnswerAndState) → (key_of first ≢ key_of second)
+    → ChangesBoth setup before first second given ⊎ ChangesNeither before given → given.0.code ≡ success → (first ≡ op) ⊎ (second ≡ op)
+    → Written (limits_at setup (key_of op)) (before.records (key_of op)) op before given
+stores_written setup before first second op given apart (inl both) carried is = both_written setup before first second op given apart both is
+stores_written setup before first second op given apart (inr neither) carried is = absurd (neither.is_fault carried)
+
 -- so was any Set by the operation
-written_by : (setup : BoardFile) (before : State) (r : Result Request ℕ) (op : Op) → IsSetBy before r op → (reply setup before r).0.code ≡ success
+written_by : (setup : BoardFile) (before : State) (r : Result Request ℕ) (op : Op) → NamesTwo r → IsSetBy before r op → (reply setup before r).0.code ≡ success
     → Written (limits_at setup (key_of op)) (before.records (key_of op)) op before (reply setup before r)
-written_by setup before (Ok (Set other)) op is carried =
+written_by setup before (Ok (Set other)) op two is carried =
     let unknown : 0 < unknown_code setup (key_of other) = (unknown_is_refused setup (key_of other)).is_fault in
     subst (λ (o : Op). Written (limits_at setup (key_of o)) (before.records (key_of o)) o before (reply setup before (Ok (Set other)))) is
     (set_written (limits_at setup (key_of other)) (before.records (key_of other)) (unknown_code setup (key_of other)) other before unknown carried)
-written_by setup before (Ok (PartOfSet from (End handle bytes))) op is carried =
+written_by setup before (Ok (PartOfSet from (End handle bytes))) op two is carried =
     let given : AnswerAndState = ended setup from before (end_outcome before.activity.stagings from handle bytes) in
     subst (λ (o : Op). Written (limits_at setup (key_of o)) (before.records (key_of o)) o before given) is.2
     (ended_written setup from before (end_outcome before.activity.stagings from handle bytes) is.0 is.1 carried)
-written_by setup before (Ok (PartOfSet from (Start entry))) op is carried = absurd is
-written_by setup before (Ok (PartOfSet from (Middle handle bytes))) op is carried = absurd is
-written_by setup before (Ok (Live command body)) op is carried = absurd is
-written_by setup before (Ok (Get key)) op is carried = absurd is
-written_by setup before (Ok (SetStores first second)) op is carried = absurd is
-written_by setup before (Ok (LaterPart handle transfer)) op is carried = absurd is
-written_by setup before (Err code) op is carried = absurd is
+written_by setup before (Ok (PartOfSet from (Start entry))) op two is carried = absurd is
+written_by setup before (Ok (PartOfSet from (Middle handle bytes))) op two is carried = absurd is
+written_by setup before (Ok (Live command body)) op two is carried = absurd is
+written_by setup before (Ok (Get key)) op two is carried = absurd is
+written_by setup before (Ok (SetStores first second)) op two is carried =
+    stores_written setup before (of_kind.ChannelAccess first) (of_kind.ChannelAccess second) op (reply setup before (Ok (SetStores first second))) two (both_or_none setup before first second) carried is
+written_by setup before (Ok (LaterPart handle transfer)) op two is carried = absurd is
+written_by setup before (Err code) op two is carried = absurd is
 
 -- ---- a history, from a place on
 
@@ -183,7 +248,7 @@ gets_what_was_set setup first last op before between later set get shown h =
     let t : State = state_after setup mid between in
     let from_get : IsReplay setup t (get ∷ later) last = rest_replays setup mid between (get ∷ later) last from_set.1 in
     let carried : (reply setup s (asked_by h.setter)).0.code ≡ success = ap (λ (a : Answered). a.code) (subst (IsAnsweredCall setup s) h.set_is from_set.0) ∙ h.carried_out in
-    let w : Written (limits_at setup key) (s.records key) op s (reply setup s (asked_by h.setter)) = written_by setup s (asked_by h.setter) op h.is_set carried in
+    let w : Written (limits_at setup key) (s.records key) op s (reply setup s (asked_by h.setter)) = written_by setup s (asked_by h.setter) op (names_two h.setter) h.is_set carried in
     let mid_is : mid ≡ (reply setup s (asked_by h.setter)).1 = ap (after_call setup s) h.set_is in
     let has : t.records key ≡ Some w.new = calls_keep setup mid between key h.unwritten ∙ ap (λ (m : State). m.records key) mid_is ∙ w.has in
     let answered : (reply setup t (asked_by h.getter)).0 ≡ shown = subst (IsAnsweredCall setup t) h.get_is from_get.0 in

@@ -1,5 +1,6 @@
 pub mod Replaying
 pub mod Following
+pub mod TwoStores
 pub mod Getting
 pub mod Here
 pub mod Lying

@@ -30,16 +30,17 @@ use Rattle.bmc_history.specs.Replay.{after_call, IsReplay}
 abbrev pub state_after : BoardFile → State → List Event → State
 state_after setup first events = fold (λ before event. after_call setup before event.call) first events
 
--- the request is a Set by the operation, or the last part of one: then it is that of the whole entry, by what is staged at the state
+-- The request is a Set by the operation, or sets the access of a channel in two stores, by it and another. Or it is the last part of a Set: then
+-- the operation is that of the whole entry, by what is staged at the state.
 abbrev pub IsSetBy : (at : State) → Result Request ℕ → Op → Type 0
 IsSetBy at (Ok (Set other)) op = other ≡ op
+IsSetBy at (Ok (SetStores first second)) op = (of_kind.ChannelAccess first ≡ op) ⊎ (of_kind.ChannelAccess second ≡ op)
 IsSetBy at (Ok (PartOfSet from (End handle bytes))) op =
     (change : SetBiosAttribute) × (end_outcome at.activity.stagings from handle bytes ≡ Ok change) × (of_kind.BiosAttribute change ≡ op)
 IsSetBy at _ op = ⊥
 
--- the request may write the record: it sets it, or it sets the access of a channel in two stores, of which one has it
+-- the request may write the record: it is a Set of it
 abbrev pub WritesRecord : (at : State) → Result Request ℕ → Key → Type 0
-WritesRecord at (Ok (SetStores first second)) key = (key_of (of_kind.ChannelAccess first) ≡ key) ⊎ (key_of (of_kind.ChannelAccess second) ≡ key)
 WritesRecord at asked key = (op : Op) × IsSetBy at asked op × (key_of op ≡ key)
 
 abbrev pub MayWrite : (at : State) → Key → Call → Type 0

@@ -11,6 +11,7 @@ use Rattle.model_lab.specs.Meaning.{lab_names}
 use Rattle.model_lab.specs.Played.{plans, Told, Whole, Stops, told_of, after, IsPlayed}
 use Rattle.model_headline.proofs.Plays.{plays_stand}
 use Rattle.model_headline.proofs.Promised.{keeps_promise}
+use Rattle.model_headline.proofs.Stated.{plays_are_stated}
 use Rattle.model_headline.proofs.CleanPlays.{ends_clean}
 use Rattle.lab_run.specs.declared.lab_state.Lab.{Lab}
 use Rattle.lab_play.specs.declared.played.Played.{Played}
@@ -58,6 +59,7 @@ module _ (file : BoardFile) (steps : List Op) (retries : ℕ) where
         stands = (plays_stand file steps retries events (Whole (told_after events)) is).0;
         unbroken = λ none. (plays_stand file steps retries events (Whole (told_after events)) is).0 (subst (TellsPremise file events first) none told);
         promise = λ none. keeps_promise file steps retries events (Whole (told_after events)) is (subst (TellsPremise file events first) none told);
+        stated = λ none. plays_are_stated file steps retries events (Whole (told_after events)) is (subst (TellsPremise file events first) none told);
         clean = ends_clean file steps retries few events (Whole (told_after events)) is;
       }
 
@@ -79,6 +81,8 @@ module _ (file : BoardFile) (steps : List Op) (retries : ℕ) where
         unbroken = λ none. (plays_stand file steps retries events (Stops why place told) is).0
             (subst (TellsPremise file (take (place - 1) events) first) none premise);
         promise = λ none. keeps_promise file steps retries events (Stops why place told) is
+            (subst (TellsPremise file (take (place - 1) events) first) none premise);
+        stated = λ none. plays_are_stated file steps retries events (Stops why place told) is
             (subst (TellsPremise file (take (place - 1) events) first) none premise);
         clean = ends_clean file steps retries few events (Stops why place told) is;
       }

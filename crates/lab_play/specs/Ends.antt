@@ -12,6 +12,7 @@ use Rattle.model_lab.specs.Played.{plans, Told, Ending, Whole, Stops, told_of, I
 use Rattle.model_headline.specs.Plays.{taken_by, told_by, TellsPremise, ToldStands, StandsIfKept}
 use Rattle.model_headline.specs.CleanPlays.{EndsClean}
 use Rattle.model_headline.specs.Promise.{Promise}
+use Rattle.model_headline.specs.Stated.{IsStated}
 use Rattle.lab_run.specs.Shown.{Represents}
 use Rattle.lab_play.specs.declared.run.Stopped.{Stopped}
 use Rattle.lab_play.specs.declared.played.Played.{Played}
@@ -50,7 +51,7 @@ broken_in (Err (fault.Event why place played)) = played.watch.broken
 broken_in (Err fault.Memory) = None
 
 -- A play of the plan by the schedule ended so, and it tells which event that it took broke the premise on packets first, if one did. Where
--- none did, what it tells stands, and keeps the promise.
+-- none did, what it tells stands, keeps the promise, and is what the statement's lab has after as many honest events of its own.
 pub record PlayEnd (file : BoardFile) (steps : List Op) (retries : ℕ) (events : List Event) (given : Result Played LabFault) : Type 0 where
   pub ending : Ending
   pub is : IsEnding given ending
@@ -59,6 +60,7 @@ pub record PlayEnd (file : BoardFile) (steps : List Op) (retries : ℕ) (events 
   pub stands : StandsIfKept file steps retries events ending
   pub unbroken : broken_in given ≡ None → ToldStands file steps retries (taken_by events ending) (told_by ending)
   pub promise : broken_in given ≡ None → Promise file steps (taken_by events ending) (told_by ending)
+  pub stated : broken_in given ≡ None → IsStated file steps retries (length (taken_by events ending)) (told_by ending)
   pub clean : EndsClean file steps retries events ending
 
 -- a play ends so, unless memory is refused

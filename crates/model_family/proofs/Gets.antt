@@ -19,7 +19,8 @@ use Rattle.cfg_records.specs.Records.{Records}
 use Rattle.pldm_base.specs.Parts.{part_length, next_handle, most_whole, goes_whole, asked_of_entry}
 use Rattle.bios_attr.specs.BiosAttribute.{attribute_view}
 use Rattle.bios_attr.specs.declared.bios_attribute.AttributeLimits.{AttributeLimits}
-use Rattle.bios_attr.specs.EntryParts.{get_next_part, most_entry, entry_in, part_with, no_handle, start_and_end, last_of, goes_on, ends, get_part, first_part, joined}
+use Rattle.bios_attr.specs.EntryParts.{get_next_part, most_entry, entry_in, part_with, no_handle, start_and_end, last_of, goes_on, ends, get_part, first_part}
+use Rattle.undo_plans.specs.Showing.{is_whole, shown_by}
 use Rattle.record_base.specs.Attribute.{range_of}
 use Rattle.record_base.specs.declared.attribute.Attribute.{Attribute}
 use Rattle.record_kinds.specs.Boards.{attribute_at}
@@ -54,6 +55,7 @@ joined_by ended bodies = if ended then no_handle ++ start_and_end ∷ flat_map e
 -- no request is behind the first, and its reply shows what the record's kind shows
 record IsOne (setup : BoardFile) (key : Key) : Type 0 where
   none_next : (bodies : List (List ℕ)) → next_after (Reads key) bodies ≡ None
+  alone : (body : List ℕ) → shown_by key (body ∷ []) ≡ body
   all_shown : (limits : Limits) (body : List ℕ) → limits_at setup key ≡ Some limits → first_shown limits body ≡ body
 
 given_shown : {X : Type 0} (given : X → Limits) (found : Option X) → ((x : X) (body : List ℕ) → first_shown (given x) body ≡ body) → (limits : Limits) (body : List ℕ) → option_map given found ≡ Some limits
@@ -64,20 +66,22 @@ given_shown given (Some x) whole limits body is = subst (λ (l : Limits). first_
 some_shown : (given limits : Limits) (body : List ℕ) → first_shown given body ≡ body → Some given ≡ Some limits → first_shown limits body ≡ body
 some_shown given limits body whole is = subst (λ (l : Limits). first_shown l body ≡ body) (same_Some _ _ is) whole
 
-by_found : {X : Type 0} (setup : BoardFile) (key : Key) (given : X → Limits) (found : Option X) → ((bodies : List (List ℕ)) → next_after (Reads key) bodies ≡ None) → ((x : X) (body : List ℕ) → first_shown (given x) body ≡ body)
+by_found : {X : Type 0} (setup : BoardFile) (key : Key) (given : X → Limits) (found : Option X) → ((bodies : List (List ℕ)) → next_after (Reads key) bodies ≡ None)
+    → ((body : List ℕ) → shown_by key (body ∷ []) ≡ body) → ((x : X) (body : List ℕ) → first_shown (given x) body ≡ body)
     → limits_at setup key ≡ option_map given found → IsOne setup key
-by_found setup key given found none whole is = record { none_next = none; all_shown = λ l body at. given_shown given found whole l body (sym is ∙ at) }
+by_found setup key given found none alone whole is = record { none_next = none; alone = alone; all_shown = λ l body at. given_shown given found whole l body (sym is ∙ at) }
 
-by_some : (setup : BoardFile) (key : Key) (given : Limits) → ((bodies : List (List ℕ)) → next_after (Reads key) bodies ≡ None) → ((body : List ℕ) → first_shown given body ≡ body) → limits_at setup key ≡ Some given → IsOne setup key
-by_some setup key given none whole is = record { none_next = none; all_shown = λ l body at. some_shown given l body (whole body) (sym is ∙ at) }
+by_some : (setup : BoardFile) (key : Key) (given : Limits) → ((bodies : List (List ℕ)) → next_after (Reads key) bodies ≡ None) → ((body : List ℕ) → shown_by key (body ∷ []) ≡ body)
+    → ((body : List ℕ) → first_shown given body ≡ body) → limits_at setup key ≡ Some given → IsOne setup key
+by_some setup key given none alone whole is = record { none_next = none; alone = alone; all_shown = λ l body at. some_shown given l body (whole body) (sym is ∙ at) }
 
 one_or_attribute : (setup : BoardFile) (k : Key) → IsOne setup k ⊎ ((handle : ℕ) × (k ≡ key.BiosAttribute handle))
-one_or_attribute setup key.PowerPolicy = inl (by_some setup key.PowerPolicy _ (λ bodies. refl) (λ body. refl) refl)
-one_or_attribute setup key.Watchdog = inl (by_some setup key.Watchdog _ (λ bodies. refl) (λ body. refl) refl)
-one_or_attribute setup key.GlobalEnables = inl (by_some setup key.GlobalEnables _ (λ bodies. refl) (λ body. refl) refl)
-one_or_attribute setup (key.BootParam parameter) = inl (by_some setup (key.BootParam parameter) _ (λ bodies. refl) (λ body. refl) refl)
+one_or_attribute setup key.PowerPolicy = inl (by_some setup key.PowerPolicy _ (λ bodies. refl) (λ body. refl) (λ body. refl) refl)
+one_or_attribute setup key.Watchdog = inl (by_some setup key.Watchdog _ (λ bodies. refl) (λ body. refl) (λ body. refl) refl)
+one_or_attribute setup key.GlobalEnables = inl (by_some setup key.GlobalEnables _ (λ bodies. refl) (λ body. refl) (λ body. refl) refl)
+one_or_attribute setup (key.BootParam parameter) = inl (by_some setup (key.BootParam parameter) _ (λ bodies. refl) (λ body. refl) (λ body. refl) refl)
 one_or_attribute setup (key.BiosAttribute handle) = inr (handle, refl)
-one_or_attribute setup _ = inl (by_found setup _ _ _ (λ bodies. refl) (λ x body. refl) refl)
+one_or_attribute setup _ = inl (by_found setup _ _ _ (λ bodies. refl) (λ body. refl) (λ x body. refl) refl)
 
 -- ---- the first reply
 
@@ -116,12 +120,14 @@ module _ (setup : BoardFile) (at : Bus → Addresses) (r : Records) where
 
   -- ---- a record that one reply shows
 
-  one_shows : (k : Key) → IsOne setup k → (bodies : List (List ℕ)) → AllAnswered (manager_words at) Given_here (Reads k) bodies → ShownRecord (family setup at) k (joined bodies) r
+  one_shows : (k : Key) → IsOne setup k → (bodies : List (List ℕ)) → AllAnswered (manager_words at) Given_here (Reads k) bodies → ShownRecord (family setup at) k (shown_by k bodies) r
   one_shows k one [] h = absurd (h.some refl)
   one_shows k one (body ∷ []) h =
       let first = h.in_order in
       let s = first_given k first.0 body first.1 first.2 in
-      record { value = s.value; found = s.found; shows = subst (λ (l : Option Limits). ShowsWithin l s.value body) (sym s.at) (s.live, s.shows ∙ one.all_shown s.limits (view s.limits s.value s.live) s.at) }
+      let is : ShownRecord (family setup at) k body r =
+      record { value = s.value; found = s.found; shows = subst (λ (l : Option Limits). ShowsWithin l s.value body) (sym s.at) (s.live, s.shows ∙ one.all_shown s.limits (view s.limits s.value s.live) s.at) } in
+      subst (λ (shown : List ℕ). ShownRecord (family setup at) k shown r) (sym (one.alone body)) is
   one_shows k one (body ∷ other ∷ bodies) h =
       let second = h.in_order.3 in
       absurd (none-some second.0 (sym (ap (option_map (from_manager at)) (one.none_next (body ∷ []))) ∙ second.1))
@@ -191,7 +197,7 @@ module _ (setup : BoardFile) (at : Bus → Addresses) (r : Records) where
 
     -- where the replies are parts
     in_parts_joined : length entry ≤ most_entry → goes_whole entry ≡ false → (body : List ℕ) (bodies : List (List ℕ)) → AreShown entry 0 (body ∷ bodies)
-        → goes_on (suc (length bodies)) (last_of (body ∷ bodies)) ≡ false → joined (body ∷ bodies) ≡ shown
+        → goes_on (suc (length bodies)) (last_of (body ∷ bodies)) ≡ false → shown_by (key.BiosAttribute handle) (body ∷ bodies) ≡ shown
     in_parts_joined short parts body bodies are stopped =
         by (nat_lt (part_length * suc last.place) (length entry)) refl
       where
@@ -207,14 +213,14 @@ module _ (setup : BoardFile) (at : Bus → Addresses) (r : Records) where
         count : suc last.place ≡ suc (length bodies)
         count = last.before
 
-        all_shown : (others : List (List ℕ)) → others ≡ bodies → length entry ≤ part_length * suc (length bodies) → ends (suc (length bodies)) (last_of (body ∷ bodies)) ≡ true → joined (body ∷ others) ≡ shown
+        all_shown : (others : List (List ℕ)) → others ≡ bodies → length entry ≤ part_length * suc (length bodies) → ends (suc (length bodies)) (last_of (body ∷ bodies)) ≡ true → shown_by (key.BiosAttribute handle) (body ∷ others) ≡ shown
         all_shown [] same within ended = absurd (let none : 0 ≡ length bodies = ap (λ (l : List (List ℕ)). length l) same in omega (arith, none, within, long))
         all_shown (other ∷ others) same within ended =
             ap (λ (l : List (List ℕ)). joined_by (ends (suc (length l)) (last_of (body ∷ l))) (body ∷ l)) same
             ∙ ap (λ (t : Bool). joined_by t (body ∷ bodies)) ended
             ∙ ap (λ (l : List ℕ). no_handle ++ start_and_end ∷ l) (together entry 0 (body ∷ bodies) are ∙ take_all (part_length * suc (length bodies)) entry within)
 
-        by : (t : Bool) → nat_lt (part_length * suc last.place) (length entry) ≡ t → joined (body ∷ bodies) ≡ shown
+        by : (t : Bool) → nat_lt (part_length * suc last.place) (length entry) ≡ t → shown_by (key.BiosAttribute handle) (body ∷ bodies) ≡ shown
         by true e =
             let on : goes_on (suc (length bodies)) (last_of (body ∷ bodies)) ≡ true =
             (λ i. goes_on (sym count i) (last.is i)) ∙ goes entry last.place short (ltb-true _ _ e) in
@@ -223,7 +229,7 @@ module _ (setup : BoardFile) (at : Bus → Addresses) (r : Records) where
             let within : length entry ≤ part_length * suc last.place = ltb-false _ _ e in
             all_shown bodies refl (omega (arith, within, count)) ((λ i. ends (sym count i) (last.is i)) ∙ stops entry last.place short long last.within within)
 
-    attribute_joined : length entry ≤ most_entry → (bodies : List (List ℕ)) → AllAnswered (manager_words at) Given_here (Reads (key.BiosAttribute handle)) bodies → joined bodies ≡ shown
+    attribute_joined : length entry ≤ most_entry → (bodies : List (List ℕ)) → AllAnswered (manager_words at) Given_here (Reads (key.BiosAttribute handle)) bodies → shown_by (key.BiosAttribute handle) bodies ≡ shown
     attribute_joined short [] h = absurd (h.some refl)
     attribute_joined short (body ∷ bodies) h = by (goes_whole entry) refl bodies refl
       where
@@ -239,8 +245,11 @@ module _ (setup : BoardFile) (at : Bus → Addresses) (r : Records) where
         rest : AreLater 1 bodies
         rest = rest_shown body [] bodies h.in_order.3
 
-        by : (t : Bool) → goes_whole entry ≡ t → (others : List (List ℕ)) → others ≡ bodies → joined (body ∷ bodies) ≡ shown
-        by true e [] same = ap (λ (l : List (List ℕ)). joined (body ∷ l)) (sym same) ∙ first_is ∙ ap (λ (t : Bool). if t then shown else part_with (next_handle entry 0) entry 0) e
+        by : (t : Bool) → goes_whole entry ≡ t → (others : List (List ℕ)) → others ≡ bodies → shown_by (key.BiosAttribute handle) (body ∷ bodies) ≡ shown
+        by true e [] same =
+            let all : body ≡ shown = first_is ∙ ap (λ (t : Bool). if t then shown else part_with (next_handle entry 0) entry 0) e in
+            let whole : is_whole shown ≡ true = e in
+            ap (λ (l : List (List ℕ)). shown_by (key.BiosAttribute handle) (body ∷ l)) (sym same) ∙ ap (λ (b : List ℕ). shown_by (key.BiosAttribute handle) (b ∷ [])) all ∙ ap (λ (t : Bool). if t then shown else []) whole
         by true e (other ∷ others) same = absurd (false≢true (sym (rest.in_parts (λ none. cons≢nil (same ∙ none))) ∙ e))
           where
             cons≢nil : other ∷ others ≡ [] → ⊥
@@ -261,7 +270,7 @@ attribute_limits setup handle given is = by (attribute_at setup.attributes.items
     by (Some a) is = (record { handle = handle; read_only = a.read_only; range = range_of a.kind }, sym (same_Some _ _ is))
 
 pub parts_show : (setup : BoardFile) (at : Bus → Addresses) (r : Records) (k : Key) (bodies : List (List ℕ)) → AllValid (family setup at) r → AllAnswered (manager_words at) (GaveAnswer (family setup at) r) (Reads k) bodies
-    → ShownRecord (family setup at) k (joined bodies) r
+    → ShownRecord (family setup at) k (shown_by k bodies) r
 parts_show setup at r k bodies valid all = by (one_or_attribute setup k)
   where
     first_of_all : (handle : ℕ) (bodies : List (List ℕ)) → AllAnswered (manager_words at) (GaveAnswer (family setup at) r) (Reads (key.BiosAttribute handle)) bodies
@@ -269,7 +278,7 @@ parts_show setup at r k bodies valid all = by (one_or_attribute setup k)
     first_of_all handle [] h = absurd (h.some refl)
     first_of_all handle (body ∷ bodies) h = (body, first_given setup at r (key.BiosAttribute handle) h.in_order.0 body h.in_order.1 h.in_order.2)
 
-    of_attribute : (handle : ℕ) → AllAnswered (manager_words at) (GaveAnswer (family setup at) r) (Reads (key.BiosAttribute handle)) bodies → ShownRecord (family setup at) (key.BiosAttribute handle) (joined bodies) r
+    of_attribute : (handle : ℕ) → AllAnswered (manager_words at) (GaveAnswer (family setup at) r) (Reads (key.BiosAttribute handle)) bodies → ShownRecord (family setup at) (key.BiosAttribute handle) (shown_by (key.BiosAttribute handle) bodies) r
     of_attribute handle all =
         let k = key.BiosAttribute handle in
         let first = (first_of_all handle bodies all).1 in
@@ -277,11 +286,11 @@ parts_show setup at r k bodies valid all = by (one_or_attribute setup k)
         let there : limits_at setup k ≡ Some (limits.BiosAttribute own.0) = first.at ∙ ap Some own.1 in
         let is_valid : AllowsBody (Some (limits.BiosAttribute own.0)) first.value = subst (λ (l : Option Limits). AllowsBody l first.value) there (valid k first.value first.found) in
         let size = value_length own.0.range first.value is_valid in
-        let is : joined bodies ≡ attribute_view own.0 first.value = attribute_joined setup at r handle own.0 first.value there first.found (omega (arith, size.most)) bodies all in
-        record { value = first.value; found = first.found; shows = subst (λ (l : Option Limits). ShowsWithin l first.value (joined bodies)) (sym there) (first.live, is) }
+        let is : shown_by k bodies ≡ attribute_view own.0 first.value = attribute_joined setup at r handle own.0 first.value there first.found (omega (arith, size.most)) bodies all in
+        record { value = first.value; found = first.found; shows = subst (λ (l : Option Limits). ShowsWithin l first.value (shown_by k bodies)) (sym there) (first.live, is) }
 
-    by : IsOne setup k ⊎ ((handle : ℕ) × (k ≡ key.BiosAttribute handle)) → ShownRecord (family setup at) k (joined bodies) r
+    by : IsOne setup k ⊎ ((handle : ℕ) × (k ≡ key.BiosAttribute handle)) → ShownRecord (family setup at) k (shown_by k bodies) r
     by (inl one) = one_shows setup at r k one bodies all
     by (inr is) =
-        subst (λ (q : Key). ShownRecord (family setup at) q (joined bodies) r) (sym is.1)
+        subst (λ (q : Key). ShownRecord (family setup at) q (shown_by q bodies) r) (sym is.1)
         (of_attribute is.0 (subst (λ (q : Key). AllAnswered (manager_words at) (GaveAnswer (family setup at) r) (Reads q) bodies) is.1 all))

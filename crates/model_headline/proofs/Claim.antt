@@ -1,7 +1,6 @@
 -- The claim holds, since the model's headline does.
 use Rattle.std.proofs.Common.{◌≡◌, ℕ, List, [], ◌∷◌, ◌++◌, map, refl, sym, ◌∙◌, ap, subst, inl, inr}
 use Rattle.std.proofs.lemmas.List.{map-append, append_cancel_right}
-use Rattle.two_wire.specs.Codes.{success}
 use Rattle.two_wire.specs.declared.Bus.{Bus}
 use Rattle.two_wire.specs.declared.Bus.TheVariants.{Ipmb, Smbus}
 use Rattle.record_base.specs.declared.op.Op.{Op}
@@ -26,12 +25,11 @@ use Rattle.model_headline.specs.Each.{Each}
 use Rattle.model_headline.specs.Tied.{own_family}
 use Rattle.model_headline.specs.Answers as answers
 use Rattle.model_headline.specs.Theorem as law
-use Rattle.model_headline.proofs.Series.{of_is}
 use Rattle.model_headline.proofs.Theorem.{headline}
-use Rattle.model_headline.specs.Manager.{Call, Start, Quiet, Stop, Again, Undo, Why, Stopped, GetRefused, SetRefused, NotRestorable, Phase, Halted, Undone, Reads, sends, request_after, own_on, by_manager}
+use Rattle.model_headline.specs.Manager.{Call, Start, Quiet, Stop, Again, Undo, Why, GetRefused, Refused, NotRestorable, Phase, Halted, Undone, Reads, sends, own_on, by_manager}
 use Rattle.model_headline.specs.Lab.{Heard, Entry, Carried, Idled, Event, Calls, ToBmc, ToMgr, OtherIpmb, OtherSmbus, Noise, Idles, OnBench, Lab, port_on, step}
 use Rattle.model_headline.specs.Claim.{ours, AllHonest, first, after, GaveIn, IsCause, Claim}
-use Rattle.model_headline.proofs.ClaimSeries.{board_of, all_given}
+use Rattle.model_headline.proofs.ClaimSeries.{board_of, all_given, refused_so}
 use Rattle.model_headline.proofs.Labs.{none_orderly, Steps, step_so}
 use Rattle.model_headline.proofs.Honesty.{Runs, runs_so, first_honest, later_honest}
 use Rattle.model_headline.proofs.Grows.{step_grows}
@@ -293,13 +291,10 @@ module _ (setup : BoardFile) (names : Names) (plan : List Op) (retries : ℕ) wh
       said asked a = gave events k asked a all
 
       by_why : (why : Why) → answers.CausedBy setup names (law.GaveIn setup names plan retries (map seen_event events)) (In (lab.Calls lab_call.Stop) (map seen_event events)) plan (undo_phase.Halted k (seen_why names why)) → IsCause setup (ours setup) names plan retries events k why
-      by_why Stopped was = let is = has_stop events was in (is.earlier, is.rest, is.all)
-      by_why (GetRefused code) was = let is = of_is (addresses names) (Reads (key_of was.0)) was.1 was.4 in
-          (was.0, is.0, was.2, was.3, said (request_after (Reads (key_of was.0)) is.0) (record { code = code; body = was.2 }) (subst (λ (q : Asked). GaveThere q (record { code = code; body = was.2 })) is.1 was.5), was.6)
-      by_why (SetRefused code) was = let is = of_is (addresses names) (sends was.0) was.1 was.4 in
-          (was.0, is.0, was.2, was.3, said (request_after (sends was.0) is.0) (record { code = code; body = was.2 }) (subst (λ (q : Asked). GaveThere q (record { code = code; body = was.2 })) is.1 was.5), was.6)
-      by_why NotRestorable was =
-          (was.0, was.1, was.2, all_given names GaveThere (GaveIn setup (ours setup) names plan retries events k) (Reads (key_of was.0)) (λ asked body. said asked (record { code = success; body = body })) was.1 was.3, was.4)
+      by_why Stop was = let is = has_stop events was in (is.earlier, is.rest, is.all)
+      by_why (GetRefused code) was = (was.0, was.4, refused_so names GaveThere (GaveIn setup (ours setup) names plan retries events k) (Reads (key_of was.0)) said code was.1 was.2 was.3 was.5 was.6 was.7)
+      by_why (Refused code) was = (was.0, was.4, refused_so names GaveThere (GaveIn setup (ours setup) names plan retries events k) (sends was.0) said code was.1 was.2 was.3 was.5 was.6 was.7)
+      by_why NotRestorable was = (was.0, was.1, was.2, all_given names GaveThere (GaveIn setup (ours setup) names plan retries events k) (Reads (key_of was.0)) said was.1 was.3, was.4)
 
   pub claim : Claim setup (ours setup) names plan retries
   claim = record {

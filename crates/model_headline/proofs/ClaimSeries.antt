@@ -1,5 +1,5 @@
 -- The requests of a manager's series are the same in the words of the undo model and in those of the statement.
-use Rattle.std.proofs.Common.{◌≡◌, ℕ, List, [], ◌∷◌, ◌++◌, Option, Some, None, refl, sym, ◌∙◌, ap, subst, inl, inr, append-nil}
+use Rattle.std.proofs.Common.{◌≡◌, ◌≢◌, ℕ, List, [], ◌∷◌, ◌++◌, Option, Some, None, refl, sym, ◌∙◌, ap, subst, inl, inr, append-nil}
 use Rattle.std.specs.Option.{option_map, unwrap_or}
 use Rattle.std.proofs.lemmas.List.{append_assoc}
 use Rattle.std.proofs.lemmas.Option.{none-some, same_Some}
@@ -9,14 +9,19 @@ use Rattle.record_base.specs.declared.message.Answered.{Answered}
 use Rattle.record_kinds.specs.Limits.{key_of}
 use Rattle.undo_plans.specs.declared.names.Names.{Names}
 use Rattle.model_bus.specs.Answered.{Answered as UndoAnswered}
-use Rattle.model_undo.specs.Words.{IsOneOf, IsMade, AreAnswered, AllAnswered}
+use Rattle.model_undo.specs.Words.{IsOneOf, IsMade, AreAnswered, IsReached, AllAnswered}
 use Rattle.model_headline.specs.Manager.{Task, Gets, Sets, Undoes, Series, Reads, sends, first_of, next_after, request_after, by_manager, asked_for}
-use Rattle.model_headline.specs.Claim.{AreGiven}
+use Rattle.model_headline.specs.Claim.{AreGivenBehind, AreGiven, IsRefused}
 use Rattle.model_headline.specs.Seen.{seen_words}
 
 -- an answer of the undo model, in the words of the board
 abbrev pub board_of : UndoAnswered → Answered
 board_of a = record { code = a.code; body = a.body }
+
+-- none is next, where none is sent
+no_next : {X Y : Type 0} (f : X → Y) (o : Option X) → option_map f o ≡ None → o ≡ None
+no_next f None e = refl
+no_next f (Some x) e = absurd (none-some (f x) (sym e))
 
 -- the request after a reply is the next one, where there is one
 pub after_is : (series : Series) (bodies : List (List ℕ)) (body : List ℕ) (asked : Asked) → next_after series (bodies ++ body ∷ []) ≡ Some asked → request_after series (bodies ++ body ∷ []) ≡ asked
@@ -46,70 +51,83 @@ module _ (names : Names) where
     abbrev Answered_in : (before bodies : List (List ℕ)) → Type 0
     Answered_in = AreAnswered (seen_words names) Given series
 
-    abbrev said_so : (body : List ℕ) → Answered
-    said_so body = record { code = success; body = body }
-
     abbrev given_so : (body : List ℕ) → UndoAnswered
     given_so body = record { code = success; body = body }
-
-    none_left : (first : List ℕ) (before : List (List ℕ)) (o : Option Asked) → next_after series (first ∷ before) ≡ o → option_map (by_manager names) (next_after series (first ∷ before ++ [])) ≡ None → o ≡ None
-    none_left first before None e none = refl
-    none_left first before (Some asked) e none =
-        absurd (none-some (by_manager names asked) (sym none ∙ ap (λ (bodies : List (List ℕ)). option_map (by_manager names) (next_after series (first ∷ bodies))) (append-nil before) ∙ ap (option_map (by_manager names)) e))
 
     moved : (first : List ℕ) (before : List (List ℕ)) (body : List ℕ) (bodies : List (List ℕ)) → (first ∷ before) ++ body ∷ bodies ≡ (first ∷ (before ++ body ∷ [])) ++ bodies
     moved first before body bodies = ap (λ (rest : List (List ℕ)). first ∷ rest) (sym (append_assoc before (body ∷ []) bodies))
 
-    module _ (so : (asked : Asked) (body : List ℕ) → Given (by_manager names asked) (given_so body) → Said asked (said_so body)) where
-      rest_given : (first : List ℕ) (before bodies : List (List ℕ)) → Answered_in (first ∷ before) bodies → option_map (by_manager names) (next_after series ((first ∷ before) ++ bodies)) ≡ None
-          → AreGiven Said series (first ∷ before) (next_after series (first ∷ before)) bodies
-      rest_given first before [] answered none = subst (λ (o : Option Asked). AreGiven Said series (first ∷ before) o []) (sym (none_left first before (next_after series (first ∷ before)) refl none)) tt
-      rest_given first before (body ∷ bodies) answered none =
+    module _ (so : (asked : Asked) (a : UndoAnswered) → Given (by_manager names asked) a → Said asked (board_of a)) where
+      rest_given : (first : List ℕ) (before bodies : List (List ℕ)) (left : Option Asked) → Answered_in (first ∷ before) bodies → next_after series ((first ∷ before) ++ bodies) ≡ left
+          → AreGivenBehind Said series (first ∷ before) (next_after series (first ∷ before)) bodies left
+      rest_given first before [] left answered is = ap (λ (bodies : List (List ℕ)). next_after series (first ∷ bodies)) (sym (append-nil before)) ∙ is
+      rest_given first before (body ∷ bodies) left answered is =
           at (next_after series (first ∷ before)) answered.1
-          (rest_given first (before ++ body ∷ []) bodies answered.3 (ap (λ (all : List (List ℕ)). option_map (by_manager names) (next_after series all)) (sym (moved first before body bodies)) ∙ none))
+          (rest_given first (before ++ body ∷ []) bodies left answered.3 (ap (next_after series) (sym (moved first before body bodies)) ∙ is))
         where
-          at : (o : Option Asked) → option_map (by_manager names) o ≡ Some answered.0 → AreGiven Said series (first ∷ (before ++ body ∷ [])) (next_after series (first ∷ (before ++ body ∷ []))) bodies
-              → AreGiven Said series (first ∷ before) o (body ∷ bodies)
+          at : (o : Option Asked) → option_map (by_manager names) o ≡ Some answered.0
+              → AreGivenBehind Said series (first ∷ (before ++ body ∷ [])) (next_after series (first ∷ (before ++ body ∷ []))) bodies left → AreGivenBehind Said series (first ∷ before) o (body ∷ bodies) left
           at None e more = absurd (none-some answered.0 e)
-          at (Some asked) e more = (so asked body (subst (λ (q : Asked). Given q (given_so body)) (sym (same_Some (by_manager names asked) answered.0 e)) answered.2), more)
+          at (Some asked) e more = (so asked (given_so body) (subst (λ (q : Asked). Given q (given_so body)) (sym (same_Some (by_manager names asked) answered.0 e)) answered.2), more)
 
-      pub all_given : (bodies : List (List ℕ)) → AllAnswered (seen_words names) Given series bodies → AreGiven Said series [] (Some (first_of series)) bodies
+      all_from : (body : List ℕ) (bodies : List (List ℕ)) (left : Option Asked) → Answered_in [] (body ∷ bodies) → next_after series (body ∷ bodies) ≡ left → AreGiven Said series (body ∷ bodies) left
+      all_from body bodies left one is = (so (first_of series) (given_so body) (subst (λ (q : Asked). Given q (given_so body)) one.1 one.2), rest_given body [] bodies left one.3 is)
+
+      pub all_given : (bodies : List (List ℕ)) → AllAnswered (seen_words names) Given series bodies → AreGiven Said series bodies None
       all_given [] all = absurd (all.some refl)
-      all_given (body ∷ bodies) all =
-          let one = all.in_order in
-          (so (first_of series) body (subst (λ (q : Asked). Given q (given_so body)) one.1 one.2), rest_given body [] bodies one.3 all.no_more)
+      all_given (body ∷ bodies) all = all_from body bodies None all.in_order (no_next (by_manager names) (next_after series (body ∷ bodies)) all.no_more)
 
-    module _ (back : (asked : Asked) (body : List ℕ) → Said asked (said_so body) → Given (by_manager names asked) (given_so body)) where
-      -- these, and no more
-      record Rest (before bodies : List (List ℕ)) : Type 0 where
+      -- a request that is next, once those before it were answered, and its answer
+      reached_from : (bodies : List (List ℕ)) (asked : Asked) → IsReached (seen_words names) Given series bodies asked → (plain : Asked) × (by_manager names plain ≡ asked) × AreGiven Said series bodies (Some plain)
+      reached_from [] asked is = (first_of series, sym is.next, refl)
+      reached_from (body ∷ bodies) asked is = at (next_after series (body ∷ bodies)) refl is.next
+        where
+          at : (o : Option Asked) → next_after series (body ∷ bodies) ≡ o → option_map (by_manager names) o ≡ Some asked → (plain : Asked) × (by_manager names plain ≡ asked) × AreGiven Said series (body ∷ bodies) (Some plain)
+          at None e next = absurd (none-some asked next)
+          at (Some plain) e next = (plain, same_Some (by_manager names plain) asked next, all_from body bodies (Some plain) is.in_order e)
+
+      pub refused_so : (code : ℕ) (bodies : List (List ℕ)) (asked : Asked) (body : List ℕ) → IsReached (seen_words names) Given series bodies asked → Given asked (record { code = code; body = body }) → (code ≢ success)
+          → IsRefused Said series code
+      refused_so code bodies asked body reached given fault =
+          let r = reached_from bodies asked reached in
+          let a : UndoAnswered = record { code = code; body = body } in
+          (bodies, r.0, body, r.2, so r.0 a (subst (λ (q : Asked). Given q a) (sym r.1) given), fault)
+
+    module _ (back : (asked : Asked) (a : UndoAnswered) → Said asked (board_of a) → Given (by_manager names asked) a) where
+      -- these, and then what is left
+      record Rest (before bodies : List (List ℕ)) (left : Option Asked) : Type 0 where
         pub answered : Answered_in before bodies
-        pub none : option_map (by_manager names) (next_after series (before ++ bodies)) ≡ None
+        pub next : next_after series (before ++ bodies) ≡ left
 
-      rest_back : (first : List ℕ) (before bodies : List (List ℕ)) → AreGiven Said series (first ∷ before) (next_after series (first ∷ before)) bodies → Rest (first ∷ before) bodies
-      rest_back first before [] given = at (next_after series (first ∷ before)) refl given
+      rest_back : (first : List ℕ) (before bodies : List (List ℕ)) (left : Option Asked) → AreGivenBehind Said series (first ∷ before) (next_after series (first ∷ before)) bodies left → Rest (first ∷ before) bodies left
+      rest_back first before [] left given = record { answered = tt; next = ap (λ (bodies : List (List ℕ)). next_after series (first ∷ bodies)) (append-nil before) ∙ given }
+      rest_back first before (body ∷ bodies) left given = at (next_after series (first ∷ before)) refl given (rest_back first (before ++ body ∷ []) bodies left)
         where
-          at : (o : Option Asked) → next_after series (first ∷ before) ≡ o → AreGiven Said series (first ∷ before) o [] → Rest (first ∷ before) []
-          at None e is = record { answered = tt; none = ap (λ (bodies : List (List ℕ)). option_map (by_manager names) (next_after series (first ∷ bodies))) (append-nil before) ∙ ap (option_map (by_manager names)) e }
-          at (Some asked) e is = absurd is
-      rest_back first before (body ∷ bodies) given = at (next_after series (first ∷ before)) refl given (rest_back first (before ++ body ∷ []) bodies)
-        where
-          at : (o : Option Asked) → next_after series (first ∷ before) ≡ o → AreGiven Said series (first ∷ before) o (body ∷ bodies)
-              → (AreGiven Said series (first ∷ (before ++ body ∷ [])) (next_after series (first ∷ (before ++ body ∷ []))) bodies → Rest (first ∷ (before ++ body ∷ [])) bodies)
-              → Rest (first ∷ before) (body ∷ bodies)
+          at : (o : Option Asked) → next_after series (first ∷ before) ≡ o → AreGivenBehind Said series (first ∷ before) o (body ∷ bodies) left
+              → (AreGivenBehind Said series (first ∷ (before ++ body ∷ [])) (next_after series (first ∷ (before ++ body ∷ []))) bodies left → Rest (first ∷ (before ++ body ∷ [])) bodies left)
+              → Rest (first ∷ before) (body ∷ bodies) left
           at None e is more = absurd is
           at (Some asked) e is more =
               let rest = more is.1 in
               record {
-                answered = (by_manager names asked, ap (option_map (by_manager names)) e, back asked body is.0, rest.answered);
-                none = ap (λ (all : List (List ℕ)). option_map (by_manager names) (next_after series all)) (moved first before body bodies) ∙ rest.none;
+                answered = (by_manager names asked, ap (option_map (by_manager names)) e, back asked (given_so body) is.0, rest.answered);
+                next = ap (next_after series) (moved first before body bodies) ∙ rest.next;
               }
 
-      pub all_back : (bodies : List (List ℕ)) → AreGiven Said series [] (Some (first_of series)) bodies → AllAnswered (seen_words names) Given series bodies
-      all_back [] given = absurd given
-      all_back (body ∷ bodies) given =
-          let more = rest_back body [] bodies given.1 in
-          record {
-            in_order = (by_manager names (first_of series), refl, back (first_of series) body given.0, more.answered);
-            some = λ e. absurd cc;
-            no_more = more.none;
-          }
+      from_back : (body : List ℕ) (bodies : List (List ℕ)) (left : Option Asked) → AreGiven Said series (body ∷ bodies) left → Answered_in [] (body ∷ bodies)
+      from_back body bodies left given = (by_manager names (first_of series), refl, back (first_of series) (given_so body) given.0, (rest_back body [] bodies left given.1).answered)
+
+      pub all_back : (bodies : List (List ℕ)) → AreGiven Said series bodies None → AllAnswered (seen_words names) Given series bodies
+      all_back [] given = absurd (none-some (first_of series) (sym given))
+      all_back (body ∷ bodies) given = record {
+        in_order = from_back body bodies None given;
+        some = λ e. absurd cc;
+        no_more = ap (option_map (by_manager names)) (rest_back body [] bodies None given.1).next;
+      }
+
+      pub reached_back : (bodies : List (List ℕ)) (plain : Asked) → AreGiven Said series bodies (Some plain) → IsReached (seen_words names) Given series bodies (by_manager names plain)
+      reached_back [] plain given = record { in_order = tt; next = ap (by_manager names) (sym (same_Some (first_of series) plain given)) }
+      reached_back (body ∷ bodies) plain given = record {
+        in_order = from_back body bodies (Some plain) given;
+        next = ap (option_map (by_manager names)) (rest_back body [] bodies (Some plain) given.1).next;
+      }

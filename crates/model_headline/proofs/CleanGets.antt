@@ -20,6 +20,7 @@ use Rattle.pldm_base.specs.Parts.{part_length, flag_of, flag_byte, next_handle, 
 use Rattle.bios_attr.specs.declared.bios_attribute.AttributeLimits.{AttributeLimits}
 use Rattle.bios_attr.specs.BiosAttribute.{attribute_view}
 use Rattle.bios_attr.specs.EntryParts.{entry_in, before_part, most_entry, start_and_end, no_handle, transfer_handle, part_with, first_part, get_part, last_of, goes_on, ends, joined}
+use Rattle.undo_plans.specs.Showing.{is_whole, shown_by}
 use Rattle.record_kinds.specs.declared.limits.Limits.{Limits}
 use Rattle.record_kinds.specs.declared.limits.Limits.TheVariants as limits
 use Rattle.record_kinds.specs.Limits.{limits_at, view}
@@ -164,10 +165,15 @@ module _ (setup : BoardFile) (at : Bus → Addresses) where
           let here : s.value ≡ value = same_Some _ _ (sym s.found ∙ found) in
           s.shows ∙ (λ i. first_shown (same i) (view (same i) (here i) s.live))
 
-      counted : (bodies : List (List ℕ)) (b c : State) → b.records ≡ r → AnswersAll F (answer setup) (Reads (key.BiosAttribute handle)) bodies b c → AllAnswered F.words (GaveAnswer F r) (Reads (key.BiosAttribute handle)) bodies → joined bodies ≡ shown
-          → length bodies ≡ parts_of entry
+      counted : (bodies : List (List ℕ)) (b c : State) → b.records ≡ r → AnswersAll F (answer setup) (Reads (key.BiosAttribute handle)) bodies b c → AllAnswered F.words (GaveAnswer F r) (Reads (key.BiosAttribute handle)) bodies
+          → shown_by (key.BiosAttribute handle) bodies ≡ shown → length bodies ≡ parts_of entry
       counted [] b c at_r h all is = absurd (h.some refl)
-      counted (x ∷ []) b c at_r h all is = one_part x (first_is x (first_given setup at r (key.BiosAttribute handle) all.in_order.0 x all.in_order.1 all.in_order.2)) is
+      counted (x ∷ []) b c at_r h all is =
+          one_part x (first_is x (first_given setup at r (key.BiosAttribute handle) all.in_order.0 x all.in_order.1 all.in_order.2)) (by (is_whole x) is)
+        where
+          by : (t : Bool) → cond t x [] ≡ shown → x ≡ shown
+          by true all = all
+          by false none = absurd cc
       counted (x ∷ y ∷ ys) b c at_r h all is = more_parts x y ys b c h.replied is
 
 -- ---- each record
@@ -219,8 +225,8 @@ module _ (setup : BoardFile) (names : Names) where
       of_attribute handle h =
           let k = key.BiosAttribute handle in
           let all = gave_all setup (addresses names) k bodies b c h in
-          let s : ShownRecord Board k (joined bodies) b.records = (is_family setup (addresses names)).parts_show b.records k bodies valid all in
-          let e = shows_entry handle (attribute_at setup.attributes.items handle) s.value (joined bodies) s.shows in
+          let s : ShownRecord Board k (shown_by k bodies) b.records = (is_family setup (addresses names)).parts_show b.records k bodies valid all in
+          let e = shows_entry handle (attribute_at setup.attributes.items handle) s.value (shown_by k bodies) s.shows in
           counted setup (addresses names) handle e.own s.value b.records e.there s.found bodies b c refl h all e.is
           ∙ sym (let same : get_count (limits_at setup k) (b.records k) ≡ get_count (Some (limits.BiosAttribute e.own)) (Some s.value) = λ i. get_count (e.there i) (s.found i) in same)
 

@@ -25,7 +25,7 @@ use Rattle.model_undo.specs.declared.phase.Phase.{Phase}
 use Rattle.model_undo.specs.declared.phase.Phase.TheVariants.{Fresh, Getting, Setting, Done, Halted, Unsettled, Undoing, Undone, UndoRefused}
 use Rattle.model_undo.specs.Giving.{GivenAnswer, given_in, GaveIn as Gave, CausedIn}
 use Rattle.model_undo.proofs.Giving.{halts_by_answers}
-use Rattle.model_undo.proofs.Series.{all_answered_as}
+use Rattle.model_undo.proofs.Series.{reached_as, all_answered_as}
 use Rattle.model_undo.specs.declared.call.Call.TheVariants.{Stop as StopCall}
 use Rattle.model_headline.specs.Answers.{CausedBy}
 use Rattle.model_headline.proofs.Each.{each_at}
@@ -170,12 +170,30 @@ module _ (setup : BoardFile) (names : Names) (plan : List Op) (retries : ℕ) (b
       let op = c.2.op in
       let given = given_in (own_family setup names) (own_lines setup names) (own_wires setup names) hs (world_of setup names start quiet) in
       let answered : Answered = record { code = code; body = c.1 } in
-      (op, c.2.asked, c.1, c.2.step, c.2.is_of, gave_in events given all k c.2.asked answered c.2.gave, c.0)
+      let gave = Gave (own_family setup names) (own_lines setup names) (own_wires setup names) given plan start.board.records k in (
+        op,
+        c.2.bodies,
+        c.2.asked,
+        c.1,
+        c.2.step,
+        reached_as (own_family setup names).words ((own_family setup names).words.setting op) gave (GaveFrom setup names plan retries start events k) (gave_in events given all k) c.2.bodies c.2.asked c.2.reached,
+        gave_in events given all k c.2.asked answered c.2.gave,
+        c.0,
+      )
   caused events hs all (Halted k (GetRefused code)) told c =
       let op = c.2.op in
       let given = given_in (own_family setup names) (own_lines setup names) (own_wires setup names) hs (world_of setup names start quiet) in
       let answered : Answered = record { code = code; body = c.1 } in
-      (op, c.2.asked, c.1, c.2.step, c.2.is_of, gave_in events given all k c.2.asked answered c.2.gave, c.0)
+      let gave = Gave (own_family setup names) (own_lines setup names) (own_wires setup names) given plan start.board.records k in (
+        op,
+        c.2.bodies,
+        c.2.asked,
+        c.1,
+        c.2.step,
+        reached_as (own_family setup names).words ((own_family setup names).words.getting ((own_family setup names).words.key_of op)) gave (GaveFrom setup names plan retries start events k) (gave_in events given all k) c.2.bodies c.2.asked c.2.reached,
+        gave_in events given all k c.2.asked answered c.2.gave,
+        c.0,
+      )
   caused events hs all (Halted k NotRestorable) told c =
       let op = c.1.op in
       let given = given_in (own_family setup names) (own_lines setup names) (own_wires setup names) hs (world_of setup names start quiet) in

@@ -58,6 +58,7 @@ mod Controller
 mod Refined
 mod Strong
 pub mod Promised
+pub mod Stated
 pub mod Fresh
 pub mod Lists
 pub mod Carrying

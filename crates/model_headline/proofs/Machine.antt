@@ -14,7 +14,7 @@ use Rattle.undo_plans.specs.declared.names.Names.{Names}
 use Rattle.model_undo.specs.Words.{Words}
 use Rattle.model_undo.specs.Machine as machine
 use Rattle.model_lab.specs.ManagerSteps as manager
-use Rattle.model_headline.specs.Manager.{Call, Start, Quiet, Stop, Again, Undo, Stopped, Task, Gets, Sets, Undoes, Phase, Fresh, Open, Done, Halted, Undone, UndoRefused, Manager, Turn, enters, rests, next_step, set_step, undo_step, called, carried_out, refused, one_more, bus_of, joined, Reads, sends, next_after, series_of, by_manager, asked_for}
+use Rattle.model_headline.specs.Manager.{Call, Start, Quiet, Stop, Again, Undo, Task, Gets, Sets, Undoes, Phase, Fresh, Open, Done, Halted, Undone, UndoRefused, Manager, Turn, enters, rests, next_step, set_step, undo_step, called, carried_out, refused, one_more, bus_of, shown_by, Reads, sends, next_after, series_of, by_manager, asked_for}
 use Rattle.model_headline.specs.Seen.{seen_as, words_of, seen_plans, seen_words, seen_call, seen_task, part_of, stage_of, counts_of, machine_of}
 use Rattle.model_headline.proofs.ClaimSeries.{after_is}
 use Rattle.model_undo.specs.declared.phase.Why.TheVariants as undo_why
@@ -140,7 +140,7 @@ module _ (names : Names) where
   -- another request of the record, unless the plan is to stop
   more_gets : (stopped : Bool) (k : ℕ) (op : Op) (bodies : List (List ℕ)) (m : Manager)
       → machine.enters M (machine.goes_on M stopped (machine.Gets k op) (part_of names (asked_for names (Gets k op) bodies) bodies)) (machine_of names m)
-      ≡ seen_turn (enters (cond stopped (Halted k Stopped) (Open true (Gets k op) bodies)) m)
+      ≡ seen_turn (enters (cond stopped (Halted k Stop) (Open true (Gets k op) bodies)) m)
   more_gets true k op bodies m = refl
   more_gets false k op bodies m = refl
 
@@ -180,7 +180,7 @@ module _ (names : Names) where
         at : (ok : Bool) (another : Option Asked) → next_after (Reads (key_of op)) bodies_then ≡ another
             → machine.enters M (cond ok (machine.told_stage M m.stopped m.plan (machine.Gets k op) bodies_then (next another)) (machine.AtHalt k (undo_why.GetRefused a.code))) (machine_of names (answered (Gets k op) bodies m))
             ≡ seen_turn (cond ok (carried_out another (Gets k op) bodies_then (answered (Gets k op) bodies m)) (refused (Gets k op) a.code (answered (Gets k op) bodies m)))
-        at true None e = sets_then m.stopped k op (inverse op (joined bodies_then)) (answered (Gets k op) bodies m)
+        at true None e = sets_then m.stopped k op (inverse op (shown_by (key_of op) bodies_then)) (answered (Gets k op) bodies m)
         at true (Some asked) e =
             ap (λ (q : Asked). machine.enters M (machine.goes_on M m.stopped (machine.Gets k op) (part_of names q bodies_then)) (machine_of names (answered (Gets k op) bodies m))) (open_then (Gets k op) asked e)
             ∙ more_gets m.stopped k op bodies_then (answered (Gets k op) bodies m)

@@ -8,7 +8,7 @@ use Rattle.cfg_records.specs.declared.board_file.BoardFile.{BoardFile}
 use Rattle.bmc_board.specs.State.{State}
 use Rattle.model_bus.specs.Repeat.{In}
 use Rattle.model_bus.specs.Answered.{Answered}
-use Rattle.model_undo.proofs.Series.{all_answered_as}
+use Rattle.model_undo.proofs.Series.{reached_as, all_answered_as}
 use Rattle.model_undo.specs.declared.phase.Why.TheVariants.{Stop, Refused, NotRestorable, GetRefused}
 use Rattle.model_undo.specs.declared.phase.Phase.{Phase}
 use Rattle.model_undo.specs.declared.phase.Phase.TheVariants.{Fresh, Getting, Setting, Done, Halted, Unsettled, Undoing, Undone, UndoRefused}
@@ -30,11 +30,13 @@ use Rattle.model_headline.specs.Answers.{AnswerGiven, CausedBy}
 use Rattle.model_headline.specs.Theorem as law
 use Rattle.model_headline.specs.Theorem.{IsHonestAndOwn}
 use Rattle.model_headline.specs.Plays.{taken_by, told_by, AllKeepPremise, AreOwn, GaveIn, ToldStands, PlaysStand}
+use Rattle.model_headline.specs.Claim.{ours, ShowsSameParts}
+use Rattle.model_headline.proofs.Meaning.{shows_parts}
 use Rattle.model_headline.proofs.Theorem.{first_honest, first_own, premises_agree, headline_of}
 
 module _ (file : BoardFile) where
   -- the lab's events that a schedule's are, from a lab on
-  abbrev events_from : List Event → Lab plans → List lab.Event
+  abbrev pub events_from : List Event → Lab plans → List lab.Event
   events_from [] x = []
   events_from (e ∷ es) x = event_of lab_names file x.board e ∷ events_from es (happens file e x)
 
@@ -46,7 +48,7 @@ module _ (file : BoardFile) where
   own_from [] x all = tt
   own_from (e ∷ es) x all = (all.0, own_from es (happens file e x) all.1)
 
-  live_from : (es : List Event) (x : Lab plans) → AllKeepPremise file es x → AllJoinLive plans file (events_from es x) x
+  pub live_from : (es : List Event) (x : Lab plans) → AllKeepPremise file es x → AllJoinLive plans file (events_from es x) x
   live_from [] x all = tt
   live_from (e ∷ es) x all = (all.0, live_from es (happens file e x) all.1)
 
@@ -55,7 +57,7 @@ module _ (file : BoardFile) where
   parts_from [] fs x = refl
   parts_from (e ∷ es) fs x = ap (λ (rest : List lab.Event). event_of lab_names file x.board e ∷ rest) (parts_from es fs (happens file e x))
 
-  runs_so : (es : List Event) (x : Lab plans) → run plans file (events_from es x) x ≡ after file es x
+  pub runs_so : (es : List Event) (x : Lab plans) → run plans file (events_from es x) x ≡ after file es x
   unfolding run
   runs_so [] x = refl
   runs_so (e ∷ es) x = runs_so es (happens file e x)
@@ -113,6 +115,7 @@ module _ (file : BoardFile) where
     -- the board has the records of the start, and shows what it showed then
     abbrev IsSame : State → Type 0
     IsSame now = (now.records ≡ first.board.records) × ShowsSame (own_family file lab_names) first.board now × PartsShowSame (own_family file lab_names) first.board now
+        × ShowsSameParts file (ours file) first.board now
 
     -- once undone, for good
     for_good : (es later : List Event) → Good (events_from (es ++ later) first) → phase_of plans.words (after file es first).manager.machine ≡ Undone → IsSame (after file (es ++ later) first).board
@@ -123,7 +126,8 @@ module _ (file : BoardFile) where
         let undone : phase_of plans.words (run plans file one first).manager.machine ≡ Undone = ap (λ (y : Lab plans). phase_of plans.words y.manager.machine) (runs_so es first) ∙ at in
         let there = (headline_of file lab_names plan retries Good (λ events is. is)).undone one two (subst Good split good) undone in
         let reaches : run plans file (one ++ two) first ≡ after file (es ++ later) first = ap (λ (events : List lab.Event). run plans file events first) (sym split) ∙ runs_so (es ++ later) first in
-        subst (λ (y : Lab plans). IsSame y.board) reaches there
+        let now = (run plans file (one ++ two) first).board in
+        subst (λ (y : Lab plans). IsSame y.board) reaches (there.0, there.1, there.2, shows_parts file lab_names first.board now there.0)
 
     -- an answer that was given in a run was given in the play
     gave_so : (es : List Event) (k : ℕ) (asked : Asked) (a : Answered) → law.GaveIn file lab_names plan retries (events_from es first) k asked a → GaveIn file plan retries es k asked a
@@ -145,8 +149,14 @@ module _ (file : BoardFile) where
     caused_so : (es : List Event) (phase : Phase) → CausedBy file lab_names (law.GaveIn file lab_names plan retries (events_from es first)) (In (lab.Calls called.Stop) (events_from es first)) plan phase
         → CausedBy file lab_names (GaveIn file plan retries es) (In (event.Calls called.Stop) es) plan phase
     caused_so es (Halted k Stop) c = stop_from es first c
-    caused_so es (Halted k (Refused code)) c = (c.0, c.1, c.2, c.3, c.4, gave_so es k _ _ c.5, c.6)
-    caused_so es (Halted k (GetRefused code)) c = (c.0, c.1, c.2, c.3, c.4, gave_so es k _ _ c.5, c.6)
+    caused_so es (Halted k (Refused code)) c =
+        let words = (own_family file lab_names).words in
+        let given = law.GaveIn file lab_names plan retries (events_from es first) k in
+        (c.0, c.1, c.2, c.3, c.4, reached_as words (words.setting c.0) given (GaveIn file plan retries es k) (gave_so es k) c.1 c.2 c.5, gave_so es k _ _ c.6, c.7)
+    caused_so es (Halted k (GetRefused code)) c =
+        let words = (own_family file lab_names).words in
+        let given = law.GaveIn file lab_names plan retries (events_from es first) k in
+        (c.0, c.1, c.2, c.3, c.4, reached_as words (words.getting (words.key_of c.0)) given (GaveIn file plan retries es k) (gave_so es k) c.1 c.2 c.5, gave_so es k _ _ c.6, c.7)
     caused_so es (Halted k NotRestorable) c =
         let words = (own_family file lab_names).words in
         let given = law.GaveIn file lab_names plan retries (events_from es first) k in
@@ -176,7 +186,7 @@ module _ (file : BoardFile) where
         })
 
     -- of events that were taken, by either premise
-    kept_good : (es : List Event) → AreTaken file es first → AllKeepPremise file es first → Good (events_from es first)
+    pub kept_good : (es : List Event) → AreTaken file es first → AllKeepPremise file es first → Good (events_from es first)
     kept_good es taken kept =
         let events = events_from es first in
         let agree = premises_agree file lab_names plan retries in
@@ -191,7 +201,7 @@ module _ (file : BoardFile) where
     before_place n = omega arith
 
     -- the events that a play took were taken, and what it tells is told of them
-    taken_told : (events : List Event) (ending : Ending) → IsPlayed file plan retries events ending
+    pub taken_told : (events : List Event) (ending : Ending) → IsPlayed file plan retries events ending
         → AreTaken file (taken_by events ending) first × (told_by ending ≡ told_of file first (after file (taken_by events ending) first))
     taken_told events (Whole told) played = played
     taken_told events (Stops fault place told) played =

@@ -1,10 +1,9 @@
 -- A play keeps its promise.
 use Rattle.std.proofs.Common.{◌≡◌, ◌⊎◌, ℕ, suc, List, [], ◌∷◌, ◌++◌, length, sym, ap, subst, inl, inr}
-use Rattle.two_wire.specs.Codes.{success}
 use Rattle.record_base.specs.declared.op.Op.{Op}
 use Rattle.record_base.specs.declared.message.Asked.{Asked}
 use Rattle.record_kinds.specs.Limits.{key_of}
-use Rattle.record_kinds.specs.Series.{Reads, sends, request_after}
+use Rattle.record_kinds.specs.Series.{Reads, sends}
 use Rattle.cfg_records.specs.declared.board_file.BoardFile.{BoardFile}
 use Rattle.cfg_records.specs.Records.{Records}
 use Rattle.model_undo.specs.declared.call.Call.TheVariants as call
@@ -21,19 +20,17 @@ use Rattle.model_undo.specs.declared.phase.Phase.{Phase}
 use Rattle.model_undo.specs.declared.phase.Phase.TheVariants.{Fresh, Getting, Setting, Done, Halted, Unsettled, Undoing, Undone, UndoRefused}
 use Rattle.model_undo.specs.Plan as plans
 use Rattle.model_lab.specs.Meaning.{lab_names}
-use Rattle.model_lab.specs.ManagerSteps.{addresses}
 use Rattle.model_lab.specs.Played.{Told, Ending, Whole, Stops, happens, IsPlayed}
 use Rattle.model_headline.specs.Tied.{own_family}
 use Rattle.model_headline.specs.Answers.{CausedBy}
 use Rattle.model_headline.specs.Plays as plays
 use Rattle.model_headline.specs.Plays.{taken_by, told_by, ToldStands, lab_after}
 use Rattle.model_headline.proofs.Plays.{plays_stand}
-use Rattle.model_headline.proofs.Series.{of_is}
 use Rattle.model_headline.specs.Manager.{own_on, bus_of, by_manager}
 use Rattle.model_headline.specs.Claim.{IsAfter}
 use Rattle.model_headline.specs.Promise.{PhaseMeans, GaveAnswer, IsWhy, Promise}
 use Rattle.model_headline.specs.Keeps.{KeepsPromise}
-use Rattle.model_headline.proofs.ClaimSeries.{board_of, all_given}
+use Rattle.model_headline.proofs.ClaimSeries.{board_of, all_given, refused_so}
 use Rattle.model_headline.proofs.Meaning.{after_so}
 
 record HasStop (events : List Event) : Type 0 where
@@ -94,12 +91,9 @@ module _ (file : BoardFile) (plan : List Op) (retries : ℕ) where
 
       why_so : (why : Why) → CausedBy file lab_names (plays.GaveIn file plan retries taken) (In (Calls call.Stop) taken) plan (Halted k why) → IsWhy file plan start taken k why
       why_so Stop was = let is = has_stop taken was in (is.earlier, is.rest, is.all)
-      why_so (GetRefused code) was = let is = of_is (addresses lab_names) (Reads (key_of was.0)) was.1 was.4 in
-          (was.0, is.0, was.2, was.3, said (request_after (Reads (key_of was.0)) is.0) (record { code = code; body = was.2 }) (subst (λ (q : Asked). GaveThere q (record { code = code; body = was.2 })) is.1 was.5), was.6)
-      why_so (Refused code) was = let is = of_is (addresses lab_names) (sends was.0) was.1 was.4 in
-          (was.0, is.0, was.2, was.3, said (request_after (sends was.0) is.0) (record { code = code; body = was.2 }) (subst (λ (q : Asked). GaveThere q (record { code = code; body = was.2 })) is.1 was.5), was.6)
-      why_so NotRestorable was =
-          (was.0, was.1, was.2, all_given lab_names GaveThere (GaveAnswer file plan start k) (Reads (key_of was.0)) (λ asked body. said asked (record { code = success; body = body })) was.1 was.3, was.4)
+      why_so (GetRefused code) was = (was.0, was.4, refused_so lab_names GaveThere (GaveAnswer file plan start k) (Reads (key_of was.0)) said code was.1 was.2 was.3 was.5 was.6 was.7)
+      why_so (Refused code) was = (was.0, was.4, refused_so lab_names GaveThere (GaveAnswer file plan start k) (sends was.0) said code was.1 was.2 was.3 was.5 was.6 was.7)
+      why_so NotRestorable was = (was.0, was.1, was.2, all_given lab_names GaveThere (GaveAnswer file plan start k) (Reads (key_of was.0)) said was.1 was.3, was.4)
 
   -- what is told of the start is that of the lab that begins
   begins : (events : List Event) (ending : Ending) → IsPlayed file plan retries events ending → first_records ≡ (told_by ending).start
@@ -110,7 +104,7 @@ module _ (file : BoardFile) (plan : List Op) (retries : ℕ) where
   promised events ending played stands =
       let told = told_by ending in
       record {
-        says = says file plan told.start told.phase told.records stands.stands;
+        stands = says file plan told.start told.phase told.records stands.stands;
         undone = stands.undone;
         why = λ k why halted. why_so (taken_by events ending) told.start (begins events ending played) k why
             (subst (CausedBy file lab_names (plays.GaveIn file plan retries (taken_by events ending)) (In (Calls call.Stop) (taken_by events ending)) plan) halted stands.halts);

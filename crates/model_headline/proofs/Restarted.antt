@@ -17,7 +17,7 @@ use Rattle.model_undo.specs.declared.phase.Phase.TheVariants.{Fresh, Getting, Se
 use Rattle.model_undo.specs.Plan.{IsAfter, HaltMeans}
 use Rattle.model_undo.specs.Giving.{GivenAnswer, given_in, GaveIn as Gave, CausedIn}
 use Rattle.model_undo.proofs.Giving.{halts_by_answers}
-use Rattle.model_undo.proofs.Series.{all_answered_as}
+use Rattle.model_undo.proofs.Series.{reached_as, all_answered_as}
 use Rattle.model_undo.specs.Machine.{phase_of}
 use Rattle.model_undo.specs.World as world
 use Rattle.model_undo.specs.World.{States, World, Happening}
@@ -188,11 +188,29 @@ module _ (setup : BoardFile) (names : Names) (plan : List Op) (retries : ℕ) wh
   caused ms hs all (Halted k (Refused code)) told c =
       let given = given_in (own_family setup names) (own_lines setup names) (own_wires setup names) hs (world_of setup names begun on_start) in
       let answered : Answered = record { code = code; body = c.1 } in
-      (c.2.op, c.2.asked, c.1, c.2.step, c.2.is_of, gave_in ms given all k c.2.asked answered c.2.gave, c.0)
+      let gave = Gave (own_family setup names) (own_lines setup names) (own_wires setup names) given plan begun.board.records k in (
+        c.2.op,
+        c.2.bodies,
+        c.2.asked,
+        c.1,
+        c.2.step,
+        reached_as (own_family setup names).words ((own_family setup names).words.setting c.2.op) gave (GaveIn setup names plan retries ms k) (gave_in ms given all k) c.2.bodies c.2.asked c.2.reached,
+        gave_in ms given all k c.2.asked answered c.2.gave,
+        c.0,
+      )
   caused ms hs all (Halted k (GetRefused code)) told c =
       let given = given_in (own_family setup names) (own_lines setup names) (own_wires setup names) hs (world_of setup names begun on_start) in
       let answered : Answered = record { code = code; body = c.1 } in
-      (c.2.op, c.2.asked, c.1, c.2.step, c.2.is_of, gave_in ms given all k c.2.asked answered c.2.gave, c.0)
+      let gave = Gave (own_family setup names) (own_lines setup names) (own_wires setup names) given plan begun.board.records k in (
+        c.2.op,
+        c.2.bodies,
+        c.2.asked,
+        c.1,
+        c.2.step,
+        reached_as (own_family setup names).words ((own_family setup names).words.getting ((own_family setup names).words.key_of c.2.op)) gave (GaveIn setup names plan retries ms k) (gave_in ms given all k) c.2.bodies c.2.asked c.2.reached,
+        gave_in ms given all k c.2.asked answered c.2.gave,
+        c.0,
+      )
   caused ms hs all (Halted k NotRestorable) told c =
       let op = c.1.op in
       let given = given_in (own_family setup names) (own_lines setup names) (own_wires setup names) hs (world_of setup names begun on_start) in

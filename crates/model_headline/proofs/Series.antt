@@ -1,7 +1,7 @@
 -- What holds of each request of a manager's series.
-use Rattle.std.proofs.Common.{◌≡◌, ℕ, ◌*◌, ◌<◌, Bool, true, false, cond, List, [], ◌∷◌, length, Option, Some, None, refl, sym, ◌∙◌, ap, subst, arith, inl, inr}
+use Rattle.std.proofs.Common.{◌≡◌, ℕ, ◌*◌, ◌<◌, Bool, true, false, cond, List, length, Option, Some, None, refl, sym, subst, arith, inl, inr}
 use Rattle.std.specs.Prelude.{◌==◌, nat_lt}
-use Rattle.std.specs.Option.{option_map, unwrap_or}
+use Rattle.std.specs.Option.{option_map}
 use Rattle.std.proofs.lemmas.Bool.{eqb-true}
 use Rattle.std.proofs.lemmas.Bool.Decides.{nat_tests}
 use Rattle.std.proofs.lemmas.Option.{same_Some, none-some}
@@ -10,13 +10,12 @@ use Rattle.record_base.specs.declared.key.Key.{Key}
 use Rattle.record_base.specs.declared.key.Key.TheVariants as key
 use Rattle.record_base.specs.declared.op.Op.{Op}
 use Rattle.record_base.specs.declared.message.Asked.{Asked}
-use Rattle.record_base.specs.declared.message.Asked.TheVariants.{Ipmi, Pldm}
 use Rattle.pldm_base.specs.Parts.{part_length}
-use Rattle.bios_attr.specs.EntryParts.{entry_in, is_in_parts, set_part, part_at, first_request, request_at, alone_at, get_part, goes_on, last_of}
+use Rattle.bios_attr.specs.EntryParts.{entry_in, set_part, part_at, first_request, request_at, alone_at, get_part, goes_on, last_of}
 use Rattle.record_kinds.specs.Limits.{get_asked}
-use Rattle.record_kinds.specs.Series.{Series, Reads, Sends, set_whole, first_of, next_after, request_after}
+use Rattle.record_kinds.specs.Series.{Series, Reads, set_whole, first_of, next_after}
 use Rattle.model_bus.specs.Addresses.{Addresses}
-use Rattle.model_undo.specs.Words.{IsNext, IsOneOf, IsSeries, IsMade}
+use Rattle.model_undo.specs.Words.{IsOneOf, IsSeries, IsMade}
 use Rattle.model_lab.specs.ManagerWords.{from_manager, manager_words}
 
 -- ---- the requests that carry a request out
@@ -76,33 +75,3 @@ module _ (at : Bus → Addresses) (Q : Asked → Type 0) (of_all : IsOfAll Q) wh
       by : (series : Series) → IsSeries (manager_words at) series → IsOneOf (manager_words at) series asked → Q asked
       by series is (inl same) = subst Q (sym same) (keeps (first_of series) (first_so series is))
       by series is (inr one) = let raw = mapped (from_manager at) (next_after series one.0) asked one.1 in subst Q raw.2 (keeps raw.0 (next_so series one.0 raw.0 is raw.1))
-
--- ---- the request after replies
-
--- after no replies a series has its first request
-first_again : (series : Series) (asked : Asked) → next_after series [] ≡ Some asked → asked ≡ first_of series
-first_again (Reads (key.BiosAttribute handle)) asked e = absurd (none-some asked e)
-first_again (Reads _) asked e = absurd (none-some asked e)
-first_again (Sends (Ipmi from net_fn lun command body)) asked e = sym (same_Some _ _ e)
-first_again (Sends (Pldm from kind command body)) asked e = by (is_in_parts (Pldm from kind command body)) e
-  where
-    by : (t : Bool) → cond t (option_map (Pldm from kind command) (part_at body 0)) (alone_at (Pldm from kind command body) 0) ≡ Some asked → asked ≡ Pldm from kind command (cond t (set_part (entry_in body) 0) body)
-    by true e = let m = mapped (Pldm from kind command) (part_at body 0) asked e in sym m.2 ∙ ap (Pldm from kind command) (sym (part_is body 0 m.0 m.1).1)
-    by false e = sym (same_Some _ _ e)
-
-module _ (at : Bus → Addresses) where
-  -- the next request of a series after replies with these data is this one
-  pub next_is : (series : Series) (bodies : List (List ℕ)) (asked : Asked) → IsNext (manager_words at) series bodies asked → asked ≡ from_manager at (request_after series bodies)
-  next_is series [] asked is = is
-  next_is series (body ∷ bodies) asked is =
-      let raw = mapped (from_manager at) (next_after series (body ∷ bodies)) asked is in
-      sym raw.2 ∙ ap (λ (o : Option Asked). from_manager at (unwrap_or o (first_of series))) (sym raw.1)
-
-  -- a request of a series is the one after some replies
-  pub of_is : (series : Series) (asked : Asked) → IsOneOf (manager_words at) series asked → (bodies : List (List ℕ)) × (asked ≡ from_manager at (request_after series bodies))
-  of_is series asked (inl same) = ([], same)
-  of_is series asked (inr one) = by one.0 one.1
-    where
-      by : (bodies : List (List ℕ)) → option_map (from_manager at) (next_after series bodies) ≡ Some asked → (bodies : List (List ℕ)) × (asked ≡ from_manager at (request_after series bodies))
-      by [] e = let raw = mapped (from_manager at) (next_after series []) asked e in ([], sym raw.2 ∙ ap (from_manager at) (first_again series raw.0 raw.1))
-      by (body ∷ bodies) e = (body ∷ bodies, next_is series (body ∷ bodies) asked e)

@@ -20,6 +20,7 @@ use Rattle.model_bus.specs.Request as bus
 use Rattle.model_bus.specs.Repeat.{In}
 use Rattle.model_bus.specs.Answered.{Answered as UndoAnswered}
 use Rattle.model_undo.specs.Family as undo_family
+use Rattle.model_undo.specs.Words.{IsReached}
 use Rattle.model_undo.specs.Plan as plans
 use Rattle.model_undo.specs.Machine as machine
 use Rattle.model_undo.specs.Headline as undo_headline
@@ -33,14 +34,14 @@ use Rattle.model_headline.specs.Each.{Each}
 use Rattle.model_headline.specs.Tied.{own_family}
 use Rattle.model_headline.specs.Answers as answers
 use Rattle.model_headline.specs.Theorem as law
-use Rattle.model_headline.specs.Manager.{Stop, Why, Stopped, GetRefused, SetRefused, NotRestorable, Gets, Sets, Undoes, Phase, Fresh, Open, Done, Halted, Undone, UndoRefused, Reads, sends, request_after, by_manager}
+use Rattle.model_headline.specs.Manager.{Stop, Why, GetRefused, Refused, NotRestorable, Gets, Sets, Undoes, Phase, Fresh, Open, Done, Halted, Undone, UndoRefused, Series, Reads, sends, by_manager}
 use Rattle.model_headline.specs.Lab.{Event, Calls, Carried, Lab, port_on, step}
-use Rattle.model_headline.specs.Claim.{ours, SetsTo, IsAfter, PhaseMeans, ShowsSame, AllHonest, first, after, GaveIn, IsCause, Claim}
+use Rattle.model_headline.specs.Claim.{ours, SetsTo, IsAfter, PhaseMeans, ShowsSame, AllHonest, first, after, AreGiven, GaveIn, IsCause, Claim}
 use Rattle.model_headline.specs.Seen.{seen_plans, seen_words, spell, seen_log, bare, seen_event, seen_lab, stage_of}
 use Rattle.model_headline.proofs.Holds.{Reads as EntryReads}
 use Rattle.model_headline.proofs.Labs.{step_so}
 use Rattle.model_headline.proofs.Honesty.{first_honest, later_honest}
-use Rattle.model_headline.proofs.ClaimSeries.{board_of, is_of, all_back}
+use Rattle.model_headline.proofs.ClaimSeries.{board_of, all_back, reached_back}
 use Rattle.model_headline.proofs.Claim.{ran, port_log, holds_reads}
 use Rattle.model_headline.specs.Refines.{Refines}
 use Rattle.model_headline.proofs.Controller.{row_served}
@@ -163,6 +164,13 @@ module _ (setup : BoardFile) (names : Names) (plan : List Op) (retries : ℕ) wh
         subst (λ (l : lab.Lab (seen_plans names)). plans.PhaseMeans (own_family setup names) plan start.board.records (machine.phase_of (seen_words names) l.manager.machine) l.board.records) (sym (ran setup names plan retries events all).is)
         (stands_back setup names plan start.board.records (after setup (ours setup) names plan retries events).manager.phase (after setup (ours setup) names plan retries events).board.records (claim.stands events all))
 
+    -- a request that was reached here was reached there
+    reached_so : (events : List Event) (k : ℕ) → AllHonest (ours setup) names events start → (series : Series) (bodies : List (List ℕ)) (asked : Asked)
+        → AreGiven (GaveIn setup (ours setup) names plan retries events k) series bodies (Some asked)
+        → IsReached (seen_words names) (law.GaveIn setup names plan retries (map seen_event events) k) series bodies (by_manager names asked)
+    reached_so events k all series =
+        reached_back names (law.GaveIn setup names plan retries (map seen_event events) k) (GaveIn setup (ours setup) names plan retries events k) series (λ asked a. gave_back events k asked a all)
+
     caused : (events : List Event) → AllHonest (ours setup) names events start → (phase : Phase) → ((k : ℕ) (why : Why) → phase ≡ Halted k why → IsCause setup (ours setup) names plan retries events k why) → Caused events (machine.phase_at (seen_words names) (stage_of names phase))
     caused events all Fresh c = tt
     caused events all (Open true (Gets k op) bodies) c = tt
@@ -172,21 +180,21 @@ module _ (setup : BoardFile) (names : Names) (plan : List Op) (retries : ℕ) wh
     caused events all Done c = tt
     caused events all Undone c = tt
     caused events all (UndoRefused k code) c = tt
-    caused events all (Halted k Stopped) c =
-        let is = c k Stopped refl in
+    caused events all (Halted k Stop) c =
+        let is = c k Stop refl in
         subst (λ (es : List Event). In (lab.Calls lab_call.Stop) (map seen_event es)) (sym is.2) (stop_in is.0 is.1)
     caused events all (Halted k (GetRefused code)) c =
         let is = c k (GetRefused code) refl in
-        let asked = request_after (Reads (key_of is.0)) is.1 in
-        (is.0, by_manager names asked, is.2, is.3, is_of names (Reads (key_of is.0)) is.1, gave_back events k asked (record { code = code; body = is.2 }) all is.4, is.5)
-    caused events all (Halted k (SetRefused code)) c =
-        let is = c k (SetRefused code) refl in
-        let asked = request_after (sends is.0) is.1 in
-        (is.0, by_manager names asked, is.2, is.3, is_of names (sends is.0) is.1, gave_back events k asked (record { code = code; body = is.2 }) all is.4, is.5)
+        let was = is.2 in
+        (is.0, was.0, by_manager names was.1, was.2, is.1, reached_so events k all (Reads (key_of is.0)) was.0 was.1 was.3, gave_back events k was.1 (record { code = code; body = was.2 }) all was.4, was.5)
+    caused events all (Halted k (Refused code)) c =
+        let is = c k (Refused code) refl in
+        let was = is.2 in
+        (is.0, was.0, by_manager names was.1, was.2, is.1, reached_so events k all (sends is.0) was.0 was.1 was.3, gave_back events k was.1 (record { code = code; body = was.2 }) all was.4, was.5)
     caused events all (Halted k NotRestorable) c =
         let is = c k NotRestorable refl in
         let back = all_back names (law.GaveIn setup names plan retries (map seen_event events) k) (GaveIn setup (ours setup) names plan retries events k) (Reads (key_of is.0))
-        (λ asked body. gave_back events k asked (record { code = success; body = body }) all) in
+        (λ asked a. gave_back events k asked a all) in
         (is.0, is.1, is.2, back is.1 is.3, is.4)
 
     halts_there : (events : List Event) → Trusted (map seen_event events) → Caused events (law.phase_after setup names plan retries (map seen_event events))

@@ -24,7 +24,7 @@ use Rattle.model_undo.specs.declared.phase.Phase.TheVariants.{Fresh, Getting, Se
 use Rattle.model_undo.specs.Plan.{IsAfter, HaltMeans}
 use Rattle.model_undo.specs.Giving.{GivenAnswer, given_in, GaveIn as Gave, CausedIn}
 use Rattle.model_undo.proofs.Giving.{halts_by_answers}
-use Rattle.model_undo.proofs.Series.{all_answered_as}
+use Rattle.model_undo.proofs.Series.{reached_as, all_answered_as}
 use Rattle.model_undo.specs.Machine.{count_of, phase_of}
 use Rattle.model_undo.specs.World as world
 use Rattle.model_undo.specs.World.{States, World, Happening}
@@ -329,12 +329,30 @@ module _ (setup : BoardFile) (names : Names) (plan : List Op) (retries : ℕ) wh
       let op = c.2.op in
       let given = given_in (own_family setup names) (own_lines setup names) (own_wires setup names) hs (world_of setup names (first setup names plan retries) quiet) in
       let answered : Answered = record { code = code; body = c.1 } in
-      (op, c.2.asked, c.1, c.2.step, c.2.is_of, gave_in events given all k c.2.asked answered c.2.gave, c.0)
+      let gave = Gave (own_family setup names) (own_lines setup names) (own_wires setup names) given plan (first setup names plan retries).board.records k in (
+        op,
+        c.2.bodies,
+        c.2.asked,
+        c.1,
+        c.2.step,
+        reached_as (own_family setup names).words ((own_family setup names).words.setting op) gave (GaveIn setup names plan retries events k) (gave_in events given all k) c.2.bodies c.2.asked c.2.reached,
+        gave_in events given all k c.2.asked answered c.2.gave,
+        c.0,
+      )
   caused events hs all (Halted k (GetRefused code)) told c =
       let op = c.2.op in
       let given = given_in (own_family setup names) (own_lines setup names) (own_wires setup names) hs (world_of setup names (first setup names plan retries) quiet) in
       let answered : Answered = record { code = code; body = c.1 } in
-      (op, c.2.asked, c.1, c.2.step, c.2.is_of, gave_in events given all k c.2.asked answered c.2.gave, c.0)
+      let gave = Gave (own_family setup names) (own_lines setup names) (own_wires setup names) given plan (first setup names plan retries).board.records k in (
+        op,
+        c.2.bodies,
+        c.2.asked,
+        c.1,
+        c.2.step,
+        reached_as (own_family setup names).words ((own_family setup names).words.getting ((own_family setup names).words.key_of op)) gave (GaveIn setup names plan retries events k) (gave_in events given all k) c.2.bodies c.2.asked c.2.reached,
+        gave_in events given all k c.2.asked answered c.2.gave,
+        c.0,
+      )
   caused events hs all (Halted k NotRestorable) told c =
       let op = c.1.op in
       let given = given_in (own_family setup names) (own_lines setup names) (own_wires setup names) hs (world_of setup names (first setup names plan retries) quiet) in

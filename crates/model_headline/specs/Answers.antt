@@ -7,7 +7,7 @@ use Rattle.record_base.specs.declared.op.Op.{Op}
 use Rattle.cfg_records.specs.declared.board_file.BoardFile.{BoardFile}
 use Rattle.model_bus.specs.Request.{Kept, Carried}
 use Rattle.model_bus.specs.Answered.{Answered}
-use Rattle.model_undo.specs.Words.{IsOneOf, AllAnswered}
+use Rattle.model_undo.specs.Words.{IsReached, AllAnswered}
 use Rattle.model_undo.specs.declared.phase.Why.TheVariants.{Stop, Refused, NotRestorable, GetRefused}
 use Rattle.model_undo.specs.declared.phase.Phase.{Phase}
 use Rattle.model_undo.specs.declared.phase.Phase.TheVariants.{Halted}
@@ -34,15 +34,15 @@ module _ (setup : BoardFile) (names : Names) where
     pub row : Board.Row lab.board asked answered next.board
 
   -- Why a plan halted after `step` steps, in a run whose answers at the records after so many steps are `Gave step`: an answer that was given to a
-  -- request of the Get or of the Set of that step, the answers to all requests of that Get, or a stop.
+  -- request of the Get or of the Set of that step, once those before it were answered with 00h, the answers to all requests of that Get, or a stop.
   abbrev pub CausedBy : (Gave : ℕ → Asked → Answered → Type 0) → (stopped : Type 0) → List Op → Phase → Type 0
   CausedBy Gave stopped plan (Halted step Stop) = stopped
   CausedBy Gave stopped plan (Halted step (Refused code)) =
-      (op : Op) × (asked : Asked) × (body : List ℕ) × (slice_get plan step ≡ Some op) × IsOneOf Board.words (Board.words.setting op) asked
-      × Gave step asked (record { code = code; body = body }) × (code ≢ success)
+      (op : Op) × (bodies : List (List ℕ)) × (asked : Asked) × (body : List ℕ) × (slice_get plan step ≡ Some op)
+      × IsReached Board.words (Gave step) (Board.words.setting op) bodies asked × Gave step asked (record { code = code; body = body }) × (code ≢ success)
   CausedBy Gave stopped plan (Halted step (GetRefused code)) =
-      (op : Op) × (asked : Asked) × (body : List ℕ) × (slice_get plan step ≡ Some op) × IsOneOf Board.words (Board.words.getting (Board.words.key_of op)) asked
-      × Gave step asked (record { code = code; body = body }) × (code ≢ success)
+      (op : Op) × (bodies : List (List ℕ)) × (asked : Asked) × (body : List ℕ) × (slice_get plan step ≡ Some op)
+      × IsReached Board.words (Gave step) (Board.words.getting (Board.words.key_of op)) bodies asked × Gave step asked (record { code = code; body = body }) × (code ≢ success)
   CausedBy Gave stopped plan (Halted step NotRestorable) =
       (op : Op) × (bodies : List (List ℕ)) × (slice_get plan step ≡ Some op) × AllAnswered Board.words (Gave step) (Board.words.getting (Board.words.key_of op)) bodies
       × (¬ Board.Restorable op (Board.words.joined (Board.words.getting (Board.words.key_of op)) bodies))

@@ -17,7 +17,7 @@ use Rattle.bmc_board.specs.Request.{Request, Get, Set, SetStores, PartOfSet, Lat
 use Rattle.bmc_board.specs.Table.{is_changing}
 use Rattle.bmc_board.specs.Answer.{answer_of}
 use Rattle.model_headline.specs.Frames.{Bus, Ipmb, Smbus, Packet, Value, Part, span, is_taken}
-use Rattle.model_headline.specs.Manager.{success, Op, Asked, Ipmi, Pldm, Answered, Names, Stop, Why, Stopped, GetRefused, SetRefused, NotRestorable, Gets, Sets, Undoes, Phase, Fresh, Open, Done, Halted, Undone, UndoRefused, own_on, by_manager, Series, Reads, sends, first_of, next_after, request_after, first_shown, joined, open_in}
+use Rattle.model_headline.specs.Manager.{success, Op, Asked, Ipmi, Pldm, Answered, Names, Why, Stop, GetRefused, Refused, NotRestorable, Gets, Sets, Undoes, Phase, Fresh, Open, Done, Halted, Undone, UndoRefused, own_on, by_manager, Series, Reads, sends, first_of, next_after, first_shown, shown_by, open_in}
 use Rattle.model_headline.specs.Lab.{PldmRequest, Controller, Heard, Carried, heard_in, pldm_heard, Way, ToPort, ToManager, Frame, Event, Calls, ToBmc, ToMgr, OtherIpmb, OtherSmbus, Noise, Idles, OnBench, Lab, port_on, idles_on, step, run, opening}
 
 module _ (setup : BoardFile) where
@@ -139,12 +139,22 @@ module _ (controller : Controller) (names : Names) where
   AllHonest [] lab = Unit {0}
   AllHonest (event ∷ events) lab = IsHonest lab event × AllHonest events (step controller names lab event)
 
--- The requests of a series from this one on, if any is left, were each answered (`Given`) with 00h and these data, behind replies with `before`.
-abbrev pub AreGiven : (Given : Asked → Answered → Type 0) → Series → (before : List (List ℕ)) → Option Asked → (bodies : List (List ℕ)) → Type 0
-AreGiven Given series before None [] = Unit {0}
-AreGiven Given series before (Some asked) (body ∷ bodies) =
-    let with_it = before ++ body ∷ [] in Given asked (record { code = success; body = body }) × AreGiven Given series with_it (next_after series with_it) bodies
-AreGiven Given series before asked bodies = ⊥
+-- what answers were given
+module _ (Given : Asked → Answered → Type 0) (series : Series) where
+  -- behind replies with `before` the requests of the series from this one on were each answered with 00h and these data, and then this one is left, or none
+  abbrev pub AreGivenBehind : (before : List (List ℕ)) → Option Asked → (bodies : List (List ℕ)) → (left : Option Asked) → Type 0
+  AreGivenBehind before asked [] left = asked ≡ left
+  AreGivenBehind before (Some asked) (body ∷ bodies) left =
+      let with_it = before ++ body ∷ [] in Given asked (record { code = success; body = body }) × AreGivenBehind with_it (next_after series with_it) bodies left
+  AreGivenBehind before None (body ∷ bodies) left = ⊥
+
+  -- so it is from the first on
+  abbrev pub AreGiven : (bodies : List (List ℕ)) → (left : Option Asked) → Type 0
+  AreGiven = AreGivenBehind [] (Some (first_of series))
+
+  -- a request of the series was refused with the code, after those before it
+  abbrev pub IsRefused : (code : ℕ) → Type 0
+  IsRefused code = (bodies : List (List ℕ)) × (asked : Asked) × (body : List ℕ) × AreGiven bodies (Some asked) × Given asked (record { code = code; body = body }) × (code ≢ success)
 
 module _ (setup : BoardFile) (controller : Controller) (names : Names) (plan : List Op) (retries : ℕ) where
   -- the lab as it begins
@@ -172,13 +182,11 @@ module _ (setup : BoardFile) (controller : Controller) (names : Names) (plan : L
 
   -- what made a plan halt after so many steps: a call of `stop`, or answers to requests of the step's Get or Set
   abbrev pub IsCause : List Event → ℕ → Why → Type 0
-  IsCause events steps Stopped = (before : List Event) × (later : List Event) × (events ≡ before ++ Calls Stop ∷ later)
-  IsCause events steps (GetRefused code) = (op : Op) × (bodies : List (List ℕ)) × (body : List ℕ) × (slice_get plan steps ≡ Some op)
-      × GaveIn events steps (request_after (Reads (key_of op)) bodies) (record { code = code; body = body }) × (code ≢ success)
-  IsCause events steps (SetRefused code) = (op : Op) × (bodies : List (List ℕ)) × (body : List ℕ) × (slice_get plan steps ≡ Some op)
-      × GaveIn events steps (request_after (sends op) bodies) (record { code = code; body = body }) × (code ≢ success)
+  IsCause events steps Stop = (before : List Event) × (later : List Event) × (events ≡ before ++ Calls Stop ∷ later)
+  IsCause events steps (GetRefused code) = (op : Op) × (slice_get plan steps ≡ Some op) × IsRefused (GaveIn events steps) (Reads (key_of op)) code
+  IsCause events steps (Refused code) = (op : Op) × (slice_get plan steps ≡ Some op) × IsRefused (GaveIn events steps) (sends op) code
   IsCause events steps NotRestorable = (op : Op) × (bodies : List (List ℕ)) × (slice_get plan steps ≡ Some op)
-      × AreGiven (GaveIn events steps) (Reads (key_of op)) [] (Some (first_of (Reads (key_of op)))) bodies × (¬ restorable op (joined bodies))
+      × AreGiven (GaveIn events steps) (Reads (key_of op)) bodies None × (¬ restorable op (shown_by (key_of op) bodies))
 
   -- After every honest schedule, and so at each of its events, the phase says what the records are. Once the plan is undone, and after all
   -- that comes then, every record is what it was, and each Get, also one in parts, is answered with the same code and shows the same configuration.

@@ -16,6 +16,7 @@ pub mod Claim
 pub mod Seen
 pub mod Refines
 pub mod Promise
+pub mod Stated
 pub mod Keeps
 pub mod Fresh
 pub mod Histories

@@ -6,11 +6,11 @@ pub use Rattle.record_base.specs.declared.op.Op.{Op}
 pub use Rattle.record_base.specs.declared.message.Asked.{Asked}
 pub use Rattle.record_base.specs.declared.message.Asked.TheVariants.{Ipmi, Pldm}
 pub use Rattle.record_base.specs.declared.message.Answered.{Answered}
-pub use Rattle.bios_attr.specs.EntryParts.{joined}
 use Rattle.record_kinds.specs.Limits.{key_of, inverse}
 pub use Rattle.record_kinds.specs.Series.{Series, Reads, sends, first_of, next_after, request_after, first_shown}
 use Rattle.bmc_board.specs.Decode.{sent_by}
 pub use Rattle.undo_plans.specs.declared.names.Names.{Names}
+pub use Rattle.undo_plans.specs.Showing.{shown_by}
 use Rattle.model_headline.specs.Frames.{Bus, Ipmb, Smbus, Response, Packet, Value, Asks, Tells, Part, circle, tags, envelope, packets_of, is_taken, whole, waits_after}
 
 -- the calls
@@ -19,8 +19,8 @@ pub data Call : Type 0 where
 
 -- why a plan halted: it was to stop, the Get or the Set of a step was refused, or the step can't be undone from the replies to its Get
 pub data Why : Type 0 where
-  Stopped NotRestorable : Why
-  GetRefused SetRefused : (code : ℕ) → Why
+  Stop NotRestorable : Why
+  GetRefused Refused : (code : ℕ) → Why
 
 -- What a manager is at; steps count from 0. Each task is a series of requests, of which one is sent once the one before it was answered.
 pub data Task : Type 0 where
@@ -108,13 +108,13 @@ rests manager = record { manager = manager; sends = false }
 -- the next step's Get, unless the plan ended or is to stop
 abbrev pub next_step : Bool → ℕ → Option Op → Phase
 next_step stopped step None = Done
-next_step true step (Some op) = Halted step Stopped
+next_step true step (Some op) = Halted step Stop
 next_step false step (Some op) = Open true (Gets step op) []
 
 -- the step's Set, unless it can't be undone or the plan is to stop
 abbrev pub set_step : Bool → ℕ → Op → Option Op → Phase
 set_step stopped step op None = Halted step NotRestorable
-set_step true step op (Some back) = Halted step Stopped
+set_step true step op (Some back) = Halted step Stop
 set_step false step op (Some back) = Open true (Sets step op back) []
 
 -- what undoes is gone through, or nothing is left
@@ -137,16 +137,16 @@ called call phase manager = rests manager
 
 -- Requests of the task were carried out, whose replies have these data: another is to come, or they were all. A plan that is to stop gets no more.
 abbrev pub carried_out : (another : Option Asked) → Task → (bodies : List (List ℕ)) → Manager → Turn
-carried_out (Some asked) (Gets step op) bodies manager = enters (if manager.stopped then Halted step Stopped else Open true (Gets step op) bodies) manager
+carried_out (Some asked) (Gets step op) bodies manager = enters (if manager.stopped then Halted step Stop else Open true (Gets step op) bodies) manager
 carried_out (Some asked) task bodies manager = enters (Open true task bodies) manager
-carried_out None (Gets step op) bodies manager = enters (set_step manager.stopped step op (inverse op (joined bodies))) manager
+carried_out None (Gets step op) bodies manager = enters (set_step manager.stopped step op (inverse op (shown_by (key_of op) bodies))) manager
 carried_out None (Sets step op back) bodies manager = enters (next_step manager.stopped (suc step) (slice_get manager.plan (suc step))) (record manager { undo = back ∷ manager.undo })
 carried_out None (Undoes back rest) bodies manager = enters (undo_step rest) manager
 
 -- it was refused
 abbrev pub refused : Task → ℕ → Manager → Turn
 refused (Gets step op) code manager = enters (Halted step (GetRefused code)) manager
-refused (Sets step op back) code manager = enters (Halted step (SetRefused code)) manager
+refused (Sets step op back) code manager = enters (Halted step (Refused code)) manager
 refused (Undoes back rest) code manager = enters (UndoRefused (length rest) code) manager
 
 -- one more was answered on the bus

@@ -20,6 +20,7 @@ use Rattle.model_lab.specs.Meaning.{lab_names, event_of}
 use Rattle.model_lab.specs.Played.{plans, Told, Ending, Whole, Stops, happens, after, IsPlayed}
 use Rattle.model_headline.specs.Answers.{AnswerGiven, CausedBy}
 use Rattle.model_headline.specs.Tied.{own_family}
+use Rattle.model_headline.specs.Claim.{ours, ShowsSameParts}
 
 -- the events that a play took: all, or the events before the first that has a fault
 abbrev pub taken_by : List Event → Ending → List Event
@@ -62,11 +63,13 @@ module _ (file : BoardFile) (plan : List Op) (retries : ℕ) where
   phase_after events = phase_of plans.words (lab_after events).manager.machine
 
   -- Once the plan is undone, and after all that comes then, every record is what it was at the start. Each Get, whoever asks it, is
-  -- answered with the same code and shows the same configuration. So does a Get of the manager in several requests, each answered with 00h.
+  -- answered with the same code and shows the same configuration, and each request for a later part of a long attribute gets the same answer. So a Get
+  -- of the manager in several requests, each answered with 00h, shows the same.
   abbrev pub UndoneForGood : List Event → Type 0
   UndoneForGood taken = (events later rest : List Event) → taken ≡ (events ++ later) ++ rest → phase_after events ≡ Undone
       → let now = (lab_after (events ++ later)).board in
       (now.records ≡ (lab_after []).board.records) × ShowsSame (own_family file lab_names) (lab_after []).board now × PartsShowSame (own_family file lab_names) (lab_after []).board now
+      × ShowsSameParts file (ours file) (lab_after []).board now
 
   -- at an event that was taken the board answered the manager so, at the records after the plan's first `step` steps
   pub record GaveIn (taken : List Event) (step : ℕ) (asked : Asked) (answered : Answered) : Type 0 where

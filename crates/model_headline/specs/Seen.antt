@@ -20,7 +20,7 @@ use Rattle.model_lab.specs.ManagerSteps as manager
 use Rattle.model_lab.specs.ManagerSteps.{Plans, board_plans}
 use Rattle.model_lab.specs.Lab as lab
 use Rattle.model_headline.specs.Frames.{Value, Asks, Tells, Part}
-use Rattle.model_headline.specs.Manager.{Call, Start, Quiet, Stop, Again, Undo, Why, Stopped, GetRefused, SetRefused, NotRestorable, Task, Gets, Sets, Undoes, Phase, Fresh, Open, Done, Halted, Undone, UndoRefused, Manager, sends, asked_for}
+use Rattle.model_headline.specs.Manager.{Call, Start, Quiet, Stop, Again, Undo, Why, GetRefused, Refused, NotRestorable, Task, Gets, Sets, Undoes, Phase, Fresh, Open, Done, Halted, Undone, UndoRefused, Manager, sends, asked_for}
 use Rattle.model_headline.specs.Lab.{Heard, Entry, Carried, Idled, Port, StepResult, Way, ToPort, ToManager, ToOthers, Frame, Event, Calls, ToBmc, ToMgr, OtherIpmb, OtherSmbus, Noise, Idles, OnBench, Lab}
 use Rattle.model_lab.specs.declared.way.Way.TheVariants as lab_way
 use Rattle.model_lab.specs.declared.way.Way.{Way as LabWay}
@@ -126,9 +126,9 @@ module _ (names : Names) where
   -- ---- the manager
 
   abbrev pub seen_why : Why → UndoWhy
-  seen_why Stopped = undo_why.Stop
+  seen_why Stop = undo_why.Stop
   seen_why (GetRefused code) = undo_why.GetRefused code
-  seen_why (SetRefused code) = undo_why.Refused code
+  seen_why (Refused code) = undo_why.Refused code
   seen_why NotRestorable = undo_why.NotRestorable
 
   abbrev pub seen_task : Task → machine.Task seen_words

@@ -5,7 +5,7 @@ ghost use Rattle.record_base.specs.declared.op.Op.{Op};
 ghost use Rattle.cfg_records.specs.declared.board_file.BoardFile.{BoardFile};
 ghost use Rattle.undo_plans.specs.declared.names.Names.{Names};
 ghost use Rattle.model_headline.specs.Claim.{IsController, ours, Claim};
-ghost use Rattle.model_headline.specs.Keeps.{KeepsPromise};
+ghost use Rattle.model_headline.specs.Keeps.{KeepsPromise, PlaysAreStated};
 ghost use Rattle.model_headline.specs.Refines.{Refines};
 
 /// The headline. After every honest schedule, and so at each of its events, the manager's phase says what the records are. Once the plan is undone,
@@ -26,8 +26,11 @@ pub fn machinery_refines_the_statement()
 {}
 
 /// Every play keeps its promise, where no event that it takes breaks the premise on packets: its phase says what the records are, undone means that each
-/// is what it was at the start, and a plan that halted has a reason.
+/// is what it was at the start, and a plan that halted has a reason. What it tells is what the statement's lab has after as many events, each of them
+/// honest there.
 pub fn plays_keep_their_promise()
-    ensures { (file : BoardFile) (plan : List Op) (retries : ℕ)
+    ensures promise { (file : BoardFile) (plan : List Op) (retries : ℕ)
         → KeepsPromise file plan retries }
+    ensures stated { (file : BoardFile) (plan : List Op) (retries : ℕ)
+        → PlaysAreStated file plan retries }
 {}

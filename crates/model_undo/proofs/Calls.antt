@@ -15,7 +15,7 @@ use Rattle.model_undo.specs.Machine.{Task, Gets, Sets, Undoes, Stage, AtStart, O
 use Rattle.model_undo.specs.Undoable.{CanUndo}
 use Rattle.model_undo.proofs.Undoable.{past_none, LeadsHome, length_of, sets_to_one, sets_to_valid, sets_back, ready}
 use Rattle.model_undo.proofs.Series.{not_empty, is_of, is_next, one_more}
-use Rattle.model_undo.proofs.StageSound.{OfPlan, Got, SetSound, UndoSound, TaskSound, IsPart, StageSound, task_made}
+use Rattle.model_undo.proofs.StageSound.{OfPlan, Got, Put, SetSound, UndoSound, TaskSound, IsPart, StageSound, task_made}
 
 module _ (F : Family) (laws : IsFamily F) where
   -- ---- a request of a Set is carried out
@@ -74,12 +74,20 @@ module _ (F : Family) (laws : IsFamily F) (plan : List F.words.Op) (start : F.Re
       (t.0, subst (CanUndo F plan start k undo) same t.1, subst (Got F plan start key part.before) same t.2, (b, after, same, row))
 
   set_so : (b after : F.Board) (k : ℕ) (op back : F.words.Op) (bodies before : List (List ℕ)) (undo : List F.words.Series) (o : Option F.words.Asked) → slice_get plan k ≡ Some op → SetSound F plan start k op back before undo b (Some (F.words.first (F.words.setting op)))
-      → Does F laws op bodies b after o → SetSound F plan start k op back bodies undo after o
-  set_so b after k op back bodies before undo (Some asked) step t d =
+      → Put F plan start op bodies (F.records b) → Does F laws op bodies b after o → SetSound F plan start k op back bodies undo after o
+  set_so b after k op back bodies before undo (Some asked) step t put d =
       let same : F.records b ≡ F.records after = sym d.0 in
-      (subst (CanUndo F plan start k undo) same t.0, subst (LeadsHome F op back) same t.1, d.1)
-  set_so b after k op back bodies before undo None step t d =
+      (subst (CanUndo F plan start k undo) same t.0, subst (LeadsHome F op back) same t.1, d.1, subst (Put F plan start op bodies) same put)
+  set_so b after k op back bodies before undo None step t put d =
       (F.records b, t.0, record { op = op; back = back; step = step; same_key = t.1.same_key; done = d; undone = sets_back F laws op back (F.records b) (F.records after) t.1 d; series = refl })
+
+  -- one more request of a Set was answered
+  put_more : (b after : F.Board) (a : Answered) (op : F.words.Op) (part : Part F.words) → Put F plan start op part.before (F.records b) → IsNext F.words (F.words.setting op) part.before part.asked → F.Row b part.asked a after → a.code ≡ success
+      → Put F plan start op (bodies_with F.words a part) (F.records b)
+  put_more b after a op part put is row e =
+      let gave : GaveAnswer F (F.records b) part.asked a = (b, after, refl, row) in
+      let done : GaveAnswer F (F.records b) part.asked (record { code = success; body = a.body }) = subst (λ (c : ℕ). GaveAnswer F (F.records b) part.asked (record { code = c; body = a.body })) e gave in
+      one_more F.words (F.words.setting op) (GaveAnswer F (F.records b)) [] part.before part.asked a.body put is done
 
   set : (b after : F.Board) (a : Answered) (k : ℕ) (op back : F.words.Op) (part : Part F.words) (undo : List F.words.Series) → Sound (Sets k op back) part None undo b → IsPart F plan start (Sets k op back) part → F.Row b part.asked a after
       → Sound (Sets k op back) part (Some a) undo after
@@ -87,10 +95,10 @@ module _ (F : Family) (laws : IsFamily F) (plan : List F.words.Op) (start : F.Re
       let answers : AnswersSet F op part.before b a after = record { asked = part.asked; is_next = is; ready = t.1.2; row = row } in
       let o = next_asked F.words a (Sets k op back) part in (
         t.0,
-        (λ e. set_so b after k op back (bodies_with F.words a part) part.before undo o t.0.step t.1 (does F laws b after op part.before a answers e o refl)),
+        (λ e. set_so b after k op back (bodies_with F.words a part) part.before undo o t.0.step t.1 (put_more b after a op part t.1.3 is row e) (does F laws b after op part.before a answers e o refl)),
         (λ ne.
             let same : F.records b ≡ F.records after = sym (laws.refusals_keep b after op part.before a answers ne) in
-            (subst (CanUndo F plan start k undo) same t.1.0, (b, after, same, row))),
+            (subst (CanUndo F plan start k undo) same t.1.0, (b, after, same, row), subst (Put F plan start op part.before) same t.1.3)),
       )
 
   undo_so : (b after : F.Board) (u : F.words.Series) (rest : List F.words.Series) (back : F.words.Op) (bodies before : List (List ℕ)) (o : Option F.words.Asked) → u ≡ F.words.setting back
@@ -164,7 +172,7 @@ module _ (F : Family) (laws : IsFamily F) (plan : List F.words.Op) (start : F.Re
   set_good true k op (Some back) bodies undo b of can all valid free is = (can, refl)
   set_good false k op (Some back) bodies undo b of can all valid free is =
       let key = F.words.key_of op in
-      ((of, (can, ready F laws op back (F.words.joined (F.words.getting key) bodies) (F.records b) valid (laws.parts_show (F.records b) key bodies valid all) is, free (F.words.setting op))), tt, refl)
+      ((of, (can, ready F laws op back (F.words.joined (F.words.getting key) bodies) (F.records b) valid (laws.parts_show (F.records b) key bodies valid all) is, free (F.words.setting op), tt)), tt, refl)
 
   next_good : (stopped : Bool) (k : ℕ) (o : Option F.words.Op) (undo : List F.words.Series) (b : F.Board) → k ≤ length plan → own ≡ plan → slice_get own k ≡ o → CanUndo F plan start k undo (F.records b)
       → Good (next_stage F.words stopped k o) None stopped undo b
@@ -206,7 +214,7 @@ module _ (F : Family) (laws : IsFamily F) (plan : List F.words.Op) (start : F.Re
       let o = next_asked F.words a (Gets k op) part in
       cond_both (eqb a.code success) (told_stage F.words stopped own (Gets k op) (bodies_with F.words a part) o) (AtHalt k (GetRefused a.code)) (λ s. Good s None stopped undo b)
       (λ e. get_told stopped k op part a undo b o t is valid free (eqb-true _ _ e) refl)
-      (λ f. (t.1, (eqb-false _ _ f, a.body, record { op = op; step = t.0.step; asked = part.asked; is_of = is_of F.words (F.words.getting (F.words.key_of op)) part.before part.asked is; gave = t.3 })))
+      (λ f. (t.1, (eqb-false _ _ f, a.body, record { op = op; step = t.0.step; bodies = part.before; asked = part.asked; reached = record { in_order = t.2; next = is }; gave = t.3 })))
 
   -- a Set goes on, or the step is done
   set_told : (stopped : Bool) (k : ℕ) (op back : F.words.Op) (part : Part F.words) (a : Answered) (undo : List F.words.Series) (b : F.Board) (o : Option F.words.Asked) → OfPlan F plan start own k op
@@ -227,7 +235,7 @@ module _ (F : Family) (laws : IsFamily F) (plan : List F.words.Op) (start : F.Re
         | inl e ↦ subst (λ (c : Bool). Good (if c then went else AtHalt k (Refused a.code)) None stopped (if c then kept else undo) b) (sym (eq-eqb a.code success e))
             (set_told stopped k op back part a undo b o t.0 (t.1 e) refl)
         | inr ne ↦ subst (λ (c : Bool). Good (if c then went else AtHalt k (Refused a.code)) None stopped (if c then kept else undo) b) (sym (ne_eqb a.code success ne))
-            (let refused = t.2 ne in (refused.0, (ne, a.body, record { op = op; step = t.0.step; asked = part.asked; is_of = is_of F.words (F.words.setting op) part.before part.asked is; gave = refused.1 })))
+            (let refused = t.2 ne in (refused.0, (ne, a.body, record { op = op; step = t.0.step; bodies = part.before; asked = part.asked; reached = record { in_order = refused.2; next = is }; gave = refused.1 })))
       ]
 
   -- an undo goes on, or the step is undone

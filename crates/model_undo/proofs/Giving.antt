@@ -19,7 +19,7 @@ use Rattle.model_undo.specs.World as world
 use Rattle.model_undo.specs.World.{World, Happening, Calls, Resume, Restart, ToManager, OnBus, OnBench, BoardMay, happens, run, MayHappen, AllMay, opening}
 use Rattle.model_undo.specs.Headline.{IsStart}
 use Rattle.model_undo.specs.Giving.{GivenAnswer, given_by, given_at, given_in, GaveIn, GaveGetIn, GaveSetIn, GaveUnrestorableIn, CausedIn, HaltsByAnswers}
-use Rattle.model_undo.proofs.Series.{all_answered_as}
+use Rattle.model_undo.proofs.Series.{reached_as, all_answered_as}
 use Rattle.model_undo.proofs.LineLaws.{IsLine}
 use Rattle.model_undo.proofs.Headline.{always_stands, may_prefix, stops_only_if_told}
 
@@ -185,10 +185,24 @@ module _ (F : Family) (laws : IsFamily F) (given : List (GivenAnswer F)) where
     gave_one plan start k r at asked a gave = record { before = gave.0; after = gave.1; is_one = gave.3.1; row = gave.3.0; at = subst (IsAfter F plan start k) (sym gave.2) at }
 
     gave_get : (plan : List F.words.Op) (start : F.Records) (k : ℕ) (a : Answered) (r : F.Records) → IsAfter F plan start k r → GaveGet (giving F given) plan k a r → GaveGetIn F L W given plan start k a
-    gave_get plan start k a r at g = record { op = g.op; step = g.step; asked = g.asked; is_of = g.is_of; gave = gave_one plan start k r at g.asked a g.gave }
+    gave_get plan start k a r at g = record {
+      op = g.op;
+      step = g.step;
+      bodies = g.bodies;
+      asked = g.asked;
+      reached = reached_as F.words (F.words.getting (F.words.key_of g.op)) (GaveAnswer (giving F given) r) (GaveIn F L W given plan start k) (gave_one plan start k r at) g.bodies g.asked g.reached;
+      gave = gave_one plan start k r at g.asked a g.gave;
+    }
 
     gave_set : (plan : List F.words.Op) (start : F.Records) (k : ℕ) (a : Answered) (r : F.Records) → IsAfter F plan start k r → GaveSet (giving F given) plan k a r → GaveSetIn F L W given plan start k a
-    gave_set plan start k a r at g = record { op = g.op; step = g.step; asked = g.asked; is_of = g.is_of; gave = gave_one plan start k r at g.asked a g.gave }
+    gave_set plan start k a r at g = record {
+      op = g.op;
+      step = g.step;
+      bodies = g.bodies;
+      asked = g.asked;
+      reached = reached_as F.words (F.words.setting g.op) (GaveAnswer (giving F given) r) (GaveIn F L W given plan start k) (gave_one plan start k r at) g.bodies g.asked g.reached;
+      gave = gave_one plan start k r at g.asked a g.gave;
+    }
 
     gave_all : (plan : List F.words.Op) (start : F.Records) (k : ℕ) (bodies : List (List ℕ)) (r : F.Records) → IsAfter F plan start k r → GaveUnrestorable (giving F given) plan k bodies r → GaveUnrestorableIn F L W given plan start k bodies
     gave_all plan start k bodies r at g = record {

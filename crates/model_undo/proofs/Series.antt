@@ -3,7 +3,7 @@ use Rattle.std.proofs.Common.{◌≡◌, ◌≢◌, ℕ, List, [], ◌∷◌, �
 use Rattle.std.proofs.lemmas.List.{append_assoc}
 use Rattle.two_wire.specs.Codes.{success}
 use Rattle.model_bus.specs.Answered.{Answered}
-use Rattle.model_undo.specs.Words.{Words, IsNext, IsOneOf, IsSeries, IsMade, AreAnswered, AllAnswered}
+use Rattle.model_undo.specs.Words.{Words, IsNext, IsOneOf, IsSeries, IsMade, AreAnswered, IsReached, AllAnswered}
 
 pub not_empty : (bodies : List (List ℕ)) (body : List ℕ) → bodies ++ body ∷ [] ≢ []
 not_empty [] body e = absurd (let n : 1 ≡ 0 = ap (λ (l : List (List ℕ)). length l) e in omega arith)
@@ -33,6 +33,9 @@ module _ (M : Words) (series : M.Series) where
   pub answered_as : (Given Told : M.Asked → Answered → Type 0) → ((asked : M.Asked) (a : Answered) → Given asked a → Told asked a) → (before bodies : List (List ℕ)) → AreAnswered M Given series before bodies → AreAnswered M Told series before bodies
   answered_as Given Told tells before [] h = tt
   answered_as Given Told tells before (x ∷ xs) h = (h.0, h.1, tells h.0 (record { code = success; body = x }) h.2, answered_as Given Told tells (before ++ x ∷ []) xs h.3)
+
+  pub reached_as : (Given Told : M.Asked → Answered → Type 0) → ((asked : M.Asked) (a : Answered) → Given asked a → Told asked a) → (bodies : List (List ℕ)) (asked : M.Asked) → IsReached M Given series bodies asked → IsReached M Told series bodies asked
+  reached_as Given Told tells bodies asked h = record { in_order = answered_as Given Told tells [] bodies h.in_order; next = h.next }
 
   pub all_answered_as : (Given Told : M.Asked → Answered → Type 0) → ((asked : M.Asked) (a : Answered) → Given asked a → Told asked a) → (bodies : List (List ℕ)) → AllAnswered M Given series bodies → AllAnswered M Told series bodies
   all_answered_as Given Told tells bodies h = record { in_order = answered_as Given Told tells [] bodies h.in_order; some = h.some; no_more = h.no_more }

@@ -24,9 +24,13 @@ module _ (F : Family) (plan : List F.words.Op) (start : F.Records) where
   abbrev pub Got : F.words.Key → List (List ℕ) → F.Records → Type 0
   Got key bodies r = AreAnswered F.words (GaveAnswer F r) (F.words.getting key) [] bodies
 
+  -- the same of a step's Set
+  abbrev pub Put : F.words.Op → List (List ℕ) → F.Records → Type 0
+  Put op bodies r = AreAnswered F.words (GaveAnswer F r) (F.words.setting op) [] bodies
+
   -- where the next request of a step's Set is this one, or none is next
   abbrev pub SetSound : ℕ → F.words.Op → F.words.Op → List (List ℕ) → List F.words.Series → F.Board → Option F.words.Asked → Type 0
-  SetSound k op back bodies undo b (Some asked) = CanUndo F plan start k undo (F.records b) × LeadsHome F op back (F.records b) × F.Ready b (F.words.setting op) bodies
+  SetSound k op back bodies undo b (Some asked) = CanUndo F plan start k undo (F.records b) × LeadsHome F op back (F.records b) × F.Ready b (F.words.setting op) bodies × Put op bodies (F.records b)
   SetSound k op back bodies undo b None = CanUndo F plan start (suc k) (F.words.setting back ∷ undo) (F.records b)
 
   -- the same of what undoes a step
@@ -41,7 +45,7 @@ module _ (F : Family) (plan : List F.words.Op) (start : F.Records) where
   TaskSound own (Sets k op back) part None undo b = OfPlan own k op × SetSound k op back part.before undo b (Some part.asked)
   TaskSound own (Sets k op back) part (Some a) undo b =
       OfPlan own k op × (a.code ≡ success → SetSound k op back (bodies_with F.words a part) undo b (next_asked F.words a (Sets k op back) part))
-      × (a.code ≢ success → CanUndo F plan start k undo (F.records b) × GaveAnswer F (F.records b) part.asked a)
+      × (a.code ≢ success → CanUndo F plan start k undo (F.records b) × GaveAnswer F (F.records b) part.asked a × Put op part.before (F.records b))
   TaskSound own (Undoes first rest) part None undo b = UndoSound first rest part.before b (Some part.asked)
   TaskSound own (Undoes first rest) part (Some a) undo b = (a.code ≡ success) × UndoSound first rest (bodies_with F.words a part) b (next_asked F.words a (Undoes first rest) part)
 
@@ -64,7 +68,7 @@ module _ (F : Family) (plan : List F.words.Op) (start : F.Records) where
     same = sym keeps.0
 
     set_kept : (k : ℕ) (op back : F.words.Op) (bodies : List (List ℕ)) (o : Option F.words.Asked) → SetSound k op back bodies undo b o → SetSound k op back bodies undo after o
-    set_kept k op back bodies (Some asked) h = (subst (CanUndo F plan start k undo) same h.0, subst (LeadsHome F op back) same h.1, keeps.1 (F.words.setting op) bodies h.2)
+    set_kept k op back bodies (Some asked) h = (subst (CanUndo F plan start k undo) same h.0, subst (LeadsHome F op back) same h.1, keeps.1 (F.words.setting op) bodies h.2, subst (Put op bodies) same h.3)
     set_kept k op back bodies None h = subst (CanUndo F plan start (suc k) (F.words.setting back ∷ undo)) same h
 
     undo_kept : (first : F.words.Series) (rest : List F.words.Series) (bodies : List (List ℕ)) (o : Option F.words.Asked) → UndoSound first rest bodies b o → UndoSound first rest bodies after o
@@ -79,7 +83,7 @@ module _ (F : Family) (plan : List F.words.Op) (start : F.Records) where
     task_kept (Sets k op back) part (Some a) t = (
       t.0,
       (λ e. set_kept k op back (bodies_with F.words a part) (next_asked F.words a (Sets k op back) part) (t.1 e)),
-      (λ ne. let refused = t.2 ne in (subst (CanUndo F plan start k undo) same refused.0, subst (λ (r : F.Records). GaveAnswer F r part.asked a) same refused.1)),
+      (λ ne. let refused = t.2 ne in (subst (CanUndo F plan start k undo) same refused.0, subst (λ (r : F.Records). GaveAnswer F r part.asked a) same refused.1, subst (Put op part.before) same refused.2)),
     )
     task_kept (Undoes first rest) part None t = undo_kept first rest part.before (Some part.asked) t
     task_kept (Undoes first rest) part (Some a) t = (t.0, undo_kept first rest (bodies_with F.words a part) (next_asked F.words a (Undoes first rest) part) t.1)

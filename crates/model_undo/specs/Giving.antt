@@ -3,7 +3,7 @@ use Rattle.std.specs.Prelude.{◌≡◌, ◌≢◌, ℕ, List, [], ◌∷◌, �
 use Rattle.two_wire.specs.Codes.{success}
 use Rattle.two_wire.specs.declared.Bus.{Bus}
 use Rattle.model_bus.specs.Answered.{Answered}
-use Rattle.model_undo.specs.Words.{IsOneOf, AllAnswered}
+use Rattle.model_undo.specs.Words.{IsReached, AllAnswered}
 use Rattle.model_undo.specs.declared.phase.Why.TheVariants.{Stop, Refused, NotRestorable, GetRefused}
 use Rattle.model_undo.specs.declared.phase.Phase.{Phase}
 use Rattle.model_undo.specs.declared.phase.Phase.TheVariants.{Halted}
@@ -46,20 +46,22 @@ module _ (family : Family) (lines : Bus → Line) (wires : Wires family.words) w
     pub row : family.Row before asked answered after
     pub at : IsAfter family plan start step (family.records before)
 
-  -- the answer that the board gave to a request of the Get of this step of the plan, and to one of its Set, each at the records after the steps
-  -- before it
+  -- the answer that the board gave to a request of the Get of this step of the plan, and to one of its Set, having answered those before it with
+  -- 00h, each at the records after the steps before that step
   pub record GaveGetIn (given : List (GivenAnswer family)) (plan : List family.words.Op) (start : family.Records) (place : ℕ) (answered : Answered) : Type 0 where
     pub op : family.words.Op
     pub step : slice_get plan place ≡ Some op
+    pub bodies : List (List ℕ)
     pub asked : family.words.Asked
-    pub is_of : IsOneOf family.words (family.words.getting (family.words.key_of op)) asked
+    pub reached : IsReached family.words (GaveIn given plan start place) (family.words.getting (family.words.key_of op)) bodies asked
     pub gave : GaveIn given plan start place asked answered
 
   pub record GaveSetIn (given : List (GivenAnswer family)) (plan : List family.words.Op) (start : family.Records) (place : ℕ) (answered : Answered) : Type 0 where
     pub op : family.words.Op
     pub step : slice_get plan place ≡ Some op
+    pub bodies : List (List ℕ)
     pub asked : family.words.Asked
-    pub is_of : IsOneOf family.words (family.words.setting op) asked
+    pub reached : IsReached family.words (GaveIn given plan start place) (family.words.setting op) bodies asked
     pub gave : GaveIn given plan start place asked answered
 
   -- the data of the answers that the board gave to all requests of that Get, from which the step can't be undone

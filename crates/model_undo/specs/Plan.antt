@@ -2,7 +2,7 @@
 use Rattle.std.specs.Prelude.{◌≡◌, ◌≢◌, ℕ, zero, suc, Bool, true, List, length, Some, ◌⊎◌, slice_get}
 use Rattle.two_wire.specs.Codes.{success}
 use Rattle.model_bus.specs.Answered.{Answered}
-use Rattle.model_undo.specs.Words.{IsOneOf, AllAnswered}
+use Rattle.model_undo.specs.Words.{IsReached, AllAnswered}
 use Rattle.model_undo.specs.Family.{Family, GaveAnswer, SetsTo}
 use Rattle.model_undo.specs.declared.phase.Why.{Why}
 use Rattle.model_undo.specs.declared.phase.Why.TheVariants.{Stop, Refused, NotRestorable, GetRefused}
@@ -28,12 +28,13 @@ PhaseMeans family plan start (Undoing step) records = IsAfter family plan start 
 PhaseMeans family plan start Undone records = IsAfter family plan start 0 records
 PhaseMeans family plan start (UndoRefused step code) records = ⊥
 
--- the board gave this reply to a request of the Get of this step of the plan at these records
+-- the board gave this reply to a request of the Get of this step of the plan at these records, having answered those before it there with 00h
 pub record GaveGet (family : Family) (plan : List family.words.Op) (place : ℕ) (answered : Answered) (records : family.Records) : Type 0 where
   pub op : family.words.Op
   pub step : slice_get plan place ≡ Some op
+  pub bodies : List (List ℕ)
   pub asked : family.words.Asked
-  pub is_of : IsOneOf family.words (family.words.getting (family.words.key_of op)) asked
+  pub reached : IsReached family.words (GaveAnswer family records) (family.words.getting (family.words.key_of op)) bodies asked
   pub gave : GaveAnswer family records asked answered
 
 -- the board gave replies with these data to all requests of the Get of this step of the plan, at these records, and the step can't be undone
@@ -44,12 +45,13 @@ pub record GaveUnrestorable (family : Family) (plan : List family.words.Op) (pla
   pub gave : AllAnswered family.words (GaveAnswer family records) (family.words.getting (family.words.key_of op)) bodies
   pub not_restorable : ¬ family.Restorable op (family.words.joined (family.words.getting (family.words.key_of op)) bodies)
 
--- the board gave this reply to a request of the Set of this step of the plan at these records
+-- the same of a request of the Set of this step
 pub record GaveSet (family : Family) (plan : List family.words.Op) (place : ℕ) (answered : Answered) (records : family.Records) : Type 0 where
   pub op : family.words.Op
   pub step : slice_get plan place ≡ Some op
+  pub bodies : List (List ℕ)
   pub asked : family.words.Asked
-  pub is_of : IsOneOf family.words (family.words.setting op) asked
+  pub reached : IsReached family.words (GaveAnswer family records) (family.words.setting op) bodies asked
   pub gave : GaveAnswer family records asked answered
 
 -- why a plan halted after `step` steps, at the records that these steps left; `stopped` says whether the manager was to stop

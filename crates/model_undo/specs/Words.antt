@@ -71,6 +71,11 @@ module _ (words : Words) (Given : words.Asked → Answered → Type 0) (series :
       (asked : words.Asked) × IsNext words series before asked × Given asked (record { code = success; body = body })
       × AreAnswered (before ++ body ∷ []) bodies
 
+  -- the request is one of the series, and those before it were answered in order, each with 00h and these data
+  pub record IsReached (bodies : List (List ℕ)) (asked : words.Asked) : Type 0 where
+    pub in_order : AreAnswered [] bodies
+    pub next : IsNext words series bodies asked
+
   -- all requests of the series were answered in order, each with 00h and these data
   pub record AllAnswered (bodies : List (List ℕ)) : Type 0 where
     pub in_order : AreAnswered [] bodies

@@ -88,6 +88,7 @@ fn push_words(
         }
         Ok(Words::Schedule(words)) => push_schedule(text, words),
         Ok(Words::Check(words)) => push_files(text, words.files.as_slice()),
+        Ok(Words::Version) => text.push_str("version"),
         Err(Refusal::Words(_)) => text.push_str("refused"),
         Err(Refusal::Memory) => text.push_str("memory"),
     }

@@ -103,14 +103,19 @@ bmclab check plan.toml plan.toml -> 0 out
   plan.toml: empty
   plan.toml: empty
 
+story the version is a word of its own
+bmclab version -> 0 out: version 0.3.0
+
 story a line that asks for nothing says why
 bmclab -> 2 err
   error: 'bmclab' requires a subcommand but one was not provided
-    [subcommands: frame, play, schedule, check, help] /  / Usage: bmclab <COMMAND> /  / For more information, try '--help'.
+    [subcommands: frame, play, schedule, check, version, help] /  / Usage: bmclab <COMMAND> /  / For more information, try '--help'.
 bmclab frmae 20 -> 2 err
   error: unrecognized subcommand 'frmae' /  /   tip: a similar subcommand exists: 'frame' /  / Usage: bmclab <COMMAND> /  / For more information, try '--help'.
 bmclab --version -> 2 err
   error: unexpected argument '--version' found /  / Usage: bmclab <COMMAND> /  / For more information, try '--help'.
+bmclab version 1 -> 2 err
+  error: unexpected argument '1' found /  / Usage: bmclab version /  / For more information, try '--help'.
 bmclab -V -> 2 err
   error: unexpected argument '-V' found /  / Usage: bmclab <COMMAND> /  / For more information, try '--help'.
 bmclab frame -> 2 err
@@ -160,6 +165,7 @@ bmclab --help -> 2 err
     play      Plays a plan on a board, over buses that lose, repeat and delay frames
     schedule  Writes a schedule of a plan on a board: a clean one, or one that is drawn
     check     Tells what files hold, where a fault is, and which keys nothing reads
+    version   Prints the version
     help      Print this message or the help of the given subcommand(s) /  / Options:
     -h, --help  Print help /  / Examples:
     bmclab frame 2018C82C0001D3
@@ -172,6 +178,7 @@ bmclab -h -> 2 err
     play      Plays a plan on a board, over buses that lose, repeat and delay frames
     schedule  Writes a schedule of a plan on a board: a clean one, or one that is drawn
     check     Tells what files hold, where a fault is, and which keys nothing reads
+    version   Prints the version
     help      Print this message or the help of the given subcommand(s) /  / Options:
     -h, --help  Print help /  / Examples:
     bmclab frame 2018C82C0001D3
@@ -184,6 +191,7 @@ bmclab help -> 2 err
     play      Plays a plan on a board, over buses that lose, repeat and delay frames
     schedule  Writes a schedule of a plan on a board: a clean one, or one that is drawn
     check     Tells what files hold, where a fault is, and which keys nothing reads
+    version   Prints the version
     help      Print this message or the help of the given subcommand(s) /  / Options:
     -h, --help  Print help /  / Examples:
     bmclab frame 2018C82C0001D3
@@ -223,6 +231,10 @@ bmclab play --help -> 2 err
     bmclab play --frames sample.toml examples/clean/plan.toml examples/clean/schedule.txt
     bmclab play --premises sample.toml examples/clean/plan.toml examples/clean/schedule.txt
     bmclab play --chart sample.toml examples/clean/plan.toml examples/clean/schedule.txt
+bmclab version --help -> 2 err
+  Prints the version /  / Usage: bmclab version /  / Options:
+    -h, --help  Print help /  / Examples:
+    bmclab version
 bmclab check --help -> 2 err
   Tells what files hold, where a fault is, and which keys nothing reads /  / Usage: bmclab check <FILE>... /  / Arguments:
     <FILE>...  The files: board files, plans, schedules and undo texts /  / Options:
@@ -277,7 +289,13 @@ asks bmclab check sample.toml plan.toml schedule.txt undo.txt -> check sample.to
 asks bmclab check plan.toml plan.toml -> check plan.toml plan.toml
 asks bmclab check -- --frames -> check --frames
 
+story the version is asked for by one word
+asks bmclab version -> version
+asks bmclab -- version -> refused
+
 story other lines are refused
+asks bmclab version --frames -> refused
+asks bmclab version version -> refused
 asks bmclab check -> refused
 asks bmclab check --frames plan.toml -> refused
 asks bmclab check --help -> refused
