@@ -31,7 +31,6 @@ use std::io;
 use std::net::Net;
 use undo_core::{Manager, Phase};
 use undo_plans::Plan;
-use wire_links::LinkFault;
 
 /// What the words of `bmcnet run` ask for.
 #[derive(Drop)]
@@ -84,7 +83,7 @@ fn wait_first<R: Net>(rt: &R, words: &RunWords) -> bool {
     };
     match sit_out(rt, words.wait_ms, turns) {
         Ok(()) => true,
-        Err(LinkFault) => false,
+        Err(_) => false,
     }
 }
 

@@ -5,7 +5,7 @@ use Rattle.cfg_records.specs.declared.board_file.BoardFile.{BoardFile}
 use Rattle.bmc_board.specs.State.{State, state_of}
 use Rattle.app_base.specs.declared.ending.ReportFault.{ReportFault}
 use Rattle.app_serve.specs.declared.periods.Period.{Period}
-use Rattle.wire_links.specs.declared.link.Counts.{Counts}
+use Rattle.wire_links.specs.declared.link.Link.{Ghosts}
 use Rattle.bmc_history.specs.declared.event.Call.{Call}
 use Rattle.bmc_history.specs.declared.event.Event.{Event}
 use Rattle.bmc_history.specs.Replay.{calls_of}
@@ -24,10 +24,10 @@ use Rattle.app_serve.specs.Served.{most_events}
 use Rattle.app_serve.specs.Periods.{IsClosed, IsPeriod}
 
 -- a worker whose seat was fresh has called what the history has of it
-called : {L : Type 0} (counts_of : L → Counts) (end : End) (held kept calls : List Call) (before after : Lane L) → held ≡ [] → kept ≡ calls
-    → WorkerEnd counts_of end held kept before after → WorkerEnd counts_of end [] calls before after
-called counts_of end held kept calls before after none are goes =
-    subst (λ (xs : List Call). WorkerEnd counts_of end xs calls before after) none (subst (λ (xs : List Call). WorkerEnd counts_of end held xs before after) are goes)
+called : {L : Type 0} (of : Ghosts L) (end : End) (held kept calls : List Call) (before after : Lane L) → held ≡ [] → kept ≡ calls
+    → WorkerEnd of end held kept before after → WorkerEnd of end [] calls before after
+called of end held kept calls before after none are goes =
+    subst (λ (xs : List Call). WorkerEnd of end xs calls before after) none (subst (λ (xs : List Call). WorkerEnd of end held xs before after) are goes)
 
 -- and so has a scanner
 happened : (list : List Timed) (from to : ℕ) (held kept calls : List Call) → held ≡ [] → kept ≡ calls → GainsCalls list from to held kept → GainsCalls list from to [] calls
@@ -42,14 +42,14 @@ is_full one two scanner count room first second third most (inl (inr full)) = se
 is_full one two scanner count room first second third most (inr full) = third full ∙ most
 
 -- a history that is closed once its workers and its scanner are back is a period
-is_period : {J : Type 0} {g h : _} {A B : Type 0} (first_counts : A → Counts) (second_counts : B → Counts) (setup : BoardFile) (opening ending : State) (room : ℕ)
+is_period : {J : Type 0} {g h : _} {A B : Type 0} (one : Ghosts A) (two : Ghosts B) (setup : BoardFile) (opening ending : State) (room : ℕ)
     (fresh : Seats J g) (before : Lanes A B) (list : List Timed) (from to : ℕ) (seats : Seats J h) (after : Lanes A B) (first_end second_end : End) (scanner_end : TimedEnd) (history : List Event)
     → room ≡ most_events → IsFreshSeat fresh.first → IsFreshSeat fresh.second → IsFreshSeat fresh.scanner
-    → IsBack first_counts fresh.first before.first seats.first after.first first_end
-    → IsBack second_counts fresh.second before.second seats.second after.second second_end
+    → IsBack one fresh.first before.first seats.first after.first first_end
+    → IsBack two fresh.second before.second seats.second after.second second_end
     → IsPlayed list from to fresh.scanner seats.scanner scanner_end
-    → IsClosed setup opening ending room seats history → IsPeriod first_counts second_counts setup opening ending before after list from to history
-is_period first_counts second_counts setup opening ending room fresh before list from to seats after first_end second_end scanner_end history most none_first none_second none_third first second
+    → IsClosed setup opening ending room seats history → IsPeriod one two setup opening ending before after list from to history
+is_period one two setup opening ending room fresh before list from to seats after first_end second_end scanner_end history most none_first none_second none_third first second
     third closed =
     record {
       few = subst (λ (n : ℕ). length history ≤ n) most closed.few;
@@ -57,9 +57,9 @@ is_period first_counts second_counts setup opening ending room fresh before list
       first_end = first_end;
       second_end = second_end;
       scanner_end = scanner_end;
-      first = called first_counts first_end fresh.first.calls.items seats.first.calls.items (calls_of 0 history) before.first after.first
+      first = called one first_end fresh.first.calls.items seats.first.calls.items (calls_of 0 history) before.first after.first
           none_first.0 (sym closed.first.calls_are) first.goes;
-      second = called second_counts second_end fresh.second.calls.items seats.second.calls.items (calls_of 1 history) before.second after.second
+      second = called two second_end fresh.second.calls.items seats.second.calls.items (calls_of 1 history) before.second after.second
           none_second.0 (sym closed.second.calls_are) second.goes;
       third = happened list from to fresh.scanner.calls.items seats.scanner.calls.items (calls_of 2 history) none_third.0 (sym closed.third.calls_are) third.gains;
       over = third.over;
@@ -69,23 +69,23 @@ is_period first_counts second_counts setup opening ending room fresh before list
     }
 
 -- the same of what closing came to
-pub closes_period : {J : Type 0} {g h : _} {A B : Type 0} (first_counts : A → Counts) (second_counts : B → Counts) (setup : BoardFile) (opening : State) (room : ℕ)
+pub closes_period : {J : Type 0} {g h : _} {A B : Type 0} (one : Ghosts A) (two : Ghosts B) (setup : BoardFile) (opening : State) (room : ℕ)
     (fresh : Seats J g) (before : Lanes A B) (list : List Timed) (from to : ℕ) (seats : Seats J h) (after : Lanes A B) (first_end second_end : End) (scanner_end : TimedEnd)
     (result : Result (Period A B) ReportFault)
     → room ≡ most_events → IsFreshSeat fresh.first → IsFreshSeat fresh.second → IsFreshSeat fresh.scanner
-    → IsBack first_counts fresh.first before.first seats.first after.first first_end
-    → IsBack second_counts fresh.second before.second seats.second after.second second_end
+    → IsBack one fresh.first before.first seats.first after.first first_end
+    → IsBack two fresh.second before.second seats.second after.second second_end
     → IsPlayed list from to fresh.scanner seats.scanner scanner_end
     → IfOk result (λ period. IsClosed setup opening (state_of period.board) room seats period.history)
     → IfOk result (λ period. period.lanes ≡ after)
     → IfOk result (λ period. period.next ≡ to)
-    → IfOk result (λ period. IsPeriod first_counts second_counts setup opening (state_of period.board) before period.lanes list from period.next period.history)
-closes_period first_counts second_counts setup opening room fresh before list from to seats after first_end second_end scanner_end (Ok period) most none_first none_second none_third first second
+    → IfOk result (λ period. IsPeriod one two setup opening (state_of period.board) before period.lanes list from period.next period.history)
+closes_period one two setup opening room fresh before list from to seats after first_end second_end scanner_end (Ok period) most none_first none_second none_third first second
     third closed lanes next =
     let ending : State = state_of period.board in
-    subst (λ (n : ℕ). IsPeriod first_counts second_counts setup opening ending before period.lanes list from n period.history) (sym next)
-    (subst (λ (l : Lanes _ _). IsPeriod first_counts second_counts setup opening ending before l list from to period.history) (sym lanes)
-    (is_period first_counts second_counts setup opening ending room fresh before list from to seats after first_end second_end scanner_end period.history most none_first none_second none_third
+    subst (λ (n : ℕ). IsPeriod one two setup opening ending before period.lanes list from n period.history) (sym next)
+    (subst (λ (l : Lanes _ _). IsPeriod one two setup opening ending before l list from to period.history) (sym lanes)
+    (is_period one two setup opening ending room fresh before list from to seats after first_end second_end scanner_end period.history most none_first none_second none_third
     first second third closed))
-closes_period first_counts second_counts setup opening room fresh before list from to seats after first_end second_end scanner_end (Err why) most none_first none_second none_third first second third
+closes_period one two setup opening room fresh before list from to seats after first_end second_end scanner_end (Err why) most none_first none_second none_third first second third
     closed lanes next = tt

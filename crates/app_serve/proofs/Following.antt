@@ -5,7 +5,7 @@ use Rattle.std.proofs.lemmas.List.{append-nil, append_assoc}
 use Rattle.std.proofs.lemmas.List.Sums.{sum_by_push}
 use Rattle.cfg_records.specs.declared.board_file.BoardFile.{BoardFile}
 use Rattle.bmc_board.specs.State.{State, state_of}
-use Rattle.wire_links.specs.declared.link.Counts.{Counts}
+use Rattle.wire_links.specs.declared.link.Link.{Ghosts}
 use Rattle.bmc_history.specs.declared.event.Event.{Event}
 use Rattle.bmc_history.specs.declared.event.Call.{Call}
 use Rattle.bmc_history.specs.Replay.{calls_of}
@@ -46,19 +46,19 @@ plays_more list from mid to histories history begins then =
     subst (λ (all : List Call). GainsCalls list from to [] all) (sym (calls_more 2 histories history))
     (gains_both list from mid to [] held (held ++ calls) begins (gains_behind list mid to held calls then))
 
-module _ {A B : Type 0} (first_counts : A → Counts) (second_counts : B → Counts) where
+module _ {A B : Type 0} (one : Ghosts A) (two : Ghosts B) where
   -- a period more
   pub follow_more : (setup : BoardFile) (list : List Timed) (opening mid ending : State) (before lanes after : Lanes A B) (from place to : ℕ) (histories : List (List Event)) (history : List Event)
-      → PeriodsFollow first_counts second_counts setup list opening before from histories mid lanes place
-      → IsPeriod first_counts second_counts setup mid ending lanes after list place to history
-      → PeriodsFollow first_counts second_counts setup list opening before from (histories ++ history ∷ []) ending after to
+      → PeriodsFollow one two setup list opening before from histories mid lanes place
+      → IsPeriod one two setup mid ending lanes after list place to history
+      → PeriodsFollow one two setup list opening before from (histories ++ history ∷ []) ending after to
   follow_more setup list opening mid ending before lanes after from place to [] history (same, lent, at) period = (
     ending,
     after,
     to,
-    subst (λ (s : State). IsPeriod first_counts second_counts setup s ending before after list from to history) (sym same)
-        (subst (λ (l : Lanes A B). IsPeriod first_counts second_counts setup mid ending l after list from to history) (sym lent)
-        (subst (λ (n : ℕ). IsPeriod first_counts second_counts setup mid ending lanes after list n to history) (sym at) period)),
+    subst (λ (s : State). IsPeriod one two setup s ending before after list from to history) (sym same)
+        (subst (λ (l : Lanes A B). IsPeriod one two setup mid ending l after list from to history) (sym lent)
+        (subst (λ (n : ℕ). IsPeriod one two setup mid ending lanes after list n to history) (sym at) period)),
     (refl, refl, refl),
   )
   follow_more setup list opening mid ending before lanes after from place to (first ∷ later) history (state, next, met, is, follow) period =
@@ -66,7 +66,7 @@ module _ {A B : Type 0} (first_counts : A → Counts) (second_counts : B → Cou
 
   -- no period yet
   pub runs_none : (course : PeriodState A B) → course.events ≡ 0
-      → RunsTo first_counts second_counts course.board.setup (state_of course.board) course.lanes course.table.list.now course.table.next course
+      → RunsTo one two course.board.setup (state_of course.board) course.lanes course.table.list.now course.table.next course
   runs_none course none = record {
     histories = [];
     follow = (refl, refl, refl);
@@ -79,26 +79,26 @@ module _ {A B : Type 0} (first_counts : A → Counts) (second_counts : B → Cou
   -- the same, where what it begins with is the same
   pub runs_from : (setup other : BoardFile) (opening first : State) (before lanes : Lanes A B) (list these : List Timed) (from place : ℕ) (course : PeriodState A B)
       → setup ≡ other → opening ≡ first → before ≡ lanes → list ≡ these → from ≡ place
-      → RunsTo first_counts second_counts setup opening before list from course → RunsTo first_counts second_counts other first lanes these place course
+      → RunsTo one two setup opening before list from course → RunsTo one two other first lanes these place course
   runs_from setup other opening first before lanes list these from place course is begins lent same at runs =
-      subst (λ (s : BoardFile). RunsTo first_counts second_counts s first lanes these place course) is
-      (subst (λ (o : State). RunsTo first_counts second_counts setup o lanes these place course) begins
-      (subst (λ (l : Lanes A B). RunsTo first_counts second_counts setup opening l these place course) lent
-      (subst (λ (l : List Timed). RunsTo first_counts second_counts setup opening before l place course) same
-      (subst (λ (n : ℕ). RunsTo first_counts second_counts setup opening before list n course) at runs))))
+      subst (λ (s : BoardFile). RunsTo one two s first lanes these place course) is
+      (subst (λ (o : State). RunsTo one two setup o lanes these place course) begins
+      (subst (λ (l : Lanes A B). RunsTo one two setup opening l these place course) lent
+      (subst (λ (l : List Timed). RunsTo one two setup opening before l place course) same
+      (subst (λ (n : ℕ). RunsTo one two setup opening before list n course) at runs))))
 
   -- the periods so far, and one more
   pub runs_more : (setup : BoardFile) (opening : State) (before : Lanes A B) (list : List Timed) (from : ℕ) (course next : PeriodState A B)
-      → RunsTo first_counts second_counts setup opening before list from course → GoesToNext first_counts second_counts course next
-      → RunsTo first_counts second_counts setup opening before list from next
+      → RunsTo one two setup opening before list from course → GoesToNext one two course next
+      → RunsTo one two setup opening before list from next
   runs_more setup opening before list from course next runs goes =
       let mid : State = state_of course.board in
       let ending : State = state_of next.board in
       let place : ℕ = course.table.next in
       let to : ℕ = next.table.next in
-      let period : IsPeriod first_counts second_counts setup mid ending course.lanes next.lanes list place to goes.history =
-      subst (λ (l : List Timed). IsPeriod first_counts second_counts setup mid ending course.lanes next.lanes l place to goes.history) runs.list_is
-      (subst (λ (s : BoardFile). IsPeriod first_counts second_counts s mid ending course.lanes next.lanes course.table.list.now place to goes.history) runs.setup_is goes.period) in record {
+      let period : IsPeriod one two setup mid ending course.lanes next.lanes list place to goes.history =
+      subst (λ (l : List Timed). IsPeriod one two setup mid ending course.lanes next.lanes l place to goes.history) runs.list_is
+      (subst (λ (s : BoardFile). IsPeriod one two s mid ending course.lanes next.lanes course.table.list.now place to goes.history) runs.setup_is goes.period) in record {
         histories = runs.histories ++ goes.history ∷ [];
         follow = follow_more setup list opening mid ending before course.lanes next.lanes from place to runs.histories goes.history runs.follow period;
         plays = plays_more list from place to runs.histories goes.history runs.plays period.third;
@@ -109,7 +109,7 @@ module _ {A B : Type 0} (first_counts : A → Counts) (second_counts : B → Cou
 
   -- periods lead from state to state
   pub follow_leads : (setup : BoardFile) (list : List Timed) (opening ending : State) (before after : Lanes A B) (from to : ℕ) (histories : List (List Event))
-      → PeriodsFollow first_counts second_counts setup list opening before from histories ending after to → HistoriesLead setup opening histories ending
+      → PeriodsFollow one two setup list opening before from histories ending after to → HistoriesLead setup opening histories ending
   follow_leads setup list opening ending before after from to [] (same, lent, at) = same
   follow_leads setup list opening ending before after from to (history ∷ later) (mid, lanes, place, period, follow) =
       (mid, period.few, period.replays, follow_leads setup list mid ending lanes after place to later follow)

@@ -6,7 +6,7 @@ use Rattle.std.proofs.lemmas.List.{append-nil}
 use Rattle.cfg_records.specs.declared.board_file.BoardFile.{BoardFile}
 use Rattle.cfg_records.specs.Records.{Pair}
 use Rattle.bmc_board.specs.State.{State, state_of, opened}
-use Rattle.wire_links.specs.declared.link.Counts.{Counts}
+use Rattle.wire_links.specs.declared.link.Link.{Ghosts}
 use Rattle.bmc_history.specs.declared.event.Call.{Call}
 use Rattle.bmc_history.specs.declared.event.Event.{Event}
 use Rattle.bmc_history.specs.Replay.{calls_of}
@@ -71,13 +71,13 @@ plays_all (Some list) table to histories all gains =
     )
 
 -- what is counted of one that was served for one period
-pub tallies_period : {A B : Type 0} (first_counts : A → Counts) (second_counts : B → Counts) (file : BoardFile) (given : Option (List Timed)) (begun : Begun) (table : Timetable)
+pub tallies_period : {A B : Type 0} (one : Ghosts A) (two : Ghosts B) (file : BoardFile) (given : Option (List Timed)) (begun : Begun) (table : Timetable)
     (course next : PeriodState A B) (start : List Pair) (events changed : ℕ) → IsBegunBoard file begun → IsAll given table → start ≡ begun.start.items
     → course.table.list ≡ table.list → course.table.next ≡ table.next
     → course.board.setup ≡ begun.board.setup → state_of course.board ≡ state_of begun.board → course.events ≡ 0
-    → GoesToNext first_counts second_counts course next
+    → GoesToNext one two course next
     → events ≡ next.events → changed ≡ changed_in (state_of next.board).records start → TalliesOf false given file events changed
-tallies_period first_counts second_counts file given begun table course next start events changed begins all is_start is_list is_next is_setup is_state none goes counted differ =
+tallies_period one two file given begun table course next start events changed begins all is_start is_list is_next is_setup is_state none goes counted differ =
     let after : State = state_of next.board in
     let to : ℕ = next.table.next in
     let calls : List Call = flat_map (calls_of 2) (goes.history ∷ []) in
@@ -100,18 +100,18 @@ tallies_period first_counts second_counts file given begun table course next sta
     }
 
 -- what is counted of one that was served period by period
-pub tallies_all : {A B : Type 0} (first_counts : A → Counts) (second_counts : B → Counts) (file : BoardFile) (given : Option (List Timed)) (begun : Begun) (table : Timetable)
+pub tallies_all : {A B : Type 0} (one : Ghosts A) (two : Ghosts B) (file : BoardFile) (given : Option (List Timed)) (begun : Begun) (table : Timetable)
     (lanes : Lanes A B) (course : PeriodState A B) (start : List Pair) (events changed : ℕ) → IsBegunBoard file begun → IsAll given table → start ≡ begun.start.items
-    → RunsTo first_counts second_counts begun.board.setup (state_of begun.board) lanes table.list.now table.next course
+    → RunsTo one two begun.board.setup (state_of begun.board) lanes table.list.now table.next course
     → events ≡ course.events → changed ≡ changed_in (state_of course.board).records start → TalliesOf true given file events changed
-tallies_all first_counts second_counts file given begun table lanes course start events changed begins all is_start runs counted differ =
+tallies_all one two file given begun table lanes course start events changed begins all is_start runs counted differ =
     let after : State = state_of course.board in record {
       histories = runs.histories;
       after = after;
       plays = plays_all given table course.table.next runs.histories all runs.plays;
       count = tt;
       lead = from_file file begun runs.histories after begins
-          (follow_leads first_counts second_counts begun.board.setup table.list.now (state_of begun.board) after lanes course.lanes table.next course.table.next runs.histories
+          (follow_leads one two begun.board.setup table.list.now (state_of begun.board) after lanes course.lanes table.next course.table.next runs.histories
           runs.follow);
       counted = counted ∙ runs.events;
       differ = differ ∙ ap (changed_in after.records) (is_start ∙ begins.start);

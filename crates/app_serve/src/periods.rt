@@ -93,7 +93,7 @@ where
     requires second { IsFreshSeat seats.second }
     requires scanner { IsFreshSeat seats.scanner }
     requires most { J.room ≡ most_events }
-    ensures period { IfOk result (λ period. IsPeriod A.counts_of B.counts_of J.setup J.opening
+    ensures period { IfOk result (λ period. IsPeriod A.Link B.Link J.setup J.opening
         (state_of period.board) lanes period.lanes
         table.entry.list.now table.entry.next period.next period.history) }
     ensures setup { IfOk result (λ period. period.board.setup ≡ J.setup) }
@@ -130,7 +130,7 @@ where
     requires opening { state_of board ≡ J.opening }
     requires room { room ≡ J.room }
     requires most { room ≡ most_events }
-    ensures period { IfOk result (λ period. IsPeriod A.counts_of B.counts_of J.setup J.opening
+    ensures period { IfOk result (λ period. IsPeriod A.Link B.Link J.setup J.opening
         (state_of period.board) lanes period.lanes
         table.entry.list.now table.entry.next period.next period.history) }
     ensures setup { IfOk result (λ period. period.board.setup ≡ J.setup) }
@@ -158,7 +158,7 @@ where
     A: Link + Send + Drop,
     B: Link + Send + Drop,
     R: Threads + Wait + Clock + Sync,
-    ensures period { IfOk result (λ period. IsPeriod A.counts_of B.counts_of board.setup
+    ensures period { IfOk result (λ period. IsPeriod A.Link B.Link board.setup
         (state_of board) (state_of period.board) lanes period.lanes
         table.entry.list.now table.entry.next period.next period.history) }
     ensures setup { IfOk result (λ period. period.board.setup ≡ board.setup) }
@@ -208,7 +208,7 @@ impl<'a, A: Link + Send + Drop, B: Link + Send + Drop> PeriodState<'a, A, B> {
         quiet: Option<u32>,
     ) -> Result<Self, ReportFault>
         requires { self.events + most_events < 2 ^ 64 }
-        ensures { IfOk result (λ next. GoesToNext A.counts_of B.counts_of self.entry next) }
+        ensures { IfOk result (λ next. GoesToNext A.Link B.Link self.entry next) }
     {
         let PeriodState {
             board,
@@ -255,7 +255,7 @@ where
     A: Link + Send + Drop,
     B: Link + Send + Drop,
     R: Threads + Wait + Clock + Sync,
-    ensures runs { IfOk result (RunsTo A.counts_of B.counts_of board.setup
+    ensures runs { IfOk result (RunsTo A.Link B.Link board.setup
         (state_of board) lanes table.entry.list.now table.entry.next) }
     ensures over { IfOk result (λ course. EndsAt quiet course.lanes) }
 {

@@ -65,6 +65,7 @@ counted_first on came counts = record {
   failures = counted_on counts.failures (sum_by (failures_on on) came);
   calls = counted_on counts.calls (sum_by (calls_on on) came);
   heard = counted_on counts.heard (sum_by (heard_on on) came);
+  sends = counts.sends;
 }
 
 first_counted : (on : Bus) (came : List Turnout) (counts : Counts) → HasCounted on came counts (counted_first on came counts)

@@ -8,3 +8,4 @@ pub mod Timing
 pub mod DriveCalls
 pub mod Turns
 pub mod Halves
+pub mod Conversing

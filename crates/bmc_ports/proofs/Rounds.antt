@@ -1,6 +1,6 @@
 -- Workers that go on, round by round, as long as turns are left.
 use Rattle.std.proofs.Common.{◌≡◌, ◌≢◌, ◌≤◌, ◌+◌, ◌∙◌, ◌⊎◌, inl, inr, refl, sym, ℕ, zero, suc, Bool, true, false, List, Option, length, arith}
-use Rattle.wire_links.specs.declared.link.Counts.{Counts}
+use Rattle.wire_links.specs.declared.link.Link.{Ghosts}
 use Rattle.bmc_history.specs.declared.event.Call.{Call}
 use Rattle.bmc_shared.specs.declared.worker.End.{End}
 use Rattle.bmc_shared.specs.declared.worker.End.TheVariants.{Turns, Full}
@@ -47,11 +47,11 @@ pub found_room : (end : End) → (end ≡ Full → ⊥) → end ≡ Turns
 found_room Turns none = refl
 found_room Full none = absurd (none refl)
 
-module _ {A B : Type 0} (first_counts : A → Counts) (second_counts : B → Counts) where
+module _ {A B : Type 0} (on_first : Ghosts A) (on_second : Ghosts B) where
   -- workers that go on with turns left make one at least
   pub takes_turns : (one two : End) (held kept listed calls : List Call) (before after : Lanes A B)
-      → WorkerEnd first_counts one held kept before.first after.first
-      → WorkerEnd second_counts two listed calls before.second after.second
+      → WorkerEnd on_first one held kept before.first after.first
+      → WorkerEnd on_second two listed calls before.second after.second
       → 1 ≤ turns_left before → turns_left after + 1 ≤ turns_left before
   takes_turns one two held kept listed calls before after first second some =
       let made : ℕ = length first.heard in

@@ -3,7 +3,7 @@ use Rattle.std.proofs.Common.{◌≡◌, ◌+◌, ◌++◌, ◌∙◌, refl, sym
 use Rattle.std.proofs.lemmas.List.{append_assoc, length-append}
 use Rattle.two_wire.specs.declared.Bus.{Bus}
 use Rattle.bmc_core.specs.Port.{bus_of}
-use Rattle.wire_links.specs.declared.link.Counts.{Counts}
+use Rattle.wire_links.specs.declared.link.Link.{Ghosts}
 use Rattle.wire_links.specs.Counted.{counted_on}
 use Rattle.wire_links.proofs.Counting.{counted_twice}
 use Rattle.bmc_history.specs.declared.event.Call.{Call}
@@ -37,17 +37,17 @@ counted_both (Some least) same on that before mid after first later is are begin
     (counted who within)
 
 -- ---- turns
-module _ {L : Type 0} (counts_of : L → Counts) where
+module _ {L : Type 0} (of : Ghosts L) where
   found_both : (first later : List Hearing) (held list kept : List Call) (before mid after : Lane L)
-      → FindRoom counts_of first held list before mid → FindRoom counts_of later list kept mid after → FindRoom counts_of (first ++ later) held kept before after
+      → FindRoom of first held list before mid → FindRoom of later list kept mid after → FindRoom of (first ++ later) held kept before after
   found_both [] later held list kept before mid after (same, still) then =
-      subst (λ (xs : List Call). FindRoom counts_of later xs kept before after) (sym same)
-      (subst (λ (lane : Lane L). FindRoom counts_of later list kept lane after) (sym still) then)
+      subst (λ (xs : List Call). FindRoom of later xs kept before after) (sym same)
+      (subst (λ (lane : Lane L). FindRoom of later list kept lane after) (sym still) then)
   found_both (heard ∷ first) later held list kept before mid after (next, lane, turn, found) then =
       (next, lane, turn, found_both first later next list kept lane mid after found then)
 
   turns_both : (end : End) (first later : List Hearing) (held list kept : List Call) (before mid after : Lane L)
-      → FindRoom counts_of first held list before mid → AreTurns counts_of end later list kept mid after → AreTurns counts_of end (first ++ later) held kept before after
+      → FindRoom of first held list before mid → AreTurns of end later list kept mid after → AreTurns of end (first ++ later) held kept before after
   turns_both Turns first later held list kept before mid after found then = found_both first later held list kept before mid after found then
   turns_both Full first later held list kept before mid after found then = record {
     first = first ++ then.first;
@@ -60,13 +60,13 @@ module _ {L : Type 0} (counts_of : L → Counts) where
   }
 
   one_turn : (end : End) (heard : Hearing) (held kept : List Call) (before after : Lane L)
-      → IsTurn counts_of end heard held kept before after → AreTurns counts_of end (heard ∷ []) held kept before after
+      → IsTurn of end heard held kept before after → AreTurns of end (heard ∷ []) held kept before after
   one_turn Turns heard held kept before after turn = (kept, after, turn, (refl, refl))
   one_turn Full heard held kept before after turn =
       record { first = []; last = heard; list = held; mid = before; all = refl; found = (refl, refl); full = turn }
 
   -- none was made
-  pub makes_still : (held : List Call) (lane : Lane L) → TurnsMade counts_of Turns [] held held lane lane
+  pub makes_still : (held : List Call) (lane : Lane L) → TurnsMade of Turns [] held held lane lane
   makes_still held lane = record {
     turns = omega arith;
     calls = refl;
@@ -79,7 +79,7 @@ module _ {L : Type 0} (counts_of : L → Counts) where
 
   -- one was made
   makes_one : (end : End) (heard : Hearing) (held kept : List Call) (before after : Lane L)
-      → IsTurn counts_of end heard held kept before after → TurnsMade counts_of end (heard ∷ []) held kept before after
+      → IsTurn of end heard held kept before after → TurnsMade of end (heard ∷ []) held kept before after
   makes_one end heard held kept before after turn = record {
     turns = omega (arith, turn.turns);
     calls = turn.made.next.calls;
@@ -92,9 +92,9 @@ module _ {L : Type 0} (counts_of : L → Counts) where
 
   -- some were made, and then others
   makes_both : (end : End) (first later : List Hearing) (held list kept : List Call) (before mid after : Lane L)
-      → TurnsMade counts_of Turns first held list before mid → TurnsMade counts_of end later list kept mid after → TurnsMade counts_of end (first ++ later) held kept before after
+      → TurnsMade of Turns first held list before mid → TurnsMade of end later list kept mid after → TurnsMade of end (first ++ later) held kept before after
   makes_both end first later held list kept before mid after begins then =
-      let count : ℕ = (counts_of before.link).calls in
+      let count : ℕ = (of.counts_of before.link).calls in
       let both : length later + length first ≡ length (first ++ later) = omega (arith, length-append first later) in record {
         turns = omega (arith, length-append first later, begins.turns, then.turns);
         calls = then.calls ∙ ap (λ (calls : ℕ). counted_on calls (length later)) begins.calls ∙ counted_twice count (length first) (length later) ∙ ap (counted_on count) both;
@@ -108,13 +108,13 @@ module _ {L : Type 0} (counts_of : L → Counts) where
 
   -- some were made, and then one
   pub makes_more : (end : End) (first : List Hearing) (heard : Hearing) (held list kept : List Call) (before mid after : Lane L)
-      → TurnsMade counts_of Turns first held list before mid → IsTurn counts_of end heard list kept mid after → TurnsMade counts_of end (first ++ heard ∷ []) held kept before after
+      → TurnsMade of Turns first held list before mid → IsTurn of end heard list kept mid after → TurnsMade of end (first ++ heard ∷ []) held kept before after
   makes_more end first heard held list kept before mid after begins turn =
       makes_both end first (heard ∷ []) held list kept before mid after begins (makes_one end heard list kept mid after turn)
 
   -- the last one was made
   pub ends_so : (end : End) (first : List Hearing) (heard : Hearing) (held list kept : List Call) (before mid after : Lane L)
-      → TurnsMade counts_of Turns first held list before mid → IsTurn counts_of end heard list kept mid after → WorkerEnd counts_of end held kept before after
+      → TurnsMade of Turns first held list before mid → IsTurn of end heard list kept mid after → WorkerEnd of end held kept before after
   ends_so end first heard held list kept before mid after begins turn = record {
     heard = first ++ heard ∷ [];
     least = λ some. omega (arith, length-append first (heard ∷ []));
@@ -123,12 +123,12 @@ module _ {L : Type 0} (counts_of : L → Counts) where
 
   -- all were made
   pub ends_with_all : (heard : List Hearing) (held kept : List Call) (before after : Lane L) → length heard ≡ before.turns
-      → TurnsMade counts_of Turns heard held kept before after → WorkerEnd counts_of Turns held kept before after
+      → TurnsMade of Turns heard held kept before after → WorkerEnd of Turns held kept before after
   ends_with_all heard held kept before after all makes = record { heard = heard; least = λ some. omega (arith, all, some); makes = makes }
 
   -- a worker that went on goes on once more
   goes_both : (end : End) (held list kept : List Call) (before mid after : Lane L)
-      → WorkerEnd counts_of Turns held list before mid → WorkerEnd counts_of end list kept mid after → WorkerEnd counts_of end held kept before after
+      → WorkerEnd of Turns held list before mid → WorkerEnd of end list kept mid after → WorkerEnd of end held kept before after
   goes_both end held list kept before mid after begins then = record {
     heard = begins.heard ++ then.heard;
     least = λ some. omega (arith, length-append begins.heard then.heard, begins.least some);
@@ -137,11 +137,11 @@ module _ {L : Type 0} (counts_of : L → Counts) where
 
   -- and its seat comes back
   pub back_again : {J : Type 0} {f g h : _} (seat : Seat J f) (lane : Lane L) (next : Seat J g) (mid : Lane L) (one : End) (after : Seat J h) (left : Lane L) (end : End) → one ≡ Turns
-      → IsBack counts_of seat lane next mid one → IsBack counts_of next mid after left end → IsBack counts_of seat lane after left end
+      → IsBack of seat lane next mid one → IsBack of next mid after left end → IsBack of seat lane after left end
   back_again seat lane next mid one after left end room begins then = record {
     number = then.number ∙ begins.number;
     marked = then.marked;
     mark = λ same. then.mark same ∙ begins.mark room;
     goes = goes_both end seat.calls.items next.calls.items after.calls.items lane mid left
-        (subst (λ (e : End). WorkerEnd counts_of e seat.calls.items next.calls.items lane mid) room begins.goes) then.goes;
+        (subst (λ (e : End). WorkerEnd of e seat.calls.items next.calls.items lane mid) room begins.goes) then.goes;
   }

@@ -1,5 +1,5 @@
 -- Turns of a manager that is driven, one after another.
-use Rattle.std.specs.Prelude.{Result, Ok, Err, sum_by}
+use Rattle.std.specs.Prelude.{Result, Ok, Err, OnOk, OnErr, sum_by}
 use Rattle.std.proofs.Common.{◌≡◌, ℕ, ◌+◌, ◌++◌, List, [], ◌∷◌, Option, Some, None, option_map, ◌⊎◌, inl, inr, refl, sym, ◌∙◌, ap, subst, arith}
 use Rattle.std.proofs.lemmas.List.Sums.{sum_by-append}
 use Rattle.two_wire.specs.declared.Bus.{Bus}
@@ -8,7 +8,8 @@ use Rattle.wire_links.specs.declared.link.Counts.{Counts}
 use Rattle.wire_links.specs.declared.link.Heard.{Heard}
 use Rattle.wire_links.specs.declared.link.Heard.TheVariants.{Frame, Quiet}
 use Rattle.wire_links.specs.declared.link.LinkFault.{LinkFault}
-use Rattle.wire_links.specs.Counted.{counted_on, after_next}
+use Rattle.wire_links.specs.Counted.{one_more, counted_on, after_next, after_send}
+use Rattle.wire_links.specs.Trace.{Sending}
 use Rattle.wire_links.proofs.Counting.{counted_twice}
 use Rattle.undo_plans.specs.declared.names.Names.{Names}
 use Rattle.model_undo.specs.Machine.{Stage, AtStart, Opened, AtEnd, AtHalt, AtUndone, AtRefused, Machine, open_bus_at, quiets}
@@ -18,7 +19,7 @@ use Rattle.undo_core.specs.Shown.{words_of}
 use Rattle.undo_core.specs.Course.{Calls, InputResult, or_rests}
 use Rattle.undo_core.specs.declared.manager.Manager.{Manager}
 use Rattle.undo_core.specs.declared.sending.Sent.{Sent}
-use Rattle.bmc_ports.specs.Driving.{Turnout, Answers, FailsToSend, call_for, calls_on, heard_on, failures_on, HasCounted, HaveCounted, LinkFails, Links, both, turns_in, DrivenState, open_at, ReachesBy, LeadsThrough, LeadsTo, DrivenTurns}
+use Rattle.bmc_ports.specs.Driving.{Turnout, Answers, FailsToSend, call_for, calls_on, heard_on, failures_on, HasCounted, HaveCounted, CountsFailures, faults_in, LinkFails, Links, both, turns_in, DrivenState, open_at, ReachesBy, LeadsThrough, LeadsTo, DrivenTurns}
 
 -- ---- counts
 
@@ -59,6 +60,48 @@ pub counts_smbus : (answer : Result Heard LinkFault) (a b c : Counts) → b ≡ 
 counts_smbus answer a b c is = (
   record { calls = refl; heard = refl; failures = refl },
   subst (λ (x : Counts). HasCounted Smbus (Answers Smbus answer ∷ []) a x) (sym is) (counts_next Smbus answer a),
+)
+
+-- one more frame was sent
+pub nothing_more : (a b c : Counts) → CountsFailures 0 a b → c ≡ after_send (Ok tt) b → CountsFailures 0 a c
+nothing_more a b c begins is = record {
+  calls = ap (λ (x : Counts). x.calls) is ∙ begins.calls;
+  heard = ap (λ (x : Counts). x.heard) is ∙ begins.heard;
+  failures = ap (λ (x : Counts). x.failures) is ∙ begins.failures;
+}
+
+-- and then a sending failed
+pub nothing_then : (fault : LinkFault) (a b c : Counts) → CountsFailures 0 a b → c ≡ after_send (Err fault) b → CountsFailures 1 a c
+nothing_then fault a b c begins is = record {
+  calls = ap (λ (x : Counts). x.calls) is ∙ begins.calls;
+  heard = ap (λ (x : Counts). x.heard) is ∙ begins.heard;
+  failures = ap (λ (x : Counts). x.failures) is ∙ ap one_more begins.failures;
+}
+
+-- ---- what frames that were sent over one link count, while the other is as it was
+none_more : (on : Bus) (a b : Counts) → CountsFailures 0 a b → HasCounted on [] a b
+none_more on a b counts = record { calls = counts.calls; heard = counts.heard; failures = counts.failures }
+
+pub frames_counted : (answer : Sending) (a b c : Counts) → CountsFailures (faults_in answer) a b → OnOk answer (HaveCounted [] (both a c) (both b c))
+frames_counted (Ok done) a b c counts = (none_more Ipmb a b counts, none_counted Smbus c)
+frames_counted (Err fault) a b c counts = tt
+
+pub counted_frames : (answer : Sending) (a b c : Counts) → CountsFailures (faults_in answer) a b → OnOk answer (HaveCounted [] (both c a) (both c b))
+counted_frames (Ok done) a b c counts = (none_counted Ipmb c, none_more Smbus a b counts)
+counted_frames (Err fault) a b c counts = tt
+
+pub frames_failed : (answer : Sending) (a b c : Counts) → CountsFailures (faults_in answer) a b → OnErr answer (LinkFails (both a c) (both b c))
+frames_failed (Ok done) a b c counts = tt
+frames_failed (Err fault) a b c counts = (
+  Ipmb,
+  (record { calls = counts.calls; heard = counts.heard; failures = counts.failures }, record { calls = refl; heard = refl; failures = refl }),
+)
+
+pub failed_frames : (answer : Sending) (a b c : Counts) → CountsFailures (faults_in answer) a b → OnErr answer (LinkFails (both c a) (both c b))
+failed_frames (Ok done) a b c counts = tt
+failed_frames (Err fault) a b c counts = (
+  Smbus,
+  (record { calls = refl; heard = refl; failures = refl }, record { calls = counts.calls; heard = counts.heard; failures = counts.failures }),
 )
 
 turns_of : (on : Bus) (answer : Result Heard LinkFault) → turns_in (Answers on answer ∷ []) ≡ 1
@@ -114,6 +157,20 @@ module _ (names : Names) where
       counted = fails.1;
     };
   }
+
+  -- frames that were sent
+  pub sending_leads : (s : DrivenState names) (a b : Links) → HaveCounted [] a b → LeadsThrough names 0 s s a b
+  sending_leads s a b counted = record { came = []; turns_made = refl; reaches = refl; counted = counted }
+
+  -- turns led to a manager, and then frames were sent
+  pub sends_on : (turns : ℕ) (s : DrivenState names) (m : Manager) (a b c : Links) → (met : LeadsTo names turns s m a b) → HaveCounted [] b c → LeadsTo names turns s m a c
+  sends_on turns s m a b c met counted =
+      let same : turns + 0 ≡ turns = omega arith in record {
+        after = met.after;
+        shown = met.shown;
+        leads = subst (λ (n : ℕ). LeadsThrough names n s met.after a c) same
+            (leads_on turns 0 s met.after met.after a b c met.leads (sending_leads met.after b c counted));
+      }
 
   -- turns led to a manager, and others lead on from what it shows
   pub goes_on_to : (turns more : ℕ) (s t : DrivenState names) (m : Manager) (a b c : Links) → LeadsThrough names turns s t a b → LeadsTo names more t m b c → LeadsTo names (turns + more) s m a c

@@ -7,6 +7,7 @@ use Rattle.wire_links.specs.declared.link.Heard.{Heard}
 use Rattle.wire_links.specs.declared.link.Heard.TheVariants.{Frame, Quiet}
 use Rattle.wire_links.specs.declared.link.LinkFault.{LinkFault}
 use Rattle.wire_links.specs.Counted.{counted_on}
+use Rattle.wire_links.specs.Trace.{Sending}
 use Rattle.undo_plans.specs.declared.names.Names.{Names}
 use Rattle.model_undo.specs.declared.phase.Phase.{Phase}
 use Rattle.model_undo.specs.Machine.{phase_of, open_bus, same_bus}
@@ -47,6 +48,11 @@ abbrev pub failed_in : Result Heard LinkFault → ℕ
 failed_in (Ok heard) = 0
 failed_in (Err fault) = 1
 
+-- so it is of a sending
+abbrev pub faults_in : Sending → ℕ
+faults_in (Ok done) = 0
+faults_in (Err fault) = 1
+
 -- calls of `next`
 abbrev pub calls_on : Bus → Turnout → ℕ
 calls_on on (Answers at answer) = where_on on at 1
@@ -79,6 +85,12 @@ both ipmb smbus = record { ipmb = ipmb; smbus = smbus }
 -- each link has counted what came on its bus
 abbrev pub HaveCounted : List Turnout → Links → Links → Type 0
 HaveCounted came before after = HasCounted Ipmb came before.ipmb after.ipmb × HasCounted Smbus came before.smbus after.smbus
+
+-- a link counted no call of `next`, and so many failures
+pub record CountsFailures (more : ℕ) (before after : Counts) : Type 0 where
+  pub calls : after.calls ≡ before.calls
+  pub heard : after.heard ≡ before.heard
+  pub failures : after.failures ≡ counted_on before.failures more
 
 -- a frame wasn't sent over one of the links
 abbrev pub LinkFails : Links → Links → Type 0

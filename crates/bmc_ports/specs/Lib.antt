@@ -8,3 +8,4 @@ pub mod Silence
 pub mod Slices
 pub mod Timing
 pub mod Driving
+pub mod Conversation

@@ -27,14 +27,14 @@ pub(crate) trait Work {
 
 /// What two works gave back.
 #[derive(Drop)]
-pub(crate) struct Both<T, U> {
+pub(crate) struct PairReturn<T, U> {
     pub first: T,
     pub second: U,
 }
 
 /// What a scanner's work gave back, and what those of two workers did.
 #[derive(Drop)]
-pub(crate) struct Three<S, T, U> {
+pub(crate) struct TrioReturn<S, T, U> {
     pub scanner: S,
     pub first: T,
     pub second: U,
@@ -49,7 +49,7 @@ impl<W: Work> Promise<W::Given> for GivenBy<W> {
 }
 
 /// Runs a work in a thread of its own, and another thing meanwhile in this one. Where no thread can be started, neither runs.
-fn run_apart<W, U, M, R>(rt: &R, apart: W, here: M) -> Result<Both<W::Given, U>, NoThread>
+fn run_apart<W, U, M, R>(rt: &R, apart: W, here: M) -> Result<PairReturn<W::Given, U>, NoThread>
 where
     W: Work + Send + Drop,
     W::Given: Send + Drop,
@@ -62,7 +62,7 @@ where
     thread::scope(
         thread::scope_env(),
         rt,
-        |scope| -> Result<Both<W::Given, U>, NoThread>
+        |scope| -> Result<PairReturn<W::Given, U>, NoThread>
             requires { M.pre here }
             ensures { BothGive (W.gives apart) (M.post here) result }
         {
@@ -71,7 +71,7 @@ where
                 return Err(NoThread);
             };
             let second = here();
-            Ok(Both {
+            Ok(PairReturn {
                 first: thread.join(rt),
                 second,
             })
@@ -80,7 +80,11 @@ where
 }
 
 /// Runs two works at once, the first in a thread of its own. Where no thread can be started, neither runs.
-fn run_at_once<V, W, R>(rt: &R, first: V, second: W) -> Result<Both<V::Given, W::Given>, NoThread>
+fn run_at_once<V, W, R>(
+    rt: &R,
+    first: V,
+    second: W,
+) -> Result<PairReturn<V::Given, W::Given>, NoThread>
 where
     V: Work + Send + Drop,
     V::Given: Send + Drop,
@@ -98,7 +102,7 @@ fn run_workers<V, W, R>(
     first: V,
     second: W,
     over: &AtomicBool,
-) -> Result<Both<V::Given, W::Given>, NoThread>
+) -> Result<PairReturn<V::Given, W::Given>, NoThread>
 where
     V: Work + Send + Drop,
     V::Given: Send + Drop,
@@ -114,19 +118,19 @@ where
 
 /// What a scanner gave back that ran apart from two workers.
 fn joined<S: Drop, T: Drop, U: Drop>(
-    ran: Result<Both<S, Result<Both<T, U>, NoThread>>, NoThread>,
-) -> Result<Three<S, T, U>, NoThread>
+    ran: Result<PairReturn<S, Result<PairReturn<T, U>, NoThread>>, NoThread>,
+) -> Result<TrioReturn<S, T, U>, NoThread>
     ensures { IfOk result (λ three. ran ≡ Ok (record {
       first = three.scanner;
       second = Ok (record { first = three.first; second = three.second });
     })) }
 {
-    let Both {
+    let PairReturn {
         first: scanner,
         second,
     } = ran?;
-    let Both { first, second } = second?;
-    Ok(Three {
+    let PairReturn { first, second } = second?;
+    Ok(TrioReturn {
         scanner,
         first,
         second,
@@ -142,7 +146,7 @@ pub(crate) fn run_three<S, V, W, R>(
     first: V,
     second: W,
     over: &AtomicBool,
-) -> Result<Three<S::Given, V::Given, W::Given>, NoThread>
+) -> Result<TrioReturn<S::Given, V::Given, W::Given>, NoThread>
 where
     S: Work + Send + Drop,
     S::Given: Send + Drop,
@@ -160,7 +164,7 @@ where
     }
     let scanner = scanner.run();
     match run_workers(rt, first, second, over) {
-        Ok(Both { first, second }) => Ok(Three {
+        Ok(PairReturn { first, second }) => Ok(TrioReturn {
             scanner,
             first,
             second,

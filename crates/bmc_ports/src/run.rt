@@ -2,7 +2,7 @@
 ghost use Rattle.std.specs.Prelude.{IfOk};
 ghost use Rattle.bmc_ports.specs.Seated.{AllComeBack};
 
-use crate::at_once::{NoThread, Three, Work, run_three};
+use crate::at_once::{NoThread, TrioReturn, Work, run_three};
 use crate::scanner::scan;
 use bmc_board::{Bench, Records};
 use bmc_core::Port;
@@ -138,7 +138,7 @@ where
         turns,
     };
     let over = AtomicBool::new(false);
-    let Three {
+    let TrioReturn {
         scanner,
         first,
         second,

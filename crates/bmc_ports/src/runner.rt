@@ -3,7 +3,7 @@ ghost use Rattle.std.specs.Prelude.{◌≡◌, ◌↔◌, IsTrue, IfOk};
 ghost use Rattle.bmc_ports.specs.Lending.{AreBack};
 ghost use Rattle.bmc_ports.specs.Slices.{IsDone, NoRoom};
 
-use crate::at_once::{NoThread, Three, run_three};
+use crate::at_once::{NoThread, TrioReturn, run_three};
 use crate::lane::Lanes;
 use crate::scanner_play::{ScannerLoan, ScannerPlay, ScannerReturn};
 use crate::slices::{Serving, WorkerLoan, WorkerReturn};
@@ -30,7 +30,7 @@ pub struct RunResult<J: Opening, A, B> {
 
 /// What two workers and a scanner gave back.
 fn give_back<J: Opening, A: Drop, B: Drop>(
-    run: Three<ScannerReturn<J>, WorkerReturn<J, A>, WorkerReturn<J, B>>,
+    run: TrioReturn<ScannerReturn<J>, WorkerReturn<J, A>, WorkerReturn<J, B>>,
 ) -> RunResult<J, A, B>
     requires first { run.first.lent.seat.number ≡ 0 }
     requires second { run.second.lent.seat.number ≡ 1 }
@@ -44,7 +44,7 @@ fn give_back<J: Opening, A: Drop, B: Drop>(
     ensures second_end { result.second_end ≡ run.second.end }
     ensures scanner_end { result.scanner_end ≡ run.scanner.end }
 {
-    let Three {
+    let TrioReturn {
         scanner,
         first,
         second,
@@ -83,7 +83,7 @@ where
     G: Gate + Sync,
     R: Threads + Wait + Clock + Sync,
     ensures { IfOk result
-        (λ run. AreBack A.counts_of B.counts_of seats lanes table.entry run) }
+        (λ run. AreBack A.Link B.Link seats lanes table.entry run) }
 {
     let Seats {
         first: first_seat,
@@ -177,7 +177,7 @@ where
     G: Gate + Sync,
     R: Threads + Wait + Clock + Sync,
     ensures back { IfOk result
-        (λ run. AreBack A.counts_of B.counts_of seats lanes table.entry run) }
+        (λ run. AreBack A.Link B.Link seats lanes table.entry run) }
     ensures done { IfOk result (λ run. IsDone least run.first_end run.second_end
         run.scanner_end run.lanes) }
 {

@@ -47,7 +47,7 @@ fn make_turn<J: Opening, S: Store + Drop, L: Link, G: Gate, R: Wait>(
     desk: &mut WorkerState<'_, G>,
 ) -> End
     requires { 1 ≤ lane.old.turns }
-    ensures turn { SomeTurn L.counts_of result
+    ensures turn { SomeTurn L.Link result
         seat.old.calls.items seat.new.calls.items lane.old lane.new }
     ensures marked { result ≡ Full → seat.new.refused ≡ true }
     ensures mark { result ≡ Turns → seat.new.refused ≡ seat.old.refused }
@@ -78,7 +78,7 @@ fn serve_slices<J: Opening, S: Store + Drop, L: Link, G: Gate, R: Wait>(
     gate: &G,
     rope: &StopHandle<'_>,
 ) -> End
-    ensures goes { WorkerEnd L.counts_of result
+    ensures goes { WorkerEnd L.Link result
         seat.old.calls.items seat.new.calls.items lane.old lane.new }
     ensures marked { result ≡ Full → seat.new.refused ≡ true }
     ensures mark { result ≡ Turns → seat.new.refused ≡ seat.old.refused }
@@ -115,7 +115,7 @@ impl<'a, 'b, J: Opening, L: Link + Drop, G: Gate, R: Wait> Work for Serving<'a, 
 
     type Given = WorkerReturn<J, L>;
 
-    ghost gives = { λ work back. GivesBack L.counts_of work.lent back.lent back.end };
+    ghost gives = { λ work back. GivesBack L.Link work.lent back.lent back.end };
 
     fn run(self) -> WorkerReturn<J, L> {
         let Serving {

@@ -1,5 +1,5 @@
 -- What a port of a worker takes by a call of the shared board.
-use Rattle.std.specs.Prelude.{Result, Ok, Err, IfOk, IfErr, OnOk, OnErr}
+use Rattle.std.specs.Prelude.{Result, Ok, Err, IfOk, IfErr, OnOk, OnErr, Some}
 use Rattle.std.proofs.Common.{◌≡◌, ℕ, List, [], ◌∷◌, true, refl, sym, ap, subst}
 use Rattle.record_base.specs.declared.message.Asked.{Asked}
 use Rattle.bmc_board.specs.Carrying.{IsCarriedRequest}
@@ -14,9 +14,9 @@ use Rattle.bmc_history.specs.declared.held.PeriodFull.{PeriodFull}
 use Rattle.bmc_history.specs.Calls.{KeepsHere}
 use Rattle.bmc_shared.specs.declared.seat.Seat.{Seat}
 use Rattle.bmc_shared.specs.Calling.{HasCalled, HasFoundNoRoom}
-use Rattle.bmc_shared.specs.Serving.{WorkerStep}
+use Rattle.bmc_shared.specs.Serving.{WorkerStep, frames_of}
 use Rattle.bmc_shared.specs.declared.worker.End.TheVariants.{Turns, Full}
-use Rattle.bmc_shared.proofs.Turning.{settled, answered_or_refused}
+use Rattle.bmc_shared.proofs.Turning.{settled, answered, dropped}
 
 module _ {J : Type 0} {g : _} (port next : Port) (frame : List ℕ) (seat now : Seat J g) (out : Out) where
   -- the port served the frame by a call of the shared board, if it made one
@@ -25,12 +25,14 @@ module _ {J : Type 0} {g : _} (port next : Port) (frame : List ℕ) (seat now : 
       ServesFrameBy (λ asked answered later. HasCalled seat asked answered later) (λ (why : PeriodFull) (later : Seat J g). HasFoundNoRoom seat later) port frame seat result next out now
 
   -- it takes the frame
-  pub takes : (served : ServeOutcome) → ServesBy (Ok served) → WorkerStep Turns (frame ∷ []) port next seat.calls.items now.calls.items
+  pub takes : (served : ServeOutcome) → ServesBy (Ok served) → WorkerStep Turns (Some frame) port next seat.calls.items now.calls.items (frames_of out)
   takes CarriedOut done =
       let call : Call = Exchanged (asked_of done.pending) done.answered in
-      answered_or_refused port frame done.between next done.heard done.pending seat.calls.items now.calls.items (Ok tt) done.asks
-      (call ∷ [], done.carried.gained, (done.answered, out, refl, done.replied)) tt tt
-  takes NothingAsked done = subst (λ (calls : List Call). WorkerStep Turns (frame ∷ []) port next seat.calls.items calls) (sym (ap (λ (s : Seat J g). s.calls.items) done.1)) (settled port frame next out seat.calls.items done.0)
+      answered port frame done.between next done.heard done.pending seat.calls.items now.calls.items (frames_of out) done.asks
+      (call ∷ [], done.carried.gained, (done.answered, out, refl, refl, done.replied))
+  takes NothingAsked done =
+      subst (λ (calls : List Call). WorkerStep Turns (Some frame) port next seat.calls.items calls (frames_of out))
+      (sym (ap (λ (s : Seat J g). s.calls.items) done.1)) (settled port frame next out seat.calls.items done.0)
 
   -- the seat is marked as it was, and has its number
   pub mark_left : (served : ServeOutcome) → ServesBy (Ok served) → now.refused ≡ seat.refused
@@ -42,8 +44,8 @@ module _ {J : Type 0} {g : _} (port next : Port) (frame : List ℕ) (seat now : 
   number_left NothingAsked done = ap (λ (s : Seat J g). s.number) done.1
 
   -- or it drops the request
-  pub drops : (why : PeriodFull) → ServesBy (Err why) → WorkerStep Full (frame ∷ []) port next seat.calls.items now.calls.items
-  drops why done = answered_or_refused port frame next next out done.0.0 seat.calls.items now.calls.items (Err why) done.0.1 tt done.1.list refl
+  pub drops : (why : PeriodFull) → ServesBy (Err why) → WorkerStep Full (Some frame) port next seat.calls.items now.calls.items []
+  drops why done = dropped port frame next out done.0.0 seat.calls.items now.calls.items done.0.1 done.1.list
 
 -- ---- the call itself
 module _ {J : Type 0} {g : _} (seat now : Seat J g) where

@@ -1,5 +1,5 @@
 -- A worker's turns, one after another.
-use Rattle.std.specs.Prelude.{Result, Ok, Err, OnOk, OnErr, Option, Some}
+use Rattle.std.specs.Prelude.{Result, Ok, Option, Some, None}
 use Rattle.std.proofs.Common.{◌≡◌, ◌≤◌, ◌<◌, refl, ◌+◌, ◌++◌, ℕ, suc, List, [], ◌∷◌, length, ap, sym, ◌∙◌, subst, arith, lit≤}
 use Rattle.std.proofs.lemmas.List.{append_assoc, length-append, append-nil}
 use Rattle.bmc_core.specs.declared.out.Out.{Out}
@@ -10,11 +10,13 @@ use Rattle.bmc_core.specs.Port.{IsStep}
 use Rattle.wire_links.specs.declared.link.Counts.{Counts}
 use Rattle.wire_links.specs.declared.link.Heard.{Heard}
 use Rattle.wire_links.specs.declared.link.Heard.TheVariants.{Frame}
+use Rattle.wire_links.specs.declared.link.LinkFault.{LinkFault}
+use Rattle.wire_links.specs.declared.link.Link.{Ghosts}
 use Rattle.wire_links.specs.Counted.{one_more, counted_on, after_next}
+use Rattle.wire_links.specs.Trace.{Gives, GivesFrame, frame_heard}
 use Rattle.wire_links.proofs.Counting.{counted_twice}
 use Rattle.bmc_history.specs.declared.event.Call.{Call}
-use Rattle.bmc_history.specs.declared.held.PeriodFull.{PeriodFull}
-use Rattle.bmc_shared.specs.Serving.{CallsNext, CarriesRequest, MakesTurn, ServesFrames, ServesTo, MadeAll, WorkerStep, WorkerRun, end_of, frames_in}
+use Rattle.bmc_shared.specs.Serving.{CallsNext, CarriesRequest, MakesTurn, OneTurnOver, TurnsOver, EndsWithoutRoom, ServesFrames, ServesTo, MadeAll, TakesHeard, WorkerStep, StepOver, WorkerRun, frames_in, frames_of}
 use Rattle.bmc_shared.specs.declared.worker.End.{End}
 use Rattle.bmc_shared.specs.declared.worker.End.TheVariants.{Turns, Full}
 
@@ -24,10 +26,11 @@ pub serves_both : (first later : List (List ℕ)) (before mid after : Port) (cal
 serves_both [] later before mid after calls rest (none, same) then =
     subst (λ (xs : List Call). ServesFrames later before (xs ++ rest) after) (sym none)
     (subst (λ (port : Port). ServesFrames later port rest after) (sym same) then)
-serves_both (frame ∷ first) later before mid after calls rest (at, one, others, split, hears, serves) then = (
+serves_both (frame ∷ first) later before mid after calls rest (at, one, others, sent, split, hears, serves) then = (
   at,
   one,
   others ++ rest,
+  sent,
   ap (λ (xs : List Call). xs ++ rest) split ∙ append_assoc one others rest,
   hears,
   serves_both first later at mid after others rest serves then,
@@ -111,37 +114,41 @@ one_more_turn made turns more = omega (arith, more)
 -- ---- one frame that a port took
 module _ (before : Port) (frame : List ℕ) where
   -- nothing was asked
-  pub settled : (after : Port) (out : Out) (held : List Call) → IsStep before frame after out Done → WorkerStep Turns (frame ∷ []) before after held held
+  pub settled : (after : Port) (out : Out) (held : List Call) → IsStep before frame after out Done
+      → WorkerStep Turns (Some frame) before after held held (frames_of out)
   settled after out held step = record {
     gained = [];
     list = sym (append-nil held);
-    serves = (after, [], [], refl, record { between = after; out = out; step = Done; heard = step; settles = (refl, refl) }, (refl, refl));
+    takes = record { between = after; first = out; step = Done; heard = step; settles = (refl, refl, refl) };
   }
 
-  -- a request was asked, and answered or refused
-  pub answered_or_refused : (between after : Port) (out : Out) (pending : Pending) (held kept : List Call) (result : Result (Unit {0}) PeriodFull)
-      → IsStep before frame between out (Ask pending)
-      → OnOk result (CarriesRequest pending between held kept after)
-      → OnErr result (kept ≡ held)
-      → OnErr result (after ≡ between)
-      → WorkerStep (end_of result) (frame ∷ []) before after held kept
-  answered_or_refused between after out pending held kept (Ok done) step carries list port = record {
+  -- a request was asked, and answered
+  pub answered : (between after : Port) (first : Out) (pending : Pending) (held kept : List Call) (sent : List (List ℕ))
+      → IsStep before frame between first (Ask pending) → CarriesRequest pending between first held kept sent after
+      → WorkerStep Turns (Some frame) before after held kept sent
+  answered between after first pending held kept sent step carries = record {
     gained = carries.0;
     list = carries.1;
-    serves = (after, carries.0, [], sym (append-nil carries.0), record { between = between; out = out; step = Ask pending; heard = step; settles = carries.2 }, (refl, refl));
+    takes = record { between = between; first = first; step = Ask pending; heard = step; settles = carries.2 };
   }
-  answered_or_refused between after out pending held kept (Err full) step carries list port = record {
+
+  -- a request was asked, and dropped
+  pub dropped : (after : Port) (out : Out) (pending : Pending) (held kept : List Call) → IsStep before frame after out (Ask pending) → kept ≡ held
+      → WorkerStep Full (Some frame) before after held kept []
+  dropped after out pending held kept step list = record {
     gained = [];
     list = list ∙ sym (append-nil held);
-    serves = record {
-      served = [];
-      last = frame;
-      mid = before;
-      all = refl;
-      serves = (refl, refl);
-      drops = record { out = out; pending = pending; asks = subst (λ (port : Port). IsStep before frame port out (Ask pending)) (sym port) step };
-    };
+    takes = (refl, refl, record { out = out; pending = pending; asks = step });
   }
+
+-- what was heard was served, or dropped
+serves_heard : (end : End) (heard : Option (List ℕ)) (before after : Port) (calls : List Call) (sent : List (List ℕ))
+    → TakesHeard end heard before calls sent after → ServesTo end (frames_in heard) before calls after
+serves_heard Turns None before after calls sent (none, nothing, same) = (none, same)
+serves_heard Turns (Some frame) before after calls sent hears = (after, calls, [], sent, sym (append-nil calls), hears, (refl, refl))
+serves_heard Full None before after calls sent never = absurd never
+serves_heard Full (Some frame) before after calls sent (none, nothing, drops) =
+    record { served = []; last = frame; mid = before; all = refl; serves = (none, refl); drops = drops }
 
 -- ---- one turn
 
@@ -152,12 +159,62 @@ heard_frame heard frame counted counts counts_so is =
     let all : counts ≡ after_next (Ok (Frame frame)) counted = counts_so ∙ ap (λ (h : Heard). after_next (Ok h) counted) is in
     record { calls = ap (λ (c : Counts). c.calls) all; heard = ap (λ (c : Counts). c.heard) all }
 
--- a frame was heard and taken, and what came of it left the link's counts alone
-pub taken : (end : End) (frame : List ℕ) (before after : Port) (held kept : List Call) (counted mid counts : Counts)
-    → CallsNext (frame ∷ []) counted mid → counts.calls ≡ mid.calls → counts.heard ≡ mid.heard
-    → WorkerStep end (frame ∷ []) before after held kept → MakesTurn end (Some frame) before after held kept counted counts
-taken end frame before after held kept counted mid counts next calls heard takes =
-    record { next = record { calls = calls ∙ next.calls; heard = heard ∙ next.heard }; takes = takes }
+module _ {L : Type 0} (of : Ghosts L) where
+  -- `next` answered with a frame, or without
+  pub gives_frame : (heard : Heard) (frame : List ℕ) (link left : L) → Gives of link (Ok heard) left → heard ≡ Frame frame → GivesFrame of link (Some frame) left
+  gives_frame heard frame link left gives is = record { answer = Ok heard; gives = gives; is = sym (ap (λ (h : Heard). frame_heard (Ok h)) is) }
+
+  pub gives_none : (answer : Result Heard LinkFault) (link left : L) → Gives of link answer left → None ≡ frame_heard answer → GivesFrame of link None left
+  gives_none answer link left gives is = record { answer = answer; gives = gives; is = is }
+
+  -- nothing was heard
+  pub heard_none : (port : Port) (held : List Call) (link left : L) → GivesFrame of link None left → CallsNext [] (of.counts_of link) (of.counts_of left)
+      → MakesTurn of Turns None port port held held link left
+  heard_none port held link left gives next = record {
+    mid = left;
+    gives = gives;
+    takes = record {
+      sent = [];
+      step = record { gained = []; list = sym (append-nil held); takes = (refl, refl, refl) };
+      took = refl;
+    };
+    next = next;
+  }
+
+  -- a frame was heard and taken, and what came of it left the link's counts of calls alone
+  pub taken : (end : End) (frame : List ℕ) (before after : Port) (held kept : List Call) (link mid left : L)
+      → GivesFrame of link (Some frame) mid → CallsNext (frame ∷ []) (of.counts_of link) (of.counts_of mid)
+      → (of.counts_of left).calls ≡ (of.counts_of mid).calls → (of.counts_of left).heard ≡ (of.counts_of mid).heard
+      → StepOver of end (Some frame) before after held kept mid left → MakesTurn of end (Some frame) before after held kept link left
+  taken end frame before after held kept link mid left gives next calls heard takes = record {
+    mid = mid;
+    gives = gives;
+    takes = takes;
+    next = record { calls = calls ∙ next.calls; heard = heard ∙ next.heard };
+  }
+
+  -- ---- turns over a link
+
+  -- a turn is one more
+  pub one_more_over : (turns : ℕ) (before mid after : Port) (held list kept : List Call) (link at left : L)
+      → TurnsOver of turns before mid held list link at → OneTurnOver of Turns mid after list kept at left
+      → TurnsOver of (turns + 1) before after held kept link left
+  one_more_over turns before mid after held list kept link at left begins then =
+      let same : suc turns ≡ turns + 1 = omega arith in
+      subst (λ (n : ℕ). TurnsOver of n before after held kept link left) same (mid, list, at, begins, then)
+
+  -- a worker found no room in the last
+  pub ends_over : (made turns : ℕ) (before mid after : Port) (held list kept : List Call) (link at left : L) → made < turns
+      → TurnsOver of made before mid held list link at → OneTurnOver of Full mid after list kept at left
+      → EndsWithoutRoom of turns before after held kept link left
+  ends_over made turns before mid after held list kept link at left within begins last =
+      record { made = made; within = within; mid = mid; list = list; at = at; found = begins; last = last }
+
+  -- as many as were to be made
+  pub all_over : (made turns : ℕ) (before after : Port) (held kept : List Call) (link left : L) → made ≤ turns → turns ≤ made
+      → TurnsOver of made before after held kept link left → TurnsOver of turns before after held kept link left
+  all_over made turns before after held kept link left within ended over =
+      let all : made ≡ turns = omega (arith, within, ended) in subst (λ (n : ℕ). TurnsOver of n before after held kept link left) all over
 
 -- one call of `next` was counted, however the turn ends
 one_call : (end : End) (before after : Counts) → after.calls ≡ counted_on before.calls 1 → MadeAll end 1 before after
@@ -165,13 +222,13 @@ one_call Turns before after counted = counted
 one_call Full before after counted = (1, lit≤ tt, lit≤ tt, counted)
 
 -- a turn is a worker's whole work, where it's to make one
-pub works : (end : End) (heard : Option (List ℕ)) (before after : Port) (held kept : List Call) (counted counts : Counts)
-    → MakesTurn end heard before after held kept counted counts → WorkerRun end 1 before after held kept counted counts
-works end heard before after held kept counted counts made = record {
+pub works : {L : Type 0} (of : Ghosts L) (end : End) (heard : Option (List ℕ)) (before after : Port) (held kept : List Call) (link left : L)
+    → MakesTurn of end heard before after held kept link left → WorkerRun end 1 before after held kept (of.counts_of link) (of.counts_of left)
+works of end heard before after held kept link left made = record {
   frames = frames_in heard;
-  gained = made.takes.gained;
-  calls = one_call end counted counts made.next.calls;
+  gained = made.takes.step.gained;
+  calls = one_call end (of.counts_of link) (of.counts_of left) made.next.calls;
   heard = made.next.heard;
-  list = made.takes.list;
-  serves = made.takes.serves;
+  list = made.takes.step.list;
+  serves = serves_heard end heard before after made.takes.step.gained made.takes.sent made.takes.step.takes;
 }

@@ -1,7 +1,8 @@
 //! A worker of one port: it hears frames over a link, has the board answer what they ask, and sends the replies.
-ghost use Rattle.std.specs.Prelude.{◌≡◌, true, [], ◌∷◌, OnOk, OnErr};
+ghost use Rattle.std.specs.Prelude.{◌≡◌, true, Some, OnOk, OnErr};
 ghost use Rattle.bmc_core.specs.Port.{bus_of};
-ghost use Rattle.bmc_shared.specs.Serving.{CallsNext, frames_in, WorkerStep, MakesTurn, WorkerRun, end_of};
+ghost use Rattle.bmc_shared.specs.Serving.{CallsNext, frames_in, StepOver, MakesTurn, OneTurnOver, HeardAndSent, WorkerRun, end_of};
+ghost use Rattle.wire_links.specs.Trace.{GivesFrame, TakesEach};
 ghost use Rattle.bmc_shared.specs.declared.worker.End.TheVariants.{Turns, Full};
 
 use crate::caller::Caller;
@@ -26,7 +27,8 @@ pub enum End {
 
 /// The next frame of a link. A call that fails hears none: what it would have heard is lost.
 fn hear_next<L: Link>(link: &mut L) -> Option<Frame>
-    ensures { CallsNext (frames_in result) (L.counts_of link.old) (L.counts_of link.new) }
+    ensures gives { GivesFrame L.Link link.old result link.new }
+    ensures counts { CallsNext (frames_in result) (L.counts_of link.old) (L.counts_of link.new) }
 {
     match link.next() {
         Ok(Heard::Frame(frame)) => Some(frame),
@@ -36,6 +38,7 @@ fn hear_next<L: Link>(link: &mut L) -> Option<Frame>
 
 /// Sends frames in their order. A frame whose sending fails is lost, and the next one is sent.
 fn send_all<L: Link>(link: &mut L, frames: &[Frame])
+    ensures took { TakesEach L.Link link.old frames.now link.new }
     ensures calls { (L.counts_of link.new).calls ≡ (L.counts_of link.old).calls }
     ensures heard { (L.counts_of link.new).heard ≡ (L.counts_of link.old).heard }
 {
@@ -81,8 +84,8 @@ fn take_frame<J: Opening, S: Store + Drop, L: Link, G: Gate, R: Wait>(
     desk: &mut WorkerState<'_, G>,
     frame: &[u8],
 ) -> Result<(), PeriodFull>
-    ensures takes { WorkerStep (end_of result) (frame.now ∷ []) port.old port.new
-        seat.old.calls.items seat.new.calls.items }
+    ensures takes { StepOver L.Link (end_of result) (Some frame.now) port.old port.new
+        seat.old.calls.items seat.new.calls.items link.old link.new }
     ensures marked { OnErr result (seat.new.refused ≡ true) }
     ensures mark { OnOk result (seat.new.refused ≡ seat.old.refused) }
     ensures number { seat.new.number ≡ seat.old.number }
@@ -117,8 +120,8 @@ pub fn turn<J: Opening, S: Store + Drop, L: Link, G: Gate, R: Wait>(
     link: &mut L,
     desk: &mut WorkerState<'_, G>,
 ) -> TurnResult
-    ensures made { MakesTurn result.end result.heard port.old port.new seat.old.calls.items
-        seat.new.calls.items (L.counts_of link.old) (L.counts_of link.new) }
+    ensures made { MakesTurn L.Link result.end result.heard port.old port.new
+        seat.old.calls.items seat.new.calls.items link.old link.new }
     ensures marked { result.end ≡ Full → seat.new.refused ≡ true }
     ensures mark { result.end ≡ Turns → seat.new.refused ≡ seat.old.refused }
     ensures number { seat.new.number ≡ seat.old.number }
@@ -153,6 +156,8 @@ fn work_once<J: Opening, S: Store + Drop, L: Link, G: Gate, R: Wait>(
 ) -> End
     ensures worked { WorkerRun result 1 port.old port.new seat.old.calls.items
         seat.new.calls.items (L.counts_of link.old) (L.counts_of link.new) }
+    ensures over { OneTurnOver L.Link result port.old port.new seat.old.calls.items
+        seat.new.calls.items link.old link.new }
     ensures marked { result ≡ Full → seat.new.refused ≡ true }
     ensures mark { result ≡ Turns → seat.new.refused ≡ seat.old.refused }
     ensures number { seat.new.number ≡ seat.old.number }
@@ -175,6 +180,8 @@ pub fn serve_port<J: Opening, S: Store + Drop, L: Link, G: Gate, R: Wait>(
 ) -> End
     ensures worked { WorkerRun result turns port.old port.new seat.old.calls.items
         seat.new.calls.items (L.counts_of link.old) (L.counts_of link.new) }
+    ensures over { HeardAndSent L.Link result turns port.old port.new seat.old.calls.items
+        seat.new.calls.items link.old link.new }
     ensures marked { result ≡ Full → seat.new.refused ≡ true }
     ensures mark { result ≡ Turns → seat.new.refused ≡ seat.old.refused }
     ensures number { seat.new.number ≡ seat.old.number }

@@ -1,2 +1,3 @@
 pub mod LongScripts
 pub mod Counting
+pub mod Tracing

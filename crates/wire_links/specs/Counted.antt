@@ -7,7 +7,7 @@ use Rattle.wire_links.specs.declared.link.LinkFault.{LinkFault}
 
 -- nothing yet
 abbrev pub none_counted : Counts
-none_counted = record { failures = 0; calls = 0; heard = 0 }
+none_counted = record { failures = 0; calls = 0; heard = 0; sends = 0 }
 
 -- one more, and 0 after the last value of 64 bits
 abbrev pub one_more : ℕ → ℕ
@@ -24,7 +24,7 @@ after_next (Ok (Frame frame)) before = record before { calls = one_more before.c
 after_next (Ok Quiet) before = record before { calls = one_more before.calls }
 after_next (Err fault) before = record before { calls = one_more before.calls; failures = one_more before.failures }
 
--- `send` counts its failure alone
+-- `send` counts its call, and its failure
 abbrev pub after_send : Result (Unit {0}) LinkFault → Counts → Counts
-after_send (Ok done) before = before
-after_send (Err fault) before = record before { failures = one_more before.failures }
+after_send (Ok done) before = record before { sends = one_more before.sends }
+after_send (Err fault) before = record before { sends = one_more before.sends; failures = one_more before.failures }

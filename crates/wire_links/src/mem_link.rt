@@ -1,8 +1,8 @@
 //! A link in memory.
-ghost use Rattle.std.specs.Prelude.{◌≡◌, ◌≤◌, ◌++◌, ◌∷◌, [], Ok, All, IfOk, IfErr, length, take, vec_capacity};
+ghost use Rattle.std.specs.Prelude.{◌≡◌, ◌≤◌, ◌++◌, ◌∷◌, [], All, IfOk, IfErr, length, take, vec_capacity};
 ghost use Rattle.std.specs.Vec.Iter.{into_iter_items};
-ghost use Rattle.wire_links.specs.Counted.{none_counted, after_next, after_send};
-ghost use Rattle.wire_links.specs.Scripts.{most_kept, lists_in, fits, head_of, rest_of};
+ghost use Rattle.wire_links.specs.Counted.{none_counted};
+ghost use Rattle.wire_links.specs.Scripts.{most_kept, lists_in, fits, head_of};
 ghost use Rattle.wire_links.specs.declared.mem_link.MemFault.TheVariants.{TooLong};
 
 use crate::link::{Counts, Heard, Link, LinkFault};
@@ -71,11 +71,7 @@ impl MemLink {
         Ok(MemLink {
             script: script.into_iter(),
             sent,
-            counts: Counts {
-                failures: 0,
-                calls: 0,
-                heard: 0,
-            },
+            counts: Counts::NONE,
         })
     }
 
@@ -84,6 +80,18 @@ impl MemLink {
         ensures { result.now ≡ self.now.sent.items }
     {
         self.sent.as_slice()
+    }
+
+    /// Keeps a frame that is sent, where there is room.
+    fn keep(&mut self, frame: &Frame)
+        ensures sent { self.new.sent.items
+            ≡ take most_kept (self.old.sent.items ++ frame.now ∷ []) }
+        ensures script { into_iter_items self.new.script ≡ into_iter_items self.old.script }
+        ensures counts { self.new.counts ≡ self.old.counts }
+    {
+        if self.sent.len() < MOST_KEPT {
+            self.sent.push_reserved(frame.copy());
+        }
     }
 }
 
@@ -99,16 +107,18 @@ fn hear(bytes: Frame) -> Heard
 }
 
 impl Link for MemLink {
+    ghost use Rattle.wire_links.specs.Scripts.{HearsNext, KeepsFrame};
+
     ghost counts_of = { λ link. link.counts };
 
+    ghost gives = { λ link answer after. HearsNext (into_iter_items link.script) answer (into_iter_items after.script)
+        × (after.sent.items ≡ link.sent.items) };
+
+    ghost takes = { λ link frame answer after. KeepsFrame link.sent.items frame answer after.sent.items
+        × (into_iter_items after.script ≡ into_iter_items link.script) };
+
     /// The script's next frame. It never fails.
-    fn next(&mut self) -> Result<Heard, LinkFault>
-        ensures counts { self.new.counts ≡ after_next result self.old.counts }
-        ensures heard { result ≡ Ok (head_of (into_iter_items self.old.script)) }
-        ensures rest { into_iter_items self.new.script
-            ≡ rest_of (into_iter_items self.old.script) }
-        ensures sent { self.new.sent ≡ self.old.sent }
-    {
+    fn next(&mut self) -> Result<Heard, LinkFault> {
         let heard = match self.script.next() {
             Some(bytes) => hear(bytes),
             None => Heard::Quiet,
@@ -119,17 +129,11 @@ impl Link for MemLink {
     }
 
     /// Keeps the frame, where there is room. It never fails.
-    fn send(&mut self, frame: &Frame) -> Result<(), LinkFault>
-        ensures counts { self.new.counts ≡ after_send result self.old.counts }
-        ensures done { result ≡ Ok tt }
-        ensures sent { self.new.sent.items
-            ≡ take most_kept (self.old.sent.items ++ frame.now ∷ []) }
-        ensures script { into_iter_items self.new.script ≡ into_iter_items self.old.script }
-    {
-        if self.sent.len() < MOST_KEPT {
-            self.sent.push_reserved(frame.copy());
-        }
-        Ok(())
+    fn send(&mut self, frame: &Frame) -> Result<(), LinkFault> {
+        self.keep(frame);
+        let answer = Ok(());
+        self.counts.count_send(&answer);
+        answer
     }
 
     fn counts(&self) -> Counts {

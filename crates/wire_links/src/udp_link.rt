@@ -20,6 +20,8 @@ pub struct UdpLink {
     socket: UdpSocket,
     /// To whom it sends: the one that was heard last.
     peer: Option<SocketAddr>,
+    /// The port that it was opened for: at which it is bound, 0 for a free one, or to which it is to send first.
+    named: u16,
     counts: Counts,
 }
 
@@ -29,6 +31,7 @@ impl Drop for UdpLink {
         let UdpLink {
             socket,
             peer: _,
+            named: _,
             counts: _,
         } = self;
         drop(socket);
@@ -59,61 +62,69 @@ fn is_quiet(error: &io::Error) -> bool {
     )
 }
 
+/// The fault that an error of the system's is.
+fn fault_of(error: &io::Error) -> LinkFault {
+    match error.kind() {
+        ErrorKind::ConnectionRefused => LinkFault::NobodyThere,
+        _ => LinkFault::Failed,
+    }
+}
+
 impl UdpLink {
     /// A link at this port, or at a free one for port 0. It sends to the one that it heard last, and fails to send before it heard somebody.
     /// A call of `next` waits so many milliseconds for a frame, and with 0 it waits for nobody: it answers what is there.
     pub fn bind<R: Net>(rt: &R, port: u16, wait_ms: u32) -> Result<UdpLink, LinkFault>
-        ensures { IfOk result (λ link. link.counts ≡ none_counted) }
+        ensures counts { IfOk result (λ link. link.counts ≡ none_counted) }
+        ensures port { IfOk result (λ link. link.named ≡ port) }
     {
-        UdpLink::open(rt, port, wait_ms, None)
+        let Ok(socket) = open_socket(rt, port, wait_ms) else {
+            return Err(LinkFault::Failed);
+        };
+        Ok(UdpLink::over(socket, port, None))
     }
 
     /// A link at a free port, that sends to this one until it has heard somebody. It waits as one of `bind` does.
     pub fn to<R: Net>(rt: &R, port: u16, wait_ms: u32) -> Result<UdpLink, LinkFault>
-        ensures { IfOk result (λ link. link.counts ≡ none_counted) }
+        ensures counts { IfOk result (λ link. link.counts ≡ none_counted) }
+        ensures port { IfOk result (λ link. link.named ≡ port) }
     {
-        UdpLink::open(rt, 0, wait_ms, Some(loopback(port)))
+        let Ok(socket) = open_socket(rt, 0, wait_ms) else {
+            return Err(LinkFault::Failed);
+        };
+        Ok(UdpLink::over(socket, port, Some(loopback(port))))
     }
 
-    fn open<R: Net>(
-        rt: &R,
-        port: u16,
-        wait_ms: u32,
-        peer: Option<SocketAddr>,
-    ) -> Result<UdpLink, LinkFault>
-        ensures { IfOk result (λ link. link.counts ≡ none_counted) }
+    /// A link over a socket, that was opened for this port and has counted nothing.
+    fn over(socket: UdpSocket, port: u16, peer: Option<SocketAddr>) -> UdpLink
+        ensures counts { result.counts ≡ none_counted }
+        ensures port { result.named ≡ port }
     {
-        let Ok(socket) = open_socket(rt, port, wait_ms) else {
-            return Err(LinkFault);
-        };
-        Ok(UdpLink {
+        UdpLink {
             socket,
             peer,
-            counts: Counts {
-                failures: 0,
-                calls: 0,
-                heard: 0,
-            },
-        })
+            named: port,
+            counts: Counts::NONE,
+        }
     }
 
     /// The port at which it hears.
     pub fn port(&self) -> Result<u16, LinkFault> {
         match self.socket.local_addr() {
             Ok(address) => Ok(address.port()),
-            Err(_) => Err(LinkFault),
+            Err(_) => Err(LinkFault::Failed),
         }
     }
 
     /// The frame of the next datagram. One that is too long for a frame is an empty one, which is no frame of any bus.
     fn hear(&mut self) -> Result<Heard, LinkFault>
-        ensures { self.new.counts ≡ self.old.counts }
+        ensures counts { self.new.counts ≡ self.old.counts }
+        ensures port { self.new.named ≡ self.old.named }
     {
         let mut bytes = [0u8; ROOM];
         let (length, sender) = match self.socket.recv_from(&mut bytes) {
             Ok(received) => received,
             Err(error) if is_quiet(&error) => return Ok(Heard::Quiet),
-            Err(_) => return Err(LinkFault),
+            Err(error) => return Err(fault_of(&error)),
         };
         self.peer = Some(sender);
         if length > MOST_FRAME_BYTES {
@@ -125,17 +136,22 @@ impl UdpLink {
     /// Sends the bytes as one datagram.
     fn tell(&self, bytes: &[u8]) -> Result<(), LinkFault> {
         let Some(peer) = self.peer else {
-            return Err(LinkFault);
+            return Err(LinkFault::NobodyThere);
         };
         match self.socket.send_to(bytes, peer) {
             Ok(sent) if sent == bytes.len() => Ok(()),
-            _ => Err(LinkFault),
+            Ok(_) => Err(LinkFault::Failed),
+            Err(error) => Err(fault_of(&error)),
         }
     }
 }
 
 impl Link for UdpLink {
     ghost counts_of = { λ link. link.counts };
+
+    ghost gives = { λ link answer after. after.named ≡ link.named };
+
+    ghost takes = { λ link frame answer after. after.named ≡ link.named };
 
     fn next(&mut self) -> Result<Heard, LinkFault> {
         let answer = self.hear();

@@ -1,4 +1,4 @@
-//! Files that are looked at: what they look like, what they hold, their faults, and the keys that nothing reads.
+//! Files that are looked at: what they look like, what they hold, their faults, the keys that nothing reads, and sensor data records that fit no sensor.
 use super::expect_told;
 
 /// What is told of files, by what they look like.
@@ -132,6 +132,28 @@ select = "leave"\nassert = []\ndeassert = [] => file: plan, 1 step, retries 3\nf
 select = "enable"\nassert = [1]\ndeassert = [] => file: plan, 1 step, retries 3\nFine
 "#;
 
+/// What is told of sensor data records. The sample board has the sensors 5 and 7.
+const UNFIT_RECORDS: &str = r#"
+# Full and compact records of sensors that are there, and records of other types.
+file check
+with sample
+at sdr = ["010051C00100"]
+sdr = ["0200510103200005", "0300510203200007"] => holds 1 , 2 sensor data records\nFine
+sdr = ["0200510303200006", "0300511203200006", "040051C003200006"] => holds 1 , 3 sensor data records\nFine
+
+# Another number, owner, logical unit or channel, and a record that ends before its key does.
+sdr = ["0200510103200006"] => holds 1 , 1 sensor data record\nfile: sdr record 2: no sensor has the key 200006\nTold
+sdr = ["02015102042000FF00"] => holds 1 \nfile: sdr record 258: no sensor has the key 2000FF\nTold
+sdr = ["0200510103820005"] => holds 1 \nfile: sdr record 2: no sensor has the key 820005\nTold
+sdr = ["0200510103210005"] => holds 1 \nfile: sdr record 2: no sensor has the key 210005\nTold
+sdr = ["0200510103200105"] => holds 1 \nfile: sdr record 2: no sensor has the key 200105\nTold
+sdr = ["0200510203201005"] => holds 1 \nfile: sdr record 2: no sensor has the key 201005\nTold
+sdr = ["02005101022000"] => holds 1 \nfile: sdr record 2: no sensor has the key 2000\nTold
+
+# Each is told, in the file's order, behind the keys.
+sdr = ["0900510103200006", "0200510103200005", "0100510203200008"]\ntidd = 5 => holds 1 \nfile: top: unknown key tidd, nearest is tid\nfile: sdr record 9: no sensor has the key 200006\nfile: sdr record 1: no sensor has the key 200008\nTold
+"#;
+
 #[test]
 fn files_are_read_as_what_they_look_like(rt: HostRuntime) {
     expect_told(&rt, rt.alloc(), LOOKED_AT);
@@ -145,4 +167,9 @@ fn faults_say_where(rt: HostRuntime) {
 #[test]
 fn keys_that_nothing_reads_are_told(rt: HostRuntime) {
     expect_told(&rt, rt.alloc(), UNREAD_KEYS);
+}
+
+#[test]
+fn records_that_fit_no_sensor_are_told(rt: HostRuntime) {
+    expect_told(&rt, rt.alloc(), UNFIT_RECORDS);
 }

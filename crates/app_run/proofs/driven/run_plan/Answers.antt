@@ -8,7 +8,7 @@ use Rattle.app_run.proofs.driven.run_plan.Goals as goal
 pub returns-in-Ok : goal.returns-in-Ok
 returns-in-Ok g c before shows =
     goes_on (DrivesAgain 0 c.args.turns) before c.start.new.self c.drive.new.manager c.in-Ok.first c.drive.result _ _ (called (board_plans lab_names) Start before)
-    (c.in-Ok.ensures lab_names before shows) (λ s shown. c.drive.ensures lab_names s shown)
+    (c.in-Ok.ensures lab_names before shows) (λ s shown. c.drive.ensures.drives lab_names s shown)
 
 pub returns-in-Err : goal.returns-in-Err
 returns-in-Err g c before shows =

@@ -12,10 +12,10 @@ returns-in-Ok-Frame g c =
     let is : c.next.result ≡ Ok (Frame c.as_slice.result.now) =
     c.in-Ok-Frame.is ∙ ap (λ (h : Heard). Ok h) c.in-Ok-Frame.field-0-is ∙ ap (λ (l : List ℕ). Ok (Frame l)) (sym c.as_slice.ensures.value) in (
       c.next.result,
-      c.next.ensures,
+      record { gave = c.next.ensures.gave; counted = c.next.ensures.counted },
       λ names s shows.
           subst (λ (x : Result Heard LinkFault). InputResult names (call_for (Answers c.args.bus x)) s c.on_frame.new.self c.on_frame.result) (sym is) (c.on_frame.ensures.heard names s shows),
     )
 
 pub returns-in-Ok-Quiet : goal.returns-in-Ok-Quiet
-returns-in-Ok-Quiet g c = (c.next.result, c.next.ensures, search rules)
+returns-in-Ok-Quiet g c = (c.next.result, record { gave = c.next.ensures.gave; counted = c.next.ensures.counted }, search rules)

@@ -12,12 +12,12 @@ loop-preserved g c =
     let back = c.in-Ok-run_once.ensures in
     let left = c.from-in-loop.result in
     let on = not_done c.args.least now.first_end now.second_end now.scanner_end now.lanes (λ done. clash c.is_done.result c.if-is_done.false (c.is_done.ensures.1 done)) in
-    let takes = takes_turns g.A.Link.counts_of g.B.Link.counts_of next.first_end next.second_end now.seats.first.calls.items next.seats.first.calls.items
+    let takes = takes_turns g.A.Link g.B.Link next.first_end next.second_end now.seats.first.calls.items next.seats.first.calls.items
     now.seats.second.calls.items next.seats.second.calls.items now.lanes next.lanes back.first.goes back.second.goes on.3 in (
       record {
-        first = back_again g.A.Link.counts_of c.args.seats.first c.args.lanes.first now.seats.first now.lanes.first now.first_end next.seats.first next.lanes.first next.first_end
+        first = back_again g.A.Link c.args.seats.first c.args.lanes.first now.seats.first now.lanes.first now.first_end next.seats.first next.lanes.first next.first_end
             on.0 so_far.first back.first;
-        second = back_again g.B.Link.counts_of c.args.seats.second c.args.lanes.second now.seats.second now.lanes.second now.second_end next.seats.second next.lanes.second
+        second = back_again g.B.Link c.args.seats.second c.args.lanes.second now.seats.second now.lanes.second now.second_end next.seats.second next.lanes.second
             next.second_end on.1 so_far.second back.second;
         scanner = played_again c.args.table.list.now c.args.table.next now.next next.next c.args.seats.scanner now.seats.scanner next.seats.scanner now.scanner_end next.scanner_end on.2
             so_far.scanner

@@ -6,5 +6,5 @@ use Rattle.bmc_ports.proofs.runner.run_slices.Given as goal
 -- all three are back, and each round but the first made a turn
 abbrev pub invariant-loop : goal.invariant-loop
 invariant-loop g l =
-    AreBack g.A.Link.counts_of g.B.Link.counts_of l.fn.seats l.fn.lanes l.fn.table l.sliced
+    AreBack g.A.Link g.B.Link l.fn.seats l.fn.lanes l.fn.table l.sliced
     × (turns_left l.sliced.lanes + l.counter ≤ turns_left l.fn.lanes)

@@ -5,16 +5,16 @@ use Rattle.bmc_ports.proofs.Slicing.{makes_still, makes_more, ends_so, ends_with
 use Rattle.bmc_ports.proofs.slices.serve_slices.Goals as goal
 
 pub loop-init : goal.loop-init
-loop-init g c = (([], refl, makes_still g.L.Link.counts_of c.args.seat.now.calls.items c.args.lane.now), refl, refl)
+loop-init g c = (([], refl, makes_still g.L.Link c.args.seat.now.calls.items c.args.lane.now), refl, refl)
 
 pub returns-in-Full-clause-goes : goal.returns-in-Full-clause-goes
 returns-in-Full-clause-goes g c =
-    ends_so g.L.Link.counts_of Full c.loop.invariant.0.0 c.in-Full.ensures.turn.0 c.args.seat.now.calls.items c.loop.seat.calls.items c.make_turn.new.seat.calls.items
+    ends_so g.L.Link Full c.loop.invariant.0.0 c.in-Full.ensures.turn.0 c.args.seat.now.calls.items c.loop.seat.calls.items c.make_turn.new.seat.calls.items
     c.args.lane.now c.loop.lane c.make_turn.new.lane c.loop.invariant.0.2 c.in-Full.ensures.turn.1
 
 pub returns-then-tell-clause-goes : goal.returns-then-tell-clause-goes
 returns-then-tell-clause-goes g c =
-    ends_so g.L.Link.counts_of Turns c.loop.invariant.0.0 c.in-Turns.ensures.turn.0 c.args.seat.now.calls.items c.loop.seat.calls.items c.make_turn.new.seat.calls.items
+    ends_so g.L.Link Turns c.loop.invariant.0.0 c.in-Turns.ensures.turn.0 c.args.seat.now.calls.items c.loop.seat.calls.items c.make_turn.new.seat.calls.items
     c.args.lane.now c.loop.lane c.make_turn.new.lane c.loop.invariant.0.2 c.in-Turns.ensures.turn.1
 
 pub loop-preserved : goal.loop-preserved
@@ -25,7 +25,7 @@ loop-preserved g c =
       (
         first ++ heard ∷ [],
         omega (arith, length-append first (heard ∷ []), count),
-        makes_more g.L.Link.counts_of Turns first heard c.args.seat.now.calls.items c.loop.seat.calls.items c.make_turn.new.seat.calls.items
+        makes_more g.L.Link Turns first heard c.args.seat.now.calls.items c.loop.seat.calls.items c.make_turn.new.seat.calls.items
             c.args.lane.now c.loop.lane c.make_turn.new.lane c.loop.invariant.0.2 c.in-Turns.ensures.turn.1,
       ),
       c.in-Turns.ensures.mark refl ∙ c.loop.invariant.1,
@@ -35,5 +35,5 @@ loop-preserved g c =
 pub returns-clause-goes : goal.returns-clause-goes
 returns-clause-goes g c =
     let count = c.loop.invariant.0.1 in
-    ends_with_all g.L.Link.counts_of c.loop.invariant.0.0 c.args.seat.now.calls.items c.loop.seat.calls.items c.args.lane.now c.loop.lane (omega (arith, count))
+    ends_with_all g.L.Link c.loop.invariant.0.0 c.args.seat.now.calls.items c.loop.seat.calls.items c.args.lane.now c.loop.lane (omega (arith, count))
     c.loop.invariant.0.2

@@ -8,5 +8,5 @@ use Rattle.bmc_ports.proofs.slices.serve_slices.Given as goal
 abbrev pub invariant-loop : goal.invariant-loop
 invariant-loop g l =
     ((heard : List Hearing) × (length heard ≡ l.counter)
-    × TurnsMade g.L.Link.counts_of Turns heard l.initial.seat.calls.items l.seat.calls.items l.initial.lane l.lane)
+    × TurnsMade g.L.Link Turns heard l.initial.seat.calls.items l.seat.calls.items l.initial.lane l.lane)
     × (l.seat.refused ≡ l.initial.seat.refused) × (l.seat.number ≡ l.initial.seat.number)

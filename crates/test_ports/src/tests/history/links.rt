@@ -19,12 +19,13 @@ fn hears(link: &mut MemLink, wanted: Option<&[u8]>) -> bool {
     }
 }
 
-/// So many calls of the link were made, so many frames were heard, and no call failed.
-fn expect_counts(rt: &impl Abort, link: &MemLink, calls: u64, heard: u64) {
+/// So many calls of the link's `next` were made, so many frames were heard, so many were sent, and no call failed.
+fn expect_counts(rt: &impl Abort, link: &MemLink, calls: u64, heard: u64, sends: u64) {
     let wanted = Counts {
         failures: 0,
         calls,
         heard,
+        sends,
     };
     expect_equal(rt, "counts", link.counts(), wanted);
 }
@@ -36,7 +37,7 @@ fn a_link_hears_its_script_and_then_nothing(rt: HostRuntime) {
     assert!(rt; hears(&mut link, None));
     assert!(rt; hears(&mut link, Some(&[7u8; 80])));
     assert!(rt; hears(&mut link, None));
-    expect_counts(&rt, &link, 4, 2);
+    expect_counts(&rt, &link, 4, 2, 0);
 }
 
 #[test]
@@ -49,7 +50,7 @@ fn the_first_frames_that_a_link_sends_are_kept(rt: HostRuntime) {
     assert!(rt; link.send(&Frame::from_slice(&[1, 2])).is_ok());
     assert_eq!(rt; link.sent().len(), MOST_KEPT);
     assert!(rt; link.sent()[255].is(&[255]));
-    expect_counts(&rt, &link, 0, 0);
+    expect_counts(&rt, &link, 0, 0, 257);
 }
 
 #[test]

@@ -45,6 +45,11 @@ struct Patient<'a> {
 impl<'a> Link for Patient<'a> {
     ghost counts_of = { λ link. link.counts };
 
+    // It states nothing of what its calls may give and take.
+    ghost gives = { λ link answer after. Unit {0} };
+
+    ghost takes = { λ link frame answer after. Unit {0} };
+
     fn next(&mut self) -> Result<Heard, LinkFault> {
         let _ = wait_for(self.slept, self.until);
         let answer = Ok(Heard::Quiet);
@@ -77,15 +82,10 @@ fn lane<'a>(
         eid: EndpointId::new(0x0A).unwrap(),
     };
     let port = Port::new(alloc, bus, at).expect(rt, "memory");
-    let counts = Counts {
-        failures: 0,
-        calls: 0,
-        heard: 0,
-    };
     let link = Patient {
         slept,
         until,
-        counts,
+        counts: Counts::NONE,
     };
     Lane::new(port, link, turns, None)
 }

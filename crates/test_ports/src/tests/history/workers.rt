@@ -352,8 +352,8 @@ fn expect_alone<R: Wait + Abort>(rt: &R, alloc: Global, case: Case) {
     expect_equal(
         rt,
         case.name,
-        (counts.calls, counts.heard),
-        (case.calls, case.heard),
+        (counts.calls, counts.heard, counts.sends),
+        (case.calls, case.heard, case.sent.len() as u64),
     );
 }
 
