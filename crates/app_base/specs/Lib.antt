@@ -5,3 +5,4 @@ pub mod Files
 pub mod Report
 pub mod Line
 pub mod Asked
+pub mod Version

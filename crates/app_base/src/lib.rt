@@ -1,5 +1,5 @@
 //! What the programs' command lines have in common: how one is built of the kit's `clap`, what was matched, why words are refused, the words of
-//! the process, and the files of the host.
+//! the process, the files of the host, and the word `version`.
 #![tactic(auto)]
 
 pub mod build;
@@ -13,6 +13,7 @@ pub mod process;
 pub mod refusal;
 pub mod report;
 pub mod status;
+pub mod version;
 
 pub use build::{Argument, new_command, new_program, with_command};
 pub use console::{Console, Stream};
@@ -25,3 +26,4 @@ pub use process::words_of_process;
 pub use refusal::{Refusal, refusal_by, refusal_of, refuse};
 pub use report::Report;
 pub use status::Status;
+pub use version::{VERSION_LINE, tell_version, version_command};

@@ -17,7 +17,7 @@ use Rattle.app_base.specs.declared.refusal.Refusal.TheVariants.{Memory as Lackin
 use Rattle.app_base.specs.Asked.{RefusesWords}
 use Rattle.app_base.proofs.Readings.{alike, apart, refuses_none, refuses_unless, some_same}
 use Rattle.app_bmclab.specs.declared.words.Words.{Words}
-use Rattle.app_bmclab.specs.declared.words.Words.TheVariants.{Frame, Play, Schedule, Check}
+use Rattle.app_bmclab.specs.declared.words.Words.TheVariants.{Frame, Play, Schedule, Check, Version}
 use Rattle.app_bmclab.specs.declared.words.CheckWords.{CheckWords}
 use Rattle.app_bmclab.specs.declared.words.FrameWords.{FrameWords}
 use Rattle.app_bmclab.specs.declared.words.PlayWords.{PlayWords}
@@ -59,6 +59,7 @@ frame_behind met rows is (Frame words) asks = (words, subst (λ (r : List Row). 
 frame_behind met rows is (Play words) asks = absurd (apart met (codes "frame") (codes "play") rows asks.0 refl is asks.1)
 frame_behind met rows is (Schedule words) asks = absurd (apart met (codes "frame") (codes "schedule") rows asks.0 refl is asks.1)
 frame_behind met rows is (Check words) asks = absurd (apart met (codes "frame") (codes "check") rows asks.0 refl is asks.1)
+frame_behind met rows is Version asks = absurd (apart met (codes "frame") (codes "version") rows asks.0 refl is asks.1)
 
 -- what asks for anything behind `schedule` asks for a schedule
 pub schedule_behind : (met : Option (Text × List Row)) (rows : List Row) → met ≡ Some (codes "schedule", rows) → (asked : Words) → AsksBy met asked
@@ -67,6 +68,7 @@ schedule_behind met rows is (Schedule words) asks = (words, subst (λ (r : List 
 schedule_behind met rows is (Frame words) asks = absurd (apart met (codes "schedule") (codes "frame") rows asks.0 refl is asks.1)
 schedule_behind met rows is (Play words) asks = absurd (apart met (codes "schedule") (codes "play") rows asks.0 refl is asks.1)
 schedule_behind met rows is (Check words) asks = absurd (apart met (codes "schedule") (codes "check") rows asks.0 refl is asks.1)
+schedule_behind met rows is Version asks = absurd (apart met (codes "schedule") (codes "version") rows asks.0 refl is asks.1)
 
 -- what asks for anything behind `play` asks for a play
 pub play_behind : (met : Option (Text × List Row)) (rows : List Row) → met ≡ Some (codes "play", rows) → (asked : Words) → AsksBy met asked
@@ -75,6 +77,7 @@ play_behind met rows is (Play words) asks = (words, subst (λ (r : List Row). As
 play_behind met rows is (Frame words) asks = absurd (apart met (codes "play") (codes "frame") rows asks.0 refl is asks.1)
 play_behind met rows is (Schedule words) asks = absurd (apart met (codes "play") (codes "schedule") rows asks.0 refl is asks.1)
 play_behind met rows is (Check words) asks = absurd (apart met (codes "play") (codes "check") rows asks.0 refl is asks.1)
+play_behind met rows is Version asks = absurd (apart met (codes "play") (codes "version") rows asks.0 refl is asks.1)
 
 -- what asks for anything behind `check` asks for a check
 pub check_behind : (met : Option (Text × List Row)) (rows : List Row) → met ≡ Some (codes "check", rows) → (asked : Words) → AsksBy met asked
@@ -83,6 +86,7 @@ check_behind met rows is (Check words) asks = (words, subst (λ (r : List Row). 
 check_behind met rows is (Frame words) asks = absurd (apart met (codes "check") (codes "frame") rows asks.0 refl is asks.1)
 check_behind met rows is (Play words) asks = absurd (apart met (codes "check") (codes "play") rows asks.0 refl is asks.1)
 check_behind met rows is (Schedule words) asks = absurd (apart met (codes "check") (codes "schedule") rows asks.0 refl is asks.1)
+check_behind met rows is Version asks = absurd (apart met (codes "check") (codes "version") rows asks.0 refl is asks.1)
 
 -- a subcommand that wasn't met under this name has it nowhere
 pub unnamed : (m : ArgMatches) (name : Text) → (subcommand_name_of m ≡ Some name → false ≡ true) → (rows : List Row) → subcommand_rows_of m ≡ Some (name, rows) → ⊥
@@ -95,8 +99,9 @@ unnamed m name none rows is = false≢true (none (go (out-ArgMatches m).subcomma
 -- where none of the subcommands was met, nothing is asked for
 pub none_behind : (m : ArgMatches) → (subcommand_name_of m ≡ Some (codes "frame") → false ≡ true) → (subcommand_name_of m ≡ Some (codes "play") → false ≡ true)
     → (subcommand_name_of m ≡ Some (codes "schedule") → false ≡ true) → (subcommand_name_of m ≡ Some (codes "check") → false ≡ true)
-    → (asked : Words) → AsksBy (subcommand_rows_of m) asked → ⊥
-none_behind m frame play schedule check (Frame words) asks = unnamed m (codes "frame") frame asks.0 asks.1
-none_behind m frame play schedule check (Play words) asks = unnamed m (codes "play") play asks.0 asks.1
-none_behind m frame play schedule check (Schedule words) asks = unnamed m (codes "schedule") schedule asks.0 asks.1
-none_behind m frame play schedule check (Check words) asks = unnamed m (codes "check") check asks.0 asks.1
+    → (subcommand_name_of m ≡ Some (codes "version") → false ≡ true) → (asked : Words) → AsksBy (subcommand_rows_of m) asked → ⊥
+none_behind m frame play schedule check version (Frame words) asks = unnamed m (codes "frame") frame asks.0 asks.1
+none_behind m frame play schedule check version (Play words) asks = unnamed m (codes "play") play asks.0 asks.1
+none_behind m frame play schedule check version (Schedule words) asks = unnamed m (codes "schedule") schedule asks.0 asks.1
+none_behind m frame play schedule check version (Check words) asks = unnamed m (codes "check") check asks.0 asks.1
+none_behind m frame play schedule check version Version asks = unnamed m (codes "version") version asks.0 asks.1

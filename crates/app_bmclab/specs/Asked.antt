@@ -6,7 +6,7 @@ use Rattle.app_play.specs.declared.run.Shown.{Shown}
 use Rattle.app_play.specs.declared.run.Shown.TheVariants.{Lines, Chart}
 use Rattle.app_base.specs.Asked.{AsksOf, is_given}
 use Rattle.app_bmclab.specs.declared.words.Words.{Words}
-use Rattle.app_bmclab.specs.declared.words.Words.TheVariants.{Frame, Play, Schedule, Check}
+use Rattle.app_bmclab.specs.declared.words.Words.TheVariants.{Frame, Play, Schedule, Check, Version}
 use Rattle.app_bmclab.specs.declared.words.FrameWords.{FrameWords}
 use Rattle.app_bmclab.specs.declared.words.PlayWords.{PlayWords}
 use Rattle.app_bmclab.specs.declared.words.CheckWords.{CheckWords}
@@ -45,6 +45,7 @@ AsksBy met (Frame asked) = (rows : List Row) × (met ≡ Some (codes "frame", ro
 AsksBy met (Play asked) = (rows : List Row) × (met ≡ Some (codes "play", rows)) × AsksPlay rows asked
 AsksBy met (Schedule asked) = (rows : List Row) × (met ≡ Some (codes "schedule", rows)) × AsksSchedule rows asked
 AsksBy met (Check asked) = (rows : List Row) × (met ≡ Some (codes "check", rows)) × AsksCheck rows asked
+AsksBy met Version = (rows : List Row) × (met ≡ Some (codes "version", rows))
 
 -- the words, the program's own name first among them, are of its command line, and ask for this
 abbrev pub AsksFor : (words : List Text) → (asked : Words) → Type 0

@@ -2,6 +2,7 @@
 use Rattle.std.specs.Prelude.{[], ◌∷◌, codes, fold}
 use Rattle.clap.specs.Words.{App, new_app, with_rule, with_subcommand}
 use Rattle.app_base.specs.Line.{flag_rule, needed_rule, needing_subcommand, option_rule, several_rule}
+use Rattle.app_base.specs.Version.{version_app}
 
 -- `frame [--bus ipmb|smbus] [--board FILE] HEX`
 abbrev pub frame_app : App
@@ -28,4 +29,4 @@ runs = with_subcommand (with_subcommand (needing_subcommand (new_app (codes "bmc
 
 -- `bmclab`, and what it can do
 abbrev pub program : App
-program = with_subcommand (with_subcommand runs schedule_app.top) check_app.top
+program = with_subcommand (with_subcommand (with_subcommand runs schedule_app.top) check_app.top) version_app.top

@@ -7,7 +7,7 @@ use crate::check::{TellsCause, check_files};
 use crate::schedule_files::{ScheduleFiles, schedule_of_files};
 use crate::schedule_words::ScheduleWords;
 use crate::words::{CheckWords, FrameWords, PlayWords, Words, read};
-use app_base::{Console, TextFiles, refuse};
+use app_base::{Console, TextFiles, refuse, tell_version};
 use app_play::{PlayFiles, play_of_files};
 use bmc_lab::frame_of_file;
 use std::alloc::Global;
@@ -101,12 +101,13 @@ fn carry_out<F: TextFiles + TellsCause, W: io::Write, E: io::Write>(
         Words::Play(words) => play(alloc, files, words, console),
         Words::Schedule(words) => write(alloc, files, words, console),
         Words::Check(words) => check(alloc, files, words, console),
+        Words::Version => tell_version(console),
     }
 }
 
 /// Does what the words of a command line ask for, the program's own name first among them, with these files: what `frame_of_file`,
-/// `play_of_files`, `schedule_of_files` or `check_files` does. Where they ask for nothing it reads no file, standard error gets why or the help that is asked for, and the status
-/// is 2.
+/// `play_of_files`, `schedule_of_files`, `check_files` or `tell_version` does. Where they ask for nothing it reads no file, standard error gets why or the
+/// help that is asked for, and the status is 2.
 pub fn run_line<F: TextFiles + TellsCause, W: io::Write, E: io::Write>(
     alloc: Global,
     files: &F,

@@ -9,7 +9,7 @@ ghost use Rattle.app_bmclab.specs.Asked.{AsksBy, AsksCheck, AsksFor, AsksFrame, 
 use crate::schedule_words::{ScheduleWords, schedule_command, schedule_words};
 use app_base::{
     Argument, Refusal, Status, all_named, given, has_flag, lacking, named, new_command,
-    new_program, refusal_by, refusal_of, with_command,
+    new_program, refusal_by, refusal_of, version_command, with_command,
 };
 use app_play::Shown;
 use bmc_lab::{AskedFrame, asked_frame};
@@ -25,6 +25,7 @@ pub enum Words {
     Play(PlayWords),
     Schedule(ScheduleWords),
     Check(CheckWords),
+    Version,
 }
 
 /// What the words of `bmclab frame` ask for.
@@ -146,6 +147,9 @@ fn check_command<'a>(alloc: Global) -> Result<Command<'a>, AllocError>
     )
 }
 
+const VERSION_EXAMPLES: &str = "Examples:
+  bmclab version";
+
 const ABOUT: &str =
     "Sends frames to a modelled board controller, plays plans on it and takes them back, writes schedules, and checks files";
 
@@ -163,7 +167,8 @@ fn command<'a>(alloc: Global) -> Result<Command<'a>, AllocError>
     let program = with_command(program, frame_command(alloc))?;
     let program = with_command(program, play_command(alloc))?;
     let program = with_command(program, schedule_command(alloc))?;
-    with_command(program, check_command(alloc))
+    let program = with_command(program, check_command(alloc))?;
+    with_command(program, version_command(alloc, VERSION_EXAMPLES))
 }
 
 /// What is wrong with the words BUS and HEX that name no frame.
@@ -277,10 +282,13 @@ fn matched_words(alloc: Global, matches: &ArgMatches) -> Result<Words, Refusal>
     if let Some(schedule) = matches.subcommand_matches("schedule") {
         return Ok(Words::Schedule(schedule_words(alloc, schedule)?));
     }
-    let Some(check) = matches.subcommand_matches("check") else {
+    if let Some(check) = matches.subcommand_matches("check") {
+        return Ok(Words::Check(check_words(alloc, check)?));
+    }
+    let Some(_version) = matches.subcommand_matches("version") else {
         return Err(lacking(alloc));
     };
-    Ok(Words::Check(check_words(alloc, check)?))
+    Ok(Words::Version)
 }
 
 /// What the words ask for, the program's own name first among them.

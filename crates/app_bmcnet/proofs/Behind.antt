@@ -13,7 +13,7 @@ use Rattle.app_run.specs.declared.running.RunWords.{RunWords}
 use Rattle.app_run.specs.declared.undoing.UndoWords.{UndoWords}
 use Rattle.app_bmcnet.specs.declared.pairing.PairWords.{PairWords}
 use Rattle.app_bmcnet.specs.declared.words.Words.{Words}
-use Rattle.app_bmcnet.specs.declared.words.Words.TheVariants.{Serve, Run, Undo, Pair}
+use Rattle.app_bmcnet.specs.declared.words.Words.TheVariants.{Serve, Run, Undo, Pair, Version}
 use Rattle.app_bmcnet.specs.Asked.{AsksBy, AsksServe, AsksRun, AsksUndo, AsksPair}
 
 -- what asks for anything behind `serve` asks for a serving
@@ -23,6 +23,7 @@ serve_behind met rows is (Serve words) asks = (words, subst (λ (r : List Row). 
 serve_behind met rows is (Run words) asks = absurd (apart met (codes "serve") (codes "run") rows asks.0 refl is asks.1)
 serve_behind met rows is (Undo words) asks = absurd (apart met (codes "serve") (codes "undo") rows asks.0 refl is asks.1)
 serve_behind met rows is (Pair words) asks = absurd (apart met (codes "serve") (codes "pair") rows asks.0 refl is asks.1)
+serve_behind met rows is Version asks = absurd (apart met (codes "serve") (codes "version") rows asks.0 refl is asks.1)
 
 -- what asks for anything behind `run` asks for a run
 pub run_behind : (met : Option (Text × List Row)) (rows : List Row) → met ≡ Some (codes "run", rows) → (asked : Words) → AsksBy met asked
@@ -31,6 +32,7 @@ run_behind met rows is (Run words) asks = (words, subst (λ (r : List Row). Asks
 run_behind met rows is (Serve words) asks = absurd (apart met (codes "run") (codes "serve") rows asks.0 refl is asks.1)
 run_behind met rows is (Undo words) asks = absurd (apart met (codes "run") (codes "undo") rows asks.0 refl is asks.1)
 run_behind met rows is (Pair words) asks = absurd (apart met (codes "run") (codes "pair") rows asks.0 refl is asks.1)
+run_behind met rows is Version asks = absurd (apart met (codes "run") (codes "version") rows asks.0 refl is asks.1)
 
 -- what asks for anything behind `undo` asks for an undo
 pub undo_behind : (met : Option (Text × List Row)) (rows : List Row) → met ≡ Some (codes "undo", rows) → (asked : Words) → AsksBy met asked
@@ -39,6 +41,7 @@ undo_behind met rows is (Undo words) asks = (words, subst (λ (r : List Row). As
 undo_behind met rows is (Serve words) asks = absurd (apart met (codes "undo") (codes "serve") rows asks.0 refl is asks.1)
 undo_behind met rows is (Run words) asks = absurd (apart met (codes "undo") (codes "run") rows asks.0 refl is asks.1)
 undo_behind met rows is (Pair words) asks = absurd (apart met (codes "undo") (codes "pair") rows asks.0 refl is asks.1)
+undo_behind met rows is Version asks = absurd (apart met (codes "undo") (codes "version") rows asks.0 refl is asks.1)
 
 -- what asks for anything behind `pair` asks for a pair
 pub pair_behind : (met : Option (Text × List Row)) (rows : List Row) → met ≡ Some (codes "pair", rows) → (asked : Words) → AsksBy met asked
@@ -47,6 +50,7 @@ pair_behind met rows is (Pair words) asks = (words, subst (λ (r : List Row). As
 pair_behind met rows is (Serve words) asks = absurd (apart met (codes "pair") (codes "serve") rows asks.0 refl is asks.1)
 pair_behind met rows is (Run words) asks = absurd (apart met (codes "pair") (codes "run") rows asks.0 refl is asks.1)
 pair_behind met rows is (Undo words) asks = absurd (apart met (codes "pair") (codes "undo") rows asks.0 refl is asks.1)
+pair_behind met rows is Version asks = absurd (apart met (codes "pair") (codes "version") rows asks.0 refl is asks.1)
 
 -- a subcommand that wasn't met under this name has it nowhere
 pub unnamed : (m : ArgMatches) (name : Text) → (subcommand_name_of m ≡ Some name → false ≡ true) → (rows : List Row) → subcommand_rows_of m ≡ Some (name, rows) → ⊥
@@ -59,8 +63,9 @@ unnamed m name none rows is = false≢true (none (go (out-ArgMatches m).subcomma
 -- where none of the subcommands was met, nothing is asked for
 pub none_behind : (m : ArgMatches) → (subcommand_name_of m ≡ Some (codes "serve") → false ≡ true) → (subcommand_name_of m ≡ Some (codes "run") → false ≡ true)
     → (subcommand_name_of m ≡ Some (codes "undo") → false ≡ true) → (subcommand_name_of m ≡ Some (codes "pair") → false ≡ true)
-    → (asked : Words) → AsksBy (subcommand_rows_of m) asked → ⊥
-none_behind m serve run undo pair (Serve words) asks = unnamed m (codes "serve") serve asks.0 asks.1
-none_behind m serve run undo pair (Run words) asks = unnamed m (codes "run") run asks.0 asks.1
-none_behind m serve run undo pair (Undo words) asks = unnamed m (codes "undo") undo asks.0 asks.1
-none_behind m serve run undo pair (Pair words) asks = unnamed m (codes "pair") pair asks.0 asks.1
+    → (subcommand_name_of m ≡ Some (codes "version") → false ≡ true) → (asked : Words) → AsksBy (subcommand_rows_of m) asked → ⊥
+none_behind m serve run undo pair version (Serve words) asks = unnamed m (codes "serve") serve asks.0 asks.1
+none_behind m serve run undo pair version (Run words) asks = unnamed m (codes "run") run asks.0 asks.1
+none_behind m serve run undo pair version (Undo words) asks = unnamed m (codes "undo") undo asks.0 asks.1
+none_behind m serve run undo pair version (Pair words) asks = unnamed m (codes "pair") pair asks.0 asks.1
+none_behind m serve run undo pair version Version asks = unnamed m (codes "version") version asks.0 asks.1

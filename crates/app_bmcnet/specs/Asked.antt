@@ -8,7 +8,7 @@ use Rattle.app_run.specs.declared.running.RunWords.{RunWords}
 use Rattle.app_run.specs.declared.undoing.UndoWords.{UndoWords}
 use Rattle.app_bmcnet.specs.declared.pairing.PairWords.{PairWords}
 use Rattle.app_bmcnet.specs.declared.words.Words.{Words}
-use Rattle.app_bmcnet.specs.declared.words.Words.TheVariants.{Serve, Run, Undo, Pair}
+use Rattle.app_bmcnet.specs.declared.words.Words.TheVariants.{Serve, Run, Undo, Pair, Version}
 use Rattle.app_bmcnet.specs.Line.{program}
 
 -- the word of this name is this number of so many bits, in decimal digits
@@ -79,6 +79,7 @@ AsksBy met (Serve asked) = (rows : List Row) × (met ≡ Some (codes "serve", ro
 AsksBy met (Run asked) = (rows : List Row) × (met ≡ Some (codes "run", rows)) × AsksRun rows asked
 AsksBy met (Undo asked) = (rows : List Row) × (met ≡ Some (codes "undo", rows)) × AsksUndo rows asked
 AsksBy met (Pair asked) = (rows : List Row) × (met ≡ Some (codes "pair", rows)) × AsksPair rows asked
+AsksBy met Version = (rows : List Row) × (met ≡ Some (codes "version", rows))
 
 -- the words, the program's own name first among them, are of its command line, and ask for this
 abbrev pub AsksFor : (words : List Text) → (asked : Words) → Type 0

@@ -2,6 +2,7 @@
 use Rattle.std.specs.Prelude.{[], ◌∷◌, ◌++◌, List, codes, fold, map}
 use Rattle.clap.specs.Words.{App, Rule, Text, new_app, with_rule, with_subcommand}
 use Rattle.app_base.specs.Line.{flag_rule, needed_rule, needing_subcommand, option_rule}
+use Rattle.app_base.specs.Version.{version_app}
 use Rattle.app_bmcnet.specs.declared.tasks.Task.{Task}
 use Rattle.app_bmcnet.specs.declared.tasks.Task.TheVariants.{Serve, Run, Undo, Pair}
 
@@ -36,4 +37,4 @@ serves = with_subcommand (with_subcommand (needing_subcommand (new_app (codes "b
 
 -- `bmcnet`, and what it can do
 abbrev pub program : App
-program = with_subcommand (with_subcommand serves (app_named Undo).top) (app_named Pair).top
+program = with_subcommand (with_subcommand (with_subcommand serves (app_named Undo).top) (app_named Pair).top) version_app.top

@@ -6,6 +6,7 @@ use Rattle.app_base.specs.declared.console.Stream.TheVariants.{Error}
 use Rattle.app_base.specs.declared.status.Status.TheVariants.{RefusedWords}
 use Rattle.app_base.specs.Ending.{RunEnds, Saying}
 use Rattle.app_base.specs.Files.{Readings}
+use Rattle.app_base.specs.Version.{SaysVersion}
 use Rattle.app_serve.specs.Run.{ServeEnds}
 use Rattle.app_run.specs.Beside.{Renamings, Writings}
 use Rattle.app_run.specs.Run.{RunEndsOf}
@@ -14,10 +15,10 @@ use Rattle.app_run.specs.declared.progress.Progress.{Progress}
 use Rattle.app_run.specs.Told.{TellsFile, TellsUndoFile}
 use Rattle.app_bmcnet.specs.PairRun.{PrintsPairOfFiles, words_of}
 use Rattle.app_bmcnet.specs.declared.words.Words.{Words}
-use Rattle.app_bmcnet.specs.declared.words.Words.TheVariants.{Serve, Run, Undo, Pair}
+use Rattle.app_bmcnet.specs.declared.words.Words.TheVariants.{Serve, Run, Undo, Pair, Version}
 use Rattle.app_bmcnet.specs.Asked.{AsksFor}
 
--- So a run ends that does what words ask for: as `serve`, `run`, `undo` or `pair` does with the files that they name. Only `run` writes files.
+-- So a run ends that does what words ask for: as `serve`, `run`, `undo` or `pair` does with the files that they name, or by the version. Only `run` writes files.
 abbrev pub EndsAsAsked : {Files Stdout Stderr : Type 0} → (out : Stdout → Option (List ℕ)) → (err : Stderr → Option (List ℕ)) → Readings → Writings Files → Renamings Files → Words → (before after : Files)
     → (old new : Console Stdout Stderr) → ℕ → Type 0
 EndsAsAsked out err gives takes renames (Serve asked) before after old new result =
@@ -28,6 +29,8 @@ EndsAsAsked out err gives takes renames (Undo asked) before after old new result
     (after ≡ before) × RunEnds out err (SaysOfList gives (string_bytes asked.undo) asked.turns) old new result
 EndsAsAsked out err gives takes renames (Pair asked) before after old new result =
     (after ≡ before) × RunEnds out err (PrintsPairOfFiles gives (words_of asked) asked.turns) old new result
+EndsAsAsked out err gives takes renames Version before after old new result =
+    (after ≡ before) × RunEnds out err SaysVersion old new result
 
 -- so is told of how far that is: `run` and `undo` tell it alone
 abbrev pub MayTellAsAsked : {Writer : Type 0} → (out : Writer → Option (List ℕ)) → Readings → Words → (old new : Progress Writer) → Type 0

@@ -4,7 +4,7 @@ ghost use Rattle.app_bmcnet.specs.Run.{EndsAsAsked, LineEnds, LineTells, MayTell
 
 use crate::pairing::pair;
 use crate::words::{Words, read};
-use app_base::{Console, TextFiles, refuse};
+use app_base::{Console, TextFiles, refuse, tell_version};
 use app_run::{Progress, WritesFiles, run, undo};
 use app_serve::serve;
 use std::alloc::Global;
@@ -39,11 +39,12 @@ fn carry_out<
         Words::Run(words) => run(rt, alloc, files, words, progress, console),
         Words::Undo(words) => undo(rt, alloc, &*files, words, progress, console),
         Words::Pair(words) => pair(rt, alloc, &*files, words, console),
+        Words::Version => tell_version(console),
     }
 }
 
-/// Does what the words of a command line ask for, the program's own name first among them, with these files: what `serve`, `run`, `undo` or
-/// `pair` does. Where they ask for nothing it reads no file and opens no link, standard error gets why or the help that is asked for, and the
+/// Does what the words of a command line ask for, the program's own name first among them, with these files: what `serve`, `run`, `undo`,
+/// `pair` or `tell_version` does. Where they ask for nothing it reads no file and opens no link, standard error gets why or the help that is asked for, and the
 /// status is 2. `run` and `undo` write their progress.
 pub fn run_line<
     F: TextFiles + WritesFiles,

@@ -4,7 +4,7 @@ ghost use Rattle.clap.specs.Words.{app_of};
 ghost use Rattle.app_base.specs.Line.{IsCommand};
 ghost use Rattle.app_bmcnet.specs.Line.{app_named, program};
 
-use app_base::{Argument, new_command, new_program, with_command};
+use app_base::{Argument, new_command, new_program, version_command, with_command};
 use clap::Command;
 use std::alloc::{AllocError, Global};
 
@@ -183,6 +183,9 @@ impl Task {
     }
 }
 
+const VERSION_EXAMPLES: &str = "Examples:
+  bmcnet version";
+
 const ABOUT: &str =
     "Serves a modelled board controller over UDP on this machine, and runs plans on one and takes them back";
 
@@ -200,5 +203,6 @@ pub fn command<'a>(alloc: Global) -> Result<Command<'a>, AllocError>
     let program = with_command(program, serve_command(alloc))?;
     let program = with_command(program, run_command(alloc))?;
     let program = with_command(program, undo_command(alloc))?;
-    with_command(program, pair_command(alloc))
+    let program = with_command(program, pair_command(alloc))?;
+    with_command(program, version_command(alloc, VERSION_EXAMPLES))
 }

@@ -22,6 +22,7 @@ pub enum Words {
     Run(RunWords),
     Undo(UndoWords),
     Pair(PairWords),
+    Version,
 }
 
 /// The refusal of a word that isn't such a number, for the reason that the message gives.
@@ -216,10 +217,13 @@ fn matched_words(alloc: Global, matches: &ArgMatches) -> Result<Words, Refusal>
     if let Some(undo) = matches.subcommand_matches("undo") {
         return Ok(Words::Undo(undo_words(alloc, undo)?));
     }
-    let Some(pair) = matches.subcommand_matches("pair") else {
+    if let Some(pair) = matches.subcommand_matches("pair") {
+        return Ok(Words::Pair(pair_words(alloc, pair)?));
+    }
+    let Some(_version) = matches.subcommand_matches("version") else {
         return Err(lacking(alloc));
     };
-    Ok(Words::Pair(pair_words(alloc, pair)?))
+    Ok(Words::Version)
 }
 
 /// What the words ask for, the program's own name first among them.

@@ -1,4 +1,5 @@
 pub mod Looks
 pub mod Near
 pub mod Known
+pub mod Unfit
 pub mod Outcomes

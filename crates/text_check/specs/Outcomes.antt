@@ -1,5 +1,5 @@
 -- What comes of looking at files.
-use Rattle.std.specs.Prelude.{◌≡◌, ℕ, Bool, true, false, List, Ok, Err, if◌then◌else◌}
+use Rattle.std.specs.Prelude.{◌≡◌, ◌||◌, ℕ, Bool, true, false, List, Ok, Err, if◌then◌else◌}
 use Rattle.std.specs.List.{list_any}
 use Rattle.std.specs.Option.{option_map_or}
 use Rattle.toml.specs.Data.{Members}
@@ -21,6 +21,7 @@ use Rattle.text_check.specs.declared.outcome.Outcome.{Outcome}
 use Rattle.text_check.specs.declared.outcome.Outcome.TheVariants.{Fine, Told, Refused}
 use Rattle.text_check.specs.Looks.{looks_of}
 use Rattle.text_check.specs.Known.{is_told_board, is_told_plan}
+use Rattle.text_check.specs.Unfit.{has_unfit}
 
 -- a text is TOML, and something is told of its tree
 abbrev pub tells : (Members → Bool) → List ℕ → Bool
@@ -32,9 +33,15 @@ OutcomeOf Faulty Read is_told Refused = Faulty
 OutcomeOf Faulty Read is_told Told = Read × (is_told ≡ true)
 OutcomeOf Faulty Read is_told Fine = Read × (is_told ≡ false)
 
+-- something is told of a board file that holds this board: of its keys, or of its sensor data records
+abbrev pub tells_board : List ℕ → BoardFile → Bool
+tells_board text file = tells is_told_board text || has_unfit file
+
 -- what comes of a board file
 abbrev pub IsBoardOutcome : List ℕ → Outcome → Type 0
-IsBoardOutcome text = OutcomeOf ((why : FileFault) × ReadsText text (Err why)) ((file : BoardFile) × ReadsText text (Ok file)) (tells is_told_board text)
+IsBoardOutcome text Refused = (why : FileFault) × ReadsText text (Err why)
+IsBoardOutcome text Told = (file : BoardFile) × ReadsText text (Ok file) × (tells_board text file ≡ true)
+IsBoardOutcome text Fine = (file : BoardFile) × ReadsText text (Ok file) × (tells_board text file ≡ false)
 
 -- what comes of a plan
 abbrev pub IsPlanOutcome : List ℕ → Outcome → Type 0

@@ -7,7 +7,7 @@ ghost use Rattle.text_check.specs.Outcomes.{is_among, worst_of};
 pub enum Outcome {
     /// Nothing is told but what it holds.
     Fine,
-    /// The file has a key that is unknown, or that isn't used.
+    /// The file has a key that is unknown, or that isn't used, or a sensor data record that fits no sensor.
     Told,
     /// The file is refused.
     Refused,

@@ -1,12 +1,13 @@
 //! What is told of a text, by what it looks like.
 ghost use Rattle.std.specs.Prelude.{◌≡◌, IfOk, if◌then◌else◌};
 ghost use Rattle.text_check.specs.Known.{is_told_board, is_told_plan};
-ghost use Rattle.text_check.specs.Outcomes.{tells, IsBoardOutcome, IsPlanOutcome, IsScheduleOutcome, IsUndoOutcome, IsOutcome};
+ghost use Rattle.text_check.specs.Outcomes.{tells, tells_board, IsBoardOutcome, IsPlanOutcome, IsScheduleOutcome, IsUndoOutcome, IsOutcome};
 
 use crate::faults::{push_board_fault, push_plan_fault};
 use crate::notes::{tell_board, tell_plan};
 use crate::outcome::Outcome;
 use crate::text_form::{TextForm, looks_like};
+use crate::unfit::tell_unfit;
 use cfg_records::BoardFile;
 use plan_file::{PlanFault, read_plan};
 use std::alloc::{AllocError, Global};
@@ -59,11 +60,9 @@ fn push_held(
     text.push_str("\n")
 }
 
-/// Adds the line of a board, whose file isn't used any more.
-fn push_board(text: &mut String, name: &str, file: BoardFile) -> Result<(), AllocError> {
-    let held = held_by(&file);
-    drop(file);
-    push_held(text, name, "board", &held)
+/// Adds the line of a board.
+fn push_board(text: &mut String, name: &str, file: &BoardFile) -> Result<(), AllocError> {
+    push_held(text, name, "board", &held_by(file))
 }
 
 /// Adds the line of a plan that isn't used any more.
@@ -156,6 +155,22 @@ fn refuse_plan(
     }
 }
 
+/// Tells of a board file that is read: what it holds, its keys, and its sensor data records. Gives whether something is told of these.
+fn told_read(
+    alloc: Global,
+    text: &mut String,
+    name: &str,
+    file: &str,
+    board: &BoardFile,
+) -> Result<bool, AllocError>
+    ensures { IfOk result (λ told. told ≡ tells_board file.now board.now) }
+{
+    push_board(text, name, board)?;
+    let keys = told_board(alloc, text, name, file)?;
+    let records = tell_unfit(alloc, text, name, board)?;
+    Ok(keys || records)
+}
+
 /// Tells of a board file.
 fn checked_board(
     alloc: Global,
@@ -167,8 +182,9 @@ fn checked_board(
 {
     match read_board(alloc, file) {
         Ok(board) => {
-            push_board(text, name, board)?;
-            let told = told_board(alloc, text, name, file)?;
+            let told = told_read(alloc, text, name, file, &board);
+            drop(board);
+            let told = told?;
             Ok(read_outcome(told))
         }
         Err(FileFault::Memory) => Err(AllocError),
@@ -251,7 +267,7 @@ fn checked_undo(
 }
 
 /// Reads a file's text as what it looks like, and adds what is told of the file of this name: a line of what it holds or why it is refused,
-/// and, where it is read, one for each key that is unknown or not used. Gives what came of it.
+/// and, where it is read, one for each key that is unknown or not used, and for each sensor data record that fits no sensor. Gives what came of it.
 pub fn checked(
     alloc: Global,
     text: &mut String,

@@ -45,13 +45,8 @@ fn expect_quiet(rt: &impl Abort, link: &mut UdpLink) {
     assert!(rt; heard == Ok(Heard::Quiet));
 }
 
-/// The link counted so many calls of it that failed, calls of `next`, and frames.
-fn expect_counts(rt: &impl Abort, link: &UdpLink, failures: u64, calls: u64, heard: u64) {
-    let counts = Counts {
-        failures,
-        calls,
-        heard,
-    };
+/// The link counted this.
+fn expect_counts(rt: &impl Abort, link: &UdpLink, counts: Counts) {
     expect_equal(rt, "counts", link.counts(), counts);
 }
 
@@ -61,17 +56,29 @@ fn a_bound_link_answers_the_one_that_it_heard(rt: HostRuntime) {
     let mut client = link_to(&rt, port, WAIT_MS);
     expect_passed(&rt, &mut client, &mut bound, &[0x20, 0x10, 0xD0]);
     expect_passed(&rt, &mut bound, &mut client, &[0x2C; 80]);
-    expect_counts(&rt, &bound, 0, 1, 1);
-    expect_counts(&rt, &client, 0, 1, 1);
+    let each_way = Counts {
+        failures: 0,
+        calls: 1,
+        heard: 1,
+        sends: 1,
+    };
+    expect_counts(&rt, &bound, each_way);
+    expect_counts(&rt, &client, each_way);
 }
 
 #[test]
 fn a_bound_link_that_heard_nobody_fails_to_send(rt: HostRuntime) {
     let (mut bound, _) = bind(&rt, 0);
     let sent = bound.send(&Frame::from_slice(&[1]));
-    assert!(rt; sent == Err(LinkFault));
+    assert!(rt; sent == Err(LinkFault::NobodyThere));
     expect_quiet(&rt, &mut bound);
-    expect_counts(&rt, &bound, 1, 1, 0);
+    let failed = Counts {
+        failures: 1,
+        calls: 1,
+        heard: 0,
+        sends: 1,
+    };
+    expect_counts(&rt, &bound, failed);
 }
 
 /// The socket sends the bytes to this port.
@@ -93,7 +100,13 @@ fn a_datagram_of_81_bytes_is_heard_as_an_empty_frame(rt: HostRuntime) {
     expect_heard(&rt, &mut bound, &[]);
     expect_heard(&rt, &mut bound, &[7; 80]);
     expect_heard(&rt, &mut bound, &[]);
-    expect_counts(&rt, &bound, 0, 4, 4);
+    let four_heard = Counts {
+        failures: 0,
+        calls: 4,
+        heard: 4,
+        sends: 0,
+    };
+    expect_counts(&rt, &bound, four_heard);
 }
 
 #[test]

@@ -10,13 +10,6 @@ use std::process::Abort;
 use two_wire::{Address, Bus, Frame};
 use wire_links::{Counts, Heard, Link, LinkFault};
 
-/// Nothing is counted.
-const NONE_COUNTED: Counts = Counts {
-    failures: 0,
-    calls: 0,
-    heard: 0,
-};
-
 /// The sample board.
 pub(crate) fn open_sample(rt: &impl Abort, alloc: Global) -> Board<Records> {
     let file = sample_board(alloc).expect(rt, "memory");
@@ -48,7 +41,7 @@ impl<L: Drop> Faulty<L> {
             link,
             made: 0,
             failing_call,
-            counts: NONE_COUNTED,
+            counts: Counts::NONE,
         }
     }
 }
@@ -56,10 +49,15 @@ impl<L: Drop> Faulty<L> {
 impl<L: Link> Link for Faulty<L> {
     ghost counts_of = { λ link. link.counts };
 
+    // It states nothing of what its calls may give and take.
+    ghost gives = { λ link answer after. Unit {0} };
+
+    ghost takes = { λ link frame answer after. Unit {0} };
+
     fn next(&mut self) -> Result<Heard, LinkFault> {
         self.made = self.made.wrapping_add(1);
         let answer = if self.made == self.failing_call {
-            Err(LinkFault)
+            Err(LinkFault::Failed)
         } else {
             self.link.next()
         };
@@ -70,7 +68,7 @@ impl<L: Link> Link for Faulty<L> {
     fn send(&mut self, frame: &Frame) -> Result<(), LinkFault> {
         self.made = self.made.wrapping_add(1);
         let answer = if self.made == self.failing_call {
-            Err(LinkFault)
+            Err(LinkFault::Failed)
         } else {
             self.link.send(frame)
         };
@@ -103,7 +101,7 @@ impl Wired {
             out: Out::new(),
             replies: Vec::new(alloc),
             handed_out: 0,
-            counts: NONE_COUNTED,
+            counts: Counts::NONE,
         }
     }
 
@@ -113,7 +111,7 @@ impl Wired {
         self.port.on_frame(&mut self.board, bytes, &mut self.out);
         for frame in self.out.frames.as_slice() {
             if self.replies.push(frame.copy()).is_err() {
-                return Err(LinkFault);
+                return Err(LinkFault::Failed);
             }
         }
         Ok(())
@@ -122,6 +120,11 @@ impl Wired {
 
 impl Link for Wired {
     ghost counts_of = { λ link. link.counts };
+
+    // It states nothing of what its calls may give and take.
+    ghost gives = { λ link answer after. Unit {0} };
+
+    ghost takes = { λ link frame answer after. Unit {0} };
 
     fn next(&mut self) -> Result<Heard, LinkFault> {
         let answer = match self.replies.get(self.handed_out) {

@@ -29,10 +29,11 @@ returns-in_err-check_words-clause-refused c =
     let behind = met c.args.matches.now (codes "check") (rows_of (found_of c.in-Some-subcommand_matches-3.check.now)) (c.in-Some-subcommand_matches-3.ensures.found.0 refl) c.in-Some-subcommand_matches-3.ensures.rows in
     rw (p.1, p.2) (refuses_more _ _ _ (check_behind _ _ behind) c.in_err-check_words.ensures.refused)
 
-pub returns-in_default-subcommand_matches-3-clause-refused : goal.returns-in_default-subcommand_matches-3-clause-refused
-returns-in_default-subcommand_matches-3-clause-refused c =
+pub returns-in_default-subcommand_matches-4-clause-refused : goal.returns-in_default-subcommand_matches-4-clause-refused
+returns-in_default-subcommand_matches-4-clause-refused c =
     refuses_none _ c.lacking.result
-    (none_behind c.args.matches.now c.in_default.ensures.found.1 c.in_default-subcommand_matches.ensures.found.1 c.in_default-subcommand_matches-2.ensures.found.1 c.in_default-subcommand_matches-3.ensures.found.1)
+    (none_behind c.args.matches.now c.in_default.ensures.found.1 c.in_default-subcommand_matches.ensures.found.1 c.in_default-subcommand_matches-2.ensures.found.1 c.in_default-subcommand_matches-3.ensures.found.1
+    c.in_default-subcommand_matches-4.ensures.found.1)
 
 pub returns-in-Some-clause-asked : goal.returns-in-Some-clause-asked
 returns-in-Some-clause-asked c =
@@ -52,11 +53,17 @@ returns-in-Some-subcommand_matches-2-clause-asked c =
     let rows = rows_of (found_of arm.schedule.now) in
     (rows, met c.args.matches.now (codes "schedule") rows (arm.ensures.found.0 refl) arm.ensures.rows, c.in_ok-schedule_words.ensures.asked)
 
-pub returns-clause-asked : goal.returns-clause-asked
-returns-clause-asked c =
+pub returns-in-Some-subcommand_matches-3-clause-asked : goal.returns-in-Some-subcommand_matches-3-clause-asked
+returns-in-Some-subcommand_matches-3-clause-asked c =
     let arm = c.in-Some-subcommand_matches-3 in
     let rows = rows_of (found_of arm.check.now) in
     (rows, met c.args.matches.now (codes "check") rows (arm.ensures.found.0 refl) arm.ensures.rows, c.in_ok-check_words.ensures.asked)
+
+pub returns-clause-asked : goal.returns-clause-asked
+returns-clause-asked c =
+    let arm = c.in-Some-subcommand_matches-4 in
+    let rows = rows_of (found_of arm._version.now) in
+    (rows, met c.args.matches.now (codes "version") rows (arm.ensures.found.0 refl) arm.ensures.rows)
 
 pub returns-in_err-frame_words-clause-asked : goal.returns-in_err-frame_words-clause-asked
 returns-in_err-frame_words-clause-asked c = rw (err_from_is_err_and c.from_residual.result c.from_residual.ensures.1).1 tt

@@ -1,6 +1,7 @@
 use Rattle.std.proofs.Common.{◌∙◌, ap}
 use Rattle.std.proofs.lemmas.Result.{IfOk-weaker}
 use Rattle.clap.specs.Words.{App, with_subcommand}
+use Rattle.app_base.specs.Version.{version_app}
 use Rattle.app_bmcnet.specs.Line.{app_named}
 use Rattle.app_bmcnet.specs.declared.tasks.Task.TheVariants.{Serve, Run, Undo, Pair}
 use Rattle.app_bmcnet.proofs.tasks.command.Goals as goal
@@ -10,5 +11,6 @@ returns c =
     let serve = c.in_ok-program-2.ensures (app_named Serve) c.serve_command.ensures ∙ ap (λ (a : App). with_subcommand a (app_named Serve).top) c.in_ok-program.ensures in
     let run = c.in_ok-program-3.ensures (app_named Run) c.run_command.ensures ∙ ap (λ (a : App). with_subcommand a (app_named Run).top) serve in
     let undo = c.in_ok-program-4.ensures (app_named Undo) c.undo_command.ensures ∙ ap (λ (a : App). with_subcommand a (app_named Undo).top) run in
-    IfOk-weaker c.with_command-4.result _ _
-    (λ command adds. adds (app_named Pair) c.pair_command.ensures ∙ ap (λ (a : App). with_subcommand a (app_named Pair).top) undo) c.with_command-4.ensures
+    let pair = c.in_ok-program-5.ensures (app_named Pair) c.pair_command.ensures ∙ ap (λ (a : App). with_subcommand a (app_named Pair).top) undo in
+    IfOk-weaker c.with_command-5.result _ _
+    (λ command adds. adds version_app c.version_command.ensures ∙ ap (λ (a : App). with_subcommand a version_app.top) pair) c.with_command-5.ensures

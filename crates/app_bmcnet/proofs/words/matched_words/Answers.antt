@@ -29,10 +29,11 @@ returns-in_err-pair_words-clause-refused c =
     let behind = met c.args.matches.now (codes "pair") (rows_of (found_of c.in-Some-subcommand_matches-3.pair.now)) (c.in-Some-subcommand_matches-3.ensures.found.0 refl) c.in-Some-subcommand_matches-3.ensures.rows in
     rw (p.1, p.2) (refuses_more _ _ _ (pair_behind _ _ behind) c.in_err-pair_words.ensures.refused)
 
-pub returns-in_default-subcommand_matches-3-clause-refused : goal.returns-in_default-subcommand_matches-3-clause-refused
-returns-in_default-subcommand_matches-3-clause-refused c =
+pub returns-in_default-subcommand_matches-4-clause-refused : goal.returns-in_default-subcommand_matches-4-clause-refused
+returns-in_default-subcommand_matches-4-clause-refused c =
     refuses_none _ c.lacking.result
-    (none_behind c.args.matches.now c.in_default.ensures.found.1 c.in_default-subcommand_matches.ensures.found.1 c.in_default-subcommand_matches-2.ensures.found.1 c.in_default-subcommand_matches-3.ensures.found.1)
+    (none_behind c.args.matches.now c.in_default.ensures.found.1 c.in_default-subcommand_matches.ensures.found.1 c.in_default-subcommand_matches-2.ensures.found.1 c.in_default-subcommand_matches-3.ensures.found.1
+    c.in_default-subcommand_matches-4.ensures.found.1)
 
 pub returns-in-Some-clause-asked : goal.returns-in-Some-clause-asked
 returns-in-Some-clause-asked c =
@@ -51,11 +52,17 @@ returns-in-Some-subcommand_matches-2-clause-asked c =
     let rows = rows_of (found_of arm.undo.now) in
     (rows, met c.args.matches.now (codes "undo") rows (arm.ensures.found.0 refl) arm.ensures.rows, c.in_ok-undo_words.ensures.asked)
 
-pub returns-clause-asked : goal.returns-clause-asked
-returns-clause-asked c =
+pub returns-in-Some-subcommand_matches-3-clause-asked : goal.returns-in-Some-subcommand_matches-3-clause-asked
+returns-in-Some-subcommand_matches-3-clause-asked c =
     let arm = c.in-Some-subcommand_matches-3 in
     let rows = rows_of (found_of arm.pair.now) in
     (rows, met c.args.matches.now (codes "pair") rows (arm.ensures.found.0 refl) arm.ensures.rows, c.in_ok-pair_words.ensures.asked)
+
+pub returns-clause-asked : goal.returns-clause-asked
+returns-clause-asked c =
+    let arm = c.in-Some-subcommand_matches-4 in
+    let rows = rows_of (found_of arm._version.now) in
+    (rows, met c.args.matches.now (codes "version") rows (arm.ensures.found.0 refl) arm.ensures.rows)
 
 pub returns-in_err-serve_words-clause-asked : goal.returns-in_err-serve_words-clause-asked
 returns-in_err-serve_words-clause-asked c = rw (err_from_is_err_and c.from_residual.result c.from_residual.ensures.1).1 tt
