@@ -18,6 +18,7 @@ WORDS = {
             [("BOARD", BOARD), ("PLAN", PLAN)],
         ),
         "check": ({}, [("FILE...", FILE)]),
+        "version": ({}, []),
     },
     "bmcnet": {
         "serve": (
@@ -27,6 +28,7 @@ WORDS = {
         "run": ({"--wait": None, "--again": None, "--forget": None}, [("PLAN", PLAN), ("P0", None), ("P1", None), ("TURNS", None), ("UNDO", UNDO)]),
         "undo": ({"--wait": None}, [("UNDO", UNDO), ("P0", None), ("P1", None), ("TURNS", None)]),
         "pair": ({}, [("BOARD", BOARD), ("PLAN", PLAN), ("TURNS", None)]),
+        "version": ({}, []),
     },
     "lan-bridge": {
         "": (

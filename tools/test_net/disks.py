@@ -11,7 +11,7 @@ from .servers import Asker, Server, Skipped, expect
 STEPS = 2
 PAGE = os.sysconf("SC_PAGE_SIZE")
 # How long one quiet turn of these runs lasts, in milliseconds: a reply comes at once, but on a busy machine.
-WAIT = 2000
+WAIT = 5000
 # The list of a run that did nothing.
 NOTHING = "undo 2\nnext ipmb 0 smbus 0\nnames ipmb 2C 20 smbus 30 20 eid 08 0A\n"
 # Mounts a disk of so many bytes over a folder, in a namespace of its own, runs the words there, and then keeps what the folder has.

@@ -7,8 +7,9 @@ ROOM = 4096
 # A Get of the power restore policy on IPMB (Get Chassis Status), and one of a BIOS attribute on SMBus.
 POLICY = (IPMB, (0x00, 0x01))
 ATTRIBUTE = (SMBUS, (0x03, 0x08, bytes([0, 0, 0, 0, 1, 1, 0])))
-# How long a run and its undo wait for a reply, in milliseconds, before they ask again: what comes at the change of periods is lost once.
-WAIT = 2000
+# What comes at the change of periods is lost once, and nobody is answered until the next one is opened: on a busy machine that takes the program with
+# the sanitizers ten seconds. A run asks again until it is answered, and its undo, which asks four times, waits so many milliseconds each time.
+RUN, UNDO = ("--wait", 1000, "--again", 1000), ("--wait", 10000)
 # How often they listen, and a server.
 TURNS = 300
 SERVED_TURNS = 12000
@@ -32,10 +33,10 @@ def three_periods(program, folder, board, plan, requests):
             replies = [first.ask(*frame) for frame in early]
             expect("the codes of the first requests", [reply[:1] for reply in replies], [b"\0", b"\0"])
             drive(other, [POLICY, ATTRIBUTE], ROOM - len(early) - requests // 2)
-            expect("run", call(program, "run", "--wait", WAIT, plan, *server.ports, TURNS, undo), (0, "phase Done\n", ""))
+            expect("run", call(program, "run", *RUN, plan, *server.ports, TURNS, undo), (0, "phase Done\n", ""))
             expect("repeats in the second period", [first.ask(*frame) for frame in early], replies)
             # The undo has half as many requests: the second period ends in its midst.
             drive(other, [POLICY, ATTRIBUTE], ROOM - requests // 2 - requests // 4)
-            expect("undo", call(program, "undo", "--wait", WAIT, undo, *server.ports, TURNS), (0, "phase Undone\n", ""))
+            expect("undo", call(program, "undo", *UNDO, undo, *server.ports, TURNS), (0, "phase Undone\n", ""))
             expect("repeats in the third period", [first.ask(*frame) for frame in early], replies)
         expect("serve", server.ended(), (0, f"served {2 * ROOM + requests // 4}\nrecords same\n", ""))

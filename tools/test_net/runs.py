@@ -10,7 +10,7 @@ from .proxy import Proxies, Troubles
 from .servers import HOST, Asker, Failed, Server, expect
 
 # How long one quiet turn of these runs lasts, in milliseconds; and of those that a reply has to reach, however busy the machine is.
-WAIT, LONG_WAIT = 50, 1000
+WAIT, LONG_WAIT = 50, 5000
 TURNS = 2000
 # How many datagrams are lost while a link is silent: ten of them are five requests, each sent twice.
 MOST_LOST = 10
@@ -66,7 +66,7 @@ def tries_again(program, folder, board):
     plan, undo = servers.write(f"{folder}/plan.toml", text_of(steps, 1)), f"{folder}/undo.txt"
     with Server(program, board, 3000) as server, Proxies(server.ports, 1) as proxies:
         silent = Troubles(silent_from=SILENT_FROM)
-        said = proxies.call(silent, program, "run", plan, 12, f"{folder}/lost.txt", "--wait", LONG_WAIT)
+        said = proxies.call(silent, program, "run", plan, 8, f"{folder}/lost.txt", "--wait", LONG_WAIT)
         expect("run, silent", said, (0, "phase Unsettled 1\n", ""))
         expect("its undo text", os.path.exists(f"{folder}/lost.txt"), False)
         server.ended()
@@ -121,6 +121,18 @@ def waits_first(program, folder):
             if took < 21 * WAIT / 1000:
                 raise Failed(f"the first request came after {took} s")
             expect("run", run.ended(), (0, "phase Unsettled 0\n", ""))
+
+
+def waits_as_told(program, folder):
+    """An undo that nobody answers uses up its turns, each of which lasts as long as `--wait` says."""
+    undo = servers.write(f"{folder}/list.txt", "undo 2\nnext ipmb 2 smbus 0\nnames ipmb 2C 20 smbus 30 20 eid 08 0A\nipmb 102805E080000000\n")
+    with socket.socket(socket.AF_INET, socket.SOCK_DGRAM) as nobody:
+        nobody.bind((HOST, 0))
+        port, begun = nobody.getsockname()[1], time.monotonic()
+        expect("undo", servers.call(program, "undo", "--wait", LONG_WAIT, undo, port, port, 2), (0, "phase Undoing 0\n", ""))
+        took = time.monotonic() - begun
+        if took < 2 * LONG_WAIT / 1000:
+            raise Failed(f"two turns took {took} s")
 
 
 def distinct_steps(seed, number):
@@ -188,6 +200,7 @@ def tests(board):
         ("a run that tries again", tries_again, (board,)),
         ("a run that tries again in its turns", stays_in_its_turns, ()),
         ("a run that waits first", waits_first, ()),
+        ("an undo that waits", waits_as_told, ()),
         *((f"a run that is killed in step {place}", killed, (board, place)) for place in range(STEPS)),
         ("a run whose undo text gets no name", unnamed, (board,)),
         ("a run that can't make its list", unmade, ()),

@@ -126,15 +126,15 @@ class Server:
     def told(self):
         """Waits until it ends by itself, and returns the status, standard output, and standard error behind the line of its ports."""
         try:
-            out, err = self.process.communicate(timeout=END)
+            out, err = self.process.communicate(timeout=CALL)
         except subprocess.TimeoutExpired as late:
-            raise Failed(f"serve didn't end in {END} s") from late
+            raise Failed(f"serve didn't end in {CALL} s") from late
         return self.process.returncode, out, err
 
     def ended(self):
         """The same, once empty datagrams have used up its turns."""
         with socket.socket(socket.AF_INET, socket.SOCK_DGRAM) as stranger:
-            until = time.monotonic() + END
+            until = time.monotonic() + CALL
             while self.process.poll() is None and time.monotonic() < until:
                 for port in self.ports * 16:
                     stranger.sendto(b"", (HOST, port))
@@ -202,7 +202,7 @@ class Asker:
 
     def ask(self, bus, frame):
         """Returns what the controller answers to a request, which is sent again where it stays quiet."""
-        for _ in range(int(START / QUIET)):
+        for _ in range(int(CALL / QUIET)):
             self.links[bus].send(frame)
             reply = self.heard(bus, number_of(bus, frame))
             if reply is not None:
