@@ -4,12 +4,30 @@ import os
 from trial import compiled, copied_program, literal
 
 TOP = os.path.dirname(os.path.dirname(os.path.realpath(__file__)))
-BELOW = "record_base cfg_records undo_plans text_board plan_file text_schedule text_undo toml".split()
-FORMS = ("board", "plan", "undo", "schedule")
+BELOW = "record_base cfg_records undo_plans text_board plan_file text_schedule text_undo text_journal toml".split()
+FORMS = ("board", "plan", "undo", "journal", "schedule")
 
 STEPS = 40
 PLAN = "".join(f'[[step]]\nkind = "hysteresis"\nsensor = 5\npositive = {step + 1}\nnegative = 2\n\n' for step in range(STEPS))
 UNDO = "undo 2\nnext ipmb 4 smbus 0\nnames ipmb 2C 20 smbus 30 20 eid 08 0A\nipmb 10260530000000005A6E\nipmb 10260518000000505F00\n"
+# A Set is open, and the request that undoes it waits.
+JOURNAL = """\
+journal 1
+retries 3
+names 2C203020080A
+listed 2C203020080A
+steps 2
+ipmb 102605380000004B5C64
+ipmb 102405FF0102
+undo 1
+ipmb 10260538000000505F6E
+waiting 1
+ipmb 102405FF0000
+stage set 1 0
+stop
+counts 3 0
+no replies
+"""
 # A Set in four packets, of which one comes too late and is sent again, while others ask.
 SCHEDULE = """\
 start
@@ -36,7 +54,7 @@ to-mgr 14
 def texts():
     with open(f"{TOP}/sample.toml", encoding="utf-8") as file:
         board = file.read()
-    return {"Board": board, "Plan": PLAN, "Undo": UNDO, "Schedule": SCHEDULE}
+    return {"Board": board, "Plan": PLAN, "Undo": UNDO, "Journal": JOURNAL, "Schedule": SCHEDULE}
 
 
 def readers_program(room):

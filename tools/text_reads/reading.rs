@@ -4,6 +4,7 @@ use std::alloc::{AllocError, Global};
 use std::io::{self, Print};
 use std::time::{Clock, Instant};
 use text_board::{FileFault, read_board};
+use text_journal::{JournalTextFault, read_journal};
 use text_schedule::{ScheduleFault, read_schedule};
 use text_undo::{UndoFault, read_undo};
 
@@ -38,6 +39,7 @@ pub enum Form {
     Board,
     Plan,
     Undo,
+    Journal,
     Schedule,
     /// A tree of TOML, by the kit's crate alone.
     Tree,
@@ -49,6 +51,7 @@ impl Form {
             "board" => Form::Board,
             "plan" => Form::Plan,
             "undo" => Form::Undo,
+            "journal" => Form::Journal,
             "schedule" => Form::Schedule,
             "tree" => Form::Tree,
             _ => return Err(Unwell::Words),
@@ -80,6 +83,14 @@ fn undo(alloc: Global, text: &str) -> Result<bool, Unwell> {
     }
 }
 
+fn journal(alloc: Global, text: &str) -> Result<bool, Unwell> {
+    match read_journal(alloc, text) {
+        Ok(_) => Ok(true),
+        Err(JournalTextFault::Memory) => Err(Unwell::Memory),
+        Err(_) => Ok(false),
+    }
+}
+
 fn schedule(alloc: Global, text: &str) -> Result<bool, Unwell> {
     match read_schedule(alloc, text) {
         Ok(_) => Ok(true),
@@ -102,6 +113,7 @@ pub fn is_read(alloc: Global, form: Form, text: &str) -> Result<bool, Unwell> {
         Form::Board => board(alloc, text),
         Form::Plan => plan(alloc, text),
         Form::Undo => undo(alloc, text),
+        Form::Journal => journal(alloc, text),
         Form::Schedule => schedule(alloc, text),
         Form::Tree => tree(alloc, text),
     }

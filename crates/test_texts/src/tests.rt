@@ -6,6 +6,7 @@ mod came;
 mod channels;
 mod checks;
 mod files;
+mod journal;
 mod lan;
 mod lines;
 mod numeric;

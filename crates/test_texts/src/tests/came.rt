@@ -9,9 +9,11 @@ use std::fmt::{Debug, Display};
 use std::process::Abort;
 use text_board::read_board;
 use text_check::checked;
+use text_journal::read_journal;
 use text_lines::{behind, byte, bytes, first_line, first_word, number, plain_number};
 use text_schedule::read_schedule;
 use text_undo::{push_requests, read_undo, write_undo};
+use undo_journal::Contents;
 use undo_plans::{Plan, Requests, UndoList, UndoRequest};
 
 /// What a text is of.
@@ -22,6 +24,7 @@ pub enum Form {
     Undo,
     /// An undo text, whose list is shown.
     List,
+    Journal,
     Schedule,
     Readings,
     /// A board file, a plan and a schedule, with a line `---` before the second and the third.
@@ -81,6 +84,7 @@ impl Form {
             "plan" => Some(Form::Plan),
             "undo" => Some(Form::Undo),
             "list" => Some(Form::List),
+            "journal" => Some(Form::Journal),
             "schedule" => Some(Form::Schedule),
             "readings" => Some(Form::Readings),
             "play" => Some(Form::Play),
@@ -173,6 +177,27 @@ fn came_of_undo(rt: &impl Abort, alloc: Global, text: &str) -> Came {
     }
 }
 
+/// A journal shows how many steps and requests it has, how far it is, and what was answered.
+fn kept(rt: &impl Abort, alloc: Global, contents: &Contents) -> String {
+    let (steps, requests) = (contents.steps.len(), contents.requests.len());
+    let (stage, counts) = (contents.stage, contents.counts);
+    let replies = contents.replies.as_slice();
+    let text = format!(in alloc; "{steps}, {requests}, {stage:?}, {counts:?}, {replies:?}");
+    text.expect(rt, "memory")
+}
+
+/// A journal's text shows what it keeps.
+fn came_of_journal(rt: &impl Abort, alloc: Global, text: &str) -> Came {
+    match read_journal(alloc, text) {
+        Ok(journal) => {
+            let kept = kept(rt, alloc, &journal.contents);
+            drop(journal);
+            read_as(kept)
+        }
+        Err(fault) => refused(rt, alloc, &fault),
+    }
+}
+
 /// Each request of the list, in the order of the steps, the numbers and the names.
 fn listed(rt: &impl Abort, alloc: Global, list: &UndoList) -> String {
     let mut text = String::new(alloc);
@@ -257,6 +282,7 @@ pub fn came_of(rt: &impl Abort, alloc: Global, form: Form, text: &str) -> Came {
         Form::Plan => came_of_plan(rt, alloc, text),
         Form::Undo => came_of_undo(rt, alloc, text),
         Form::List => came_of_list(rt, alloc, text),
+        Form::Journal => came_of_journal(rt, alloc, text),
         Form::Schedule => shown(rt, alloc, read_schedule(alloc, text)),
         Form::Readings => shown(rt, alloc, read_readings(alloc, text)),
         Form::Play => came_of_play(rt, alloc, text),

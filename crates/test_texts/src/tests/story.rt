@@ -320,7 +320,7 @@ impl<'s> Player<'s> {
 /// - `# ..`: a remark.
 ///
 /// WHAT is what a fault is called; or `reads`; or `holds N PART`, where what is read shows this part so often; or all that it shows. A
-/// plan shows how often frames are sent again, a colon and the requests of its steps, and an undo text what is written of its list. What
+/// plan shows how often frames are sent again, a colon and the requests of its steps, an undo text what is written of its list, and a journal what it keeps. What
 /// is cut in two shows both parts with a bar between them. A file that is checked shows its lines and what came of it. The others show what Rust writes of them. In LINES and behind `=> `, `\n` is a
 /// line feed and `\r` a carriage return, and `<N:PART>` is so many times the part, with its place, from 0, at each `#` in it.
 fn otherwise(rt: &impl Abort, alloc: Global, story: &str) -> String {

@@ -43,6 +43,7 @@ undo 1 => Line 1
 undo 3\nnext ipmb 4 smbus 0\n => Line 1
 undo 3\nnext ipmb 4 smbus 0\nnames ipmb 2C 20 smbus 30 20 eid 08 0A\n => Line 1
 undo 2 => Line 1
+journal 1\nretries 3\n => Line 1
 Undo 1\nnext ipmb 4 smbus 0\n => Line 1
 undo 1\r\nnext ipmb 4 smbus 0\n => Line 1
 undo 1\n => Line 2

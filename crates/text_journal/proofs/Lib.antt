@@ -1,0 +1,12 @@
+pub mod Lines
+pub mod NamedSteps
+pub mod StageLines
+pub mod JournalLaws
+pub mod Drafts
+pub mod FirstLines
+pub mod Steering
+pub mod WrittenBytes
+pub mod WrittenLines
+pub mod WrittenJournals
+pub mod Pushing
+pub mod WholeTexts
