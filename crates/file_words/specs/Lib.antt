@@ -1,0 +1,4 @@
+pub mod Escapes
+pub mod Members
+pub mod Near
+pub mod Slips
