@@ -5,7 +5,10 @@ pub mod Silent
 pub mod Slicing
 pub mod Rounds
 pub mod Timing
+pub mod Agendas
 pub mod DriveCalls
 pub mod Turns
 pub mod Halves
 pub mod Conversing
+pub mod Greeting
+pub mod Observers

@@ -19,6 +19,9 @@ use Rattle.undo_core.specs.Shown.{words_of}
 use Rattle.undo_core.specs.Course.{Calls, InputResult, or_rests}
 use Rattle.undo_core.specs.declared.manager.Manager.{Manager}
 use Rattle.undo_core.specs.declared.sending.Sent.{Sent}
+use Rattle.model_undo.specs.declared.phase.Phase.{Phase}
+use Rattle.bmc_ports.specs.declared.observer.KeptBack.{KeptBack}
+use Rattle.bmc_ports.specs.Observing.{DrivesTo}
 use Rattle.bmc_ports.specs.Driving.{Turnout, Answers, FailsToSend, call_for, calls_on, heard_on, failures_on, HasCounted, HaveCounted, CountsFailures, faults_in, LinkFails, Links, both, turns_in, DrivenState, open_at, ReachesBy, LeadsThrough, LeadsTo, DrivenTurns}
 
 -- ---- counts
@@ -227,3 +230,19 @@ module _ (names : Names) where
     leads = leads_on begins.made then.made s t u a b c begins.leads then.leads;
     ended = ends turns more begins.made then.made t u then.leads.came then.leads.reaches begins.ended then.ended;
   }
+
+  -- no turn was made, and then a manager was driven while it was looked at
+  pub drives_from : (turns : ℕ) (s : DrivenState names) (m : Manager) (end : Result Phase KeptBack) (t : DrivenState names) (a b c : Links) → LeadsThrough names 0 s t a b → DrivesTo names turns t m end b c
+      → DrivesTo names turns s m end a c
+  drives_from turns s m (Ok phase) t a b c begins rest = record {
+    after = rest.after;
+    shown = rest.shown;
+    is_phase = rest.is_phase;
+    driven = driven_from turns s t rest.after a b c begins rest.driven;
+  }
+  drives_from turns s m (Err kept) t a b c begins rest =
+      let same : 0 + rest.made ≡ rest.made = omega arith in record {
+        made = rest.made;
+        few = rest.few;
+        leads = subst (λ (n : ℕ). LeadsTo names n s m a c) same (goes_on_to 0 rest.made s t m a b c begins rest.leads);
+      }

@@ -9,3 +9,5 @@ pub mod Slices
 pub mod Timing
 pub mod Driving
 pub mod Conversation
+pub mod Greeted
+pub mod Observing

@@ -1,5 +1,5 @@
 //! A manager that is driven over two links.
-ghost use Rattle.std.specs.Prelude.{◌≡◌, [], Result, Some, None, OnOk, OnErr};
+ghost use Rattle.std.specs.Prelude.{◌≡◌, [], ◌∷◌, Result, Some, None, OnOk, OnErr};
 ghost use Rattle.wire_links.specs.declared.link.Heard.{Heard as AnyHeard};
 ghost use Rattle.wire_links.specs.declared.link.LinkFault.{LinkFault as AnyFault};
 ghost use Rattle.wire_links.specs.Trace.{Gives, SendsTo};
@@ -7,12 +7,17 @@ ghost use Rattle.undo_plans.specs.declared.names.Names.{Names};
 ghost use Rattle.model_undo.specs.declared.call.Call.TheVariants as call;
 ghost use Rattle.undo_core.specs.Shown.{Represents};
 ghost use Rattle.undo_core.specs.Course.{Calls, InputResult};
-ghost use Rattle.bmc_ports.specs.Conversation.{HeardAndSent, SendsOn, links};
+ghost use Rattle.bmc_ports.specs.Conversation.{HeardAndSent, GivesOn, SendsOn, frames_given, links};
 ghost use Rattle.bmc_ports.specs.Driving.{DrivenState, Answers, call_for, both, CountsFailures, faults_in, HaveCounted, LinkFails, open_at, LeadsTo, DriveResult};
+ghost use Rattle.bmc_ports.specs.Observing.{MaySend, Unseen, Observed, DrivesTo, SentAll, permit_at, permit_of, permit_for};
 
+use crate::observer::{KeptBack, NoObserver, Observer};
 use two_wire::{Bus, Frame};
 use undo_core::{Manager, Phase, Sent};
 use wire_links::{Heard, Link, LinkFault};
+
+/// How a drive ends that is looked at: in this phase, and all that the manager gave was sent, up to a fault; or a look kept its frames back.
+pub type DriveEnd = Result<Phase, KeptBack>;
 
 /// Sends frames in their order, up to the first whose sending fails.
 fn send_frames<L: Link>(link: &mut L, frames: &[Frame]) -> Result<(), LinkFault>
@@ -69,7 +74,7 @@ fn send_all<A: Link, B: Link>(
         → LeadsTo names 0 s manager.new (both (A.counts_of ipmb.old) (B.counts_of smbus.old))
         (both (A.counts_of ipmb.new) (B.counts_of smbus.new)) }
     ensures over { (names : Names) (s : DrivenState names) → Represents names manager.old s
-        → HeardAndSent A.Link B.Link names s first manager.new (links ipmb.old smbus.old)
+        → SentAll A.Link B.Link names s first manager.new (links ipmb.old smbus.old)
         (links ipmb.new smbus.new) }
 {
     let mut sent = first;
@@ -98,51 +103,144 @@ fn hear<L: Link>(manager: &mut Manager, bus: Bus, link: &mut L) -> Option<Sent>
     }
 }
 
-/// One turn, while the manager's request is open on this bus: it hears the link of that bus, and all that the manager gives is sent.
-fn turn<A: Link, B: Link>(manager: &mut Manager, bus: Bus, ipmb: &mut A, smbus: &mut B)
-    ensures leads { (names : Names) (s : DrivenState names) → Represents names manager.old s
-        → open_at names s ≡ Some bus
-        → LeadsTo names 1 s manager.new (both (A.counts_of ipmb.old) (B.counts_of smbus.old))
-        (both (A.counts_of ipmb.new) (B.counts_of smbus.new)) }
-    ensures over { (names : Names) (s : DrivenState names) → Represents names manager.old s
-        → open_at names s ≡ Some bus
-        → HeardAndSent A.Link B.Link names s None manager.new (links ipmb.old smbus.old)
-        (links ipmb.new smbus.new) }
+/// The same of the link of this bus.
+fn hear_on<A: Link, B: Link>(
+    manager: &mut Manager,
+    bus: Bus,
+    ipmb: &mut A,
+    smbus: &mut B,
+) -> Option<Sent>
+    ensures { (answer : Result AnyHeard AnyFault)
+        × GivesOn A.Link B.Link bus (links ipmb.old smbus.old) answer (links ipmb.new smbus.new)
+        × HaveCounted (Answers bus answer ∷ []) (both (A.counts_of ipmb.old) (B.counts_of smbus.old))
+        (both (A.counts_of ipmb.new) (B.counts_of smbus.new))
+        × ((names : Names) (s : DrivenState names) → Represents names manager.old s
+        → InputResult names (call_for (Answers bus answer)) s manager.new result) }
 {
     match bus {
-        Bus::Ipmb => {
-            let sent = hear(manager, Bus::Ipmb, ipmb);
-            send_all(manager, sent, ipmb, smbus);
-        }
-        Bus::Smbus => {
-            let sent = hear(manager, Bus::Smbus, smbus);
-            send_all(manager, sent, ipmb, smbus);
-        }
+        Bus::Ipmb => hear(manager, bus, ipmb),
+        Bus::Smbus => hear(manager, bus, smbus),
     }
 }
 
-/// Makes so many turns, or those until no request is open, and gives the phase then.
-fn make_turns<A: Link, B: Link>(
+/// Has the manager looked at, and sends what it gave where the look allows that. It gives whether it did.
+fn send_seen<A: Link, B: Link, O: Observer>(
+    manager: &mut Manager,
+    given: Option<Sent>,
+    ipmb: &mut A,
+    smbus: &mut B,
+    observer: &mut O,
+) -> bool
+    ensures leads { (names : Names) (s : DrivenState names) → Represents names manager.old s
+        → LeadsTo names 0 s manager.new (both (A.counts_of ipmb.old) (B.counts_of smbus.old))
+        (both (A.counts_of ipmb.new) (B.counts_of smbus.new)) }
+    ensures observed { Observed O.sees A.Link B.Link Unseen given manager.old manager.new
+        (links ipmb.old smbus.old) (links ipmb.new smbus.new) (permit_of result)
+        observer.old observer.new }
+{
+    if !observer.look(manager) {
+        return false;
+    }
+    send_all(manager, given, ipmb, smbus);
+    true
+}
+
+/// One turn, while the manager's request is open on this bus: it hears the link of that bus and is looked at, and all that it gives is sent
+/// where the look allows that. It gives whether it did.
+fn turn<A: Link, B: Link, O: Observer>(
+    manager: &mut Manager,
+    bus: Bus,
+    ipmb: &mut A,
+    smbus: &mut B,
+    observer: &mut O,
+) -> bool
+    requires open { (names : Names) (s : DrivenState names) → Represents names manager.old s
+        → open_at names s ≡ Some bus }
+    ensures leads { (names : Names) (s : DrivenState names) → Represents names manager.old s
+        → LeadsTo names 1 s manager.new (both (A.counts_of ipmb.old) (B.counts_of smbus.old))
+        (both (A.counts_of ipmb.new) (B.counts_of smbus.new)) }
+    ensures observed { Observed O.sees A.Link B.Link MaySend None manager.old manager.new
+        (links ipmb.old smbus.old) (links ipmb.new smbus.new) (permit_of result)
+        observer.old observer.new }
+{
+    let given = hear_on(manager, bus, ipmb, smbus);
+    send_seen(manager, given, ipmb, smbus, observer)
+}
+
+/// Makes so many turns, or those until no request is open or a look keeps frames back.
+fn make_turns<A: Link, B: Link, O: Observer>(
     manager: &mut Manager,
     ipmb: &mut A,
     smbus: &mut B,
     turns: u32,
-) -> Phase
+    observer: &mut O,
+) -> DriveEnd
     ensures drives { (names : Names) (s : DrivenState names) → Represents names manager.old s
-        → DriveResult names turns s manager.new result
+        → DrivesTo names turns s manager.new result
         (both (A.counts_of ipmb.old) (B.counts_of smbus.old))
         (both (A.counts_of ipmb.new) (B.counts_of smbus.new)) }
-    ensures over { (names : Names) (s : DrivenState names) → Represents names manager.old s
-        → HeardAndSent A.Link B.Link names s None manager.new (links ipmb.old smbus.old)
-        (links ipmb.new smbus.new) }
+    ensures observed { Observed O.sees A.Link B.Link MaySend None manager.old manager.new
+        (links ipmb.old smbus.old) (links ipmb.new smbus.new) (permit_at result)
+        observer.old observer.new }
 {
     for _ in 0..turns {
         let Some(bus) = manager.open_bus() else {
-            return manager.phase();
+            return Ok(manager.phase());
         };
-        turn(manager, bus, ipmb, smbus);
+        if !turn(manager, bus, ipmb, smbus, observer) {
+            return Err(KeptBack);
+        }
     }
-    manager.phase()
+    Ok(manager.phase())
+}
+
+/// Has the manager looked at where there is something to send first, and sends that. It gives whether it was let.
+fn send_first<A: Link, B: Link, O: Observer>(
+    manager: &mut Manager,
+    first: Option<Sent>,
+    ipmb: &mut A,
+    smbus: &mut B,
+    observer: &mut O,
+) -> bool
+    ensures leads { (names : Names) (s : DrivenState names) → Represents names manager.old s
+        → LeadsTo names 0 s manager.new (both (A.counts_of ipmb.old) (B.counts_of smbus.old))
+        (both (A.counts_of ipmb.new) (B.counts_of smbus.new)) }
+    ensures observed { Observed O.sees A.Link B.Link (permit_for (frames_given first)) first
+        manager.old manager.new (links ipmb.old smbus.old) (links ipmb.new smbus.new)
+        (permit_of result) observer.old observer.new }
+{
+    match first {
+        Some(sent) => send_seen(manager, Some(sent), ipmb, smbus, observer),
+        None => true,
+    }
+}
+
+/// Drives a manager as `drive` does, while an observer looks at it: before what was given to send first goes out, and behind each call of
+/// `next`, before what the manager gave for that goes out. A look that doesn't allow that ends the drive at once, and nothing is sent behind
+/// it.
+///
+/// What the manager gives where a sending failed goes out by the same look: the manager sends its open request again, and its journal stays
+/// as it was. Where there is nothing to send first, nothing is looked at before the first turn.
+pub fn drive_observed<A: Link, B: Link, O: Observer>(
+    manager: &mut Manager,
+    first: Option<Sent>,
+    ipmb: &mut A,
+    smbus: &mut B,
+    turns: u32,
+    observer: &mut O,
+) -> DriveEnd
+    ensures drives { (names : Names) (s : DrivenState names) → Represents names manager.old s
+        → DrivesTo names turns s manager.new result
+        (both (A.counts_of ipmb.old) (B.counts_of smbus.old))
+        (both (A.counts_of ipmb.new) (B.counts_of smbus.new)) }
+    ensures observed { Observed O.sees A.Link B.Link (permit_for (frames_given first)) first
+        manager.old manager.new (links ipmb.old smbus.old) (links ipmb.new smbus.new)
+        (permit_at result) observer.old observer.new }
+{
+    if !send_first(manager, first, ipmb, smbus, observer) {
+        return Err(KeptBack);
+    }
+    make_turns(manager, ipmb, smbus, turns, observer)
 }
 
 /// Drives a manager over IPMB's link and SMBus's: sends what `start`, `undo` or `again` gave, and what the manager gives from then on, until
@@ -165,6 +263,9 @@ pub fn drive<A: Link, B: Link>(
         → HeardAndSent A.Link B.Link names s first manager.new (links ipmb.old smbus.old)
         (links ipmb.new smbus.new) }
 {
-    send_all(manager, first, ipmb, smbus);
-    make_turns(manager, ipmb, smbus, turns)
+    let mut nobody = NoObserver;
+    match drive_observed(manager, first, ipmb, smbus, turns, &mut nobody) {
+        Ok(phase) => phase,
+        Err(KeptBack) => unreachable!(),
+    }
 }

@@ -1,7 +1,9 @@
-//! A scanner beside two workers, in a thread of its own: it has happen what is left of a timetable, and gives its seat back.
+//! A scanner beside two workers, in a thread of its own: it has happen what is left of an agenda, and gives its seat back.
+use crate::agenda::Agenda;
 use crate::at_once::Work;
+use crate::happening::happen_by_agenda;
 use crate::stop_signal::StopSignal;
-use crate::timetable::{TimedEnd, Timetable, happen_in_time};
+use crate::timetable::TimedEnd;
 use bmc_board::Records;
 use bmc_shared::{Opening, Seat, Shared};
 use std::sync::Wait;
@@ -11,7 +13,7 @@ use std::time::Clock;
 #[derive(Drop)]
 pub(crate) struct ScannerLoan<'a, J: Opening> {
     pub seat: Seat<J>,
-    pub table: Timetable<'a>,
+    pub agenda: Agenda<'a>,
 }
 
 /// What it gives back: its seat, the place of what is next, and why it ended.
@@ -28,7 +30,7 @@ pub(crate) struct ScannerPlay<'a, 'b, J: Opening, R: Wait + Clock> {
     pub rt: &'a R,
     pub shared: &'a Shared<J, Records>,
     pub script: ScannerLoan<'a, J>,
-    pub bell: &'b StopSignal,
+    pub bell: &'b StopSignal<'b>,
 }
 
 impl<'a, 'b, J: Opening, R: Wait + Clock> Work for ScannerPlay<'a, 'b, J, R> {
@@ -38,7 +40,7 @@ impl<'a, 'b, J: Opening, R: Wait + Clock> Work for ScannerPlay<'a, 'b, J, R> {
 
     ghost gives = { λ work played. ScannerRun work.script played };
 
-    /// Has all happen that is left. Where there is no room for what is next, it rings the bell.
+    /// Has all happen that is left. Where it's stopped before that, or there is no room for what is next, it rings the bell.
     fn run(self) -> ScannerReturn<J> {
         let ScannerPlay {
             rt,
@@ -46,13 +48,13 @@ impl<'a, 'b, J: Opening, R: Wait + Clock> Work for ScannerPlay<'a, 'b, J, R> {
             mut script,
             bell,
         } = self;
-        let ScannerLoan { seat, table } = &mut script;
-        let end = happen_in_time(rt, shared, seat, table, bell.stops());
-        if end == TimedEnd::Full {
+        let ScannerLoan { seat, agenda } = &mut script;
+        let end = happen_by_agenda(rt, shared, seat, agenda, bell.stops(), bell.room());
+        if end != TimedEnd::Over {
             bell.ring();
         }
         ScannerReturn {
-            next: script.table.next,
+            next: script.agenda.table.next,
             seat: script.seat,
             end,
         }

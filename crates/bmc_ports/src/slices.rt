@@ -69,7 +69,8 @@ fn make_turn<J: Opening, S: Store + Drop, L: Link, G: Gate, R: Wait>(
 }
 
 /// Serves a port, a slice of one turn at a time, until its turns are over, its worker finds no room, or the bell rings. A worker that finds
-/// no room rings it, and so does one whose link was quiet for long enough, where the other's was.
+/// no room rings it, and so does one that fills the room as far as it's to be, and one whose link was quiet for long enough, where the other's
+/// was.
 fn serve_slices<J: Opening, S: Store + Drop, L: Link, G: Gate, R: Wait>(
     rt: &R,
     shared: &Shared<J, S>,
@@ -86,6 +87,7 @@ fn serve_slices<J: Opening, S: Store + Drop, L: Link, G: Gate, R: Wait>(
 {
     let mut desk = WorkerState::new(gate);
     for _ in 0..lane.turns {
+        let held = seat.calls().len();
         match make_turn(rt, shared, seat, lane, &mut desk) {
             End::Full => {
                 rope.ring();
@@ -93,7 +95,8 @@ fn serve_slices<J: Opening, S: Store + Drop, L: Link, G: Gate, R: Wait>(
             }
             End::Turns => {}
         }
-        if rope.tell(lane.quiet) {
+        let gained = seat.calls().len().saturating_sub(held);
+        if rope.tell(gained, lane.quiet) {
             return End::Turns;
         }
     }

@@ -1,15 +1,9 @@
-//! What happens on a board at times of its own: the scanner that waits for each.
-ghost use Rattle.std.specs.Prelude.{◌≡◌, ◌≢◌, ◌≤◌, ◌↔◌, true, length, IsTrue};
-ghost use Rattle.bmc_ports.specs.Timing.{GainsCalls};
-ghost use Rattle.bmc_ports.specs.declared.timetable.TimedEnd.TheVariants.{Over, Full};
+//! What happens on a board at times of its own, and why it ends.
+ghost use Rattle.std.specs.Prelude.{◌≡◌};
 
 use bmc_board::Bench;
-use bmc_shared::{Opening, PeriodFull, Seat, Shared};
-use cfg_records::Store;
-use std::sync::Wait;
 use std::sync::atomic::{AtomicBool, Ordering};
-use std::thread::sleep;
-use std::time::{Clock, Duration, Instant};
+use std::time::Instant;
 
 /// What happens on a board, and when.
 #[derive(Clone, Copy, Debug, PartialEq, Eq)]
@@ -45,13 +39,6 @@ impl<'a> Timetable<'a> {
         }
     }
 
-    /// Whether nothing of it is left.
-    pub fn is_over(&self) -> bool
-        ensures { IsTrue result ↔ (length self.now.list.now ≤ self.now.next) }
-    {
-        self.list.len() <= self.next
-    }
-
     /// The timetable of the same list and start, of which the entry at this place is next.
     pub fn from(&self, next: usize) -> Self
         ensures list { result.list ≡ self.now.list }
@@ -77,7 +64,7 @@ pub struct Stops<'a> {
 
 impl<'a> Stops<'a> {
     /// Whether it's to stop.
-    fn are_set(self) -> bool {
+    pub(crate) fn are_set(self) -> bool {
         self.bell.load(Ordering::SeqCst) || self.over.load(Ordering::SeqCst)
     }
 }
@@ -91,67 +78,4 @@ pub enum TimedEnd {
     Stopped,
     /// The board's history had no room for what is next.
     Full,
-}
-
-/// The longest sleep before the scanner looks whether it's to stop, in milliseconds.
-const NAP_MS: u64 = 20;
-
-/// The next nap before so many milliseconds after the start. None, where they are over, or where the clock can't be read.
-fn next_nap<R: Clock>(rt: &R, start: Option<Instant>, at_ms: u64) -> Option<Duration> {
-    let passed = start?.elapsed(rt).ok()?;
-    let left = Duration::from_millis(at_ms).saturating_sub(passed);
-    if left.is_zero() {
-        return None;
-    }
-    Some(left.min(Duration::from_millis(NAP_MS)))
-}
-
-/// Sleeps in naps until so many milliseconds after the start. Gives whether it wasn't told to stop.
-fn wait_until<R: Wait + Clock>(
-    rt: &R,
-    start: Option<Instant>,
-    at_ms: u64,
-    stops: Stops<'_>,
-) -> bool {
-    for _ in rt.forever() {
-        if stops.are_set() {
-            return false;
-        }
-        match next_nap(rt, start, at_ms) {
-            Some(nap) => sleep(rt, nap),
-            None => return true,
-        }
-    }
-    unreachable!()
-}
-
-/// Has all happen that is left of the timetable, each at its time or as soon after it as the lock is free, until it's told to stop, or until
-/// the board's history is full. What found no room is next then.
-pub fn happen_in_time<J: Opening, S: Store + Drop, R: Wait + Clock>(
-    rt: &R,
-    shared: &Shared<J, S>,
-    seat: &mut Seat<J>,
-    table: &mut Timetable<'_>,
-    stops: Stops<'_>,
-) -> TimedEnd
-    ensures gains { GainsCalls table.old.list.now table.old.next table.new.next
-        seat.old.calls.items seat.new.calls.items }
-    ensures over { (result ≡ Over) ↔ (length table.old.list.now ≤ table.new.next) }
-    ensures marked { result ≡ Full → seat.new.refused ≡ true }
-    ensures mark { result ≢ Full → seat.new.refused ≡ seat.old.refused }
-    ensures number { seat.new.number ≡ seat.old.number }
-    ensures list { table.new.list ≡ table.old.list }
-    ensures start { table.new.start ≡ table.old.start }
-{
-    for place in table.next..table.list.len() {
-        let timed = table.list[place];
-        if !wait_until(rt, table.start, timed.at_ms, stops) {
-            return TimedEnd::Stopped;
-        }
-        match shared.bench(rt, seat, timed.event) {
-            Ok(_) => table.next = place + 1,
-            Err(PeriodFull) => return TimedEnd::Full,
-        }
-    }
-    TimedEnd::Over
 }

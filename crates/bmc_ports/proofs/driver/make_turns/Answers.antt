@@ -1,7 +1,8 @@
-use Rattle.std.proofs.Common.{◌≡◌, Some, None, inl, sym, arith}
+use Rattle.std.proofs.Common.{◌+◌, Bool, None, inl, subst, arith}
 use Rattle.bmc_ports.specs.Conversation.{links}
-use Rattle.bmc_ports.specs.Driving.{both, open_at}
-use Rattle.bmc_ports.proofs.Conversing as conversing
+use Rattle.bmc_ports.specs.Driving.{both}
+use Rattle.bmc_ports.specs.Observing.{MaySend, MayNot, Observed, permit_of}
+use Rattle.bmc_ports.proofs.Observers.{stays_seen, then_seen}
 use Rattle.bmc_ports.proofs.Turns.{goes_on_to, leads_nowhere}
 use Rattle.bmc_ports.proofs.driver.make_turns.Goals as goal
 
@@ -12,22 +13,21 @@ loop-init g c = (
     shown = shows;
     leads = leads_nowhere names s (both (g.A.Link.counts_of c.args.ipmb.now) (g.B.Link.counts_of c.args.smbus.now));
   },
-  λ names s shows. conversing.sends_nothing g.A.Link g.B.Link names s c.args.manager.now (links c.args.ipmb.now c.args.smbus.now) shows,
+  stays_seen g.O.Observer.sees g.A.Link g.B.Link c.args.manager.now (links c.args.ipmb.now c.args.smbus.now) c.args.observer.now,
 )
 
 pub loop-preserved : goal.loop-preserved
 loop-preserved g c = (
   λ names s shows.
       let met = c.loop.invariant.0 names s shows in
-      let at : open_at names met.after ≡ Some c.in-Some.bus = sym (c.in-Some.ensures names met.after met.shown) in
       goes_on_to names c.loop.counter 1 s met.after c.turn.new.manager (both (g.A.Link.counts_of c.args.ipmb.now) (g.B.Link.counts_of c.args.smbus.now))
       (both (g.A.Link.counts_of c.loop.ipmb) (g.B.Link.counts_of c.loop.smbus)) (both (g.A.Link.counts_of c.turn.new.ipmb) (g.B.Link.counts_of c.turn.new.smbus))
-      met.leads (c.turn.ensures.leads names met.after met.shown at),
-  λ names s shows.
-      let met = c.loop.invariant.1 names s shows in
-      let at : open_at names met.after ≡ Some c.in-Some.bus = sym (c.in-Some.ensures names met.after met.shown) in
-      conversing.goes_on_to g.A.Link g.B.Link names s None c.loop.manager c.turn.new.manager (links c.args.ipmb.now c.args.smbus.now) (links c.loop.ipmb c.loop.smbus)
-      (links c.turn.new.ipmb c.turn.new.smbus) met (c.turn.ensures.over names met.after met.shown at),
+      met.leads (c.turn.ensures.leads names met.after met.shown),
+  then_seen g.O.Observer.sees g.A.Link g.B.Link MaySend MaySend None c.args.manager.now c.loop.manager c.turn.new.manager (links c.args.ipmb.now c.args.smbus.now)
+      (links c.loop.ipmb c.loop.smbus) (links c.turn.new.ipmb c.turn.new.smbus) c.args.observer.now c.loop.observer c.turn.new.observer
+      c.loop.invariant.1
+      (subst (λ (allowed : Bool). Observed g.O.Observer.sees g.A.Link g.B.Link MaySend None c.loop.manager c.turn.new.manager (links c.loop.ipmb c.loop.smbus)
+      (links c.turn.new.ipmb c.turn.new.smbus) (permit_of allowed) c.loop.observer c.turn.new.observer) c.if-not-turn.false c.turn.ensures.observed),
 )
 
 pub returns-clause-drives : goal.returns-clause-drives
@@ -44,3 +44,21 @@ returns-clause-drives g c names s shows =
         ended = inl (omega (arith, c.loop.auto.counter-end, c.loop-test.false));
       };
     }
+
+pub returns-then-not-turn-clause-drives : goal.returns-then-not-turn-clause-drives
+returns-then-not-turn-clause-drives g c names s shows =
+    let met = c.loop.invariant.0 names s shows in
+    record {
+      made = c.loop.counter + 1;
+      few = omega (arith, c.loop-test.true);
+      leads = goes_on_to names c.loop.counter 1 s met.after c.turn.new.manager (both (g.A.Link.counts_of c.args.ipmb.now) (g.B.Link.counts_of c.args.smbus.now))
+          (both (g.A.Link.counts_of c.loop.ipmb) (g.B.Link.counts_of c.loop.smbus)) (both (g.A.Link.counts_of c.turn.new.ipmb) (g.B.Link.counts_of c.turn.new.smbus))
+          met.leads (c.turn.ensures.leads names met.after met.shown);
+    }
+
+pub returns-then-not-turn-clause-observed : goal.returns-then-not-turn-clause-observed
+returns-then-not-turn-clause-observed g c =
+    then_seen g.O.Observer.sees g.A.Link g.B.Link MaySend MayNot None c.args.manager.now c.loop.manager c.turn.new.manager (links c.args.ipmb.now c.args.smbus.now)
+    (links c.loop.ipmb c.loop.smbus) (links c.turn.new.ipmb c.turn.new.smbus) c.args.observer.now c.loop.observer c.turn.new.observer c.loop.invariant.1
+    (subst (λ (allowed : Bool). Observed g.O.Observer.sees g.A.Link g.B.Link MaySend None c.loop.manager c.turn.new.manager (links c.loop.ipmb c.loop.smbus)
+    (links c.turn.new.ipmb c.turn.new.smbus) (permit_of allowed) c.loop.observer c.turn.new.observer) c.if-not-turn.true c.turn.ensures.observed)
