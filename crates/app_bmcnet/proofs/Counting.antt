@@ -1,26 +1,20 @@
--- What is counted of a board whose history ended with its pair.
-use Rattle.std.proofs.Common.{◌≡◌, ◌∙◌, refl, ap, ℕ, List, [], ◌∷◌, None, length, false, arith}
-use Rattle.std.specs.List.{sum_by}
+-- What is counted of a board that was served beside a manager.
+use Rattle.std.specs.Prelude.{IfSome}
+use Rattle.std.proofs.Common.{◌≡◌, ◌∙◌, ap, subst, ℕ, List, Option}
 use Rattle.cfg_records.specs.declared.board_file.BoardFile.{BoardFile}
 use Rattle.cfg_records.specs.Records.{Pair}
 use Rattle.cfg_records.specs.Boards.{pairs_of}
-use Rattle.bmc_board.specs.State.{State, state_of, opened}
-use Rattle.cfg_records.specs.Changed.{changed_in}
+use Rattle.bmc_board.specs.State.{State, opened}
 use Rattle.app_serve.specs.declared.board.ClosedBoard.{ClosedBoard}
-use Rattle.app_serve.specs.Served.{IsServedBoard, TalliesOf, most_events}
+use Rattle.app_serve.specs.Served.{IsServedBoard, most_events}
+use Rattle.app_bmcnet.specs.Paired.{CountsChanged, changed_on}
 
--- a board of the file that was served has one history, and these changes
-pub one_history : (file : BoardFile) (served : ClosedBoard) (start : List Pair) (events changed : ℕ) → start ≡ pairs_of file
-    → IsServedBoard file (opened file) most_events served → events ≡ length served.history
-    → changed ≡ changed_in (state_of served.board).records start → TalliesOf false None file events changed
-one_history file served start events changed is_start is counted differ =
-    let after : State = state_of served.board in
-    let one : length served.history ≡ sum_by length (served.history ∷ []) = omega arith in record {
-      histories = served.history ∷ [];
-      after = after;
-      plays = tt;
-      count = refl;
-      lead = (after, is.few, is.replays, refl);
-      counted = counted ∙ one;
-      differ = differ ∙ ap (changed_in after.records) is_start;
-    }
+-- what differs from the records of a board that begins as the file has it differs from the file's
+pub counts_changed : (file setup : BoardFile) (opening : State) (start : List Pair) (served : Option ClosedBoard) (changed : Option ℕ) → setup ≡ file → opening ≡ opened file
+    → start ≡ pairs_of file → IfSome served (IsServedBoard setup opening most_events) → changed ≡ changed_on start served → CountsChanged file changed
+counts_changed file setup opening start served changed is begins starts leads counted = record {
+  served = served;
+  leads = subst (λ (o : State). IfSome served (IsServedBoard file o most_events)) begins
+      (subst (λ (f : BoardFile). IfSome served (IsServedBoard f opening most_events)) is leads);
+  counted = counted ∙ ap (λ (pairs : List Pair). changed_on pairs served) starts;
+}

@@ -1,5 +1,5 @@
 -- What the words of the command line ask for.
-use Rattle.std.specs.Prelude.{◌≡◌, ◌≤◌, ◌<◌, ◌^◌, ◌⊎◌, ℕ, List, Option, None, Some, option_map, codes, string_bytes}
+use Rattle.std.specs.Prelude.{◌≡◌, ◌≤◌, ◌<◌, ◌^◌, ◌⊎◌, ℕ, Bool, true, false, List, Option, None, Some, option_map, is_some, codes, string_bytes}
 use Rattle.std.specs.Net.Grammar.{IsNumber}
 use Rattle.clap.specs.Words.{Row, Text, first_of}
 use Rattle.app_base.specs.Asked.{AsksOf, is_given}
@@ -36,6 +36,19 @@ NamesOr least usual rows name number = NamesOption least rows name (Some number)
 abbrev pub NamesWait : List Row → (wait : ℕ) → Type 0
 NamesWait rows wait = NamesOr 1 200 rows (codes "wait") wait
 
+-- Options of `serve` stand beside each other: a clock and a file that begins anew go over periods, only a file that is there begins anew, and a
+-- clock stands in place of a file.
+pub record StandBeside (clock repeats periods readings : Bool) : Type 0 where
+  pub ticks : clock ≡ true → periods ≡ true
+  pub anew : repeats ≡ true → periods ≡ true
+  pub there : repeats ≡ true → readings ≡ true
+  pub one : clock ≡ true → readings ≡ false
+
+-- so do those that were matched
+abbrev pub OptionsStand : List Row → Type 0
+OptionsStand rows =
+    StandBeside (is_given (codes "clock") rows) (is_given (codes "repeat-readings") rows) (is_given (codes "periods") rows) (is_some (first_of (codes "readings") rows))
+
 -- what was matched behind `serve` asks for this
 pub record AsksServe (rows : List Row) (asked : ServeWords) : Type 0 where
   pub board : first_of (codes "BOARD") rows ≡ Some (string_bytes asked.board)
@@ -47,6 +60,9 @@ pub record AsksServe (rows : List Row) (asked : ServeWords) : Type 0 where
   pub quiet : NamesOption 1 rows (codes "quiet") asked.quiet
   pub forget : NamesOption 1 rows (codes "forget") asked.forget
   pub readings : option_map string_bytes asked.readings ≡ first_of (codes "readings") rows
+  pub repeats : is_given (codes "repeat-readings") rows ≡ asked.repeats
+  pub clock : is_given (codes "clock") rows ≡ asked.clock
+  pub stand : OptionsStand rows
 
 -- what was matched behind `run` asks for this
 pub record AsksRun (rows : List Row) (asked : RunWords) : Type 0 where
@@ -58,6 +74,7 @@ pub record AsksRun (rows : List Row) (asked : RunWords) : Type 0 where
   pub wait : NamesWait rows asked.wait_ms
   pub again : NamesOr 0 0 rows (codes "again") asked.again
   pub forget : NamesOption 1 rows (codes "forget") asked.forget
+  pub greet : is_given (codes "greet") rows ≡ asked.greet
 
 -- what was matched behind `undo` asks for this
 pub record AsksUndo (rows : List Row) (asked : UndoWords) : Type 0 where
@@ -66,6 +83,7 @@ pub record AsksUndo (rows : List Row) (asked : UndoWords) : Type 0 where
   pub smbus : NamesPort rows (codes "P1") asked.smbus_port
   pub turns : NamesTurns rows asked.turns
   pub wait : NamesWait rows asked.wait_ms
+  pub greet : is_given (codes "greet") rows ≡ asked.greet
 
 -- what was matched behind `pair` asks for this
 pub record AsksPair (rows : List Row) (asked : PairWords) : Type 0 where

@@ -10,19 +10,19 @@ use Rattle.app_bmcnet.specs.declared.tasks.Task.TheVariants.{Serve, Run, Undo, P
 abbrev pub taking : (name : Text) → (options : List Rule) → (words : List Text) → App
 taking name options words = fold with_rule (new_app name) (options ++ map needed_rule words)
 
--- the options of `serve`: `[--wait MS] [--periods] [--quiet N] [--forget N] [--readings FILE]`
+-- the options of `serve`: `[--wait MS] [--periods] [--quiet N] [--forget N] [--readings FILE] [--repeat-readings] [--clock]`
 abbrev pub serve_options : List Rule
 serve_options =
     option_rule (codes "wait") ∷ flag_rule (codes "periods") ∷ option_rule (codes "quiet") ∷ option_rule (codes "forget")
-    ∷ option_rule (codes "readings") ∷ []
+    ∷ option_rule (codes "readings") ∷ flag_rule (codes "repeat-readings") ∷ flag_rule (codes "clock") ∷ []
 
--- those of `run`: `[--wait MS] [--again N] [--forget N]`
+-- those of `run`: `[--wait MS] [--again N] [--forget N] [--greet]`
 abbrev pub run_options : List Rule
-run_options = option_rule (codes "wait") ∷ option_rule (codes "again") ∷ option_rule (codes "forget") ∷ []
+run_options = option_rule (codes "wait") ∷ option_rule (codes "again") ∷ option_rule (codes "forget") ∷ flag_rule (codes "greet") ∷ []
 
--- that of `undo`: `[--wait MS]`
+-- those of `undo`: `[--wait MS] [--greet]`
 abbrev pub undo_options : List Rule
-undo_options = option_rule (codes "wait") ∷ []
+undo_options = option_rule (codes "wait") ∷ flag_rule (codes "greet") ∷ []
 
 -- behind their options, `serve BOARD P0 P1 TURNS`, `run PLAN P0 P1 TURNS UNDO`, `undo UNDO P0 P1 TURNS`, and `pair BOARD PLAN TURNS`
 abbrev pub app_named : Task → App

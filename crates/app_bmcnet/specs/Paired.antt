@@ -1,10 +1,11 @@
 -- What a board and a manager came to that ran side by side, and what is said of it.
-use Rattle.std.specs.Prelude.{◌≡◌, ℕ, false, List, [], ◌++◌, Option, Some, None, IfSome}
+use Rattle.std.specs.Prelude.{◌≡◌, ℕ, List, [], ◌++◌, Option, Some, None, option_map, IfSome}
 use Rattle.text_lines.specs.Cuts.{ended}
 use Rattle.cfg_records.specs.declared.board_file.BoardFile.{BoardFile}
 use Rattle.cfg_records.specs.Boards.{pairs_of}
 use Rattle.cfg_records.specs.Records.{Pair}
-use Rattle.bmc_board.specs.State.{opened}
+use Rattle.cfg_records.specs.Changed.{changed_in}
+use Rattle.bmc_board.specs.State.{opened, state_of}
 use Rattle.undo_plans.specs.declared.plan.Plan.{Plan}
 use Rattle.model_undo.specs.declared.phase.Phase.{Phase}
 use Rattle.model_lab.specs.Meaning.{lab_names}
@@ -17,7 +18,7 @@ use Rattle.text_lines.specs.RecordsLine.{records_line}
 use Rattle.app_base.specs.declared.status.Status.{Status}
 use Rattle.app_base.specs.declared.status.Status.TheVariants.{Success, Stopped}
 use Rattle.app_serve.specs.declared.board.ClosedBoard.{ClosedBoard}
-use Rattle.app_serve.specs.Served.{IsServedBoard, TalliesOf, most_events}
+use Rattle.app_serve.specs.Served.{IsServedBoard, most_events}
 use Rattle.app_run.specs.Driven.{DrivenState, CallRun, opened_with, fresh_links}
 use Rattle.app_run.specs.Lines.{phase_line}
 use Rattle.app_bmcnet.specs.declared.side.Driver.{Driver}
@@ -39,15 +40,16 @@ pub record RunsAndUndoes (plan : Plan) (turns : ℕ) (run undone : Phase) : Type
   pub counts : Links
   pub undoes : CallRun Undo turns between last undone half counts
 
--- what became of the records: so many have changed in some history of the board; nothing is known where the serving came to no end
-abbrev pub IsChanged : BoardFile → Option ℕ → Type 0
-IsChanged file None = Unit {0}
-IsChanged file (Some changed) = (events : ℕ) × TalliesOf false None file events changed
+-- how many of these records the served board has with another value than they began with; nothing is known where the serving came to no end
+abbrev pub changed_on : (start : List Pair) → (served : Option ClosedBoard) → Option ℕ
+changed_on start served = option_map (λ board. changed_in (state_of board.board).records start) served
 
--- so many have changed of the records that a file's board began with, where it was served with one history
-abbrev pub CountsChanged : (start : List Pair) → (served : Option ClosedBoard) → (changed : Option ℕ) → Type 0
-CountsChanged start served changed =
-    (file : BoardFile) → start ≡ pairs_of file → IfSome served (IsServedBoard file (opened file) most_events) → IsChanged file changed
+-- What became of the file's records: so many differ on the board that was served, to which its one history leads from the file's; where the serving
+-- came to no end, nothing is known.
+pub record CountsChanged (file : BoardFile) (changed : Option ℕ) : Type 0 where
+  pub served : Option ClosedBoard
+  pub leads : IfSome served (IsServedBoard file (opened file) most_events)
+  pub counted : changed ≡ changed_on (pairs_of file) served
 
 -- the line of the records, where it is known
 abbrev pub last_line : Option ℕ → List ℕ
@@ -69,6 +71,6 @@ pub record TellsPair (file : BoardFile) (plan : Plan) (turns : ℕ) (text : List
   pub undone : Phase
   pub changed : Option ℕ
   pub manager : RunsAndUndoes plan turns run undone
-  pub board : IsChanged file changed
+  pub board : CountsChanged file changed
   pub said : text ≡ text_of run undone changed
   pub ended : status ≡ status_of changed

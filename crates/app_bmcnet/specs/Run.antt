@@ -10,7 +10,7 @@ use Rattle.app_base.specs.Version.{SaysVersion}
 use Rattle.app_serve.specs.Run.{ServeEnds}
 use Rattle.app_run.specs.Beside.{Renamings, Writings}
 use Rattle.app_run.specs.Run.{RunEndsOf}
-use Rattle.app_run.specs.Undo.{SaysOfList}
+use Rattle.app_run.specs.Undo.{UndoEndsOf}
 use Rattle.app_run.specs.declared.progress.Progress.{Progress}
 use Rattle.app_run.specs.Told.{TellsFile, TellsUndoFile}
 use Rattle.app_bmcnet.specs.PairRun.{PrintsPairOfFiles, words_of}
@@ -26,7 +26,7 @@ EndsAsAsked out err gives takes renames (Serve asked) before after old new resul
 EndsAsAsked out err gives takes renames (Run asked) before after old new result =
     RunEndsOf out err gives takes renames (string_bytes asked.plan) asked before after old new result
 EndsAsAsked out err gives takes renames (Undo asked) before after old new result =
-    (after ≡ before) × RunEnds out err (SaysOfList gives (string_bytes asked.undo) asked.turns) old new result
+    (after ≡ before) × UndoEndsOf out err gives (string_bytes asked.undo) asked old new result
 EndsAsAsked out err gives takes renames (Pair asked) before after old new result =
     (after ≡ before) × RunEnds out err (PrintsPairOfFiles gives (words_of asked) asked.turns) old new result
 EndsAsAsked out err gives takes renames Version before after old new result =

@@ -4,7 +4,7 @@ ghost use Rattle.undo_plans.specs.declared.plan.Plan.{Plan as AnyPlan};
 ghost use Rattle.app_base.specs.declared.console.Stream.TheVariants.{Output};
 ghost use Rattle.app_base.specs.Ending.{RunEnds, ReportTells};
 ghost use Rattle.app_base.specs.Files.{FirstUnread};
-ghost use Rattle.app_bmcnet.specs.Paired.{CountsChanged, IsChanged, IsReady, RunsAndUndoes, TellsPair, last_line, status_of, text_of};
+ghost use Rattle.app_bmcnet.specs.Paired.{CountsChanged, IsReady, RunsAndUndoes, TellsPair, changed_on, last_line, status_of, text_of};
 ghost use Rattle.app_bmcnet.specs.PairRun.{ArePairTexts, PrintsPair, PrintsPairOfFiles, words_of};
 
 use crate::inputs::{Inputs, is_memory, read_inputs, refusal};
@@ -110,9 +110,9 @@ fn open_sides<R: Net>(
     }
 }
 
-/// How many of these records changed on a board that was served, if it was.
-fn changed_of(start: &[(Key, StartValue)], served: &Option<ClosedBoard>) -> Option<usize>
-    ensures { CountsChanged start.now served.now result }
+/// How many of these records have another value on a board that was served, if it was.
+pub fn changed_of(start: &[(Key, StartValue)], served: &Option<ClosedBoard>) -> Option<usize>
+    ensures { result ≡ changed_on start.now served.now }
 {
     match served {
         Some(served) => Some(tally_of(start, served).changed),
@@ -123,7 +123,7 @@ fn changed_of(start: &[(Key, StartValue)], served: &Option<ClosedBoard>) -> Opti
 /// What is told of a pair whose board began with these records. Both are let go.
 fn account_of(start: Vec<(Key, StartValue)>, paired: Paired) -> Account
     ensures phases { result.phases ≡ paired.phases }
-    ensures changed { CountsChanged start.items paired.served result.changed }
+    ensures changed { result.changed ≡ changed_on start.items paired.served }
 {
     let account = Account {
         phases: paired.phases,
@@ -145,7 +145,7 @@ fn count<R: Threads + Wait + Sync>(
     ensures phases { (plan : AnyPlan) → IsReady plan sides.1
         → IfOk result (λ account.
         RunsAndUndoes plan turns account.phases.run account.phases.undone) }
-    ensures changed { IfOk result (λ account. IsChanged file account.changed) }
+    ensures changed { IfOk result (λ account. CountsChanged file account.changed) }
 {
     let (controller, driver) = sides;
     let Ok(begun) = begin(alloc, file) else {
@@ -274,7 +274,7 @@ fn texts_of<'a, F: TextFiles>(files: &F, words: &'a PairWords) -> Result<Texts, 
 }
 
 /// Serves the board of a file in threads, runs a plan on it over UDP beside them, undoes it, and writes to standard output in which phase the
-/// manager was after either, and whether records are changed. Where the plan neither ended nor halted, nothing is undone and the second phase
+/// manager was after either, and whether records of the served board are changed. Where the plan neither ended nor halted, nothing is undone and the second phase
 /// is the first. It gives the status: 0, or 3 with `file`, `board` or `plan` and the fault on standard error where a file can't be read or
 /// holds no board or no plan, 4 and no line where a link or the first thread can't be had, 4 behind the phases where a worker's thread can't
 /// be had or the board isn't closed, 5 with `memory` on standard error where memory was refused, and 6 where a write failed.

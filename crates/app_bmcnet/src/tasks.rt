@@ -50,26 +50,35 @@ a decimal number from 1 to 4294967295";
 const READINGS_HELP: &str =
     "The file of what happens on the board meanwhile, a line each, as in --readings examples/readings.txt";
 
-const SERVE_EXAMPLES: &str = "Examples:
-  bmcnet serve sample.toml 9620 9621 1000
-  bmcnet serve --wait 500 --periods sample.toml 9620 9621 1000
-  bmcnet serve --quiet 50 sample.toml 9620 9621 100000
-  bmcnet serve --forget 50 sample.toml 9620 9621 1000
-  bmcnet serve --readings examples/readings.txt sample.toml 9620 9621 1000";
+const REPEAT_READINGS_HELP: &str =
+    "Has what that file says begin anew once it is over, with --periods, as in --repeat-readings";
 
-const SERVE_ARGUMENTS: [Argument<'static>; 9] = [
+const CLOCK_HELP: &str =
+    "Has the board's clock and watchdog run, a tick each 100 ms, with --periods and without a file, as in --clock";
+
+const SERVE_EXAMPLES: &str = "Examples:
+  bmcnet serve --periods sample.toml 9620 9621 1000
+  bmcnet serve --periods --clock sample.toml 9620 9621 1000
+  bmcnet serve --periods --wait 500 sample.toml 9620 9621 1000
+  bmcnet serve --periods --quiet 50 sample.toml 9620 9621 100000
+  bmcnet serve --periods --forget 50 sample.toml 9620 9621 1000
+  bmcnet serve --periods --readings examples/readings.txt --repeat-readings sample.toml 9620 9621 1000";
+
+const SERVE_ARGUMENTS: [Argument<'static>; 11] = [
     Argument::Option("wait", "MS", WAIT_HELP),
     Argument::Flag("periods", PERIODS_HELP),
     Argument::Option("quiet", "N", QUIET_HELP),
     Argument::Option("forget", "N", FORGET_HELP),
     Argument::Option("readings", "FILE", READINGS_HELP),
+    Argument::Flag("repeat-readings", REPEAT_READINGS_HELP),
+    Argument::Flag("clock", CLOCK_HELP),
     Argument::Needed("BOARD", BOARD_HELP),
     Argument::Needed("P0", P0_HELP),
     Argument::Needed("P1", P1_HELP),
     Argument::Needed("TURNS", TURNS_HELP),
 ];
 
-/// `serve [--wait MS] [--periods] [--quiet N] [--forget N] [--readings FILE] BOARD P0 P1 TURNS`.
+/// `serve [--wait MS] [--periods] [--quiet N] [--forget N] [--readings FILE] [--repeat-readings] [--clock] BOARD P0 P1 TURNS`.
 fn serve_command<'a>(alloc: Global) -> Result<Command<'a>, AllocError>
     ensures { IfOk result (IsCommand (app_named Task.Serve)) }
 {
@@ -94,15 +103,21 @@ const FORGETTING_HELP: &str =
     "How many turns to wait first, so that a server with the same --forget has forgotten an earlier run, \
 as in --forget 50: a decimal number from 1 to 4294967295";
 
+const GREET_HELP: &str =
+    "Greets the controller first on each bus that is used, so that what it kept of an earlier run doesn't matter, \
+as in --greet; where it doesn't answer, nothing is begun";
+
 const RUN_EXAMPLES: &str = "Examples:
   bmcnet run examples/clean/plan.toml 9620 9621 1000 undo.txt
+  bmcnet run --greet examples/clean/plan.toml 9620 9621 1000 undo.txt
   bmcnet run --wait 500 --again 3 examples/clean/plan.toml 9620 9621 1000 undo.txt
   bmcnet run --forget 50 examples/clean/plan.toml 9620 9621 1000 undo.txt";
 
-const RUN_ARGUMENTS: [Argument<'static>; 8] = [
+const RUN_ARGUMENTS: [Argument<'static>; 9] = [
     Argument::Option("wait", "MS", WAIT_HELP),
     Argument::Option("again", "N", AGAIN_HELP),
     Argument::Option("forget", "N", FORGETTING_HELP),
+    Argument::Flag("greet", GREET_HELP),
     Argument::Needed("PLAN", PLAN_HELP),
     Argument::Needed("P0", P0_HELP),
     Argument::Needed("P1", P1_HELP),
@@ -110,7 +125,7 @@ const RUN_ARGUMENTS: [Argument<'static>; 8] = [
     Argument::Needed("UNDO", UNDO_FILE_HELP),
 ];
 
-/// `run [--wait MS] [--again N] [--forget N] PLAN P0 P1 TURNS UNDO`.
+/// `run [--wait MS] [--again N] [--forget N] [--greet] PLAN P0 P1 TURNS UNDO`.
 fn run_command<'a>(alloc: Global) -> Result<Command<'a>, AllocError>
     ensures { IfOk result (IsCommand (app_named Task.Run)) }
 {
@@ -123,17 +138,19 @@ const UNDO_TEXT_HELP: &str = "The undo text that the run wrote, as undo.txt";
 
 const UNDO_EXAMPLES: &str = "Examples:
   bmcnet undo undo.txt 9620 9621 1000
+  bmcnet undo --greet undo.txt 9620 9621 1000
   bmcnet undo --wait 500 undo.txt 9620 9621 1000";
 
-const UNDO_ARGUMENTS: [Argument<'static>; 5] = [
+const UNDO_ARGUMENTS: [Argument<'static>; 6] = [
     Argument::Option("wait", "MS", WAIT_HELP),
+    Argument::Flag("greet", GREET_HELP),
     Argument::Needed("UNDO", UNDO_TEXT_HELP),
     Argument::Needed("P0", P0_HELP),
     Argument::Needed("P1", P1_HELP),
     Argument::Needed("TURNS", TURNS_HELP),
 ];
 
-/// `undo [--wait MS] UNDO P0 P1 TURNS`.
+/// `undo [--wait MS] [--greet] UNDO P0 P1 TURNS`.
 fn undo_command<'a>(alloc: Global) -> Result<Command<'a>, AllocError>
     ensures { IfOk result (IsCommand (app_named Task.Undo)) }
 {
@@ -190,7 +207,7 @@ const ABOUT: &str =
     "Serves a modelled board controller over UDP on this machine, and runs plans on one and takes them back";
 
 const EXAMPLES: &str = "Examples:
-  bmcnet serve sample.toml 9620 9621 1000
+  bmcnet serve --periods sample.toml 9620 9621 1000
   bmcnet run examples/clean/plan.toml 9620 9621 1000 undo.txt
   bmcnet undo undo.txt 9620 9621 1000
   bmcnet pair sample.toml examples/reply_lost/plan.toml 20";

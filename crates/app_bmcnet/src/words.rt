@@ -1,9 +1,9 @@
 //! The words of the command line.
-ghost use Rattle.std.specs.Prelude.{IfOk, IfErr, map, string_bytes};
+ghost use Rattle.std.specs.Prelude.{IfOk, IfErr, IfSome, IfNone, map, string_bytes};
 ghost use Rattle.clap.specs.Words.{found_of, rows_of, subcommand_rows_of};
 ghost use Rattle.app_base.specs.Asked.{RefusesWords};
 ghost use Rattle.app_bmcnet.specs.Asked.{AsksBy, AsksFor, AsksPair, AsksRun, AsksServe, AsksUndo};
-ghost use Rattle.app_bmcnet.specs.Asked.{NamesOption, NamesOr, NamesPort, NamesTurns, NamesWait};
+ghost use Rattle.app_bmcnet.specs.Asked.{NamesOption, NamesOr, NamesPort, NamesTurns, NamesWait, OptionsStand, StandBeside};
 
 use crate::number::{number_from, number_of, port_of};
 use crate::pairing::PairWords;
@@ -142,11 +142,52 @@ fn wait(alloc: Global, matches: &ArgMatches, task: Task) -> Result<u32, Refusal>
     number_or(alloc, matches, task, "wait", "MS", 1, WAIT_MS)
 }
 
+/// What is wrong with these options of `serve`, if anything: what goes on without an end needs periods, only a file that is there begins anew, and
+/// a clock stands in place of a file.
+fn misfit(clock: bool, repeats: bool, periods: bool, readings: bool) -> Option<&'static str>
+    ensures fits { IfNone result (StandBeside clock repeats periods readings) }
+    ensures misfits { IfSome result (λ message. ¬ StandBeside clock repeats periods readings) }
+{
+    if (clock || repeats) && !periods {
+        return Some("'--clock' and '--repeat-readings' need '--periods'");
+    }
+    if repeats && !readings {
+        return Some("'--repeat-readings' needs '--readings <FILE>'");
+    }
+    if clock && readings {
+        return Some("'--clock' cannot be used with '--readings <FILE>'");
+    }
+    None
+}
+
+/// Refuses options behind `serve` that don't stand beside each other.
+fn stand_beside(alloc: Global, matches: &ArgMatches) -> Result<(), Refusal>
+    ensures fits { IfOk result (λ done. OptionsStand (rows_of (found_of matches.now))) }
+    ensures refused { IfErr result
+        (RefusesWords (λ (none : Unit {0}). OptionsStand (rows_of (found_of matches.now)))) }
+{
+    let clock = has_flag(matches, "clock");
+    let repeats = has_flag(matches, "repeat-readings");
+    let periods = has_flag(matches, "periods");
+    let readings = matches.get_str("readings").is_some();
+    match misfit(clock, repeats, periods, readings) {
+        None => Ok(()),
+        Some(message) => Err(refusal_by(
+            alloc,
+            Task::Serve.command(alloc),
+            Task::Serve.name(),
+            ErrorKind::ArgumentConflict,
+            message,
+        )),
+    }
+}
+
 /// What the words behind `serve` ask for.
 fn serve_words(alloc: Global, matches: &ArgMatches) -> Result<ServeWords, Refusal>
     ensures asked { IfOk result (AsksServe (rows_of (found_of matches.now))) }
     ensures refused { IfErr result (RefusesWords (AsksServe (rows_of (found_of matches.now)))) }
 {
+    stand_beside(alloc, matches)?;
     Ok(ServeWords {
         board: named(alloc, matches, "BOARD")?,
         ipmb_port: port(alloc, matches, Task::Serve, "P0")?,
@@ -157,6 +198,8 @@ fn serve_words(alloc: Global, matches: &ArgMatches) -> Result<ServeWords, Refusa
         quiet: number_given(alloc, matches, Task::Serve, "quiet", "N", 1)?,
         forget: number_given(alloc, matches, Task::Serve, "forget", "N", 1)?,
         readings: given(alloc, matches, "readings")?,
+        repeats: has_flag(matches, "repeat-readings"),
+        clock: has_flag(matches, "clock"),
     })
 }
 
@@ -174,6 +217,7 @@ fn run_words(alloc: Global, matches: &ArgMatches) -> Result<RunWords, Refusal>
         wait_ms: wait(alloc, matches, Task::Run)?,
         again: number_or(alloc, matches, Task::Run, "again", "N", 0, 0)?,
         forget: number_given(alloc, matches, Task::Run, "forget", "N", 1)?,
+        greet: has_flag(matches, "greet"),
     })
 }
 
@@ -188,6 +232,7 @@ fn undo_words(alloc: Global, matches: &ArgMatches) -> Result<UndoWords, Refusal>
         smbus_port: port(alloc, matches, Task::Undo, "P1")?,
         turns: turns(alloc, matches, Task::Undo)?,
         wait_ms: wait(alloc, matches, Task::Undo)?,
+        greet: has_flag(matches, "greet"),
     })
 }
 

@@ -5,3 +5,5 @@ pub mod Keeping
 pub mod Telling
 pub mod Ways
 pub mod Saying
+pub mod Used
+pub mod Greets

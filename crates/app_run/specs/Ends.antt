@@ -4,10 +4,12 @@ use Rattle.std.specs.Io.KnownBytes.{Appends}
 use Rattle.model_undo.specs.declared.phase.Phase.{Phase}
 use Rattle.app_base.specs.declared.console.Console.{Console}
 use Rattle.app_base.specs.declared.console.Stream.TheVariants.{Output, Error}
+use Rattle.app_base.specs.declared.status.Status.{Status}
 use Rattle.app_base.specs.declared.status.Status.TheVariants.{Success, RefusedFile}
 use Rattle.app_base.specs.Ending.{Saying}
-use Rattle.app_base.specs.Report.{file_line}
-use Rattle.app_run.specs.Lines.{phase_line}
+use Rattle.app_base.specs.Report.{byte_of, file_line}
+use Rattle.app_run.specs.declared.greeting.Unanswered.{Unanswered}
+use Rattle.app_run.specs.Lines.{phase_line, unanswered_line}
 
 -- nothing is said: a run that ends so was refused memory, or couldn't write
 abbrev pub PrintsNothing : Saying
@@ -21,8 +23,12 @@ SaysPhase phase stream text status = (stream ≡ Output) × (text ≡ phase_line
 abbrev pub SaysFile : (word : List ℕ) → Saying
 SaysFile word stream text status = (stream ≡ Error) × (text ≡ file_line word) × (status ≡ RefusedFile)
 
--- standard output has one text, standard error the other, and the status is 3
-pub record TellsBoth {Stdout Stderr : Type 0} (out : Stdout → Option (List ℕ)) (err : Stderr → Option (List ℕ)) (line complaint : List ℕ) (old new : Console Stdout Stderr) (result : ℕ) : Type 0 where
+-- standard output has one text, standard error the other, and the status is this
+pub record TellsBoth {Stdout Stderr : Type 0} (out : Stdout → Option (List ℕ)) (err : Stderr → Option (List ℕ)) (line complaint : List ℕ) (status : Status) (old new : Console Stdout Stderr) (result : ℕ) : Type 0 where
   pub said : Appends (out old.out) (out new.out) line
   pub complained : Appends (err old.err) (err new.err) complaint
-  pub status : result ≡ 3
+  pub ends : result ≡ byte_of status
+
+-- standard output has the phase's line, standard error says which greeting wasn't answered, and the status is 0
+abbrev pub EndsUngreeted : {Stdout Stderr : Type 0} → (out : Stdout → Option (List ℕ)) → (err : Stderr → Option (List ℕ)) → Phase → Unanswered → (old new : Console Stdout Stderr) → ℕ → Type 0
+EndsUngreeted out err phase why = TellsBoth out err (phase_line phase) (unanswered_line why) Success

@@ -2,6 +2,8 @@ pub mod Driven
 pub mod Beside
 pub mod Moments
 pub mod Stops
+pub mod Buses
+pub mod Greeted
 pub mod Lines
 pub mod Ends
 pub mod Outcome

@@ -1,12 +1,15 @@
 -- The lines of `bmcnet run` and `bmcnet undo`.
 use Rattle.std.specs.Prelude.{List, ℕ, ◌++◌, codes}
 use Rattle.text_lines.specs.Cuts.{ended}
+use Rattle.two_wire.specs.Buses.{bus_name}
 use Rattle.model_undo.specs.declared.phase.Phase.{Phase}
 use Rattle.model_undo.specs.PhaseNames.{phase_name}
 use Rattle.plan_file.specs.declared.plan_fault.PlanFault.{PlanFault}
 use Rattle.plan_file.specs.PlanNames.{plan_fault_name}
 use Rattle.text_undo.specs.declared.text.UndoFault.{UndoFault}
 use Rattle.text_undo.specs.UndoNames.{undo_fault_name}
+use Rattle.app_run.specs.declared.greeting.Unanswered.{Unanswered}
+use Rattle.app_run.specs.Greeted.{answer_word}
 
 -- the manager's phase
 abbrev pub phase_line : Phase → List ℕ
@@ -23,3 +26,7 @@ undo_line why = ended (codes "undo " ++ undo_fault_name why)
 -- what is said of one that has other names
 abbrev pub others_line : List ℕ
 others_line = ended (codes "undo OtherNames")
+
+-- what is said of a greeting that wasn't answered: `no answer on ipmb`, or `busy on smbus`
+abbrev pub unanswered_line : Unanswered → List ℕ
+unanswered_line why = ended (answer_word why.busy ++ (codes " on " ++ bus_name why.bus))

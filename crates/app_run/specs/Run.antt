@@ -14,23 +14,25 @@ use Rattle.app_base.specs.Files.{Readings, PrintsRefusal}
 use Rattle.app_base.specs.Report.{file_line}
 use Rattle.app_run.specs.declared.running.RunWords.{RunWords}
 use Rattle.app_run.specs.declared.running.Outcome.{Outcome}
-use Rattle.app_run.specs.declared.running.Outcome.TheVariants.{Ran, Unmade}
+use Rattle.app_run.specs.declared.running.Outcome.TheVariants.{Ran, Unmade, Ungreeted}
 use Rattle.app_run.specs.Beside.{Writings, Renamings}
-use Rattle.app_run.specs.Ends.{PrintsNothing, SaysFile, SaysPhase, TellsBoth}
+use Rattle.app_run.specs.Ends.{EndsUngreeted, PrintsNothing, SaysFile, SaysPhase, TellsBoth}
 use Rattle.app_run.specs.Lines.{phase_line, plan_line}
 use Rattle.app_run.specs.Outcome.{RunEnd}
 
 -- standard output has the phase's line, standard error names the file, and the status is 3
 abbrev pub EndsUnkept : {Stdout Stderr : Type 0} → (out : Stdout → Option (List ℕ)) → (err : Stderr → Option (List ℕ)) → Phase → (word : List ℕ) → (old new : Console Stdout Stderr) → ℕ → Type 0
-EndsUnkept out err phase word = TellsBoth out err (phase_line phase) (file_line word)
+EndsUnkept out err phase word = TellsBoth out err (phase_line phase) (file_line word) RefusedFile
 
--- So a run ends of which that came: it says the phase, and behind it the file that isn't kept; or the file that can't be made; or nothing,
--- where a link can't be had.
+-- So a run ends of which that came: it says the phase, and behind it the file that isn't kept, or which greeting wasn't answered; or the file
+-- that can't be made; or nothing, where a link can't be had.
 abbrev pub EndsBy : {Stdout Stderr : Type 0} → (out : Stdout → Option (List ℕ)) → (err : Stderr → Option (List ℕ)) → (word : List ℕ) → Result Outcome ReportFault → (old new : Console Stdout Stderr) → ℕ → Type 0
 EndsBy out err word (Ok (Ran phase (Ok kept))) old new result = RunEnds out err (SaysPhase phase) old new result
 EndsBy out err word (Ok (Ran phase (Err why))) old new result =
     RunEnds out err PrintsNothing old new result ⊎ EndsUnkept out err phase word old new result
 EndsBy out err word (Ok Unmade) old new result = RunEnds out err (SaysFile word) old new result
+EndsBy out err word (Ok (Ungreeted phase why)) old new result =
+    RunEnds out err PrintsNothing old new result ⊎ EndsUngreeted out err phase why old new result
 EndsBy out err word (Err why) old new result = RunEnds out err (SaysReport (Err why)) old new result
 
 -- so a run of a plan ends

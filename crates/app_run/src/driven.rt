@@ -14,7 +14,7 @@ use undo_plans::{Plan, UndoList};
 use wire_links::Link;
 
 /// How often a manager sends a request again that goes on from a list.
-const UNDO_RETRIES: u8 = 3;
+pub(crate) const UNDO_RETRIES: u8 = 3;
 
 /// Why no manager with the lab's names goes on from a list.
 #[derive(Clone, Copy, Debug)]

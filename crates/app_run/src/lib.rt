@@ -2,8 +2,10 @@
 //! it back.
 #![tactic(auto)]
 
+mod buses;
 pub mod driven;
 pub mod files;
+mod greeting;
 mod lines;
 mod links;
 pub mod observer;
@@ -15,6 +17,7 @@ pub mod undoing;
 
 pub use driven::{RemakeFault, open_manager, resume_manager, run_plan, undo_plan};
 pub use files::{WriteFault, WritesFiles};
+pub use greeting::Unanswered;
 pub use lines::push_phase;
 pub use links::WAIT_MS;
 pub use observer::Observer;

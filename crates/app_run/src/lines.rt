@@ -1,12 +1,17 @@
 //! The lines that a run says.
-ghost use Rattle.std.specs.Prelude.{◌≡◌, ◌++◌, IfOk, OnOk, string_bytes};
+ghost use Rattle.std.specs.Prelude.{◌≡◌, ◌⊎◌, ◌++◌, IfOk, OnOk, string_bytes};
 ghost use Rattle.app_base.specs.declared.console.Stream.TheVariants.{Output, Error};
 ghost use Rattle.app_base.specs.declared.status.Status.TheVariants.{Success, RefusedFile};
+ghost use Rattle.app_base.specs.Ending.{RunEnds};
+ghost use Rattle.app_run.specs.Ends.{EndsUngreeted, PrintsNothing, TellsBoth};
 ghost use Rattle.app_run.specs.Lines.{phase_line, plan_line, undo_line, others_line};
+ghost use Rattle.app_run.specs.Lines.{unanswered_line};
 
-use app_base::{Report, Status, Stream};
+use crate::greeting::Unanswered;
+use app_base::{Console, Ending, Report, ReportFault, Status, Stream, end_run};
 use plan_file::PlanFault;
 use std::alloc::{AllocError, Global};
+use std::io;
 use text_undo::UndoFault;
 use undo_core::Phase;
 
@@ -73,4 +78,59 @@ pub(crate) fn names_refusal(alloc: Global) -> Result<Report, AllocError>
         text: String::from_str(alloc, "undo OtherNames\n")?,
         status: Status::RefusedFile,
     })
+}
+
+/// What is said of a greeting that wasn't answered.
+fn unanswered_report(alloc: Global, why: Unanswered) -> Result<Report, AllocError>
+    ensures stream { IfOk result (λ report. report.stream ≡ Error) }
+    ensures text { IfOk result (λ report. string_bytes report.text ≡ unanswered_line why) }
+    ensures status { IfOk result (λ report. report.status ≡ Success) }
+{
+    let word = why.word();
+    let bus = why.bus.name();
+    let mut text = String::new(alloc);
+    writeln!(text, "{word} on {bus}")?;
+    Ok(Report {
+        stream: Stream::Error,
+        text,
+        status: Status::Success,
+    })
+}
+
+/// Writes one report behind the other, unless the first can't be written, and gives the status of the last.
+pub(crate) fn tell_both<W: io::Write, E: io::Write>(
+    line: &Report,
+    complaint: &Report,
+    console: &mut Console<W, E>,
+) -> u8
+    requires line { (line.now.stream ≡ Output) × (line.now.status ≡ Success) }
+    requires complaint { complaint.now.stream ≡ Error }
+    ensures { RunEnds W.contents E.contents PrintsNothing console.old console.new result
+        ⊎ TellsBoth W.contents E.contents
+        (string_bytes line.now.text) (string_bytes complaint.now.text) complaint.now.status
+        console.old console.new result }
+{
+    match Ending::of_report(line).write(console) {
+        Status::Success => u8::from(Ending::of_report(complaint).write(console)),
+        status => u8::from(status),
+    }
+}
+
+/// Says in which phase a manager is that did nothing, and which greeting wasn't answered. Both lines
+/// are made before one is written.
+pub(crate) fn tell_ungreeted<W: io::Write, E: io::Write>(
+    alloc: Global,
+    phase: Phase,
+    why: Unanswered,
+    console: &mut Console<W, E>,
+) -> u8
+    ensures { RunEnds W.contents E.contents PrintsNothing console.old console.new result
+        ⊎ EndsUngreeted W.contents E.contents phase why console.old console.new result }
+{
+    let line = phase_report(alloc, phase);
+    let complaint = unanswered_report(alloc, why);
+    match (line, complaint) {
+        (Ok(line), Ok(complaint)) => tell_both(&line, &complaint, console),
+        _ => end_run(&Err(ReportFault::Memory), console),
+    }
 }

@@ -1,30 +1,30 @@
 //! `bmcnet run`: a plan on a controller over UDP.
-ghost use Rattle.std.specs.Prelude.{◌≡◌, ◌⊎◌, ℕ, List, true, false, IfOk, IfSome, OnErr, Ok, Err, map, string_bytes};
+ghost use Rattle.std.specs.Prelude.{◌≡◌, ◌⊎◌, ℕ, List, true, false, IfOk, OnErr, Ok, Err, map, string_bytes};
 ghost use Rattle.plan_file.specs.Kinds.{kind_of};
 ghost use Rattle.plan_file.specs.PlanHolds.{ReadsPlan};
 ghost use Rattle.model_lab.specs.Meaning.{lab_names};
 ghost use Rattle.undo_core.specs.Shown.{Represents};
-ghost use Rattle.app_base.specs.declared.console.Stream.TheVariants.{Output, Error};
-ghost use Rattle.app_base.specs.declared.status.Status.TheVariants.{Success, RefusedFile};
 ghost use Rattle.app_base.specs.Ending.{RunEnds, ReportTells};
 ghost use Rattle.wire_links.specs.Counted.{none_counted};
 ghost use Rattle.app_run.specs.declared.running.Outcome.TheVariants.{Ran as HasRun};
 ghost use Rattle.app_run.specs.Driven.{is_over, opened_with};
-ghost use Rattle.app_run.specs.Ends.{PrintsNothing, SaysFile, SaysPhase, TellsBoth};
-ghost use Rattle.app_run.specs.Outcome.{RunEnd, ComesBeside, KeepsBeside, RunsBeside};
+ghost use Rattle.app_run.specs.Ends.{PrintsNothing, SaysFile, SaysPhase};
+ghost use Rattle.app_run.specs.Greeted.{greetings_before_run};
+ghost use Rattle.app_run.specs.Outcome.{RunEnd, ComesBeside, ComesGreeted, KeepsBeside, RunsBeside, StaysGreeted};
 ghost use Rattle.app_run.specs.Told.{MayTellWay, TellsBeside, TellsFile, TellsPlan, TellsText};
 ghost use Rattle.app_run.specs.Run.{EndsBy, EndsUnkept, RunEndsOf, RunEndsOn, RunEndsOver, SaysFault};
 
 use crate::driven::open_manager;
 use crate::files::{WriteFault, WritesFiles};
-use crate::lines::{phase_report, plan_refusal};
+use crate::greeting::{GreetFault, Greetings, Unanswered, greet_first};
+use crate::lines::{phase_report, plan_refusal, tell_both, tell_ungreeted};
 use crate::links::{BusLinks, open_ends, sit_out};
 use crate::observer::{Chained, ListWriter, ProgressWriter};
 use crate::progress::{PlanOutline, Progress, kinds_of};
 use crate::trying::try_plan;
 use crate::undo_files::UndoFiles;
 use app_base::files::refuse;
-use app_base::{Console, Ending, Report, ReportFault, Status, TextFiles, end_run, text_of};
+use app_base::{Console, Report, ReportFault, TextFiles, end_run, text_of};
 use plan_file::{Kind, PlanFault, read_plan};
 use std::alloc::{AllocError, Global};
 use std::io;
@@ -51,6 +51,8 @@ pub struct RunWords {
     pub again: u32,
     /// How many turns to wait before the run begins.
     pub forget: Option<u32>,
+    /// Whether the buses that are used are greeted before the run begins.
+    pub greet: bool,
 }
 
 /// What came of a run.
@@ -60,13 +62,16 @@ pub enum Outcome {
     Ran(Phase, Result<(), WriteFault>),
     /// The file beside the one of the undo text can't be made.
     Unmade,
+    /// This greeting wasn't answered, and the manager, in this phase, did nothing.
+    Ungreeted(Phase, Unanswered),
 }
 
-/// A manager of a plan, and the kinds of the plan's steps.
+/// A manager of a plan, the kinds of the plan's steps, and the greetings before it is called.
 #[derive(Drop)]
 struct Ready {
     manager: Manager,
     kinds: Vec<Kind>,
+    greetings: Greetings,
 }
 
 /// A manager that ran a plan, and its phase.
@@ -85,17 +90,6 @@ fn wait_first<R: Net>(rt: &R, words: &RunWords) -> bool {
         Ok(()) => true,
         Err(_) => false,
     }
-}
-
-/// Links to the ports that the words name, once the turns are over that the run is to wait; or nothing where one can't be had.
-fn ready_ends<R: Net>(rt: &R, words: &RunWords) -> Option<BusLinks>
-    ensures ipmb { IfSome result (λ ends. ends.ipmb.counts ≡ none_counted) }
-    ensures smbus { IfSome result (λ ends. ends.smbus.counts ≡ none_counted) }
-{
-    if !wait_first(rt, words) {
-        return None;
-    }
-    open_ends(rt, words.ipmb_port, words.smbus_port, words.wait_ms)
 }
 
 /// Has a manager run its plan over these links, while a keeper looks at it that has seen no list yet, and a teller, whose line is ended then.
@@ -150,7 +144,11 @@ fn run_on<F: WritesFiles, P: io::Write>(
         result.manager result.phase files.old files.new }
     ensures told { MayTellWay P.contents ready.kinds.items ready.manager progress.old progress.new }
 {
-    let Ready { mut manager, kinds } = ready;
+    let Ready {
+        mut manager,
+        kinds,
+        greetings: _,
+    } = ready;
     let first = ListWriter {
         alloc,
         files,
@@ -195,7 +193,7 @@ fn keep<F: WritesFiles>(
     Ok(Ok(()))
 }
 
-/// Has a manager run its plan, once the file of the list so far is made, and keeps its list.
+/// Has a manager run its plan, once the controller was greeted, and keeps its list.
 fn run_made<F: WritesFiles, P: io::Write, R: Net>(
     rt: &R,
     alloc: Global,
@@ -209,7 +207,8 @@ fn run_made<F: WritesFiles, P: io::Write, R: Net>(
         result files.old files.new }
     ensures told { MayTellWay P.contents ready.kinds.items ready.manager progress.old progress.new }
 {
-    let Some(ends) = ready_ends(rt, words) else {
+    let ends = open_ends(rt, words.ipmb_port, words.smbus_port, words.wait_ms);
+    let Some(ends) = ends else {
         drop(ready);
         return Err(ReportFault::Stopped);
     };
@@ -223,11 +222,58 @@ fn run_made<F: WritesFiles, P: io::Write, R: Net>(
     }
 }
 
-/// A manager of this plan, that is ready to begin.
-fn make_ready(alloc: Global, plan: Plan) -> Result<Ready, AllocError>
+/// What comes of a run of which a greeting failed. Its manager did nothing.
+fn leave_ungreeted(ready: Ready, fault: GreetFault) -> Result<Outcome, ReportFault>
+    ensures { StaysGreeted ready.manager fault result }
+{
+    let phase = ready.manager.phase();
+    drop(ready);
+    match fault {
+        GreetFault::NoLink => Err(ReportFault::Stopped),
+        GreetFault::Unanswered(why) => Ok(Outcome::Ungreeted(phase, why)),
+    }
+}
+
+/// Waits, once the file of the list so far is made, and greets the controller, as the words ask
+/// for. Where each greeting was answered, the manager runs its plan, and its list is kept.
+fn run_greeted<F: WritesFiles, P: io::Write, R: Net>(
+    rt: &R,
+    alloc: Global,
+    files: &mut F,
+    beside: &UndoFiles,
+    ready: Ready,
+    words: &RunWords,
+    progress: &mut Progress<P>,
+) -> Result<Outcome, ReportFault>
+    ensures comes { ComesGreeted F.takes F.renames ready.greetings beside.now ready.manager
+        words.now result files.old files.new }
+    ensures told { MayTellWay P.contents ready.kinds.items ready.manager progress.old progress.new }
+{
+    if !wait_first(rt, words) {
+        drop(ready);
+        return Err(ReportFault::Stopped);
+    }
+    let greeted = greet_first(
+        rt,
+        &ready.greetings,
+        words.ipmb_port,
+        words.smbus_port,
+        words.wait_ms,
+        words.turns,
+    );
+    match greeted {
+        Ok(()) => run_made(rt, alloc, files, beside, ready, words, progress),
+        Err(fault) => leave_ungreeted(ready, fault),
+    }
+}
+
+/// A manager of this plan, that is ready to begin, and whether the controller is greeted before.
+fn make_ready(alloc: Global, plan: Plan, greet: bool) -> Result<Ready, AllocError>
     ensures manager { IfOk result (λ ready. Represents lab_names ready.manager (opened_with plan)) }
     ensures kinds { IfOk result (λ ready. ready.kinds.items ≡ map kind_of plan.steps) }
+    ensures greetings { IfOk result (λ ready. ready.greetings ≡ greetings_before_run greet plan) }
 {
+    let greetings = Greetings::before_run(greet, &plan);
     let kinds = match kinds_of(alloc, &plan.steps) {
         Ok(kinds) => kinds,
         Err(why) => {
@@ -236,7 +282,11 @@ fn make_ready(alloc: Global, plan: Plan) -> Result<Ready, AllocError>
         }
     };
     match open_manager(alloc, plan) {
-        Ok(manager) => Ok(Ready { manager, kinds }),
+        Ok(manager) => Ok(Ready {
+            manager,
+            kinds,
+            greetings,
+        }),
         Err(why) => {
             drop(kinds);
             Err(why)
@@ -259,11 +309,11 @@ fn carry_out<F: WritesFiles, P: io::Write, R: Net>(
     let Ok(beside) = UndoFiles::of(alloc, words.undo.as_str()) else {
         return Err(ReportFault::Memory);
     };
-    let Ok(ready) = make_ready(alloc, plan) else {
+    let Ok(ready) = make_ready(alloc, plan, words.greet) else {
         return Err(ReportFault::Memory);
     };
     match beside.put_list(alloc, files, ready.manager.undo_list()) {
-        Ok(Ok(())) => run_made(rt, alloc, files, &beside, ready, words, progress),
+        Ok(Ok(())) => run_greeted(rt, alloc, files, &beside, ready, words, progress),
         Ok(Err(WriteFault)) => {
             drop(ready);
             Ok(Outcome::Unmade)
@@ -272,25 +322,6 @@ fn carry_out<F: WritesFiles, P: io::Write, R: Net>(
             drop(ready);
             Err(ReportFault::Memory)
         }
-    }
-}
-
-/// Writes one report behind the other, unless the first can't be written, and gives the status of the last.
-fn tell_both<W: io::Write, E: io::Write>(
-    line: &Report,
-    complaint: &Report,
-    console: &mut Console<W, E>,
-) -> u8
-    requires line { (line.now.stream ≡ Output) × (line.now.status ≡ Success) }
-    requires complaint { (complaint.now.stream ≡ Error) × (complaint.now.status ≡ RefusedFile) }
-    ensures { RunEnds W.contents E.contents PrintsNothing console.old console.new result
-        ⊎ TellsBoth W.contents E.contents
-        (string_bytes line.now.text) (string_bytes complaint.now.text)
-        console.old console.new result }
-{
-    match Ending::of_report(line).write(console) {
-        Status::Success => u8::from(Ending::of_report(complaint).write(console)),
-        status => u8::from(status),
     }
 }
 
@@ -356,6 +387,7 @@ fn say<W: io::Write, E: io::Write>(
     match outcome {
         Outcome::Ran(phase, kept) => say_ran(alloc, word, phase, kept, console),
         Outcome::Unmade => end_run(&unmade(alloc, word), console),
+        Outcome::Ungreeted(phase, why) => tell_ungreeted(alloc, phase, why, console),
     }
 }
 
@@ -432,6 +464,10 @@ fn run_file<F: TextFiles + WritesFiles, W: io::Write, E: io::Write, P: io::Write
 /// by a writing of `.next` and a renaming. Where the plan ended or halted, it gets the last list and then the name UNDO. The phase is said
 /// behind that, so that no failed output costs the list. Where the line of its progress is written, that tells of each step and is ended before
 /// the phase is said. A write of it that fails costs nothing but the rest of it.
+///
+/// Where the words ask for it, each bus on which requests of the steps go is greeted before the plan is begun, over links of its own and in as
+/// many turns at most. Where a greeting isn't answered nothing is begun: the phase is that of the manager that did nothing, standard error has
+/// `no answer on` or `busy on` and the bus behind it, and the status is 0.
 ///
 /// It gives the status: 0, or 3 with `file` or `plan` and the fault on standard error where the plan's file can't be read or holds no plan,
 /// also 3 with `file` and the word UNDO on standard error where `.part` can't be made, and behind the phase on standard output where the undo

@@ -1,16 +1,20 @@
 //! `bmcnet undo`: what a plan did to a controller is taken back over UDP.
-ghost use Rattle.std.specs.Prelude.{◌≡◌, [], false, IfOk, length, string_bytes};
+ghost use Rattle.std.specs.Prelude.{◌≡◌, [], false, IfOk, None, length, string_bytes};
 ghost use Rattle.undo_plans.specs.declared.undo_list.UndoList.{UndoList as AnyList};
 ghost use Rattle.model_lab.specs.Meaning.{lab_names};
 ghost use Rattle.undo_core.specs.Shown.{Represents};
 ghost use Rattle.wire_links.specs.Counted.{none_counted};
-ghost use Rattle.app_base.specs.Ending.{RunEnds, ReportTells};
+ghost use Rattle.app_base.specs.Ending.{ReportTells};
+ghost use Rattle.app_run.specs.declared.greeting.Greetings.{Greetings as AnyGreetings};
 ghost use Rattle.app_run.specs.Driven.{UndoRun, resumed_from};
+ghost use Rattle.app_run.specs.Greeted.{AreGreeted};
 ghost use Rattle.app_run.specs.Told.{MayTellUndo, TellsOfNames, TellsUndo, TellsUndoFile, TellsUndoText};
-ghost use Rattle.app_run.specs.Undo.{PrintsUndo, SaysOfList, SaysOfNames, SaysUndone};
+ghost use Rattle.app_run.specs.Undo.{PrintsUndo, SaysOfNames, SaysUndone, StaysOfNames, StaysOfText};
+ghost use Rattle.app_run.specs.Undo.{StaysUndone, StaysUngreeted, UndoEnds, UndoEndsOf, UndoTells, told_by};
 
 use crate::driven::{RemakeFault, resume_manager};
-use crate::lines::{names_refusal, phase_report, undo_refusal};
+use crate::greeting::{GreetFault, Greetings, Unanswered, greet_first};
+use crate::lines::{names_refusal, phase_report, tell_ungreeted, undo_refusal};
 use crate::links::{BusLinks, open_ends};
 use crate::observer::ProgressWriter;
 use crate::progress::{PlanOutline, Progress};
@@ -37,6 +41,17 @@ pub struct UndoWords {
     pub turns: u32,
     /// How many milliseconds of quiet end a turn.
     pub wait_ms: u32,
+    /// Whether the buses that are used are greeted before the undo begins.
+    pub greet: bool,
+}
+
+/// What came of an undo.
+#[derive(Drop)]
+enum Told {
+    /// This is said of it.
+    Says(Report),
+    /// This greeting wasn't answered, and the manager, in this phase, did nothing.
+    Ungreeted(Phase, Unanswered),
 }
 
 /// A manager that undid its list as far as it came, and its phase.
@@ -121,7 +136,8 @@ fn undo_on<P: io::Write, R: Net>(
     Ok(Undone { manager, phase })
 }
 
-/// What is said of a manager that goes on from a list of so many requests.
+/// What is said of a manager that goes on from a list of so many requests, once the controller was
+/// greeted.
 fn undone_report<P: io::Write, R: Net>(
     rt: &R,
     alloc: Global,
@@ -130,8 +146,10 @@ fn undone_report<P: io::Write, R: Net>(
     words: &UndoWords,
     progress: &mut Progress<P>,
 ) -> Result<Report, ReportFault>
-    ensures says { (list : AnyList) → Represents lab_names manager (resumed_from list)
-        → ReportTells (SaysUndone list words.now.turns) result }
+    ensures says { (list : AnyList) (greetings : AnyGreetings)
+        → Represents lab_names manager (resumed_from list)
+        → AreGreeted greetings words.now.turns None
+        → ReportTells (SaysUndone greetings list words.now.turns) result }
     ensures told { (list : AnyList) → length list.requests.members ≡ steps
         → Represents lab_names manager (resumed_from list)
         → MayTellUndo P.contents list progress.old progress.new }
@@ -142,40 +160,95 @@ fn undone_report<P: io::Write, R: Net>(
     Ok(phase_report(alloc, phase)?)
 }
 
-/// What is said of a list that is undone, or that has other names.
-fn list_report<P: io::Write, R: Net>(
+/// What came of an undo of which the report says all.
+fn said(report: Result<Report, ReportFault>) -> Result<Told, ReportFault>
+    ensures { result ≡ told_by report }
+{
+    match report {
+        Ok(report) => Ok(Told::Says(report)),
+        Err(why) => Err(why),
+    }
+}
+
+/// What comes of a manager of which a greeting failed. It did nothing.
+fn leave_ungreeted(manager: Manager, fault: GreetFault) -> Result<Told, ReportFault>
+    ensures { StaysUngreeted manager fault result }
+{
+    let phase = manager.phase();
+    drop(manager);
+    match fault {
+        GreetFault::NoLink => Err(ReportFault::Stopped),
+        GreetFault::Unanswered(why) => Ok(Told::Ungreeted(phase, why)),
+    }
+}
+
+/// Greets the controller, and has a manager go on from a list of so many requests, where each
+/// greeting was answered.
+fn undo_greeted<P: io::Write, R: Net>(
+    rt: &R,
+    alloc: Global,
+    manager: Manager,
+    steps: usize,
+    greetings: &Greetings,
+    words: &UndoWords,
+    progress: &mut Progress<P>,
+) -> Result<Told, ReportFault>
+    ensures says { (list : AnyList) → Represents lab_names manager (resumed_from list)
+        → UndoTells (SaysUndone greetings.now list words.now.turns)
+        (StaysUndone greetings.now list words.now.turns) result }
+    ensures told { (list : AnyList) → length list.requests.members ≡ steps
+        → Represents lab_names manager (resumed_from list)
+        → MayTellUndo P.contents list progress.old progress.new }
+{
+    let greeted = greet_first(
+        rt,
+        greetings,
+        words.ipmb_port,
+        words.smbus_port,
+        words.wait_ms,
+        words.turns,
+    );
+    match greeted {
+        Ok(()) => said(undone_report(rt, alloc, manager, steps, words, progress)),
+        Err(fault) => leave_ungreeted(manager, fault),
+    }
+}
+
+/// What comes of a list that is undone, or that has other names.
+fn list_told<P: io::Write, R: Net>(
     rt: &R,
     alloc: Global,
     list: UndoList,
     words: &UndoWords,
     progress: &mut Progress<P>,
-) -> Result<Report, ReportFault>
-    ensures says { ReportTells (SaysOfNames list words.now.turns) result }
+) -> Result<Told, ReportFault>
+    ensures says { UndoTells (SaysOfNames list words.now) (StaysOfNames list words.now) result }
     ensures told { TellsOfNames P.contents list progress.old progress.new }
 {
     let steps = list.requests.len();
+    let greetings = Greetings::before_undo(words.greet, &list);
     match resume_manager(alloc, list) {
-        Ok(manager) => undone_report(rt, alloc, manager, steps, words, progress),
-        Err(RemakeFault::OtherNames) => Ok(names_refusal(alloc)?),
+        Ok(manager) => undo_greeted(rt, alloc, manager, steps, &greetings, words, progress),
+        Err(RemakeFault::OtherNames) => Ok(Told::Says(names_refusal(alloc)?)),
         Err(RemakeFault::Memory) => Err(ReportFault::Memory),
     }
 }
 
-/// What is said of an undo text.
-fn text_report<P: io::Write, R: Net>(
+/// What comes of an undo text.
+fn text_told<P: io::Write, R: Net>(
     rt: &R,
     alloc: Global,
     text: &str,
     words: &UndoWords,
     progress: &mut Progress<P>,
-) -> Result<Report, ReportFault>
-    ensures says { ReportTells (PrintsUndo text.now words.now.turns) result }
+) -> Result<Told, ReportFault>
+    ensures says { UndoTells (PrintsUndo text.now words.now) (StaysOfText text.now words.now) result }
     ensures told { TellsUndoText P.contents text.now progress.old progress.new }
 {
     match read_undo(alloc, text) {
-        Ok(list) => list_report(rt, alloc, list, words, progress),
+        Ok(list) => list_told(rt, alloc, list, words, progress),
         Err(UndoFault::Memory) => Err(ReportFault::Memory),
-        Err(why) => Ok(undo_refusal(alloc, why)?),
+        Err(why) => Ok(Told::Says(undo_refusal(alloc, why)?)),
     }
 }
 
@@ -188,12 +261,15 @@ fn undo_text<W: io::Write, E: io::Write, P: io::Write, R: Net>(
     progress: &mut Progress<P>,
     console: &mut Console<W, E>,
 ) -> u8
-    ensures ends { RunEnds W.contents E.contents (PrintsUndo text.now words.now.turns)
-        console.old console.new result }
+    ensures ends { UndoEnds W.contents E.contents (PrintsUndo text.now words.now)
+        (StaysOfText text.now words.now) console.old console.new result }
     ensures told { TellsUndoText P.contents text.now progress.old progress.new }
 {
-    let report = text_report(rt, alloc, text, words, progress);
-    end_run(&report, console)
+    match text_told(rt, alloc, text, words, progress) {
+        Ok(Told::Says(report)) => end_run(&Ok(report), console),
+        Ok(Told::Ungreeted(phase, why)) => tell_ungreeted(alloc, phase, why, console),
+        Err(why) => end_run(&Err(why), console),
+    }
 }
 
 /// Undoes the list of the file that this word names, and says what came of it.
@@ -206,8 +282,8 @@ fn undo_file<F: TextFiles, W: io::Write, E: io::Write, P: io::Write, R: Net>(
     progress: &mut Progress<P>,
     console: &mut Console<W, E>,
 ) -> u8
-    ensures ends { RunEnds W.contents E.contents
-        (SaysOfList (F.gives files.now) word.now words.now.turns) console.old console.new result }
+    ensures ends { UndoEndsOf W.contents E.contents (F.gives files.now) word.now words.now
+        console.old console.new result }
     ensures told { TellsUndoFile P.contents (F.gives files.now) word.now progress.old progress.new }
 {
     match text_of(files, word) {
@@ -217,7 +293,8 @@ fn undo_file<F: TextFiles, W: io::Write, E: io::Write, P: io::Write, R: Net>(
 }
 
 /// Undoes the list of the file that the words name, on the controller at their two ports, and writes to standard output in which phase the
-/// manager is then. It sends a request again up to three times. Where the line of its progress is written, that tells of each step and is ended
+/// manager is then. It sends a request again up to three times. Where the words ask for it, each bus on which requests of the list go is greeted
+/// before, as `run` does for the list's next numbers. Where the line of its progress is written, that tells of each step and is ended
 /// before the phase is said. It gives the status: 0, or 3 with `file` or `undo` and the fault on standard error where the file can't be read or
 /// is no undo text, or `undo OtherNames` where its list has names that aren't the lab's, 4 and no line where a link can't be had, 5 with `memory` on standard error where memory was refused, and 6 where a write
 /// of these failed.
@@ -229,9 +306,8 @@ pub fn undo<F: TextFiles, W: io::Write, E: io::Write, P: io::Write, R: Net>(
     progress: &mut Progress<P>,
     console: &mut Console<W, E>,
 ) -> u8
-    ensures ends { RunEnds W.contents E.contents
-        (SaysOfList (F.gives files.now) (string_bytes words.now.undo) words.now.turns)
-        console.old console.new result }
+    ensures ends { UndoEndsOf W.contents E.contents (F.gives files.now)
+        (string_bytes words.now.undo) words.now console.old console.new result }
     ensures told { TellsUndoFile P.contents (F.gives files.now) (string_bytes words.now.undo)
         progress.old progress.new }
     ensures untold { progress.old.on ≡ false → progress.new ≡ progress.old }

@@ -1,6 +1,6 @@
 -- What a closed history makes a period.
 use Rattle.std.specs.Prelude.{IfOk, Result, Ok, Err}
-use Rattle.std.proofs.Common.{◌≡◌, ◌≤◌, ◌∙◌, inl, inr, sym, subst, ℕ, List, [], length}
+use Rattle.std.proofs.Common.{◌≡◌, ◌≤◌, ◌⊎◌, ◌∙◌, inl, inr, sym, subst, ℕ, Bool, List, [], Option, None, Some, length}
 use Rattle.cfg_records.specs.declared.board_file.BoardFile.{BoardFile}
 use Rattle.bmc_board.specs.State.{State, state_of}
 use Rattle.app_base.specs.declared.ending.ReportFault.{ReportFault}
@@ -10,7 +10,7 @@ use Rattle.bmc_history.specs.declared.event.Call.{Call}
 use Rattle.bmc_history.specs.declared.event.Event.{Event}
 use Rattle.bmc_history.specs.Replay.{calls_of}
 use Rattle.bmc_shared.specs.declared.seat.Seats.{Seats}
-use Rattle.bmc_shared.specs.Seated.{IsFreshSeat}
+use Rattle.bmc_shared.specs.Seated.{IsFreshSeat, calls_made}
 use Rattle.bmc_shared.specs.declared.worker.End.{End}
 use Rattle.bmc_shared.specs.declared.worker.End.TheVariants.{Full}
 use Rattle.bmc_ports.specs.declared.lane.Lane.{Lane}
@@ -18,10 +18,11 @@ use Rattle.bmc_ports.specs.declared.lane.Lanes.{Lanes}
 use Rattle.bmc_ports.specs.declared.timetable.Timed.{Timed}
 use Rattle.bmc_ports.specs.declared.timetable.TimedEnd.{TimedEnd}
 use Rattle.bmc_ports.specs.declared.timetable.TimedEnd.TheVariants as timed
-use Rattle.bmc_ports.specs.Slices.{WorkerEnd, IsBack, NoRoom}
+use Rattle.bmc_ports.specs.Lending.{HaveCalledEnough}
+use Rattle.bmc_ports.specs.Slices.{WorkerEnd, IsBack, IsDone, NoRoom}
 use Rattle.bmc_ports.specs.Timing.{GainsCalls, IsPlayed}
 use Rattle.app_serve.specs.Served.{most_events}
-use Rattle.app_serve.specs.Periods.{IsClosed, IsPeriod}
+use Rattle.app_serve.specs.Periods.{HasEnoughEvents, IsClosed, IsPeriod, events_of_period}
 
 -- a worker whose seat was fresh has called what the history has of it
 called : {L : Type 0} (of : Ghosts L) (end : End) (held kept calls : List Call) (before after : Lane L) → held ≡ [] → kept ≡ calls
@@ -30,9 +31,10 @@ called of end held kept calls before after none are goes =
     subst (λ (xs : List Call). WorkerEnd of end xs calls before after) none (subst (λ (xs : List Call). WorkerEnd of end held xs before after) are goes)
 
 -- and so has a scanner
-happened : (list : List Timed) (from to : ℕ) (held kept calls : List Call) → held ≡ [] → kept ≡ calls → GainsCalls list from to held kept → GainsCalls list from to [] calls
-happened list from to held kept calls none are gains =
-    subst (λ (xs : List Call). GainsCalls list from to xs calls) none (subst (λ (xs : List Call). GainsCalls list from to held xs) are gains)
+happened : (repeats : Bool) (list : List Timed) (from to : ℕ) (held kept calls : List Call) → held ≡ [] → kept ≡ calls
+    → GainsCalls repeats list from to held kept → GainsCalls repeats list from to [] calls
+happened repeats list from to held kept calls none are gains =
+    subst (λ (xs : List Call). GainsCalls repeats list from to xs calls) none (subst (λ (xs : List Call). GainsCalls repeats list from to held xs) are gains)
 
 -- where one of two workers or the scanner found no room, the history is full
 is_full : (one two : End) (scanner : TimedEnd) (count room : ℕ) → (one ≡ Full → count ≡ room) → (two ≡ Full → count ≡ room) → (scanner ≡ timed.Full → count ≡ room)
@@ -41,16 +43,30 @@ is_full one two scanner count room first second third most (inl (inl full)) = fi
 is_full one two scanner count room first second third most (inl (inr full)) = second full ∙ most
 is_full one two scanner count room first second third most (inr full) = third full ∙ most
 
+-- seats that made as many calls as end it leave a history with as many events
+has_enough : {J : Type 0} {g : _} (most : Option ℕ) (seats : Seats J g) (history : List Event) → length history ≡ calls_made seats
+    → HaveCalledEnough most seats → HasEnoughEvents most history
+has_enough None seats history counted enough = absurd enough
+has_enough (Some most) seats history counted enough = subst (λ (n : ℕ). most ≤ n) (sym counted) enough
+
+-- so the serving of a history ends
+is_done : {J : Type 0} {g : _} {A B : Type 0} (quiet most : Option ℕ) (one two : End) (scanner : TimedEnd) (lanes : Lanes A B) (seats : Seats J g) (history : List Event)
+    → length history ≡ calls_made seats → IsDone quiet one two scanner lanes ⊎ HaveCalledEnough most seats
+    → IsDone quiet one two scanner lanes ⊎ HasEnoughEvents most history
+is_done quiet most one two scanner lanes seats history counted (inl done) = inl done
+is_done quiet most one two scanner lanes seats history counted (inr enough) = inr (has_enough most seats history counted enough)
+
 -- a history that is closed once its workers and its scanner are back is a period
-is_period : {J : Type 0} {g h : _} {A B : Type 0} (one : Ghosts A) (two : Ghosts B) (setup : BoardFile) (opening ending : State) (room : ℕ)
-    (fresh : Seats J g) (before : Lanes A B) (list : List Timed) (from to : ℕ) (seats : Seats J h) (after : Lanes A B) (first_end second_end : End) (scanner_end : TimedEnd) (history : List Event)
+is_period : {J : Type 0} {g h : _} {A B : Type 0} (one : Ghosts A) (two : Ghosts B) (periods : Bool) (quiet : Option ℕ) (setup : BoardFile) (opening ending : State) (room : ℕ)
+    (fresh : Seats J g) (before : Lanes A B) (repeats : Bool) (list : List Timed) (from to : ℕ) (seats : Seats J h) (after : Lanes A B) (first_end second_end : End) (scanner_end : TimedEnd) (history : List Event)
     → room ≡ most_events → IsFreshSeat fresh.first → IsFreshSeat fresh.second → IsFreshSeat fresh.scanner
     → IsBack one fresh.first before.first seats.first after.first first_end
     → IsBack two fresh.second before.second seats.second after.second second_end
-    → IsPlayed list from to fresh.scanner seats.scanner scanner_end
-    → IsClosed setup opening ending room seats history → IsPeriod one two setup opening ending before after list from to history
-is_period one two setup opening ending room fresh before list from to seats after first_end second_end scanner_end history most none_first none_second none_third first second
-    third closed =
+    → IsPlayed repeats list from to fresh.scanner seats.scanner scanner_end
+    → IsDone quiet first_end second_end scanner_end after ⊎ HaveCalledEnough (events_of_period periods) seats
+    → IsClosed setup opening ending room seats history → IsPeriod one two periods quiet setup opening ending before after repeats list from to history
+is_period one two periods quiet setup opening ending room fresh before repeats list from to seats after first_end second_end scanner_end history most none_first none_second none_third
+    first second third done closed =
     record {
       few = subst (λ (n : ℕ). length history ≤ n) most closed.few;
       replays = closed.replays;
@@ -61,31 +77,33 @@ is_period one two setup opening ending room fresh before list from to seats afte
           none_first.0 (sym closed.first.calls_are) first.goes;
       second = called two second_end fresh.second.calls.items seats.second.calls.items (calls_of 1 history) before.second after.second
           none_second.0 (sym closed.second.calls_are) second.goes;
-      third = happened list from to fresh.scanner.calls.items seats.scanner.calls.items (calls_of 2 history) none_third.0 (sym closed.third.calls_are) third.gains;
+      third = happened repeats list from to fresh.scanner.calls.items seats.scanner.calls.items (calls_of 2 history) none_third.0 (sym closed.third.calls_are) third.gains;
       over = third.over;
       full = is_full first_end second_end scanner_end (length history) room
           (λ full. closed.first.is_full (first.marked full)) (λ full. closed.second.is_full (second.marked full))
           (λ full. closed.third.is_full (third.marked full)) most;
+      done = is_done quiet (events_of_period periods) first_end second_end scanner_end after seats history closed.counted done;
     }
 
 -- the same of what closing came to
-pub closes_period : {J : Type 0} {g h : _} {A B : Type 0} (one : Ghosts A) (two : Ghosts B) (setup : BoardFile) (opening : State) (room : ℕ)
-    (fresh : Seats J g) (before : Lanes A B) (list : List Timed) (from to : ℕ) (seats : Seats J h) (after : Lanes A B) (first_end second_end : End) (scanner_end : TimedEnd)
+pub closes_period : {J : Type 0} {g h : _} {A B : Type 0} (one : Ghosts A) (two : Ghosts B) (periods : Bool) (quiet : Option ℕ) (setup : BoardFile) (opening : State) (room : ℕ)
+    (fresh : Seats J g) (before : Lanes A B) (repeats : Bool) (list : List Timed) (from to : ℕ) (seats : Seats J h) (after : Lanes A B) (first_end second_end : End) (scanner_end : TimedEnd)
     (result : Result (Period A B) ReportFault)
     → room ≡ most_events → IsFreshSeat fresh.first → IsFreshSeat fresh.second → IsFreshSeat fresh.scanner
     → IsBack one fresh.first before.first seats.first after.first first_end
     → IsBack two fresh.second before.second seats.second after.second second_end
-    → IsPlayed list from to fresh.scanner seats.scanner scanner_end
+    → IsPlayed repeats list from to fresh.scanner seats.scanner scanner_end
+    → IsDone quiet first_end second_end scanner_end after ⊎ HaveCalledEnough (events_of_period periods) seats
     → IfOk result (λ period. IsClosed setup opening (state_of period.board) room seats period.history)
     → IfOk result (λ period. period.lanes ≡ after)
     → IfOk result (λ period. period.next ≡ to)
-    → IfOk result (λ period. IsPeriod one two setup opening (state_of period.board) before period.lanes list from period.next period.history)
-closes_period one two setup opening room fresh before list from to seats after first_end second_end scanner_end (Ok period) most none_first none_second none_third first second
-    third closed lanes next =
+    → IfOk result (λ period. IsPeriod one two periods quiet setup opening (state_of period.board) before period.lanes repeats list from period.next period.history)
+closes_period one two periods quiet setup opening room fresh before repeats list from to seats after first_end second_end scanner_end (Ok period) most none_first none_second none_third
+    first second third done closed lanes next =
     let ending : State = state_of period.board in
-    subst (λ (n : ℕ). IsPeriod one two setup opening ending before period.lanes list from n period.history) (sym next)
-    (subst (λ (l : Lanes _ _). IsPeriod one two setup opening ending before l list from to period.history) (sym lanes)
-    (is_period one two setup opening ending room fresh before list from to seats after first_end second_end scanner_end period.history most none_first none_second none_third
-    first second third closed))
-closes_period one two setup opening room fresh before list from to seats after first_end second_end scanner_end (Err why) most none_first none_second none_third first second third
-    closed lanes next = tt
+    subst (λ (n : ℕ). IsPeriod one two periods quiet setup opening ending before period.lanes repeats list from n period.history) (sym next)
+    (subst (λ (l : Lanes _ _). IsPeriod one two periods quiet setup opening ending before l repeats list from to period.history) (sym lanes)
+    (is_period one two periods quiet setup opening ending room fresh before repeats list from to seats after first_end second_end scanner_end period.history most none_first none_second
+    none_third first second third done closed))
+closes_period one two periods quiet setup opening room fresh before repeats list from to seats after first_end second_end scanner_end (Err why) most none_first none_second none_third
+    first second third done closed lanes next = tt

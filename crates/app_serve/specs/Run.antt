@@ -1,5 +1,5 @@
 -- What a run of `bmcnet serve` says.
-use Rattle.std.specs.Prelude.{◌≡◌, ◌⊎◌, ◌++◌, ◌∷◌, ℕ, List, [], Option, None, Some, option_map, Ok, Err, codes, string_bytes}
+use Rattle.std.specs.Prelude.{◌≡◌, ◌≢◌, ◌⊎◌, ◌++◌, ◌∷◌, ℕ, Bool, true, false, List, [], Option, None, Some, option_map, Ok, Err, codes, string_bytes}
 use Rattle.std.specs.Fmt.{decimal}
 use Rattle.cfg_records.specs.declared.board_file.BoardFile.{BoardFile}
 use Rattle.text_board.specs.declared.fault.FileFault.{FileFault}
@@ -19,7 +19,7 @@ use Rattle.app_base.specs.Ending.{RunEnds, Saying}
 use Rattle.app_base.specs.Files.{Readings, PrintsRefusal}
 use Rattle.app_base.specs.Report.{board_line}
 use Rattle.app_serve.specs.declared.run.ServeWords.{ServeWords}
-use Rattle.app_serve.specs.Served.{TellsServed}
+use Rattle.app_serve.specs.Served.{TalliesOf, most_events, text_of}
 
 -- the text is a board file
 abbrev pub IsBoard : List ℕ → Type 0
@@ -86,19 +86,54 @@ SaysUnserved board given Error text status =
     ⊎ ((IsBoard board × (line : ℕ) × IsBadAt given line × (text ≡ readings_line (Line line)) × (status ≡ RefusedFile))
     ⊎ (IsBoard board × AreReadings given × (text ≡ []) × (status ≡ Stopped)))
 
--- what is said of a board that is served: on standard output how it was served, or nothing, where the serving came to no end
-abbrev pub SaysServed : ServeWords → (board : List ℕ) → (given : Option (List ℕ)) → Saying
-SaysServed words board given Output text status =
-    (file : BoardFile) × ReadsText board (Ok file) × (list : Option (List Timed)) × StandsFor given list
-    × TellsServed words.periods list file text × (status ≡ Success)
-SaysServed words board given Error text status = IsBoard board × AreReadings given × (text ≡ []) × (status ≡ Stopped)
+-- the line that tells that the room of the one history is over, and how to go on then
+abbrev pub room_line : List ℕ
+room_line = codes "bmcnet: room is over: 4096 events; serve --periods goes on\n"
+
+-- where there is one history, and it is full, standard error grows by that line, and else by nothing
+abbrev pub TellsRoom : {Stdout Stderr : Type 0} → (out : Stdout → Option (List ℕ)) → (err : Stderr → Option (List ℕ)) → (periods : Bool) → (events : ℕ) → (old new : Console Stdout Stderr) → Type 0
+TellsRoom out err periods events old new =
+    ((periods ≡ false) × (events ≡ most_events) × IsWrittenTo Error room_line (out old.out) (out new.out) (err old.err) (err new.err))
+    ⊎ (((periods ≡ true) ⊎ (events ≢ most_events)) × (new ≡ old))
+
+-- what is said of a board that was served: on standard output how many events there were, and whether records are changed
+abbrev pub SaysTally : (events changed : ℕ) → Saying
+SaysTally events changed Output text status = (text ≡ text_of events changed) × (status ≡ Success)
+SaysTally events changed Error text status = ⊥
+
+-- So a run ends whose board was served: it tells of the room first, where that is over, or it can't.
+abbrev pub TallyEnds : {Stdout Stderr : Type 0} → (out : Stdout → Option (List ℕ)) → (err : Stderr → Option (List ℕ)) → (periods : Bool) → (events changed : ℕ)
+    → (old new : Console Stdout Stderr) → ℕ → Type 0
+TallyEnds {Stdout} {Stderr} out err periods events changed old new result =
+    ((mid : Console Stdout Stderr) × TellsRoom out err periods events old mid × RunEnds out err (SaysTally events changed) mid new result)
+    ⊎ RunEnds out err SaysNothing old new result
+
+-- nothing is said of a board whose serving came to no end
+abbrev pub SaysUnended : (board : List ℕ) → (given : Option (List ℕ)) → Saying
+SaysUnended board given Output text status = ⊥
+SaysUnended board given Error text status = IsBoard board × AreReadings given × (text ≡ []) × (status ≡ Stopped)
+
+-- the board of a text was served so, with a text of readings, where there is one
+pub record ServesBoard (words : ServeWords) (board : List ℕ) (given : Option (List ℕ)) (events changed : ℕ) : Type 0 where
+  pub file : BoardFile
+  pub reads : ReadsText board (Ok file)
+  pub list : Option (List Timed)
+  pub stands : StandsFor given list
+  pub tallies : TalliesOf words list file events changed
+
+-- So a run ends that told of its ports: it says how the board was served, or nothing, where the serving came to no end.
+abbrev pub BoardEnds : {Stdout Stderr : Type 0} → (out : Stdout → Option (List ℕ)) → (err : Stderr → Option (List ℕ)) → ServeWords → (board : List ℕ) → (given : Option (List ℕ))
+    → (old new : Console Stdout Stderr) → ℕ → Type 0
+BoardEnds out err words board given old new result =
+    ((events : ℕ) × (changed : ℕ) × ServesBoard words board given events changed × TallyEnds out err words.periods events changed old new result)
+    ⊎ RunEnds out err (SaysUnended board given) old new result
 
 -- So a run ends that serves the board of a text, with a text of readings, where there is one: it isn't served, or both ports are told of first.
 abbrev pub TextEnds : {Stdout Stderr : Type 0} → (out : Stdout → Option (List ℕ)) → (err : Stderr → Option (List ℕ)) → ServeWords → (board : List ℕ) → (given : Option (List ℕ))
     → (old new : Console Stdout Stderr) → ℕ → Type 0
 TextEnds {Stdout} {Stderr} out err words board given old new result =
     RunEnds out err (SaysUnserved board given) old new result
-    ⊎ ((mid : Console Stdout Stderr) × TellsPorts out err words old mid × RunEnds out err (SaysServed words board given) mid new result)
+    ⊎ ((mid : Console Stdout Stderr) × TellsPorts out err words old mid × BoardEnds out err words board given mid new result)
 
 -- So it ends where the board file was read: as it does with its text and that of the readings, where a word names them, or that file isn't read.
 abbrev pub BesideEnds : {Stdout Stderr : Type 0} → (out : Stdout → Option (List ℕ)) → (err : Stderr → Option (List ℕ)) → Readings → ServeWords → (word : Option (List ℕ)) → (board : List ℕ)

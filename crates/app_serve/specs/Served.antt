@@ -9,12 +9,14 @@ use Rattle.bmc_board.specs.State.{State, state_of, opened}
 use Rattle.bmc_history.specs.declared.event.Event.{Event}
 use Rattle.bmc_history.specs.Replay.{IsReplay, calls_of}
 use Rattle.bmc_ports.specs.declared.timetable.Timed.{Timed}
-use Rattle.bmc_ports.specs.declared.timetable.Timetable.{Timetable}
+use Rattle.bmc_ports.specs.declared.agenda.Agenda.{Agenda}
+use Rattle.bmc_board.specs.declared.bench.Bench.TheVariants.{Tick}
 use Rattle.bmc_ports.specs.Timing.{GainsCalls}
 use Rattle.cfg_records.specs.Changed.{changed_in}
 use Rattle.text_lines.specs.RecordsLine.{records_line}
 use Rattle.app_serve.specs.declared.board.ClosedBoard.{ClosedBoard}
 use Rattle.app_serve.specs.declared.tally.Begun.{Begun}
+use Rattle.app_serve.specs.declared.run.ServeWords.{ServeWords}
 
 -- the most events of a history
 abbrev pub most_events : ℕ
@@ -38,7 +40,7 @@ HistoriesLead setup first [] last = first ≡ last
 HistoriesLead setup first (history ∷ later) last =
     (mid : State) × (length history ≤ most_events) × IsReplay setup first history mid × HistoriesLead setup mid later last
 
--- there is one period, unless there may be several
+-- there is one history, unless there may be several
 abbrev pub IsCount : (several : Bool) → ℕ → Type 0
 IsCount true count = Unit {0}
 IsCount false count = count ≡ 1
@@ -52,23 +54,38 @@ abbrev pub all_of : Option (List Timed) → List Timed
 all_of None = []
 all_of (Some list) = list
 
--- the timetable is this list, of which nothing has happened
-pub record IsAll (given : Option (List Timed)) (table : Timetable) : Type 0 where
-  pub list : table.list.now ≡ all_of given
-  pub next : table.next ≡ 0
+-- a clock's list: a tenth of a second passes
+abbrev pub clock_list : List Timed
+clock_list = record { at_ms = 100; event = Tick } ∷ []
 
--- Where there is a list of what is to happen on the board, what the histories have of the scanner's seat is its first events, in their order.
-abbrev pub PlaysTimetable : Option (List Timed) → List (List Event) → Type 0
-PlaysTimetable None histories = Unit {0}
-PlaysTimetable (Some list) histories = (place : ℕ) × GainsCalls list 0 place [] (flat_map (calls_of 2) histories)
+-- the list that is gone through: a clock's, where one is to run, or the one that there is
+abbrev pub list_for : (clock : Bool) → Option (List Timed) → List Timed
+list_for true given = clock_list
+list_for false given = all_of given
 
--- Some histories of the file's board, one unless there may be several, play the list, where there is one. They have so many events in all, and lead
--- to a state in which so many of the file's records have another value.
-pub record TalliesOf (several : Bool) (list : Option (List Timed)) (file : BoardFile) (events changed : ℕ) : Type 0 where
+-- it is gone through again and again: a clock's is, and the one that there is, where that is asked for
+abbrev pub is_repeated : (clock repeated : Bool) → Bool
+is_repeated true repeated = true
+is_repeated false repeated = repeated
+
+-- the agenda is what the words ask for with this list, and nothing of it has happened
+pub record IsAsked (words : ServeWords) (given : Option (List Timed)) (agenda : Agenda) : Type 0 where
+  pub list : agenda.table.list.now ≡ list_for words.clock given
+  pub next : agenda.table.next ≡ 0
+  pub repeats : agenda.repeats ≡ is_repeated words.clock words.repeats
+
+-- What the histories have of the scanner's seat is the first events of what the words ask for with this list, in their order, once or again and again.
+abbrev pub PlaysAgenda : ServeWords → Option (List Timed) → List (List Event) → Type 0
+PlaysAgenda words given histories =
+    (place : ℕ) × GainsCalls (is_repeated words.clock words.repeats) (list_for words.clock given) 0 place [] (flat_map (calls_of 2) histories)
+
+-- Some histories of the file's board, one unless the words ask for periods, play what these ask for with the list. They have so many events in all,
+-- and lead to a state in which so many of the file's records have another value.
+pub record TalliesOf (words : ServeWords) (list : Option (List Timed)) (file : BoardFile) (events changed : ℕ) : Type 0 where
   pub histories : List (List Event)
   pub after : State
-  pub plays : PlaysTimetable list histories
-  pub count : IsCount several (length histories)
+  pub plays : PlaysAgenda words list histories
+  pub count : IsCount words.periods (length histories)
   pub lead : HistoriesLead file (opened file) histories after
   pub counted : events ≡ sum_by length histories
   pub differ : changed ≡ changed_in after.records (pairs_of file)
@@ -80,10 +97,3 @@ served_line events = codes "served " ++ decimal events
 -- the lines: how many events there were, and whether records are changed
 abbrev pub text_of : (events changed : ℕ) → List ℕ
 text_of events changed = flat_map ended (served_line events ∷ records_line changed ∷ [])
-
--- the text tells of such histories
-pub record TellsServed (several : Bool) (list : Option (List Timed)) (file : BoardFile) (text : List ℕ) : Type 0 where
-  pub events : ℕ
-  pub changed : ℕ
-  pub tallies : TalliesOf several list file events changed
-  pub said : text ≡ text_of events changed

@@ -1,11 +1,11 @@
-//! A board that two workers serve, each in a thread of its own.
+//! A board that threads share, and what is left of it once it is closed.
 ghost use Rattle.std.specs.Prelude.{◌≡◌, [], ◌∷◌, IfOk, IfSome};
 ghost use Rattle.std.specs.List.{AllZip};
 ghost use Rattle.two_wire.specs.declared.Bus.TheVariants as bus;
 ghost use Rattle.bmc_board.specs.State.{state_of};
 ghost use Rattle.bmc_lab.specs.Run.{IsFreshPort};
 ghost use Rattle.bmc_shared.specs.Seated.{IsFreshSeat as HasNoCall};
-ghost use Rattle.app_serve.specs.Served.{IsServedBoard, most_events};
+ghost use Rattle.app_serve.specs.Served.{IsServedBoard};
 
 use app_base::ReportFault;
 use bmc_board::{Board, Records};
@@ -14,7 +14,6 @@ use bmc_lab::controller_place;
 pub use bmc_ports::MOST_EVENTS;
 use bmc_ports::{Gate, History, Link, NoThread, Opening, Seats, Shared, run_two};
 use std::alloc::{AllocError, Global};
-use std::marker::Brand;
 use std::sync::Wait;
 use std::sync::ledger::Blank;
 use std::thread::Threads;
@@ -103,95 +102,4 @@ pub fn close_board<J: Opening>(shared: Shared<J, Records>, seats: Seats<J>) -> O
         Ok((board, history)) => Some(ClosedBoard { board, history }),
         Err(_) => None,
     }
-}
-
-/// Serves a board that is shared over two links, and closes it.
-fn serve_shared<J, A, B, R>(
-    rt: &R,
-    shared: Shared<J, Records>,
-    seats: Seats<J>,
-    ports: [Port; 2],
-    ipmb: &mut A,
-    smbus: &mut B,
-    turns: u32,
-) -> Result<ClosedBoard, ReportFault>
-where
-    J: Opening + Send + Sync,
-    A: Link + Send,
-    B: Link + Send,
-    R: Threads + Wait + Sync,
-    requires three { J.parts ≡ 3 }
-    ensures { IfOk result (IsServedBoard J.setup J.opening J.room) }
-{
-    match work(rt, &shared, seats, ports, ipmb, smbus, turns) {
-        Ok(seats) => close_board(shared, seats).ok_or(ReportFault::Stopped),
-        Err(NoThread) => {
-            drop(shared);
-            Err(ReportFault::Stopped)
-        }
-    }
-}
-
-/// Serves a board over two links, with room for so many events.
-fn serve_opened<J, A, B, R>(
-    rt: &R,
-    alloc: Global,
-    blank: Blank,
-    board: Board<Records>,
-    room: usize,
-    ports: [Port; 2],
-    ipmb: &mut A,
-    smbus: &mut B,
-    turns: u32,
-) -> Result<ClosedBoard, ReportFault>
-where
-    J: Opening + Send + Sync,
-    A: Link + Send,
-    B: Link + Send,
-    R: Threads + Wait + Sync,
-    requires name { blank.name ≡ J.name }
-    requires parts { blank.parts ≡ J.parts }
-    requires three { blank.parts ≡ 3 }
-    requires setup { board.setup ≡ J.setup }
-    requires opening { state_of board ≡ J.opening }
-    requires room { room ≡ J.room }
-    ensures { IfOk result (IsServedBoard J.setup J.opening J.room) }
-{
-    match open_board::<J>(alloc, blank, board, room) {
-        Ok((shared, seats)) => serve_shared(rt, shared, seats, ports, ipmb, smbus, turns),
-        Err(why) => {
-            drop(ports);
-            Err(why)
-        }
-    }
-}
-
-/// Serves a board over two links until both workers made their turns, or until its history has as many events as it may have. Each
-/// worker makes a turn with each call of its link's `next`.
-pub fn serve_over<A, B, R>(
-    rt: &R,
-    alloc: Global,
-    board: Board<Records>,
-    ports: [Port; 2],
-    ipmb: &mut A,
-    smbus: &mut B,
-    turns: u32,
-) -> Result<ClosedBoard, ReportFault>
-where
-    A: Link + Send,
-    B: Link + Send,
-    R: Threads + Wait + Sync,
-    ensures { IfOk result (IsServedBoard board.setup (state_of board) most_events) }
-{
-    serve_opened::<Brand, A, B, R>(
-        rt,
-        alloc,
-        Blank::new(3),
-        board,
-        MOST_EVENTS,
-        ports,
-        ipmb,
-        smbus,
-        turns,
-    )
 }

@@ -1,22 +1,22 @@
 //! The board of a file, served over two links, and what is counted of it.
-ghost use Rattle.std.specs.Prelude.{◌≡◌, false, true, List, Option, None, IfOk};
+ghost use Rattle.std.specs.Prelude.{◌≡◌, IfOk};
 ghost use Rattle.cfg_records.specs.declared.board_file.BoardFile.{BoardFile as AnyFile};
-ghost use Rattle.bmc_ports.specs.declared.timetable.Timed.{Timed as AnyTimed};
 ghost use Rattle.bmc_board.specs.State.{state_of};
 ghost use Rattle.cfg_records.specs.Changed.{changed_in};
-ghost use Rattle.app_serve.specs.Served.{IsAll, IsBegunBoard, TalliesOf, list_in};
+ghost use Rattle.app_serve.specs.Served.{IsBegunBoard, TalliesOf, list_in};
 
-use crate::board::{controller_ports, serve_over};
-use crate::periods::{PeriodState, serve_periods};
-use crate::readings::table_of;
+use crate::board::controller_ports;
+use crate::periods::{PeriodState, ServeRules, serve_periods};
+use crate::readings::{CLOCK, agenda_of};
 use crate::run::ServeWords;
-use crate::tally::{Begun, Tally, begin, count, tally_of};
+use crate::tally::{Begun, Tally, begin, count};
 use app_base::ReportFault;
 use bmc_core::Port;
-use bmc_ports::{Lane, Lanes, Link, Timed, Timetable};
+use bmc_ports::{Lane, Lanes, Link, Timed};
 use cfg_records::{BoardFile, Key, StartValue};
 use std::alloc::{AllocError, Global};
 use std::sync::Wait;
+use std::sync::atomic::AtomicBool;
 use std::thread::Threads;
 use std::time::Clock;
 
@@ -39,7 +39,7 @@ fn lanes_of<A: Drop, B: Drop>(
     }
 }
 
-/// What is counted of a board that was served for a period or more, by the records that it began with. Both are let go.
+/// What is counted of a board that was served, by the records that it began with. Both are let go.
 fn counted<A: Drop, B: Drop>(start: Vec<(Key, StartValue)>, course: PeriodState<'_, A, B>) -> Tally
     ensures events { result.events ≡ course.entry.events }
     ensures changed { result.changed
@@ -51,88 +51,44 @@ fn counted<A: Drop, B: Drop>(start: Vec<(Key, StartValue)>, course: PeriodState<
     tally
 }
 
-/// Serves a board with one history, and counts what came of it.
-fn served_once<A, B, R>(
+/// What is served: a board that begins, with what is to happen on it meanwhile, where there is a list, as the words say.
+#[derive(Clone, Copy)]
+pub(crate) struct Asked<'a> {
+    pub readings: &'a Option<Vec<Timed>>,
+    pub words: &'a ServeWords,
+    pub bell: &'a AtomicBool,
+}
+
+/// Serves a board that begins over two links as the words say, and counts what came of it.
+fn serve_begun<A, B, R>(
     rt: &R,
     alloc: Global,
     begun: Begun,
-    ports: [Port; 2],
-    mut ipmb: A,
-    mut smbus: B,
-    turns: u32,
+    lanes: Lanes<A, B>,
+    asked: Asked<'_>,
 ) -> Result<Tally, ReportFault>
 where
     A: Link + Send + Drop,
     B: Link + Send + Drop,
-    R: Threads + Wait + Sync,
+    R: Threads + Wait + Clock + Sync,
     ensures { (file : AnyFile) → IsBegunBoard file begun
-        → IfOk result (λ tally. TalliesOf false None file tally.events tally.changed) }
+        → IfOk result (λ tally. TalliesOf asked.entry.words.now
+        (list_in asked.entry.readings.now) file tally.events tally.changed) }
 {
+    let Asked {
+        readings,
+        words,
+        bell,
+    } = asked;
+    let rules = ServeRules {
+        periods: words.periods,
+        quiet: words.quiet,
+        bell,
+    };
     let Begun { start, board } = begun;
-    let served = serve_over(rt, alloc, board, ports, &mut ipmb, &mut smbus, turns);
-    drop(ipmb);
-    drop(smbus);
-    match served {
-        Ok(served) => {
-            let tally = tally_of(start.as_slice(), &served);
-            drop(start);
-            drop(served);
-            Ok(tally)
-        }
-        Err(why) => {
-            drop(start);
-            Err(why)
-        }
-    }
-}
-
-/// Serves a board for one period, and counts what came of it.
-fn served_in_one<A, B, R>(
-    rt: &R,
-    alloc: Global,
-    begun: Begun,
-    lanes: Lanes<A, B>,
-    table: Timetable<'_>,
-    quiet: Option<u32>,
-) -> Result<Tally, ReportFault>
-where
-    A: Link + Send + Drop,
-    B: Link + Send + Drop,
-    R: Threads + Wait + Clock + Sync,
-    ensures { (file : AnyFile) (given : Option (List AnyTimed)) → IsBegunBoard file begun
-        → IsAll given table.entry
-        → IfOk result (λ tally. TalliesOf false given file tally.events tally.changed) }
-{
-    let Begun { start, board } = begun;
-    let course = PeriodState::new(board, lanes, table);
-    match course.go_on(rt, alloc, quiet) {
-        Ok(next) => Ok(counted(start, next)),
-        Err(why) => {
-            drop(start);
-            Err(why)
-        }
-    }
-}
-
-/// Serves a board period by period, and counts what came of it.
-fn served_in_periods<A, B, R>(
-    rt: &R,
-    alloc: Global,
-    begun: Begun,
-    lanes: Lanes<A, B>,
-    table: Timetable<'_>,
-    quiet: Option<u32>,
-) -> Result<Tally, ReportFault>
-where
-    A: Link + Send + Drop,
-    B: Link + Send + Drop,
-    R: Threads + Wait + Clock + Sync,
-    ensures { (file : AnyFile) (given : Option (List AnyTimed)) → IsBegunBoard file begun
-        → IsAll given table.entry
-        → IfOk result (λ tally. TalliesOf true given file tally.events tally.changed) }
-{
-    let Begun { start, board } = begun;
-    match serve_periods(rt, alloc, board, lanes, table, quiet) {
+    let clock = CLOCK;
+    let agenda = agenda_of(rt, &clock, readings, words);
+    match serve_periods(rt, alloc, board, lanes, agenda, rules) {
         Ok(course) => Ok(counted(start, course)),
         Err(why) => {
             drop(start);
@@ -141,54 +97,21 @@ where
     }
 }
 
-/// Serves a board that begins over two links as the words say, while what is on the list happens, where there is one, and counts what came of
-/// it.
-fn serve_begun<A, B, R>(
-    rt: &R,
-    alloc: Global,
-    begun: Begun,
-    ports: [Port; 2],
-    readings: &Option<Vec<Timed>>,
-    ipmb: A,
-    smbus: B,
-    words: &ServeWords,
-) -> Result<Tally, ReportFault>
-where
-    A: Link + Send + Drop,
-    B: Link + Send + Drop,
-    R: Threads + Wait + Clock + Sync,
-    ensures { (file : AnyFile) → IsBegunBoard file begun
-        → IfOk result (λ tally. TalliesOf words.now.periods (list_in readings.now) file
-        tally.events tally.changed) }
-{
-    if words.periods {
-        let lanes = lanes_of(ports, ipmb, smbus, words);
-        served_in_periods(rt, alloc, begun, lanes, table_of(rt, readings), words.quiet)
-    } else if words.quiet.is_some() || words.forget.is_some() || readings.is_some() {
-        let lanes = lanes_of(ports, ipmb, smbus, words);
-        served_in_one(rt, alloc, begun, lanes, table_of(rt, readings), words.quiet)
-    } else {
-        served_once(rt, alloc, begun, ports, ipmb, smbus, words.turns)
-    }
-}
-
-/// Serves the board of a file over two links as the words say, while what is on the list happens, where there is one, and counts what came of
-/// it.
+/// Serves the board of a file over two links as the words say, and counts what came of it.
 pub(crate) fn served<A, B, R>(
     rt: &R,
     alloc: Global,
     file: BoardFile,
-    readings: &Option<Vec<Timed>>,
     ipmb: A,
     smbus: B,
-    words: &ServeWords,
+    asked: Asked<'_>,
 ) -> Result<Tally, ReportFault>
 where
     A: Link + Send + Drop,
     B: Link + Send + Drop,
     R: Threads + Wait + Clock + Sync,
-    ensures { IfOk result (λ tally. TalliesOf words.now.periods (list_in readings.now) file
-        tally.events tally.changed) }
+    ensures { IfOk result (λ tally. TalliesOf asked.entry.words.now
+        (list_in asked.entry.readings.now) file tally.events tally.changed) }
 {
     let Ok(begun) = begin(alloc, file) else {
         drop(ipmb);
@@ -196,7 +119,10 @@ where
         return Err(ReportFault::Memory);
     };
     match controller_ports(alloc) {
-        Ok(ports) => serve_begun(rt, alloc, begun, ports, readings, ipmb, smbus, words),
+        Ok(ports) => {
+            let lanes = lanes_of(ports, ipmb, smbus, asked.words);
+            serve_begun(rt, alloc, begun, lanes, asked)
+        }
         Err(AllocError) => {
             drop(begun);
             drop(ipmb);

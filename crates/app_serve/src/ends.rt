@@ -3,29 +3,37 @@ ghost use Rattle.std.specs.Prelude.{◌≡◌, IfOk, IfSome, string_bytes};
 ghost use Rattle.app_serve.specs.Run.{IsTakenPort, ports_line};
 
 use crate::run::ServeWords;
+use crate::wakeful_link::WakefulLink;
 use std::alloc::{AllocError, Global};
 use std::net::Net;
-use wire_links::UdpLink;
+use std::sync::atomic::AtomicBool;
+use std::time::Clock;
 
 /// A link that is bound, and the port that it took.
 #[derive(Drop)]
-pub(crate) struct End {
-    pub link: UdpLink,
+pub(crate) struct End<'a, R: Clock> {
+    pub link: WakefulLink<'a, R>,
     pub port: u16,
 }
 
 /// The controller's ends of both buses.
 #[derive(Drop)]
-pub(crate) struct BusLinks {
-    pub ipmb: End,
-    pub smbus: End,
+pub(crate) struct BusLinks<'a, R: Clock> {
+    pub ipmb: End<'a, R>,
+    pub smbus: End<'a, R>,
 }
 
-/// A link at this port, or at a free one for port 0, which waits so many milliseconds; or nothing where it can't be had.
-fn open_end<R: Net>(rt: &R, asked: u16, wait_ms: u32) -> Option<End>
+/// A link at this port, or at a free one for port 0, which waits so many milliseconds and looks at the bell; or nothing where
+/// it can't be had.
+fn open_end<'a, R: Net + Clock>(
+    rt: &'a R,
+    bell: &'a AtomicBool,
+    asked: u16,
+    wait_ms: u32,
+) -> Option<End<'a, R>>
     ensures { IfSome result (λ end. IsTakenPort asked end.port) }
 {
-    let link = UdpLink::bind(rt, asked, wait_ms).ok()?;
+    let link = WakefulLink::bind(rt, bell, asked, wait_ms).ok()?;
     if asked != 0 {
         return Some(End { link, port: asked });
     }
@@ -38,13 +46,17 @@ fn open_end<R: Net>(rt: &R, asked: u16, wait_ms: u32) -> Option<End>
     }
 }
 
-/// The links at the ports that the words name, or nothing where one can't be had.
-pub(crate) fn open_ends<R: Net>(rt: &R, words: &ServeWords) -> Option<BusLinks>
+/// The links at the ports that the words name, which look at the bell while they wait; or nothing where one can't be had.
+pub(crate) fn open_ends<'a, R: Net + Clock>(
+    rt: &'a R,
+    bell: &'a AtomicBool,
+    words: &ServeWords,
+) -> Option<BusLinks<'a, R>>
     ensures ipmb { IfSome result (λ ends. IsTakenPort words.now.ipmb_port ends.ipmb.port) }
     ensures smbus { IfSome result (λ ends. IsTakenPort words.now.smbus_port ends.smbus.port) }
 {
-    let ipmb = open_end(rt, words.ipmb_port, words.wait_ms)?;
-    match open_end(rt, words.smbus_port, words.wait_ms) {
+    let ipmb = open_end(rt, bell, words.ipmb_port, words.wait_ms)?;
+    match open_end(rt, bell, words.smbus_port, words.wait_ms) {
         Some(smbus) => Some(BusLinks { ipmb, smbus }),
         None => {
             drop(ipmb);

@@ -1,24 +1,58 @@
-//! A board that is served period by period, each with a history of its own, over the same ports and links, while a timetable goes on.
+//! A board that is served period by period, each with a history of its own, over the same ports and links, while an agenda goes on.
 ghost use Rattle.std.specs.Prelude.{◌≡◌, ◌<◌, ◌+◌, ◌^◌, ◌↔◌, IfOk, IsTrue};
 ghost use Rattle.bmc_ports.specs.Slices.{EndsAt};
 ghost use Rattle.bmc_board.specs.State.{state_of};
 ghost use Rattle.bmc_shared.specs.Seated.{IsFreshSeat};
 ghost use Rattle.app_serve.specs.Served.{most_events};
-ghost use Rattle.app_serve.specs.Periods.{IsPeriod, IsClosed, GoesToNext, RunsTo};
+ghost use Rattle.app_serve.specs.Periods.{EndsServing, IsPeriod, IsClosed, GoesToNext, RunsTo, events_of_period};
 
 use crate::board::{OpenGate, open_board};
 use app_base::ReportFault;
 use bmc_board::{Board, Records};
 use bmc_ports::{
-    History, Lanes, Link, MOST_EVENTS, NoThread, Opening, RunResult, Seats, Shared, Timetable,
-    run_slices,
+    Agenda, History, Lanes, Link, MOST_EVENTS, NoThread, Opening, RunResult, Seats, Shared,
+    StopRules, run_agenda,
 };
 use std::alloc::Global;
 use std::marker::Brand;
 use std::sync::Wait;
+use std::sync::atomic::AtomicBool;
 use std::sync::ledger::Blank;
 use std::thread::Threads;
 use std::time::Clock;
+
+/// With how much room left a period ends, where another one follows: the two others who bring events each have one under way at most.
+const ROOM_LEFT: usize = 2;
+
+/// How a board is served.
+#[derive(Clone, Copy)]
+pub struct ServeRules<'b> {
+    /// Whether a history whose room is over is closed, and the next one opened.
+    pub periods: bool,
+    /// For how many turns in a row both ports hear nothing before the serving ends, where their turns alone don't end it.
+    pub quiet: Option<u32>,
+    /// What is set once a port's worker is to stop. A link that waits for a frame may look at it.
+    pub bell: &'b AtomicBool,
+}
+
+impl<'b> ServeRules<'b> {
+    /// What ends the serving of one history. Where another one follows, it ends while there is room for all that is under way.
+    fn stop_rules(self) -> StopRules<'b>
+        ensures quiet { result.quiet ≡ self.entry.quiet }
+        ensures events { result.events ≡ events_of_period self.entry.periods }
+    {
+        let events = if self.periods {
+            Some(MOST_EVENTS - ROOM_LEFT)
+        } else {
+            None
+        };
+        StopRules {
+            quiet: self.quiet,
+            events,
+            bell: self.bell,
+        }
+    }
+}
 
 /// A board that was served so far: with which ports, links and turns it's served on, what is to happen on it, and how many events its
 /// histories have in all.
@@ -26,7 +60,7 @@ use std::time::Clock;
 pub struct PeriodState<'a, A, B> {
     pub board: Board<Records>,
     pub lanes: Lanes<A, B>,
-    pub table: Timetable<'a>,
+    pub agenda: Agenda<'a>,
     pub events: usize,
 }
 
@@ -35,7 +69,7 @@ pub struct PeriodState<'a, A, B> {
 struct Period<A, B> {
     board: Board<Records>,
     lanes: Lanes<A, B>,
-    /// The place of the first of the timetable that hasn't happened.
+    /// The place of the first of the agenda that hasn't happened.
     next: usize,
     history: History,
 }
@@ -80,8 +114,8 @@ fn serve_shared<J, A, B, R>(
     shared: Shared<J, Records>,
     seats: Seats<J>,
     lanes: Lanes<A, B>,
-    table: Timetable<'_>,
-    quiet: Option<u32>,
+    agenda: Agenda<'_>,
+    rules: ServeRules<'_>,
 ) -> Result<Period<A, B>, ReportFault>
 where
     J: Opening + Send + Sync,
@@ -93,12 +127,21 @@ where
     requires second { IsFreshSeat seats.second }
     requires scanner { IsFreshSeat seats.scanner }
     requires most { J.room ≡ most_events }
-    ensures period { IfOk result (λ period. IsPeriod A.Link B.Link J.setup J.opening
-        (state_of period.board) lanes period.lanes
-        table.entry.list.now table.entry.next period.next period.history) }
+    ensures period { IfOk result (λ period. IsPeriod A.Link B.Link rules.entry.periods
+        rules.entry.quiet J.setup J.opening (state_of period.board) lanes period.lanes
+        agenda.entry.repeats agenda.entry.table.list.now agenda.entry.table.next
+        period.next period.history) }
     ensures setup { IfOk result (λ period. period.board.setup ≡ J.setup) }
 {
-    match run_slices(rt, &shared, seats, lanes, table, &OpenGate, quiet) {
+    match run_agenda(
+        rt,
+        &shared,
+        seats,
+        lanes,
+        agenda,
+        &OpenGate,
+        rules.stop_rules(),
+    ) {
         Ok(sliced) => close_period(shared, sliced),
         Err(NoThread) => {
             drop(shared);
@@ -115,8 +158,8 @@ fn serve_opened<J, A, B, R>(
     board: Board<Records>,
     room: usize,
     lanes: Lanes<A, B>,
-    table: Timetable<'_>,
-    quiet: Option<u32>,
+    agenda: Agenda<'_>,
+    rules: ServeRules<'_>,
 ) -> Result<Period<A, B>, ReportFault>
 where
     J: Opening + Send + Sync,
@@ -130,13 +173,14 @@ where
     requires opening { state_of board ≡ J.opening }
     requires room { room ≡ J.room }
     requires most { room ≡ most_events }
-    ensures period { IfOk result (λ period. IsPeriod A.Link B.Link J.setup J.opening
-        (state_of period.board) lanes period.lanes
-        table.entry.list.now table.entry.next period.next period.history) }
+    ensures period { IfOk result (λ period. IsPeriod A.Link B.Link rules.entry.periods
+        rules.entry.quiet J.setup J.opening (state_of period.board) lanes period.lanes
+        agenda.entry.repeats agenda.entry.table.list.now agenda.entry.table.next
+        period.next period.history) }
     ensures setup { IfOk result (λ period. period.board.setup ≡ J.setup) }
 {
     match open_board::<J>(alloc, blank, board, room) {
-        Ok((shared, seats)) => serve_shared(rt, shared, seats, lanes, table, quiet),
+        Ok((shared, seats)) => serve_shared(rt, shared, seats, lanes, agenda, rules),
         Err(why) => {
             drop(lanes);
             Err(why)
@@ -144,23 +188,24 @@ where
     }
 }
 
-/// Serves a board for a period, while what is left of the timetable happens on it: until both workers made their turns, until both links were
-/// quiet for so many turns in a row, where a number is given, or until its history is full.
+/// Serves a board for a period, while what is left of the agenda happens on it: until both workers made their turns, until both links were
+/// quiet for so many turns in a row, where a number is given, or until its room is over.
 fn serve_period<A, B, R>(
     rt: &R,
     alloc: Global,
     board: Board<Records>,
     lanes: Lanes<A, B>,
-    table: Timetable<'_>,
-    quiet: Option<u32>,
+    agenda: Agenda<'_>,
+    rules: ServeRules<'_>,
 ) -> Result<Period<A, B>, ReportFault>
 where
     A: Link + Send + Drop,
     B: Link + Send + Drop,
     R: Threads + Wait + Clock + Sync,
-    ensures period { IfOk result (λ period. IsPeriod A.Link B.Link board.setup
-        (state_of board) (state_of period.board) lanes period.lanes
-        table.entry.list.now table.entry.next period.next period.history) }
+    ensures period { IfOk result (λ period. IsPeriod A.Link B.Link rules.entry.periods
+        rules.entry.quiet board.setup (state_of board) (state_of period.board)
+        lanes period.lanes agenda.entry.repeats agenda.entry.table.list.now
+        agenda.entry.table.next period.next period.history) }
     ensures setup { IfOk result (λ period. period.board.setup ≡ board.setup) }
 {
     serve_opened::<Brand, A, B, R>(
@@ -170,25 +215,24 @@ where
         board,
         MOST_EVENTS,
         lanes,
-        table,
-        quiet,
+        agenda,
+        rules,
     )
 }
 
 impl<'a, A: Link + Send + Drop, B: Link + Send + Drop> PeriodState<'a, A, B> {
     /// A board that is to be served.
-    pub fn new(board: Board<Records>, lanes: Lanes<A, B>, table: Timetable<'a>) -> Self
+    pub fn new(board: Board<Records>, lanes: Lanes<A, B>, agenda: Agenda<'a>) -> Self
         ensures setup { result.board.setup ≡ board.setup }
         ensures state { state_of result.board ≡ state_of board }
         ensures lanes { result.lanes ≡ lanes }
-        ensures list { result.table.list ≡ table.entry.list }
-        ensures next { result.table.next ≡ table.entry.next }
+        ensures agenda { result.agenda ≡ agenda.entry }
         ensures events { result.events ≡ 0 }
     {
         PeriodState {
             board,
             lanes,
-            table,
+            agenda,
             events: 0,
         }
     }
@@ -200,23 +244,25 @@ impl<'a, A: Link + Send + Drop, B: Link + Send + Drop> PeriodState<'a, A, B> {
         self.lanes.are_over(quiet)
     }
 
-    /// Serves the board for a period more, and counts its history. A period's room is taken anew, and the timetable goes on where it was.
+    /// Serves the board for a period more, and counts its history. A period's room is taken anew, and the agenda goes on where it was.
     pub fn go_on<R: Threads + Wait + Clock + Sync>(
         self,
         rt: &R,
         alloc: Global,
-        quiet: Option<u32>,
+        rules: ServeRules<'_>,
     ) -> Result<Self, ReportFault>
         requires { self.events + most_events < 2 ^ 64 }
-        ensures { IfOk result (λ next. GoesToNext A.Link B.Link self.entry next) }
+        ensures { IfOk result (GoesToNext A.Link B.Link rules.entry.periods rules.entry.quiet
+            self.entry) }
     {
         let PeriodState {
             board,
             lanes,
-            table,
+            agenda,
             events,
         } = self;
-        match serve_period(rt, alloc, board, lanes, table.from(table.next), quiet) {
+        let next = agenda.table.next;
+        match serve_period(rt, alloc, board, lanes, agenda.from(next), rules) {
             Ok(
                 Period {
                     board,
@@ -230,7 +276,7 @@ impl<'a, A: Link + Send + Drop, B: Link + Send + Drop> PeriodState<'a, A, B> {
                 Ok(PeriodState {
                     board,
                     lanes,
-                    table: table.from(next),
+                    agenda: agenda.from(next),
                     events,
                 })
             }
@@ -240,32 +286,40 @@ impl<'a, A: Link + Send + Drop, B: Link + Send + Drop> PeriodState<'a, A, B> {
 }
 
 /// Serves a board over two lanes until both workers made all their turns, or until nothing was heard over either link for so many turns in a
-/// row, where a number is given. Meanwhile what the timetable has happens on the board. Each history that is full is closed, which checks that
-/// its seats' lists are the history's; then the next period begins with the same board, ports and links, the turns that are left, and what is
-/// left of the timetable. What comes meanwhile waits in the links.
+/// row, where a number is given; with one history, or by periods. Meanwhile what the agenda has happens on the board. One history ends the serving
+/// once it is full. By periods, a history is closed while it has room for all that is under way, which checks that its seats' lists are the
+/// history's; then the next period begins with the same board, ports and links, the turns that are left, and what is left of the agenda. What comes
+/// meanwhile waits in the links.
 pub fn serve_periods<'a, A, B, R>(
     rt: &R,
     alloc: Global,
     board: Board<Records>,
     lanes: Lanes<A, B>,
-    table: Timetable<'a>,
-    quiet: Option<u32>,
+    agenda: Agenda<'a>,
+    rules: ServeRules<'_>,
 ) -> Result<PeriodState<'a, A, B>, ReportFault>
 where
     A: Link + Send + Drop,
     B: Link + Send + Drop,
     R: Threads + Wait + Clock + Sync,
-    ensures runs { IfOk result (RunsTo A.Link B.Link board.setup
-        (state_of board) lanes table.entry.list.now table.entry.next) }
-    ensures over { IfOk result (λ course. EndsAt quiet course.lanes) }
+    ensures runs { IfOk result (RunsTo A.Link B.Link rules.entry.periods rules.entry.quiet
+        board.setup (state_of board) lanes agenda.entry) }
+    ensures ends { IfOk result (EndsServing rules.entry.periods rules.entry.quiet) }
 {
     let most = u64::from(lanes.first.turns) + u64::from(lanes.second.turns);
-    let mut course = PeriodState::new(board, lanes, table);
+    let begun = PeriodState::new(board, lanes, agenda);
+    let mut course = match begun.go_on(rt, alloc, rules) {
+        Ok(course) => course,
+        Err(why) => return Err(why),
+    };
+    if !rules.periods {
+        return Ok(course);
+    }
     for _ in 0..most {
-        if course.is_over(quiet) {
+        if course.is_over(rules.quiet) {
             return Ok(course);
         }
-        match course.go_on(rt, alloc, quiet) {
+        match course.go_on(rt, alloc, rules) {
             Ok(next) => course = next,
             Err(why) => return Err(why),
         }

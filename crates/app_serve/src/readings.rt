@@ -5,11 +5,13 @@ ghost use Rattle.app_base.specs.declared.console.Stream.TheVariants.{Error};
 ghost use Rattle.app_base.specs.declared.status.Status.TheVariants.{RefusedFile};
 ghost use Rattle.app_base.specs.Ending.{ReportTells};
 ghost use Rattle.app_serve.specs.Run.{IsBoard, IsRefused, SaysUnserved, StandsFor, readings_line};
-ghost use Rattle.app_serve.specs.Served.{IsAll, list_in};
+ghost use Rattle.app_serve.specs.Served.{IsAsked, clock_list, list_for, list_in};
 
 use crate::readings_text::{ReadingsFault, read_readings};
+use crate::run::ServeWords;
 use app_base::{Report, ReportFault, Status, Stream};
-use bmc_ports::{Timed, Timetable};
+use bmc_board::Bench;
+use bmc_ports::{Agenda, TICK_MS, Timed, Timetable};
 use std::alloc::{AllocError, Global};
 use std::time::{Clock, Instant};
 
@@ -30,14 +32,42 @@ pub(crate) fn list_of(
     }
 }
 
-/// The timetable of a list, where there is one, which starts now.
-pub(crate) fn table_of<'a, R: Clock>(rt: &R, list: &'a Option<Vec<Timed>>) -> Timetable<'a>
-    ensures { IsAll (list_in list.now) result }
+/// What a board's clock does in each round: a tenth of a second passes.
+pub(crate) const CLOCK: [Timed; 1] = [Timed {
+    at_ms: TICK_MS,
+    event: Bench::Tick,
+}];
+
+/// What happens in a round: what a clock does, where one is to run, or what is on the list, where there is one.
+fn list_to_play<'a>(runs: bool, clock: &'a [Timed], list: &'a Option<Vec<Timed>>) -> &'a [Timed]
+    requires { clock.now ≡ clock_list }
+    ensures { result.now ≡ list_for runs (list_in list.now) }
+{
+    if runs {
+        return clock;
+    }
+    match list {
+        Some(list) => list.as_slice(),
+        None => &[],
+    }
+}
+
+/// What is to happen by the words: what a clock does, or what is on the list, where there is one. It starts now.
+pub(crate) fn agenda_of<'a, R: Clock>(
+    rt: &R,
+    clock: &'a [Timed],
+    list: &'a Option<Vec<Timed>>,
+    words: &ServeWords,
+) -> Agenda<'a>
+    requires { clock.now ≡ clock_list }
+    ensures { IsAsked words.now (list_in list.now) result }
 {
     let start = Instant::now(rt).ok();
-    match list {
-        Some(list) => Timetable::new(list.as_slice(), start),
-        None => Timetable::new(&[], start),
+    let table = Timetable::new(list_to_play(words.clock, clock, list), start);
+    if words.clock || words.repeats {
+        Agenda::again(table)
+    } else {
+        Agenda::once(table)
     }
 }
 

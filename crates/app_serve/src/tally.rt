@@ -1,13 +1,13 @@
 //! What is told of a board that was served.
-ghost use Rattle.std.specs.Prelude.{◌≡◌, IfOk, length, string_bytes};
+ghost use Rattle.std.specs.Prelude.{◌≡◌, ◌↔◌, IfOk, IsTrue, length, string_bytes};
 ghost use Rattle.cfg_records.specs.Boards.{pairs_of};
 ghost use Rattle.bmc_board.specs.State.{state_of, opened};
 ghost use Rattle.app_base.specs.declared.console.Stream.TheVariants.{Output};
 ghost use Rattle.app_base.specs.declared.status.Status.TheVariants.{Success};
 ghost use Rattle.cfg_records.specs.Changed.{changed_in};
-ghost use Rattle.app_serve.specs.Served.{text_of};
+ghost use Rattle.app_serve.specs.Served.{most_events, text_of};
 
-use crate::board::ClosedBoard;
+use crate::board::{ClosedBoard, MOST_EVENTS};
 use app_base::{Report, Status, Stream};
 use bmc_board::{Board, Records};
 use cfg_records::{BoardFile, Key, StartValue, changed_count};
@@ -49,6 +49,18 @@ pub struct Tally {
     pub events: usize,
     pub changed: usize,
 }
+
+impl Tally {
+    /// Whether there are as many events as one history may have.
+    pub(crate) fn is_full(&self) -> bool
+        ensures { IsTrue result ↔ (self.now.events ≡ most_events) }
+    {
+        self.events == MOST_EVENTS
+    }
+}
+
+/// The line that tells that the room of the one history is over, and how to go on then.
+pub(crate) const ROOM_LINE: &[u8] = b"bmcnet: room is over: 4096 events; serve --periods goes on\n";
 
 /// What is counted of a board that was served so many events, by the records that it began with.
 pub(crate) fn count(start: &[(Key, StartValue)], board: &Board<Records>, events: usize) -> Tally

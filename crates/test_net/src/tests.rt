@@ -1,6 +1,7 @@
 //! Links that fail, under a manager and under a worker, links over UDP, and what `bmcnet` does.
 mod driven;
 mod forgotten;
+mod greeted;
 mod lent;
 mod program;
 mod served;

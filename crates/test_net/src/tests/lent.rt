@@ -5,13 +5,16 @@ ghost use Rattle.bmc_board.specs.State.{state_of};
 use super::served::{GET, Open, SET};
 use super::shared::{close, expect_equal, open_shared};
 use super::wired::{open_sample, port_on};
-use app_serve::serve_periods;
+use app_serve::{ServeRules, serve_periods};
 use bmc_board::{Board, Records};
-use bmc_ports::{End, Lane, Lanes, Opening, RunResult, Seats, Shared, Timetable, run_slices};
+use bmc_ports::{
+    Agenda, End, Lane, Lanes, Opening, RunResult, Seats, Shared, Timetable, run_slices,
+};
 use std::alloc::Global;
 use std::marker::Brand;
 use std::process::Abort;
 use std::sync::Wait;
+use std::sync::atomic::AtomicBool;
 use std::sync::ledger::Blank;
 use std::thread::Threads;
 use std::time::Clock;
@@ -197,8 +200,14 @@ fn a_board_is_served_in_periods_until_all_turns_are_made(rt: HostRuntime) {
     let alloc = rt.alloc();
     let board = open_sample(&rt, alloc);
     let lanes = new_lanes(&rt, alloc, &SCRIPT, TURNS, None);
-    let table = Timetable::new(&[], None);
-    let served = serve_periods(&rt, alloc, board, lanes, table, None).ok();
+    let bell = AtomicBool::new(false);
+    let rules = ServeRules {
+        periods: true,
+        quiet: None,
+        bell: &bell,
+    };
+    let agenda = Agenda::once(Timetable::new(&[], None));
+    let served = serve_periods(&rt, alloc, board, lanes, agenda, rules).ok();
     let course = served.expect(&rt, "two threads");
     let first = &course.lanes.first;
     let came = (course.events, first.turns, first.link.sent().len());

@@ -1,7 +1,8 @@
-use Rattle.std.proofs.Common.{◌∙◌, codes, string_bytes}
+use Rattle.std.proofs.Common.{◌∙◌, sym, ap, codes, string_bytes}
 use Rattle.std.proofs.lemmas.Result.{err_from_is_err_and}
 use Rattle.clap.specs.Words.{found_of}
-use Rattle.clap.proofs.WalkLemmas.{first_value-rows}
+use Rattle.clap.proofs.WalkLemmas.{first_value-rows, one_text-rows}
+use Rattle.app_base.specs.Asked.{says_yes}
 use Rattle.app_base.proofs.Readings.{first_by_rows, refuses_more}
 use Rattle.app_bmcnet.proofs.words.run_words.Goals as goal
 
@@ -55,4 +56,5 @@ returns-clause-asked c = record {
   wait = c.in_ok-wait.ensures.wait;
   again = c.in_ok-number_or.ensures.number;
   forget = c.in_ok-number_given.ensures.number;
+  greet = sym (c.has_flag.ensures ∙ ap says_yes (one_text-rows (found_of c.args.matches.now) (codes "greet")));
 }

@@ -6,9 +6,14 @@ use Rattle.app_base.specs.Asked.{says_yes}
 use Rattle.app_base.proofs.Readings.{first_by_rows, refuses_more}
 use Rattle.app_bmcnet.proofs.words.serve_words.Goals as goal
 
+pub returns-in_err-stand_beside-clause-refused : goal.returns-in_err-stand_beside-clause-refused
+returns-in_err-stand_beside-clause-refused c =
+    let p = err_from_is_err_and c.from_residual.result c.from_residual.ensures.1 in
+    rw (p.1, p.2) (refuses_more _ _ _ (λ asked asks. (tt, asks.stand)) c.in_err-stand_beside.ensures.refused)
+
 pub returns-in_err-named-clause-refused : goal.returns-in_err-named-clause-refused
 returns-in_err-named-clause-refused c =
-    let p = err_from_is_err_and c.from_residual.result c.from_residual.ensures.1 in
+    let p = err_from_is_err_and c.from_residual-in_err-named.result c.from_residual-in_err-named.ensures.1 in
     rw (p.1, p.2) (refuses_more _ _ _ (λ asked asks. (string_bytes asked.board, first_value-rows (found_of c.args.matches.now) (codes "BOARD") ∙ asks.board)) c.in_err-named.ensures.refused)
 
 pub returns-in_err-port-clause-refused : goal.returns-in_err-port-clause-refused
@@ -52,4 +57,7 @@ returns-clause-asked c = record {
   quiet = c.in_ok-number_given.ensures.number;
   forget = c.in_ok-number_given-2.ensures.number;
   readings = c.in_ok-given.ensures.word ∙ first_value-rows (found_of c.args.matches.now) (codes "readings");
+  repeats = sym (c.has_flag-2.ensures ∙ ap says_yes (one_text-rows (found_of c.args.matches.now) (codes "repeat-readings")));
+  clock = sym (c.has_flag-3.ensures ∙ ap says_yes (one_text-rows (found_of c.args.matches.now) (codes "clock")));
+  stand = c.in_ok-stand_beside.ensures.fits;
 }

@@ -16,3 +16,8 @@ returns-in-Unmade g c =
     (sym c.in-Unmade.is)
     (run_reports g.W.Write.contents g.E.Write.contents (SaysFile c.args.word.now) c.unmade.result c.args.console.now c.end_run.new.console c.end_run.result
     c.unmade.ensures c.end_run.ensures)
+
+pub returns-in-Ungreeted : goal.returns-in-Ungreeted
+returns-in-Ungreeted g c =
+    subst (λ (outcome : Outcome). EndsBy g.W.Write.contents g.E.Write.contents c.args.word.now (Ok outcome) c.args.console.now c.tell_ungreeted.new.console c.tell_ungreeted.result)
+    (sym c.in-Ungreeted.is) c.tell_ungreeted.ensures

@@ -1,15 +1,10 @@
-use Rattle.std.proofs.Common.{Bool, IfOk, subst, sym}
-use Rattle.app_serve.specs.Served.{TalliesOf, list_in}
+use Rattle.std.proofs.Common.{refl}
+use Rattle.app_serve.specs.Served.{list_in}
+use Rattle.app_serve.proofs.Serving.{tallies_all}
 use Rattle.app_serve.proofs.counting.serve_begun.Goals as goal
 
-pub returns-then-words : goal.returns-then-words
-returns-then-words g c = λ file begins.
-    let given = list_in c.args.readings.now in
-    subst (λ (several : Bool). IfOk c.served_in_periods.result (λ tally. TalliesOf several given file tally.events tally.changed)) (sym c.if-words.true)
-    (c.served_in_periods.ensures file given begins c.table_of.ensures)
-
-pub returns-then-is_some-3 : goal.returns-then-is_some-3
-returns-then-is_some-3 g c = λ file begins.
-    let given = list_in c.args.readings.now in
-    subst (λ (several : Bool). IfOk c.served_in_one.result (λ tally. TalliesOf several given file tally.events tally.changed)) (sym c.if-words.false)
-    (c.served_in_one.ensures file given begins c.table_of-then-is_some-3.ensures)
+pub returns-in-Ok : goal.returns-in-Ok
+returns-in-Ok g c = λ file begins.
+    tallies_all g.A.Link g.B.Link c.args.asked.words.now file (list_in c.args.asked.readings.now) c.args.begun c.agenda_of-agenda.result c.args.lanes c.in-Ok.course
+    c.args.begun.start.items c.counted.result.events c.counted.result.changed begins c.agenda_of-agenda.ensures refl c.in-Ok.ensures.runs c.counted.ensures.events
+    c.counted.ensures.changed

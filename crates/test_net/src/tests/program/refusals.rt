@@ -29,6 +29,8 @@ fn serve_words(alloc: Global, board: &str, port: u16) -> Result<ServeWords, Allo
         quiet: None,
         forget: None,
         readings: None,
+        repeats: false,
+        clock: false,
     })
 }
 
@@ -43,17 +45,19 @@ fn run_words(alloc: Global, plan: &str) -> Result<RunWords, AllocError> {
         wait_ms: 200,
         again: 0,
         forget: None,
+        greet: false,
     })
 }
 
-/// The words `undo UNDO 9 9 0`.
-fn undo_words(alloc: Global, undo: &str) -> Result<UndoWords, AllocError> {
+/// The words `undo UNDO 9 9 0`, with `--greet` or without it.
+fn undo_words(alloc: Global, undo: &str, greet: bool) -> Result<UndoWords, AllocError> {
     Ok(UndoWords {
         undo: word(alloc, undo)?,
         ipmb_port: 9,
         smbus_port: 9,
         turns: 0,
         wait_ms: 200,
+        greet,
     })
 }
 
@@ -141,15 +145,16 @@ fn a_plan_is_refused_before_it_is_run(rt: HostRuntime) {
     expect_refused_plan(&rt, rt.alloc(), &texts, b"plan 0 OutsidePlan Password\n");
 }
 
-/// An undo of the file `list.txt`, over files of these texts, ends so, and its line tells nothing.
+/// An undo of the file `list.txt`, over files of these texts, which greets or doesn't, ends so, and its line tells nothing.
 fn expect_undo(
     rt: &(impl Abort + Net),
     alloc: Global,
     is_terminal: bool,
+    greet: bool,
     texts: &[(&str, &str)],
     end: End,
 ) {
-    let words = undo_words(alloc, "list.txt").expect(rt, "memory");
+    let words = undo_words(alloc, "list.txt", greet).expect(rt, "memory");
     let files = FakeFiles::new(alloc, texts);
     let mut paper = new_paper(alloc);
     let mut line = new_line(alloc, is_terminal);
@@ -162,15 +167,36 @@ fn expect_undo(
 
 #[test]
 fn the_first_bad_line_of_an_undo_text_is_told(rt: HostRuntime) {
-    expect_undo(&rt, rt.alloc(), true, &[], refused(b"file list.txt\n"));
+    expect_undo(
+        &rt,
+        rt.alloc(),
+        true,
+        false,
+        &[],
+        refused(b"file list.txt\n"),
+    );
     let texts = [("list.txt", "undo 1\nnext ipmb 4 smbus 0\nusb 10\n")];
-    expect_undo(&rt, rt.alloc(), true, &texts, refused(b"undo Line 3\n"));
+    expect_undo(
+        &rt,
+        rt.alloc(),
+        true,
+        false,
+        &texts,
+        refused(b"undo Line 3\n"),
+    );
 }
 
 #[test]
 fn an_undo_text_with_other_names_is_refused(rt: HostRuntime) {
     let texts = [("list.txt", OTHERS)];
-    expect_undo(&rt, rt.alloc(), true, &texts, refused(b"undo OtherNames\n"));
+    expect_undo(
+        &rt,
+        rt.alloc(),
+        true,
+        false,
+        &texts,
+        refused(b"undo OtherNames\n"),
+    );
 }
 
 #[test]
@@ -192,13 +218,14 @@ struct Left<'a> {
     part: Option<&'a str>,
 }
 
-/// What a run finds: its plan's word, the files' texts, how many changes are made of them, and whether its line is a terminal's.
+/// What a run finds: its plan's word, the files' texts, how many changes are made of them, whether its line is a terminal's, and whether it greets.
 #[derive(Clone, Copy)]
 struct Found<'a> {
     plan: &'a str,
     texts: &'a [(&'a str, &'a str)],
     changes: usize,
     is_terminal: bool,
+    greet: bool,
 }
 
 /// These are the texts that the files have.
@@ -210,7 +237,8 @@ fn expect_left(rt: &impl Abort, files: FakeFiles, left: Left) {
 
 /// A run that finds this ends so, tells nothing on its line, and leaves these texts.
 fn expect_run(rt: &(impl Abort + Net), alloc: Global, found: Found, end: End, left: Left) {
-    let words = run_words(alloc, found.plan).expect(rt, "memory");
+    let mut words = run_words(alloc, found.plan).expect(rt, "memory");
+    words.greet = found.greet;
     let mut files = FakeFiles::new(alloc, found.texts);
     files.changes_left = found.changes;
     let mut paper = new_paper(alloc);
@@ -232,6 +260,7 @@ fn nobody_answers_a_manager_without_turns(rt: HostRuntime) {
         texts: &[("plan.toml", PLAN)],
         changes: usize::MAX,
         is_terminal: false,
+        greet: false,
     };
     let getting = End {
         status: 0,
@@ -248,7 +277,42 @@ fn nobody_answers_a_manager_without_turns(rt: HostRuntime) {
         out: b"phase Undoing 0\n",
         err: &[],
     };
-    expect_undo(&rt, rt.alloc(), false, &[("list.txt", UNDO)], undoing);
+    expect_undo(
+        &rt,
+        rt.alloc(),
+        false,
+        false,
+        &[("list.txt", UNDO)],
+        undoing,
+    );
+}
+
+/// Nobody answers a greeting: the manager does nothing, and behind its phase the bus is named.
+#[test]
+fn nobody_answers_a_greeting(rt: HostRuntime) {
+    let found = Found {
+        plan: "plan.toml",
+        texts: &[("plan.toml", PLAN)],
+        changes: usize::MAX,
+        is_terminal: true,
+        greet: true,
+    };
+    let fresh = End {
+        status: 0,
+        out: b"phase Fresh\n",
+        err: b"no answer on ipmb\n",
+    };
+    let left = Left {
+        undo: None,
+        part: Some(NOTHING_DONE),
+    };
+    expect_run(&rt, rt.alloc(), found, fresh, left);
+    let halted = End {
+        status: 0,
+        out: b"phase Halted 1 Stop\n",
+        err: b"no answer on ipmb\n",
+    };
+    expect_undo(&rt, rt.alloc(), true, true, &[("list.txt", UNDO)], halted);
 }
 
 /// A run of a plan without steps, of whose files so many changes are made, ends so, and leaves these texts.
@@ -258,6 +322,7 @@ fn expect_empty_run(rt: &(impl Abort + Net), alloc: Global, changes: usize, end:
         texts: &[("empty.toml", "")],
         changes,
         is_terminal: true,
+        greet: false,
     };
     expect_run(rt, alloc, found, end, left);
 }

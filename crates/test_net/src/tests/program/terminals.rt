@@ -18,6 +18,7 @@ fn run_words(alloc: Global, plan: &str, turns: u32) -> Result<RunWords, AllocErr
         wait_ms: 1,
         again: 0,
         forget: None,
+        greet: false,
     })
 }
 
@@ -29,6 +30,7 @@ fn undo_words(alloc: Global, undo: &str, turns: u32) -> Result<UndoWords, AllocE
         smbus_port: 9,
         turns,
         wait_ms: 1,
+        greet: false,
     })
 }
 
