@@ -22,11 +22,19 @@ WORDS = {
     },
     "bmcnet": {
         "serve": (
-            {"--wait": None, "--periods": FLAG, "--quiet": None, "--forget": None, "--readings": READINGS},
+            {
+                "--wait": None,
+                "--periods": FLAG,
+                "--quiet": None,
+                "--forget": None,
+                "--readings": READINGS,
+                "--repeat-readings": FLAG,
+                "--clock": FLAG,
+            },
             [("BOARD", BOARD), ("P0", None), ("P1", None), ("TURNS", None)],
         ),
-        "run": ({"--wait": None, "--again": None, "--forget": None}, [("PLAN", PLAN), ("P0", None), ("P1", None), ("TURNS", None), ("UNDO", UNDO)]),
-        "undo": ({"--wait": None}, [("UNDO", UNDO), ("P0", None), ("P1", None), ("TURNS", None)]),
+        "run": ({"--wait": None, "--again": None, "--forget": None, "--greet": FLAG}, [("PLAN", PLAN), ("P0", None), ("P1", None), ("TURNS", None), ("UNDO", UNDO)]),
+        "undo": ({"--wait": None, "--greet": FLAG}, [("UNDO", UNDO), ("P0", None), ("P1", None), ("TURNS", None)]),
         "pair": ({}, [("BOARD", BOARD), ("PLAN", PLAN), ("TURNS", None)]),
         "version": ({}, []),
     },

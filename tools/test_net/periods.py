@@ -1,4 +1,5 @@
 """Servers whose histories go over several periods."""
+from test_net import servers
 from test_net.plans import IPMB, SMBUS
 from test_net.servers import Asker, Server, call, expect
 
@@ -7,9 +8,12 @@ ROOM = 4096
 # A Get of the power restore policy on IPMB (Get Chassis Status), and one of a BIOS attribute on SMBus.
 POLICY = (IPMB, (0x00, 0x01))
 ATTRIBUTE = (SMBUS, (0x03, 0x08, bytes([0, 0, 0, 0, 1, 1, 0])))
-# What comes at the change of periods is lost once, and nobody is answered until the next one is opened: on a busy machine that takes the program with
-# the sanitizers ten seconds. A run asks again until it is answered, and its undo, which asks four times, waits so many milliseconds each time.
-RUN, UNDO = ("--wait", 1000, "--again", 1000), ("--wait", 10000)
+# Where a history has so many events, it is closed while there is room for what is under way.
+CLOSED_AT = ROOM - 2
+# What comes at the change of periods waits until the next one is opened: on a busy machine that takes the program with the sanitizers ten seconds.
+PATIENT = ("--wait", 30000)
+# A server whose ports wait so many milliseconds in a turn, far longer than a change takes.
+LONG_WAIT = 600000
 # How often they listen, and a server.
 TURNS = 300
 SERVED_TURNS = 12000
@@ -32,11 +36,24 @@ def three_periods(program, folder, board, plan, requests):
             early = [(IPMB, first.ipmb(*POLICY[1])), (SMBUS, first.smbus(*ATTRIBUTE[1]))]
             replies = [first.ask(*frame) for frame in early]
             expect("the codes of the first requests", [reply[:1] for reply in replies], [b"\0", b"\0"])
-            drive(other, [POLICY, ATTRIBUTE], ROOM - len(early) - requests // 2)
-            expect("run", call(program, "run", *RUN, plan, *server.ports, TURNS, undo), (0, "phase Done\n", ""))
+            drive(other, [POLICY, ATTRIBUTE], CLOSED_AT - len(early) - requests // 2)
+            expect("run", call(program, "run", *PATIENT, plan, *server.ports, TURNS, undo), (0, "phase Done\n", ""))
             expect("repeats in the second period", [first.ask(*frame) for frame in early], replies)
             # The undo has half as many requests: the second period ends in its midst.
-            drive(other, [POLICY, ATTRIBUTE], ROOM - requests // 2 - requests // 4)
-            expect("undo", call(program, "undo", *UNDO, undo, *server.ports, TURNS), (0, "phase Undone\n", ""))
+            drive(other, [POLICY, ATTRIBUTE], CLOSED_AT - requests // 2 - requests // 4)
+            expect("undo", call(program, "undo", *PATIENT, undo, *server.ports, TURNS), (0, "phase Undone\n", ""))
             expect("repeats in the third period", [first.ask(*frame) for frame in early], replies)
-        expect("serve", server.ended(), (0, f"served {2 * ROOM + requests // 4}\nrecords same\n", ""))
+        expect("serve", server.ended(), (0, f"served {2 * CLOSED_AT + requests // 4}\nrecords same\n", ""))
+
+
+def loses_nothing(program, folder, board, plan, requests):
+    """A plan whose requests are sent once alone is begun two events before the end of a period. The port on SMBus waits for a frame that never
+    comes, and is woken."""
+    once = servers.write(f"{folder}/plan.toml", "retries = 0\n" + servers.read(plan))
+    undo = f"{folder}/undo.txt"
+    with Server(program, board, SERVED_TURNS, "--periods", "--wait", LONG_WAIT) as server:
+        with Asker(server.ports) as asker:
+            drive(asker, [POLICY], CLOSED_AT - 2)
+        expect("run", call(program, "run", *PATIENT, once, *server.ports, TURNS, undo), (0, "phase Done\n", ""))
+        expect("undo", call(program, "undo", *PATIENT, undo, *server.ports, TURNS), (0, "phase Undone\n", ""))
+        expect("serve", server.ended(), (0, f"served {CLOSED_AT - 2 + requests}\nrecords same\n", ""))

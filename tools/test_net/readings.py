@@ -1,4 +1,5 @@
 """Servers on whose boards something happens by a file of readings."""
+import re
 import time
 
 from . import servers
@@ -6,9 +7,14 @@ from .periods import ROOM
 from .plans import IPMB
 from .servers import Asker, Failed, Server, call, expect
 
-# Get Sensor Reading of sensor 5, and Get SEL Info.
+# Get Sensor Reading of sensor 5, Get SEL Info, and Get SEL Time.
 READING = (IPMB, (0x04, 0x2D, b"\x05"))
 LOG = (IPMB, (0x0A, 0x40))
+TIME = (IPMB, (0x0A, 0x48))
+# What a server tells once the room of its one history is over.
+ROOM_OVER = "bmcnet: room is over: 4096 events; serve --periods goes on\n"
+# How long a tick of a board's clock is, in seconds, and how many seconds of it are waited for.
+TICK, SECONDS = 0.1, 3
 # A reading of sensor 5 above its upper critical threshold, the one of which the log tells, and another one.
 HOT, COOL = 0x60, 0x2A
 # How many histories readings fill.
@@ -19,6 +25,8 @@ COOL_AT = 1500
 TURNS = 12000
 # How long one turn of a server lasts that ends once it's quiet, in milliseconds, and how many quiet ones end it.
 WAIT, QUIET_TURNS = 50, 10
+# How many quiet ones end it where all that a history has room for happens meanwhile, however busy the machine is.
+MANY_QUIET_TURNS = 200
 
 
 def wait_for(asker, raw):
@@ -65,10 +73,65 @@ def goes_on(program, folder, board):
 
 
 def ends_when_full(program, folder, board):
-    """Without periods a server ends once its history is full, though nobody asks, and what is left doesn't happen."""
+    """Without periods a server ends once its history is full, though nobody asks, and what is left doesn't happen. It tells that its room is over, but
+    not where there is room for one event more."""
     path = servers.write(f"{folder}/readings.txt", "0 tick\n" * (ROOM + 1))
     with Server(program, board, TURNS, "--readings", path) as server:
-        expect("serve", server.told(), (0, f"served {ROOM}\nrecords same\n", ""))
+        expect("serve", server.told(), (0, f"served {ROOM}\nrecords same\n", ROOM_OVER))
+    servers.write(path, "0 tick\n" * (ROOM - 1))
+    with Server(program, board, TURNS, "--wait", WAIT, "--quiet", MANY_QUIET_TURNS, "--readings", path) as server:
+        expect("serve with room", server.told(), (0, f"served {ROOM - 1}\nrecords same\n", ""))
+
+
+def clock_of(asker):
+    """Returns the seconds that the board's clock shows."""
+    return int.from_bytes(asker.get(*TIME)[1:5], "little")
+
+
+def clock_runs(program, folder, board):
+    """The board's clock goes on by itself, and not faster than that of this host. Each tick is an event."""
+    begun = time.monotonic()
+    with Server(program, board, TURNS, "--periods", "--clock") as server:
+        with Asker(server.ports) as asker:
+            first, until = clock_of(asker), begun + servers.CALL
+            while clock_of(asker) < first + SECONDS:
+                if time.monotonic() > until:
+                    raise Failed("the clock stands still")
+                time.sleep(TICK)
+        status, out, err = server.ended()
+    took = time.monotonic() - begun
+    told = re.fullmatch(r"served (\d+)\nrecords same\n", out)
+    expect("serve", (status, told is not None, err), (0, True, ""))
+    ticks = int(told[1]) - sum(asker.asked)
+    if not (SECONDS - 1) / TICK <= ticks <= took / TICK:
+        raise Failed(f"{ticks} ticks in {took} s")
+
+
+def begins_anew(program, folder, board):
+    """What a file says happens again once it is over, each round as long as its last time says, and over periods."""
+    path = servers.write(f"{folder}/readings.txt", f"0 scan 05 {COOL:02X}\n300 scan 05 {HOT:02X}\n600 tick\n")
+    with Server(program, board, TURNS, "--periods", "--readings", path, "--repeat-readings") as server:
+        with Asker(server.ports) as asker:
+            for raw in [COOL, HOT] * 3:
+                wait_for(asker, raw)
+        status, out, _ = server.ended()
+    expect("serve", (status, out.endswith("records same\n")), (0, True))
+
+
+def refused_clocks(program, folder, board):
+    """A clock and a file that begins anew go over periods, and stand each by itself."""
+    path = servers.write(f"{folder}/readings.txt", "0 tick\n")
+    for options, said in [
+        (["--clock"], "'--clock' and '--repeat-readings' need '--periods'"),
+        (["--readings", path, "--repeat-readings"], "'--clock' and '--repeat-readings' need '--periods'"),
+        (["--periods", "--repeat-readings"], "'--repeat-readings' needs '--readings <FILE>'"),
+        (["--periods", "--clock", "--readings", path], "'--clock' cannot be used with '--readings <FILE>'"),
+    ]:
+        status, out, err = call(program, "serve", *options, board, 0, 0, 1)
+        expect(f"{options}", (status, out, err.split("\n")[0]), (2, "", f"error: {said}"))
+    servers.write(path, "# nothing\n")
+    with Server(program, board, TURNS, "--periods", "--wait", WAIT, "--quiet", QUIET_TURNS, "--readings", path, "--repeat-readings") as server:
+        expect("nothing, again and again", server.told(), (0, "served 0\nrecords same\n", ""))
 
 
 def is_not_heard(program, folder, board):
@@ -122,5 +185,8 @@ def tests(board):
         ("readings over periods", goes_on, (board,)),
         ("readings that fill a history", ends_when_full, (board,)),
         ("readings while a server is quiet", is_not_heard, (board,)),
+        ("readings that begin anew", begins_anew, (board,)),
+        ("a clock that runs", clock_runs, (board,)),
+        ("a clock and readings that are refused", refused_clocks, (board,)),
         ("readings that are refused", refused_readings, (board,)),
     ]
