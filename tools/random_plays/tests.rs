@@ -24,7 +24,7 @@ use tally::Tally;
 const WHOLE: u64 = 250;
 
 /// What is counted, how often it was shown, and how often a whole portion shows it at least.
-fn counts(tally: &Tally) -> [(&'static str, u64, u64); 30] {
+fn counts(tally: &Tally) -> [(&'static str, u64, u64); 31] {
     [
         ("schedules", tally.schedules, WHOLE),
         ("events", tally.events, 6000),
@@ -56,6 +56,7 @@ fn counts(tally: &Tally) -> [(&'static str, u64, u64); 30] {
         ("schedules that broke the premise on packets", tally.broken, 1),
         ("schedules that make_schedule drew", tally.drawn, WHOLE / 4),
         ("packets that joined others in these", tally.drawn_joined, 100),
+        ("restarts of the manager", tally.restarts, 100),
     ]
 }
 

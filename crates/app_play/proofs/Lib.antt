@@ -13,3 +13,5 @@ pub mod Readers
 pub mod Rows
 pub mod Told
 pub mod Widths
+pub mod RestartRows
+pub mod RestartedRuns

@@ -19,12 +19,12 @@ use Rattle.app_play.specs.Drawn.{EndsAt, NotesPlayOf, DrawsChart, drawing}
 use Rattle.app_play.specs.Ended.{given_of}
 
 -- the notes of a play of all events are as many as these
-ends_whole : (events : List Event) (notes : ℕ) (played : Played) (ending : Ending) → IsEnding (Ok played) ending → notes ≡ length events → EndsAt events notes None ending
+pub ends_whole : (events : List Event) (notes : ℕ) (played : Played) (ending : Ending) → IsEnding (Ok played) ending → notes ≡ length events → EndsAt events notes None ending
 ends_whole events notes played (Whole told) is all = all
 ends_whole events notes played (Stops cause at told) is all = absurd is
 
 -- and those of one that an event's fault ended are those before it
-ends_stopped : (events : List Event) (notes : ℕ) (why : Fault) (place : ℕ) (played : Played) (ending : Ending) → IsEnding (Err (fault.Event why place played)) ending
+pub ends_stopped : (events : List Event) (notes : ℕ) (why : Fault) (place : ℕ) (played : Played) (ending : Ending) → IsEnding (Err (fault.Event why place played)) ending
     → place ≡ notes + 1 → EndsAt events notes (Some (record { place = place; fault = why })) ending
 ends_stopped events notes why place played (Whole told) is behind = absurd is
 ends_stopped events notes why place played (Stops cause at told) is behind = (sym is.0, sym is.1, behind)

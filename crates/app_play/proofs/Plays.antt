@@ -28,12 +28,12 @@ abbrev pub PlaysOf : Inputs → Result Played LabFault → Type 0
 PlaysOf inputs given = PlayResult inputs.file inputs.plan.steps inputs.plan.retries inputs.events given
 
 -- an account of a play of all events is that of its ending
-whole_account : (played : Played) (ending : Ending) (account : Account) → IsEnding (Ok played) ending → SaysOf account played → account.stopped ≡ None → IsAccountOf account ending
+pub whole_account : (played : Played) (ending : Ending) (account : Account) → IsEnding (Ok played) ending → SaysOf account played → account.stopped ≡ None → IsAccountOf account ending
 whole_account played (Whole told) account is says none = (says told is, none)
 whole_account played (Stops cause at told) account is says none = absurd is
 
 -- and so is one of a play that an event's fault ended, where it names that
-stopped_account : (why : Fault) (place : ℕ) (played : Played) (ending : Ending) (account : Account) → IsEnding (Err (fault.Event why place played)) ending → SaysOf account played
+pub stopped_account : (why : Fault) (place : ℕ) (played : Played) (ending : Ending) (account : Account) → IsEnding (Err (fault.Event why place played)) ending → SaysOf account played
     → account.stopped ≡ Some (record { place = place; fault = why }) → IsAccountOf account ending
 stopped_account why place played (Whole told) account is says named = absurd is
 stopped_account why place played (Stops cause at told) account is says named = (says told is.2, (record { place = place; fault = why }, named, sym is.0, sym is.1))

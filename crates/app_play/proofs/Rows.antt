@@ -17,14 +17,17 @@ abbrev pub rows : List Note → List Note → List (List ℕ)
 rows notes first = map (λ p. event_line notes p.0 p.1) (enumerate_from 0 first)
 
 module _ (notes : List Note) (i : ℕ) (note : Note) (within : i < length notes) (is : note ≡ get_or notes i note) where
-  row_more : rows notes (take (i + 1) notes) ≡ rows notes (take i notes) ++ event_line notes i note ∷ []
-  row_more =
+  -- the numbered notes of one event more
+  pub numbered_more : enumerate_from 0 (take (i + 1) notes) ≡ enumerate_from 0 (take i notes) ++ (i, note) ∷ []
+  numbered_more =
       let taken : length (take i notes) ≡ i = length-take-le i notes (omega (arith, within)) in
       let long : 0 + length (take i notes) ≡ i = omega (arith, taken) in
       let next : take (i + 1) notes ≡ take i notes ++ note ∷ [] = take_more notes i note within ∙ ap (λ (x : Note). take i notes ++ x ∷ []) (sym is) in
-      let numbered : enumerate_from 0 (take (i + 1) notes) ≡ enumerate_from 0 (take i notes) ++ (i, note) ∷ [] =
-      ap (enumerate_from 0) next ∙ enumerated_more 0 (take i notes) note ∙ ap (λ (m : ℕ). enumerate_from 0 (take i notes) ++ (m, note) ∷ []) long in
-      ap (map (λ p. event_line notes p.0 p.1)) numbered ∙ map-append (λ p. event_line notes p.0 p.1) (enumerate_from 0 (take i notes)) ((i, note) ∷ [])
+      ap (enumerate_from 0) next ∙ enumerated_more 0 (take i notes) note ∙ ap (λ (m : ℕ). enumerate_from 0 (take i notes) ++ (m, note) ∷ []) long
+
+  row_more : rows notes (take (i + 1) notes) ≡ rows notes (take i notes) ++ event_line notes i note ∷ []
+  row_more =
+      ap (map (λ p. event_line notes p.0 p.1)) numbered_more ∙ map-append (λ p. event_line notes p.0 p.1) (enumerate_from 0 (take i notes)) ((i, note) ∷ [])
 
   -- the text with the line of one event more
   pub text_more : (old now new : List ℕ) → now ≡ old ++ flat_map ended (rows notes (take i notes)) → new ≡ now ++ ended (event_line notes i note)

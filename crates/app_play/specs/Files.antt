@@ -4,7 +4,8 @@ use Rattle.app_base.specs.declared.files.UnreadFile.{UnreadFile}
 use Rattle.app_base.specs.Ending.{Saying}
 use Rattle.app_base.specs.Files.{Readings, FilesGive, FirstUnread, PrintsRefusal}
 use Rattle.app_play.specs.declared.files.PlayFiles.{PlayFiles}
-use Rattle.app_play.specs.Run.{Telling, PrintsPlay}
+use Rattle.app_play.specs.declared.run.Shown.{Shown}
+use Rattle.app_play.specs.Restarted.{PrintsBy}
 
 -- the words, in their order
 abbrev pub words_of : PlayFiles → List (List ℕ)
@@ -14,8 +15,12 @@ words_of files = files.board.now ∷ files.plan.now ∷ files.schedule.now ∷ [
 abbrev pub ArePlayTexts : Readings → (words : List (List ℕ)) → (board plan schedule : List ℕ) → Type 0
 ArePlayTexts gives words board plan schedule = FilesGive gives words (board ∷ plan ∷ schedule ∷ [])
 
--- what a run says of the files that the words name: what it says of their texts, or that one isn't read, the first of them
-abbrev pub PrintsPlayOfFiles : Readings → Telling → (words : List (List ℕ)) → Saying
-PrintsPlayOfFiles gives tells words stream text status =
-    ((board : List ℕ) × (plan : List ℕ) × (schedule : List ℕ) × ArePlayTexts gives words board plan schedule × PrintsPlay tells board plan schedule stream text status)
+-- what a run says of the files that the words name: this of their texts, or that one isn't read, the first of them
+abbrev pub PrintsOfFiles : Readings → ((board plan schedule : List ℕ) → Saying) → (words : List (List ℕ)) → Saying
+PrintsOfFiles gives prints words stream text status =
+    ((board : List ℕ) × (plan : List ℕ) × (schedule : List ℕ) × ArePlayTexts gives words board plan schedule × prints board plan schedule stream text status)
     ⊎ ((word : List ℕ) × (why : UnreadFile) × FirstUnread gives words word why × PrintsRefusal why word stream text status)
+
+-- so it is of a play that is shown so, whose manager is made again behind the events of these places
+abbrev pub PrintsPlayOfFiles : Readings → Shown → (places : List ℕ) → (words : List (List ℕ)) → Saying
+PrintsPlayOfFiles gives shown places words = PrintsOfFiles gives (PrintsBy shown places) words

@@ -9,4 +9,5 @@ pub mod Ended
 pub mod Files
 pub mod Inputs
 pub mod Lines
+pub mod Restarted
 pub mod Run

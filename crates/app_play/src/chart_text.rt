@@ -11,8 +11,12 @@ use crate::columns::{push_at_most, push_column};
 use lab_run::Note;
 use std::alloc::{AllocError, Global};
 
+/// What the columns are.
+pub(crate) const CHART_HEAD: &str =
+    "event mgr  |comes             sends            |bmc     phase\n";
+
 /// Adds the line of the event of this place, counted from 1, before which those came.
-fn push_event(
+pub(crate) fn push_event(
     alloc: Global,
     text: &mut String,
     place: usize,
@@ -48,7 +52,7 @@ pub(crate) fn chart(alloc: Global, notes: &[Note]) -> Result<String, AllocError>
     let all = Arrivals::of(alloc, notes)?;
     let mut earlier = Arrivals::new(alloc);
     let mut text = String::new(alloc);
-    text.push_str("event mgr  |comes             sends            |bmc     phase\n")?;
+    text.push_str(CHART_HEAD)?;
     for (place, note) in notes.iter().enumerate() {
         push_event(alloc, &mut text, place + 1, note, &earlier, &all)?;
         earlier.add(note.event)?;

@@ -3,7 +3,6 @@ ghost use Rattle.std.specs.Prelude.{IfOk, IfErr, string_bytes};
 ghost use Rattle.app_base.specs.Ending.{RunEnds};
 ghost use Rattle.app_base.specs.Files.{FirstUnread};
 ghost use Rattle.app_play.specs.Files.{words_of, ArePlayTexts, PrintsPlayOfFiles};
-ghost use Rattle.app_play.specs.Run.{tells_of};
 
 use crate::run::{Shown, show};
 use app_base::files::refuse;
@@ -53,11 +52,12 @@ pub fn play_of_files<F: TextFiles, W: io::Write, E: io::Write>(
     alloc: Global,
     files: &F,
     shown: Shown,
+    places: &[usize],
     words: PlayFiles,
     console: &mut Console<W, E>,
 ) -> u8
     ensures { RunEnds W.contents E.contents
-        (PrintsPlayOfFiles (F.gives files.now) (tells_of shown) (words_of words.entry))
+        (PrintsPlayOfFiles (F.gives files.now) shown places.now (words_of words.entry))
         console.old console.new result }
 {
     match texts_of(files, words) {
@@ -70,6 +70,7 @@ pub fn play_of_files<F: TextFiles, W: io::Write, E: io::Write>(
         ) => show(
             alloc,
             shown,
+            places,
             board.as_str(),
             plan.as_str(),
             schedule.as_str(),

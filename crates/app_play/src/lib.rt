@@ -14,6 +14,8 @@ mod inputs;
 pub mod laws;
 mod lines;
 mod report;
+mod restart_rows;
+mod restarted;
 pub mod run;
 
 pub use account::Account;

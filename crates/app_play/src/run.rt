@@ -5,11 +5,13 @@ ghost use Rattle.app_base.specs.declared.status.Status.TheVariants.{RefusedFile}
 ghost use Rattle.app_base.specs.Ending.{RunEnds};
 ghost use Rattle.app_play.specs.Drawn.{DrawsChart};
 ghost use Rattle.app_play.specs.Run.{is_memory, refusal_line, tells_of, RecountsPlay, PrintsPlay};
+ghost use Rattle.app_play.specs.Restarted.{PrintsBy};
 
 use crate::drawn::drawn_report;
 use crate::ended::{Ended, parts_of};
 use crate::inputs::{InputFault, Inputs, read_inputs};
 use crate::report::{account_of, account_report};
+use crate::restarted::restarted_report;
 use app_base::{Console, Ending, Report, Status, Stream};
 use lab_play::play;
 use plan_file::PlanFault;
@@ -89,38 +91,44 @@ fn shown_report(alloc: Global, shown: Shown, inputs: Inputs) -> Result<Report, A
     }
 }
 
-/// What is said of the play that the texts tell, or of the first text that is refused.
+/// What is said of the play that the texts tell, whose manager is made again behind the events of these places, or of the first text that is refused.
 fn play_report(
     alloc: Global,
     shown: Shown,
+    places: &[usize],
     board: &str,
     plan: &str,
     schedule: &str,
 ) -> Result<Report, AllocError>
-    ensures { IfOk result (λ report. PrintsPlay (tells_of shown) board.now plan.now schedule.now
+    ensures { IfOk result (λ report. PrintsBy shown places.now board.now plan.now schedule.now
         report.stream (string_bytes report.text) report.status) }
 {
     match read_inputs(alloc, board, plan, schedule) {
-        Ok(inputs) => shown_report(alloc, shown, inputs),
+        Ok(inputs) if places.is_empty() => shown_report(alloc, shown, inputs),
+        Ok(inputs) => restarted_report(alloc, shown, places, inputs),
         Err(why) if is_memory(&why) => Err(AllocError),
         Err(why) => refusal_report(alloc, why),
     }
 }
 
-/// Plays a plan on the board of a board file by a schedule, each given as its text, and shows what was played: what `play_run` or
-/// `chart_run` does.
+/// Plays a plan on the board of a board file by a schedule, each given as its text, and shows what was played: without places what `play_run` or
+/// `chart_run` does. With places, which count from 1, the manager's process ends behind the events of these, and the manager is made again of
+/// the text of its journal; a chart has a line for each restart. Where a place is behind the last event, the status is 2, with `restart` and the
+/// first such place on standard error.
 pub fn show<W: io::Write, E: io::Write>(
     alloc: Global,
     shown: Shown,
+    places: &[usize],
     board: &str,
     plan: &str,
     schedule: &str,
     console: &mut Console<W, E>,
 ) -> u8
-    ensures { RunEnds W.contents E.contents (PrintsPlay (tells_of shown) board.now plan.now schedule.now)
+    ensures { RunEnds W.contents E.contents
+        (PrintsBy shown places.now board.now plan.now schedule.now)
         console.old console.new result }
 {
-    let report = play_report(alloc, shown, board, plan, schedule);
+    let report = play_report(alloc, shown, places, board, plan, schedule);
     u8::from(Ending::of(&report).write(console))
 }
 
@@ -145,6 +153,7 @@ pub fn play_run<W: io::Write, E: io::Write>(
     show(
         alloc,
         Shown::Lines { frames, premises },
+        &[],
         board,
         plan,
         schedule,
@@ -164,5 +173,5 @@ pub fn chart_run<W: io::Write, E: io::Write>(
     ensures { RunEnds W.contents E.contents (PrintsPlay DrawsChart board.now plan.now schedule.now)
         console.old console.new result }
 {
-    show(alloc, Shown::Chart, board, plan, schedule, console)
+    show(alloc, Shown::Chart, &[], board, plan, schedule, console)
 }

@@ -6,3 +6,7 @@ pub mod Taking
 pub mod Telling
 pub mod Watches
 pub mod Watching
+pub mod Moments
+pub mod Turns
+pub mod Remaking
+pub mod RemadePhase

@@ -13,7 +13,7 @@ use std::alloc::AllocError;
 use text_schedule::Event;
 
 /// One event happens in a lab, the premise on packets is watched, and the event's note is added. On a fault nothing changes.
-fn step_noted<'a>(
+pub(crate) fn step_noted<'a>(
     lab: &mut Lab,
     watch: &mut Watch,
     event: &'a Event,

@@ -9,8 +9,11 @@ ghost use Rattle.lab_run.specs.Shown.{IsSentFrame, idles_in};
 ghost use Rattle.lab_play.specs.Noted.{NotesPlay};
 ghost use Rattle.cfg_records.specs.Changed.{changed_in};
 ghost use Rattle.lab_play.specs.Ends.{TellsPlay, PlayResult, BeginsPlay, given};
+ghost use Rattle.lab_play.specs.Restarting.{RestartedResult, NotesTurns};
 
+use crate::laws::restarted_plays_stand;
 use crate::noted::run_noted;
+use crate::restarting::run_restarting;
 use crate::run::{Stopped, run};
 use crate::watch::Watch;
 use bmc_board::Records;
@@ -183,5 +186,28 @@ pub fn play_noted<'a>(
         return Err(LabFault::Memory);
     };
     let ended = run_noted(&mut played.lab, &mut played.watch, events, notes);
+    played.ending(ended)
+}
+
+/// Plays a plan as `play_noted` does, and behind the events of these places, which count from 1, ends the manager's process: the manager is made
+/// again of the text of its journal. Behind an event that has a fault it isn't.
+pub fn play_restarting<'a>(
+    alloc: Global,
+    file: BoardFile,
+    plan: Plan,
+    events: &'a [Event],
+    places: &[usize],
+    notes: &mut Vec<Note<'a>>,
+) -> Result<Played, LabFault>
+    requires { notes.now.items ≡ [] }
+    ensures plays { RestartedResult file plan.steps plan.retries places.now events.now result }
+    ensures noted { NotesTurns file plan.steps plan.retries places.now events.now result notes.new.items }
+{
+    restarted_plays_stand();
+    let Ok(mut played) = Played::begin(alloc, file, plan) else {
+        return Err(LabFault::Memory);
+    };
+    let lab = &mut played.lab;
+    let ended = run_restarting(alloc, lab, &mut played.watch, events, places, notes);
     played.ending(ended)
 }

@@ -12,3 +12,4 @@ pub mod PortSide
 pub mod Silence
 pub mod Coming
 pub mod Parts
+pub mod Restarts

@@ -8,7 +8,7 @@ use Rattle.bmc_board.specs.Sensing.{bench_of}
 use Rattle.model_undo.specs.declared.call.Call.{Call}
 use Rattle.model_ports.specs.Values.{Asks}
 use Rattle.model_ports.specs.PortSteps.{hears, hears_all, idles}
-use Rattle.model_lab.specs.ManagerSteps.{called}
+use Rattle.model_lab.specs.ManagerSteps.{called, remade}
 use Rattle.model_lab.specs.declared.way.Way.TheVariants.{ToOthers}
 use Rattle.model_lab.specs.Lab.{Lab as LabModel, call_does, delivered, returned, port_does, port_on, with_port}
 use Rattle.model_lab.specs.Meaning.{lab_names, request_of, message_of}
@@ -43,3 +43,7 @@ forgets on requester file x = with_port plans on (idles requester (port_on plans
 -- the board's activity changes beside requests
 abbrev pub benches : Bench → BoardFile → LabModel plans → LabModel plans
 benches happened file x = record x { board = (bench_of file x.board happened).1 }
+
+-- the manager's process ends, and the manager is made again of what it wrote down
+abbrev pub restarts : BoardFile → LabModel plans → LabModel plans
+restarts file x = record x { manager = remade plans x.manager }

@@ -13,6 +13,7 @@ mod noted;
 mod others;
 mod part;
 mod port_side;
+mod restart;
 mod step;
 mod told;
 

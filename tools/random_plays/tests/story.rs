@@ -10,7 +10,7 @@ use super::told::{push_events_of, push_step};
 use bmc_board::Records;
 use cfg_records::{BoardFile, Key, StartValue, Value, sample_board};
 use lab_run::{Lab, SentFrame, Way};
-use lab_play::{LabFault, Played, play};
+use lab_play::{LabFault, Played, play, play_restarting};
 use lab_schedule::make_schedule;
 use undo_plans::{Plan, Steps};
 use model_undo::Call;
@@ -100,18 +100,20 @@ fn plan_of(alloc: Global, scene: &Scene) -> Result<Plan, Fail> {
     Ok(Plan { steps, retries })
 }
 
-/// The play of these events in a scene.
+/// The play of these events in a scene, whose manager is made again behind the events of these places.
 fn play_in(
     alloc: Global,
     scene: &Scene,
     events: &[Event],
+    restarts: &[usize],
 ) -> Result<Result<Played, LabFault>, Fail> {
-    Ok(play(
-        alloc,
-        board_of(alloc, scene)?,
-        plan_of(alloc, scene)?,
-        events,
-    ))
+    let file = board_of(alloc, scene)?;
+    let plan = plan_of(alloc, scene)?;
+    if restarts.is_empty() {
+        return Ok(play(alloc, file, plan, events));
+    }
+    let mut notes = Vec::new(alloc);
+    Ok(play_restarting(alloc, file, plan, events, restarts, &mut notes))
 }
 
 /// A frame comes to where it goes; one that goes to others comes nowhere, and a tenth of a second goes by.
@@ -388,6 +390,8 @@ fn count_parts(
 #[derive(Drop)]
 struct Made {
     events: Vec<Event>,
+    /// The places of the events behind which the manager was made again.
+    restarts: Vec<usize>,
     /// The records that the board began with.
     start: Vec<(Key, StartValue)>,
     lab: Box<Lab>,
@@ -423,7 +427,8 @@ impl Made {
         {
             return Some("the records are not those of the phase");
         }
-        if !is_caused(phase, course, is_told_to_stop(self.events.as_slice())) {
+        let may_stop = is_told_to_stop(self.events.as_slice()) || !self.restarts.is_empty();
+        if !is_caused(phase, course, may_stop) {
             return Some("the plan does not end so");
         }
         None
@@ -458,6 +463,7 @@ impl Made {
 fn begun(alloc: Global, scene: &Scene) -> Result<Made, Fail> {
     Ok(Made {
         events: Vec::new(alloc),
+        restarts: Vec::new(alloc),
         start: board_of(alloc, scene)?.records(alloc)?,
         lab: Lab::open(alloc, board_of(alloc, scene)?, plan_of(alloc, scene)?)?,
         later: 0,
@@ -469,7 +475,7 @@ fn begun(alloc: Global, scene: &Scene) -> Result<Made, Fail> {
 
 /// The lab didn't take the last event that was offered: a play ends there too, with a fault that such an event may have.
 fn refuse(alloc: Global, scene: &Scene, made: &mut Made, tally: &mut Tally) -> Result<(), Fail> {
-    made.wrong = match play_in(alloc, scene, made.events.as_slice())? {
+    made.wrong = match play_in(alloc, scene, made.events.as_slice(), made.restarts.as_slice())? {
         Ok(_) => Some("a play takes an event that the lab doesn't"),
         Err(LabFault::Memory) => Some("memory was refused"),
         Err(LabFault::Event { place, .. }) if place != made.events.len() => Some(
@@ -506,10 +512,24 @@ fn offer(
     Ok(())
 }
 
-/// Offers events until enough were offered, or something is wrong after one.
+/// Ends the manager's process behind the last event that was taken, and makes the manager again.
+fn restart(alloc: Global, made: &mut Made, tally: &mut Tally) -> Result<(), Fail> {
+    let place = made.events.len();
+    if place == 0 || made.restarts.as_slice().last() == Some(&place) {
+        return Ok(());
+    }
+    made.lab.restart(alloc)?;
+    made.restarts.push(place)?;
+    one_more(&mut tally.restarts);
+    Ok(())
+}
+
+/// Offers events until enough were offered, or something is wrong after one. Where restarts are drawn by a dice of theirs, the manager is made again
+/// behind some.
 fn offer_events(
     alloc: Global,
     dice: &mut Dice,
+    restarts: &mut Option<Dice>,
     scene: &Scene,
     course: &Course,
     made: &mut Made,
@@ -519,6 +539,9 @@ fn offer_events(
         if made.later <= MOST_LATER && made.wrong.is_none() {
             let event = any_event(alloc, dice, scene, &made.lab, made.events.as_slice())?;
             offer(alloc, scene, course, made, event, tally)?;
+            if restarts.as_mut().is_some_and(|dice| dice.happens(5)) {
+                restart(alloc, made, tally)?;
+            }
             if made.wrong.is_none() {
                 made.wrong = made.fallen(scene, course, &made.lab.phase(), made.lab.store());
             }
@@ -565,7 +588,8 @@ fn told_otherwise(
     course: &Course,
     made: &Made,
 ) -> Result<Option<&'static str>, Fail> {
-    let Ok(played) = play_in(alloc, scene, made.events.as_slice())? else {
+    let (events, restarts) = (made.events.as_slice(), made.restarts.as_slice());
+    let Ok(played) = play_in(alloc, scene, events, restarts)? else {
         return Ok(Some("a play doesn't take an event that the lab takes"));
     };
     let phase = played.phase();
@@ -589,8 +613,21 @@ struct Whole {
     made: Made,
 }
 
-/// The schedule of this seed is made, up to where something is wrong.
-fn made_of(alloc: Global, seed: u64, tally: &mut Tally) -> Result<Whole, Fail> {
+/// The dice that draws the restarts in the schedule of this seed: in one of two that aren't drawn by the lab.
+fn dice_of_restarts(seed: u64) -> Option<Dice> {
+    if seed % 2 == 0 {
+        return None;
+    }
+    Some(Dice::new(!seed))
+}
+
+/// The schedule of this seed is made, up to where something is wrong, with restarts or without.
+fn made_of(
+    alloc: Global,
+    seed: u64,
+    mut restarts: Option<Dice>,
+    tally: &mut Tally,
+) -> Result<Whole, Fail> {
     let mut dice = Dice::new(seed);
     let scene = any_scene(alloc, &mut dice)?;
     let mut made = begun(alloc, &scene)?;
@@ -598,7 +635,15 @@ fn made_of(alloc: Global, seed: u64, tally: &mut Tally) -> Result<Whole, Fail> {
     if is_drawn(seed) {
         offer_drawn(alloc, &mut dice, &scene, &course, &mut made, tally)?;
     } else {
-        offer_events(alloc, &mut dice, &scene, &course, &mut made, tally)?;
+        offer_events(
+            alloc,
+            &mut dice,
+            &mut restarts,
+            &scene,
+            &course,
+            &mut made,
+            tally,
+        )?;
     }
     if made.wrong.is_none() {
         made.wrong = told_otherwise(alloc, &scene, &course, &made)?;
@@ -617,9 +662,12 @@ pub(super) fn expect_schedule(
     seed: u64,
     tally: &mut Tally,
 ) -> Result<(), Fail> {
-    let whole = made_of(alloc, seed, tally)?;
+    let whole = made_of(alloc, seed, dice_of_restarts(seed), tally)?;
     if let Some(wrong) = whole.made.wrong {
-        let text = told(alloc, seed, &whole)?;
+        let mut text = told(alloc, seed, &whole)?;
+        for place in whole.made.restarts.iter() {
+            writeln!(text, "# The manager is made again behind event {place}.")?;
+        }
         let event = whole.made.events.len();
         assert!(rt; false, "seed {seed}, event {event}: {wrong}\n{text}");
     }
@@ -694,9 +742,9 @@ fn told(alloc: Global, seed: u64, whole: &Whole) -> Result<String, Fail> {
     Ok(text)
 }
 
-/// The story of the schedule of this seed.
+/// The story of the schedule of this seed, without restarts.
 pub(super) fn tell(alloc: Global, seed: u64) -> Result<String, Fail> {
     let mut tally = Tally::NOTHING;
-    let whole = made_of(alloc, seed, &mut tally)?;
+    let whole = made_of(alloc, seed, None, &mut tally)?;
     told(alloc, seed, &whole)
 }

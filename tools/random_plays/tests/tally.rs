@@ -37,6 +37,7 @@ pub(super) struct Tally {
     pub broken: u64,
     pub drawn: u64,
     pub drawn_joined: u64,
+    pub restarts: u64,
 }
 
 /// Counts one more.
@@ -77,6 +78,7 @@ impl Tally {
         broken: 0,
         drawn: 0,
         drawn_joined: 0,
+        restarts: 0,
     };
 
     /// An event was taken.

@@ -29,6 +29,18 @@ fn shown_name(shown: Shown) -> &'static str {
     }
 }
 
+/// Appends the places behind whose events the manager's process ends, where there are some.
+fn push_restarts(text: &mut String, places: &[usize]) -> Result<(), AllocError> {
+    if places.is_empty() {
+        return Ok(());
+    }
+    text.push_str(" restart")?;
+    for place in places {
+        write!(text, " {place}")?;
+    }
+    Ok(())
+}
+
 /// Appends what the buses do.
 fn push_links(text: &mut String, links: &Links) -> Result<(), AllocError> {
     match links {
@@ -84,7 +96,8 @@ fn push_words(
         Ok(Words::Play(words)) => {
             let (board, plan) = (words.board.as_str(), words.plan.as_str());
             let shown = shown_name(words.shown);
-            write!(text, "{shown} {board} {plan} {}", words.schedule.as_str())
+            write!(text, "{shown} {board} {plan} {}", words.schedule.as_str())?;
+            push_restarts(text, words.restarts.as_slice())
         }
         Ok(Words::Schedule(words)) => push_schedule(text, words),
         Ok(Words::Check(words)) => push_files(text, words.files.as_slice()),

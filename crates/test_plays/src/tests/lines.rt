@@ -37,6 +37,12 @@ bmclab play --frames board.toml plan.toml schedule.txt -> 0 out
 bmclab play --chart board.toml plan.toml schedule.txt -> 0 out
   event mgr  |comes             sends            |bmc     phase
   1     start|                  ->0 lost         |        Getting 0
+bmclab play --chart --restart 1 board.toml plan.toml schedule.txt -> 0 out
+  event mgr  |comes             sends            |bmc     phase
+  1     start|                  ->0 lost         |        Getting 0
+        dies |                                   |        Unsettled 0
+bmclab play --restart 1 board.toml plan.toml schedule.txt -> 0 out: phase Unsettled 0 / frames 1 / undo 0 / records same
+bmclab play --restart 1,2 board.toml plan.toml schedule.txt -> 2 err: restart 2
 bmclab play board.toml schedule.txt plan.toml -> 3 err: plan Text
 bmclab play board.toml none.toml none.txt -> 3 err: file none.toml
 
@@ -79,18 +85,22 @@ schedule: start / quit
 bmclab check board.toml -> 0 out: board.toml: board, 2 sensors, 2 users, ..
 bmclab check plan.toml -> 1 out
   plan.toml: plan, 0 steps, retries 3
-  plan.toml: top: unknown key retires, nearest is retries
-bmclab check schedule.txt -> 3 out: schedule.txt: schedule refused, line 2
+  plan.toml:1: top: unknown key retires, nearest is retries
+bmclab check schedule.txt -> 3 out
+  schedule.txt: schedule refused, line 2
+  schedule.txt:2: quit: no line has the word quit, nearest is quiet
 # All are read, in the order of the words, and one that is refused counts most.
 bmclab check schedule.txt plan.toml -> 3 out
   schedule.txt: schedule refused, line 2
+  schedule.txt:2: quit: no line has the word quit, nearest is quiet
   plan.toml: plan, 0 steps, retries 3
-  plan.toml: top: unknown key retires, nearest is retries
+  plan.toml:1: top: unknown key retires, nearest is retries
 bmclab check plan.toml none.toml schedule.txt folder locked.toml bytes -> 3 out
   plan.toml: plan, 0 steps, retries 3
-  plan.toml: top: unknown key retires, nearest is retries
+  plan.toml:1: top: unknown key retires, nearest is retries
   none.toml: not read, there is no such file
   schedule.txt: schedule refused, line 2
+  schedule.txt:2: quit: no line has the word quit, nearest is quiet
   folder: not read, it is a folder
   locked.toml: not read, it may not be read
   bytes: not read, it isn't UTF-8
@@ -102,6 +112,29 @@ plan
 bmclab check plan.toml plan.toml -> 0 out
   plan.toml: empty
   plan.toml: empty
+# What a file looks like is told where it is said to be something else.
+bmclab check --as plan plan.toml -> 0 out
+  plan.toml: plan, 0 steps, retries 3
+  plan.toml: it looks like an empty file
+bmclab check --as undo plan.toml -> 3 out
+  plan.toml: undo text refused, line 1
+  plan.toml:1: nothing stands here: undo 1 or undo 2 alone
+  plan.toml: it looks like an empty file
+# Readings begin with a time.
+schedule: 0 scan 05 30 / 4000 tick
+bmclab check schedule.txt -> 0 out: schedule.txt: readings, 2 events
+bmclab check --as schedule schedule.txt -> 3 out
+  schedule.txt: schedule refused, line 1
+  schedule.txt:1: 0 scan 05 30: no line has the word 0
+  schedule.txt: it looks like readings
+schedule: 5 scan 05 30 / 4 tick
+bmclab check schedule.txt -> 3 out
+  schedule.txt: readings refused, line 2
+  schedule.txt:2: 4 tick: MS tick, and MS is no less than in a line above
+schedule: 0 scna 05 30
+bmclab check schedule.txt -> 3 out
+  schedule.txt: readings refused, line 1
+  schedule.txt:1: 0 scna 05 30: no line has the word scna, nearest is scan
 
 story the version is a word of its own
 bmclab version -> 0 out: version 0.3.0
@@ -148,6 +181,8 @@ bmclab play --chart --frames a b c -> 2 err
   error: the argument '--frames' cannot be used with '--chart' /  / Usage: bmclab play [OPTIONS] <BOARD> <PLAN> <SCHEDULE> /  / For more information, try '--help'.
 bmclab play --chart --premises a b c -> 2 err
   error: the argument '--premises' cannot be used with '--chart' /  / Usage: bmclab play [OPTIONS] <BOARD> <PLAN> <SCHEDULE> /  / For more information, try '--help'.
+bmclab play --restart 7,3 a b c -> 2 err
+  error: invalid value '7,3' for '--restart <PLACES>': decimal numbers from 1, each above the one before it, with a comma between two /  / Usage: bmclab play [OPTIONS] <BOARD> <PLAN> <SCHEDULE> /  / For more information, try '--help'.
 bmclab play --frames=yes a b c -> 2 err
   error: unexpected value 'yes' for '--frames' found; no more were expected /  / Usage: bmclab play --frames <BOARD> <PLAN> <SCHEDULE> /  / For more information, try '--help'.
 bmclab play a b c d -> 2 err
@@ -155,8 +190,10 @@ bmclab play a b c d -> 2 err
 bmclab check -> 2 err
   error: the following required arguments were not provided:
     <FILE>... /  / Usage: bmclab check <FILE>... /  / For more information, try '--help'.
+bmclab check --as boards a -> 2 err
+  error: invalid value 'boards' for '--as <FORM>' /   [possible values: board, plan, undo, journal, readings, schedule] /  / Usage: bmclab check [OPTIONS] <FILE>... /  / For more information, try '--help'.
 bmclab check --all a -> 2 err
-  error: unexpected argument '--all' found /  /   tip: to pass '--all' as a value, use '-- --all' /  / Usage: bmclab check <FILE>... /  / For more information, try '--help'.
+  error: unexpected argument '--all' found /  /   tip: to pass '--all' as a value, use '-- --all' /  / Usage: bmclab check [OPTIONS] <FILE>... /  / For more information, try '--help'.
 
 story a request for help is refused, and helped
 bmclab --help -> 2 err
@@ -223,37 +260,43 @@ bmclab play --help -> 2 err
     <BOARD>     The board file, as sample.toml
     <PLAN>      The plan, as examples/clean/plan.toml
     <SCHEDULE>  The schedule: what comes when, as examples/clean/schedule.txt /  / Options:
-        --frames    Prints each frame, too, as in frame 0 mgr ipmb 2010D02C002905A6
-        --premises  Prints the first event at which a packet joined one that had waited too long, or premises kept
-        --chart     Draws the play in place of its lines
-    -h, --help      Print help /  / Examples:
+        --frames            Prints each frame, too, as in frame 0 mgr ipmb 2010D02C002905A6
+        --premises          Prints the first event at which a packet joined one that had waited too long, or premises kept
+        --chart             Draws the play in place of its lines
+        --restart <PLACES>  Ends the manager's process behind these events and makes it anew of its journal, as in --restart 3,7
+    -h, --help              Print help /  / Examples:
     bmclab play sample.toml examples/clean/plan.toml examples/clean/schedule.txt
     bmclab play --frames sample.toml examples/clean/plan.toml examples/clean/schedule.txt
     bmclab play --premises sample.toml examples/clean/plan.toml examples/clean/schedule.txt
     bmclab play --chart sample.toml examples/clean/plan.toml examples/clean/schedule.txt
+    bmclab play --restart 4 sample.toml examples/set_unheard/plan.toml examples/set_unheard/schedule.txt
 bmclab version --help -> 2 err
   Prints the version /  / Usage: bmclab version /  / Options:
     -h, --help  Print help /  / Examples:
     bmclab version
 bmclab check --help -> 2 err
-  Tells what files hold, where a fault is, and which keys nothing reads /  / Usage: bmclab check <FILE>... /  / Arguments:
-    <FILE>...  The files: board files, plans, schedules and undo texts /  / Options:
-    -h, --help  Print help /  / Examples:
+  Tells what files hold, where a fault is, and which keys nothing reads /  / Usage: bmclab check [OPTIONS] <FILE>... /  / Arguments:
+    <FILE>...  The files: board files, plans, schedules, undo texts, journals and readings /  / Options:
+        --as <FORM>  What the files are, as in --as plan: board, plan, undo, journal, readings or schedule; what they look like where it isn't named
+    -h, --help       Print help /  / Examples:
     bmclab check sample.toml
     bmclab check sample.toml examples/clean/plan.toml examples/clean/schedule.txt
+    bmclab check --as plan examples/clean/plan.toml
 bmclab play -h a b c -> 2 err
   Plays a plan on a board, over buses that lose, repeat and delay frames /  / Usage: bmclab play [OPTIONS] <BOARD> <PLAN> <SCHEDULE> /  / Arguments:
     <BOARD>     The board file, as sample.toml
     <PLAN>      The plan, as examples/clean/plan.toml
     <SCHEDULE>  The schedule: what comes when, as examples/clean/schedule.txt /  / Options:
-        --frames    Prints each frame, too, as in frame 0 mgr ipmb 2010D02C002905A6
-        --premises  Prints the first event at which a packet joined one that had waited too long, or premises kept
-        --chart     Draws the play in place of its lines
-    -h, --help      Print help /  / Examples:
+        --frames            Prints each frame, too, as in frame 0 mgr ipmb 2010D02C002905A6
+        --premises          Prints the first event at which a packet joined one that had waited too long, or premises kept
+        --chart             Draws the play in place of its lines
+        --restart <PLACES>  Ends the manager's process behind these events and makes it anew of its journal, as in --restart 3,7
+    -h, --help              Print help /  / Examples:
     bmclab play sample.toml examples/clean/plan.toml examples/clean/schedule.txt
     bmclab play --frames sample.toml examples/clean/plan.toml examples/clean/schedule.txt
     bmclab play --premises sample.toml examples/clean/plan.toml examples/clean/schedule.txt
     bmclab play --chart sample.toml examples/clean/plan.toml examples/clean/schedule.txt
+    bmclab play --restart 4 sample.toml examples/set_unheard/plan.toml examples/set_unheard/schedule.txt
 ";
 
 /// What the words ask for.
@@ -282,11 +325,15 @@ asks bmclab play --premises sample.toml plan.toml schedule.txt -> premises sampl
 asks bmclab play --premises --frames sample.toml plan.toml schedule.txt -> frames and premises sample.toml plan.toml schedule.txt
 asks bmclab play --chart sample.toml plan.toml schedule.txt -> chart sample.toml plan.toml schedule.txt
 asks bmclab play sample.toml plan.toml schedule.txt --chart -> chart sample.toml plan.toml schedule.txt
+asks bmclab play --restart 3 sample.toml plan.toml schedule.txt -> lines sample.toml plan.toml schedule.txt restart 3
+asks bmclab play --chart --restart 1,2,10 sample.toml plan.toml schedule.txt -> chart sample.toml plan.toml schedule.txt restart 1 2 10
+asks bmclab play sample.toml plan.toml schedule.txt --restart=3,7 -> lines sample.toml plan.toml schedule.txt restart 3 7
 
 story a check names its files in their order
 asks bmclab check plan.toml -> check plan.toml
 asks bmclab check sample.toml plan.toml schedule.txt undo.txt -> check sample.toml plan.toml schedule.txt undo.txt
 asks bmclab check plan.toml plan.toml -> check plan.toml plan.toml
+asks bmclab check --as board plan.toml -> check plan.toml
 asks bmclab check -- --frames -> check --frames
 
 story the version is asked for by one word
@@ -298,6 +345,9 @@ asks bmclab version --frames -> refused
 asks bmclab version version -> refused
 asks bmclab check -> refused
 asks bmclab check --frames plan.toml -> refused
+asks bmclab check --as readme plan.toml -> refused
+asks bmclab check --as board -> refused
+asks bmclab check --as board --as plan plan.toml -> refused
 asks bmclab check --help -> refused
 asks bmclab -> refused
 asks bmclab frame -> refused
@@ -326,6 +376,15 @@ asks bmclab play --chart --premises sample.toml plan.toml schedule.txt -> refuse
 asks bmclab play --chart --frames --premises sample.toml plan.toml schedule.txt -> refused
 asks bmclab play --chart --chart sample.toml plan.toml schedule.txt -> refused
 asks bmclab play --chart sample.toml plan.toml -> refused
+asks bmclab play --restart 0 sample.toml plan.toml schedule.txt -> refused
+asks bmclab play --restart 3,3 sample.toml plan.toml schedule.txt -> refused
+asks bmclab play --restart 7,3 sample.toml plan.toml schedule.txt -> refused
+asks bmclab play --restart 3, sample.toml plan.toml schedule.txt -> refused
+asks bmclab play --restart ,3 sample.toml plan.toml schedule.txt -> refused
+asks bmclab play --restart 03 sample.toml plan.toml schedule.txt -> refused
+asks bmclab play --restart +3 sample.toml plan.toml schedule.txt -> refused
+asks bmclab play --restart 4294967296 sample.toml plan.toml schedule.txt -> refused
+asks bmclab play --restart 3 --restart 7 sample.toml plan.toml schedule.txt -> refused
 asks bmclab play --board sample.toml plan.toml schedule.txt -> refused
 asks bmclab frame --frames 2018 -> refused
 asks bmclab frame --chart 2018 -> refused

@@ -27,7 +27,7 @@ fn play(alloc: Global, scene: &Scene, shown: &str, paper: &mut Paper) -> Result<
     let premises = shown == "premises";
     Ok(match shown {
         "chart" => chart_run(alloc, board, plan, schedule, paper),
-        "show" => show(alloc, Shown::Chart, board, plan, schedule, paper),
+        "show" => show(alloc, Shown::Chart, &[], board, plan, schedule, paper),
         _ => play_run(alloc, frames, premises, board, plan, schedule, paper),
     })
 }
@@ -84,7 +84,7 @@ fn call(alloc: Global, scene: &Scene, name: &str, paper: &mut Paper) -> Result<u
                 plan,
                 schedule,
             };
-            Ok(play_of_files(alloc, scene, Shown::Chart, files, paper))
+            Ok(play_of_files(alloc, scene, Shown::Chart, &[], files, paper))
         }
         "schedule_of_files" => {
             let files = ScheduleFiles { board, plan };
