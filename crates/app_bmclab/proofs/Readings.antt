@@ -18,12 +18,13 @@ use Rattle.app_base.specs.Asked.{RefusesWords}
 use Rattle.app_base.proofs.Readings.{alike, apart, refuses_none, refuses_unless, some_same}
 use Rattle.app_bmclab.specs.declared.words.Words.{Words}
 use Rattle.app_bmclab.specs.declared.words.Words.TheVariants.{Frame, Play, Schedule, Check, Version}
-use Rattle.app_bmclab.specs.declared.words.CheckWords.{CheckWords}
+use Rattle.app_bmclab.specs.declared.check_words.CheckWords.{CheckWords}
 use Rattle.app_bmclab.specs.declared.words.FrameWords.{FrameWords}
 use Rattle.app_bmclab.specs.declared.words.PlayWords.{PlayWords}
 use Rattle.app_bmclab.specs.declared.schedule_words.ScheduleWords.{ScheduleWords}
-use Rattle.app_bmclab.specs.Asked.{AsksBy, AsksCheck, AsksFrame, AsksPlay, shown_of}
+use Rattle.app_bmclab.specs.Asked.{AsksBy, AsksFrame, AsksPlay, shown_of}
 use Rattle.app_bmclab.specs.Drawn.{AsksSchedule}
+use Rattle.app_bmclab.specs.Looked.{AsksCheck}
 
 -- the promises of `asked_frame` and of the refusal of what it refuses, as one
 pub frame_refuses : (word : Option Text) (digits : Text) (status : Status) (refusal : Refusal) → (status ≡ RefusedWords) ⊎ (status ≡ Memory)

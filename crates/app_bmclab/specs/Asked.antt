@@ -1,6 +1,6 @@
 -- What the words of the command line ask for.
-use Rattle.std.specs.Prelude.{◌≡◌, Bool, true, false, List, Option, None, Some, codes, map, option_map, string_bytes}
-use Rattle.clap.specs.Words.{Row, Text, all_of, first_of}
+use Rattle.std.specs.Prelude.{◌≡◌, Bool, true, false, List, Option, None, Some, codes, option_map, string_bytes}
+use Rattle.clap.specs.Words.{Row, Text, first_of}
 use Rattle.bmc_lab.specs.Asked.{AsksForBytes}
 use Rattle.app_play.specs.declared.run.Shown.{Shown}
 use Rattle.app_play.specs.declared.run.Shown.TheVariants.{Lines, Chart}
@@ -9,9 +9,10 @@ use Rattle.app_bmclab.specs.declared.words.Words.{Words}
 use Rattle.app_bmclab.specs.declared.words.Words.TheVariants.{Frame, Play, Schedule, Check, Version}
 use Rattle.app_bmclab.specs.declared.words.FrameWords.{FrameWords}
 use Rattle.app_bmclab.specs.declared.words.PlayWords.{PlayWords}
-use Rattle.app_bmclab.specs.declared.words.CheckWords.{CheckWords}
 use Rattle.app_bmclab.specs.Drawn.{AsksSchedule}
+use Rattle.app_bmclab.specs.Looked.{AsksCheck}
 use Rattle.app_bmclab.specs.Line.{program}
+use Rattle.app_bmclab.specs.Places.{NamesPlaces}
 
 -- how a play is shown where the flags `--frames`, `--premises` and `--chart` are given or not: a chart has no lines of frames, and none of
 -- the premise on packets
@@ -31,13 +32,10 @@ pub record AsksFrame (rows : List Row) (asked : FrameWords) : Type 0 where
 -- what was matched behind `play` asks for this
 pub record AsksPlay (rows : List Row) (asked : PlayWords) : Type 0 where
   pub shown : shown_of (is_given (codes "frames") rows) (is_given (codes "premises") rows) (is_given (codes "chart") rows) ≡ Some asked.shown
+  pub restarts : NamesPlaces (first_of (codes "restart") rows) asked.restarts.items
   pub board : first_of (codes "BOARD") rows ≡ Some (string_bytes asked.board)
   pub plan : first_of (codes "PLAN") rows ≡ Some (string_bytes asked.plan)
   pub schedule : first_of (codes "SCHEDULE") rows ≡ Some (string_bytes asked.schedule)
-
--- what was matched behind `check` asks for this
-pub record AsksCheck (rows : List Row) (asked : CheckWords) : Type 0 where
-  pub files : all_of (codes "FILE") rows ≡ Some (map string_bytes asked.files.items)
 
 -- the subcommand, with what was matched behind it, asks for this
 abbrev pub AsksBy : Option (Text × List Row) → Words → Type 0

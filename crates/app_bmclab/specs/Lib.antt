@@ -1,7 +1,9 @@
 pub mod Line
+pub mod Places
 pub mod Asked
 pub mod Checks
 pub mod Drawn
 pub mod Writes
 pub mod ScheduledFiles
 pub mod Run
+pub mod Looked

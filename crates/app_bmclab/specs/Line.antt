@@ -8,10 +8,11 @@ use Rattle.app_base.specs.Version.{version_app}
 abbrev pub frame_app : App
 frame_app = fold with_rule (new_app (codes "frame")) (option_rule (codes "bus") ∷ option_rule (codes "board") ∷ needed_rule (codes "HEX") ∷ [])
 
--- `play [[--frames] [--premises] | --chart] BOARD PLAN SCHEDULE`
+-- `play [[--frames] [--premises] | --chart] [--restart PLACES] BOARD PLAN SCHEDULE`
 abbrev pub play_app : App
 play_app = fold with_rule (new_app (codes "play"))
-    (flag_rule (codes "frames") ∷ flag_rule (codes "premises") ∷ flag_rule (codes "chart") ∷ needed_rule (codes "BOARD") ∷ needed_rule (codes "PLAN") ∷ needed_rule (codes "SCHEDULE") ∷ [])
+    (flag_rule (codes "frames") ∷ flag_rule (codes "premises") ∷ flag_rule (codes "chart") ∷ option_rule (codes "restart")
+    ∷ needed_rule (codes "BOARD") ∷ needed_rule (codes "PLAN") ∷ needed_rule (codes "SCHEDULE") ∷ [])
 
 -- `schedule [--lose N] [--repeat N] [--delay N] [--others N] [--seed S] [--undo] BOARD PLAN`
 abbrev pub schedule_app : App
@@ -19,9 +20,9 @@ schedule_app = fold with_rule (new_app (codes "schedule"))
     (option_rule (codes "lose") ∷ option_rule (codes "repeat") ∷ option_rule (codes "delay") ∷ option_rule (codes "others") ∷ option_rule (codes "seed") ∷ flag_rule (codes "undo")
     ∷ needed_rule (codes "BOARD") ∷ needed_rule (codes "PLAN") ∷ [])
 
--- `check FILE..`
+-- `check [--as FORM] FILE..`
 abbrev pub check_app : App
-check_app = with_rule (new_app (codes "check")) (several_rule (codes "FILE"))
+check_app = fold with_rule (new_app (codes "check")) (option_rule (codes "as") ∷ several_rule (codes "FILE") ∷ [])
 
 -- `bmclab`, and what it can do with a board
 abbrev pub runs : App

@@ -8,7 +8,6 @@ use Rattle.app_base.specs.Files.{Readings}
 use Rattle.app_base.specs.Version.{SaysVersion}
 use Rattle.bmc_lab.specs.Files.{SaysOfFile}
 use Rattle.app_play.specs.Files.{PrintsPlayOfFiles}
-use Rattle.app_play.specs.Run.{tells_of}
 use Rattle.app_bmclab.specs.ScheduledFiles.{PrintsScheduleOfFiles as SaysOfScheduled}
 use Rattle.app_bmclab.specs.declared.words.Words.{Words}
 use Rattle.app_bmclab.specs.declared.words.Words.TheVariants.{Frame, Play, Schedule, Check, Version}
@@ -19,9 +18,9 @@ use Rattle.app_bmclab.specs.Checks.{SaysOfChecks}
 -- the two of the schedule that is made, of the files that it checks, or of the version
 abbrev pub SaysOfWords : Readings → Words → Saying
 SaysOfWords gives (Frame asked) = SaysOfFile gives (option_map string_bytes asked.board) asked.frame.bus asked.frame.bytes.items
-SaysOfWords gives (Play asked) = PrintsPlayOfFiles gives (tells_of asked.shown) (string_bytes asked.board ∷ string_bytes asked.plan ∷ string_bytes asked.schedule ∷ [])
+SaysOfWords gives (Play asked) = PrintsPlayOfFiles gives asked.shown asked.restarts.items (string_bytes asked.board ∷ string_bytes asked.plan ∷ string_bytes asked.schedule ∷ [])
 SaysOfWords gives (Schedule asked) = SaysOfScheduled gives asked.wanted (string_bytes asked.board ∷ string_bytes asked.plan ∷ [])
-SaysOfWords gives (Check asked) = SaysOfChecks gives (map string_bytes asked.files.items)
+SaysOfWords gives (Check asked) = SaysOfChecks gives asked.form (map string_bytes asked.files.items)
 SaysOfWords gives Version = SaysVersion
 
 -- What a run says of a command line's words: what it says of what they ask for; or, where they ask for nothing, any text on standard error,

@@ -3,8 +3,10 @@
 #![tactic(auto)]
 
 pub mod check;
+pub mod check_words;
 mod file;
 mod number;
+mod places;
 pub mod run;
 pub mod schedule_files;
 pub mod schedule_text;
@@ -12,9 +14,10 @@ pub mod schedule_words;
 pub mod words;
 
 pub use check::{Cause, TellsCause, check_files};
+pub use check_words::CheckWords;
 pub use lab_schedule::{Chances, Links, Percent, ScheduleOptions};
 pub use run::run_line;
 pub use schedule_files::{ScheduleFiles, schedule_of_files};
 pub use schedule_text::schedule_run;
 pub use schedule_words::ScheduleWords;
-pub use words::{CheckWords, FrameWords, PlayWords, Words};
+pub use words::{FrameWords, PlayWords, Words};

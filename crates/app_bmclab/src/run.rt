@@ -4,9 +4,10 @@ ghost use Rattle.app_base.specs.Ending.{RunEnds};
 ghost use Rattle.app_bmclab.specs.Run.{SaysOfLine, SaysOfWords};
 
 use crate::check::{TellsCause, check_files};
+use crate::check_words::CheckWords;
 use crate::schedule_files::{ScheduleFiles, schedule_of_files};
 use crate::schedule_words::ScheduleWords;
-use crate::words::{CheckWords, FrameWords, PlayWords, Words, read};
+use crate::words::{FrameWords, PlayWords, Words, read};
 use app_base::{Console, TextFiles, refuse, tell_version};
 use app_play::{PlayFiles, play_of_files};
 use bmc_lab::frame_of_file;
@@ -51,7 +52,8 @@ fn play<F: TextFiles, W: io::Write, E: io::Write>(
         plan: words.plan.as_str(),
         schedule: words.schedule.as_str(),
     };
-    play_of_files(alloc, files, words.shown, named, console)
+    let restarts = words.restarts.as_slice();
+    play_of_files(alloc, files, words.shown, restarts, named, console)
 }
 
 /// Writes the schedule that the words ask for.
@@ -83,7 +85,7 @@ fn check<F: TextFiles + TellsCause, W: io::Write, E: io::Write>(
         (SaysOfWords (F.gives files.now) (Words.Check words.now))
         console.old console.new result }
 {
-    check_files(alloc, files, words.files.as_slice(), console)
+    check_files(alloc, files, words.form, words.files.as_slice(), console)
 }
 
 /// Does what the words ask for.

@@ -1,15 +1,18 @@
 //! The words of the command line.
-ghost use Rattle.std.specs.Prelude.{◌≡◌, IfOk, IfErr, map, string_bytes};
-ghost use Rattle.clap.specs.Words.{app_of, found_of, rows_of, subcommand_rows_of};
+ghost use Rattle.std.specs.Prelude.{◌≡◌, IfOk, IfErr, codes, map, string_bytes};
+ghost use Rattle.clap.specs.Words.{app_of, first_of, found_of, rows_of, subcommand_rows_of};
 ghost use Rattle.app_base.specs.Line.{IsCommand};
 ghost use Rattle.app_base.specs.Asked.{RefusesWords};
-ghost use Rattle.app_bmclab.specs.Line.{check_app, frame_app, play_app, program};
-ghost use Rattle.app_bmclab.specs.Asked.{AsksBy, AsksCheck, AsksFor, AsksFrame, AsksPlay, shown_of};
+ghost use Rattle.app_bmclab.specs.Line.{frame_app, play_app, program};
+ghost use Rattle.app_bmclab.specs.Asked.{AsksBy, AsksFor, AsksFrame, AsksPlay, shown_of};
+ghost use Rattle.app_bmclab.specs.Places.{NamesPlaces};
 
+use crate::check_words::{CheckWords, check_command, check_words};
+use crate::places::places_of;
 use crate::schedule_words::{ScheduleWords, schedule_command, schedule_words};
 use app_base::{
-    Argument, Refusal, Status, all_named, given, has_flag, lacking, named, new_command,
-    new_program, refusal_by, refusal_of, version_command, with_command,
+    Argument, Refusal, Status, given, has_flag, lacking, named, new_command, new_program,
+    refusal_by, refusal_of, version_command, with_command,
 };
 use app_play::Shown;
 use bmc_lab::{AskedFrame, asked_frame};
@@ -41,19 +44,14 @@ pub struct FrameWords {
 pub struct PlayWords {
     /// How the play is shown.
     pub shown: Shown,
+    /// The places of the events behind which the manager's process ends, which rise from 1.
+    pub restarts: Vec<usize>,
     /// The word of the board file.
     pub board: String,
     /// The word of the plan.
     pub plan: String,
     /// The word of the schedule.
     pub schedule: String,
-}
-
-/// What the words of `bmclab check` ask for.
-#[derive(Drop)]
-pub struct CheckWords {
-    /// The words of the files, at least one.
-    pub files: Vec<String>,
 }
 
 const BUS_HELP: &str = "The bus, as in --bus smbus:
@@ -102,49 +100,31 @@ const PREMISES_HELP: &str =
 
 const SCHEDULE_HELP: &str = "The schedule: what comes when, as examples/clean/schedule.txt";
 
+const RESTART_HELP: &str =
+    "Ends the manager's process behind these events and makes it anew of its journal, as in --restart 3,7";
+
 const PLAY_EXAMPLES: &str = "Examples:
   bmclab play sample.toml examples/clean/plan.toml examples/clean/schedule.txt
   bmclab play --frames sample.toml examples/clean/plan.toml examples/clean/schedule.txt
   bmclab play --premises sample.toml examples/clean/plan.toml examples/clean/schedule.txt
-  bmclab play --chart sample.toml examples/clean/plan.toml examples/clean/schedule.txt";
+  bmclab play --chart sample.toml examples/clean/plan.toml examples/clean/schedule.txt
+  bmclab play --restart 4 sample.toml examples/set_unheard/plan.toml examples/set_unheard/schedule.txt";
 
-const PLAY_ARGUMENTS: [Argument<'static>; 6] = [
+const PLAY_ARGUMENTS: [Argument<'static>; 7] = [
     Argument::Flag("frames", FRAMES_HELP),
     Argument::Flag("premises", PREMISES_HELP),
     Argument::Flag("chart", "Draws the play in place of its lines"),
+    Argument::Option("restart", "PLACES", RESTART_HELP),
     Argument::Needed("BOARD", "The board file, as sample.toml"),
     Argument::Needed("PLAN", "The plan, as examples/clean/plan.toml"),
     Argument::Needed("SCHEDULE", SCHEDULE_HELP),
 ];
 
-/// `play [[--frames] [--premises] | --chart] BOARD PLAN SCHEDULE`.
+/// `play [[--frames] [--premises] | --chart] [--restart PLACES] BOARD PLAN SCHEDULE`.
 fn play_command<'a>(alloc: Global) -> Result<Command<'a>, AllocError>
     ensures { IfOk result (IsCommand play_app) }
 {
     new_command(alloc, "play", PLAY_ABOUT, PLAY_EXAMPLES, &PLAY_ARGUMENTS)
-}
-
-const CHECK_ABOUT: &str = "Tells what files hold, where a fault is, and which keys nothing reads";
-
-const CHECK_EXAMPLES: &str = "Examples:
-  bmclab check sample.toml
-  bmclab check sample.toml examples/clean/plan.toml examples/clean/schedule.txt";
-
-const FILES_HELP: &str = "The files: board files, plans, schedules and undo texts";
-
-const CHECK_ARGUMENTS: [Argument<'static>; 1] = [Argument::Several("FILE", FILES_HELP)];
-
-/// `check FILE..`.
-fn check_command<'a>(alloc: Global) -> Result<Command<'a>, AllocError>
-    ensures { IfOk result (IsCommand check_app) }
-{
-    new_command(
-        alloc,
-        "check",
-        CHECK_ABOUT,
-        CHECK_EXAMPLES,
-        &CHECK_ARGUMENTS,
-    )
 }
 
 const VERSION_EXAMPLES: &str = "Examples:
@@ -239,6 +219,38 @@ fn shown_refusal(alloc: Global, frames: bool) -> Refusal {
     refusal_by(alloc, command, "bmclab play", kind, message)
 }
 
+/// The refusal of a word that names no places.
+fn places_refusal(alloc: Global, word: &str) -> Refusal {
+    let message = format!(in alloc;
+        "invalid value '{word}' for '--restart <PLACES>': decimal numbers from 1, each above the one before it, with a comma between two"
+    );
+    match message {
+        Ok(message) => {
+            let command = play_command(alloc);
+            let kind = ErrorKind::ValueValidation;
+            refusal_by(alloc, command, "bmclab play", kind, message.as_str())
+        }
+        Err(_) => Refusal::Memory,
+    }
+}
+
+/// The places behind whose events the manager's process ends.
+fn restarts(alloc: Global, matches: &ArgMatches) -> Result<Vec<usize>, Refusal>
+    ensures named { IfOk result (λ places.
+        NamesPlaces (first_of (codes "restart") (rows_of (found_of matches.now))) places.items) }
+    ensures refused { IfErr result (RefusesWords
+        (NamesPlaces (first_of (codes "restart") (rows_of (found_of matches.now))))) }
+{
+    let Some(word) = matches.get_str("restart") else {
+        return Ok(Vec::new(alloc));
+    };
+    match places_of(alloc, word) {
+        Ok(Some(places)) => Ok(places),
+        Ok(None) => Err(places_refusal(alloc, word)),
+        Err(_) => Err(Refusal::Memory),
+    }
+}
+
 /// What the words behind `play` ask for.
 fn play_words(alloc: Global, matches: &ArgMatches) -> Result<PlayWords, Refusal>
     ensures asked { IfOk result (AsksPlay (rows_of (found_of matches.now))) }
@@ -250,21 +262,13 @@ fn play_words(alloc: Global, matches: &ArgMatches) -> Result<PlayWords, Refusal>
     let Some(shown) = shown(frames, premises, chart) else {
         return Err(shown_refusal(alloc, frames));
     };
+    let restarts = restarts(alloc, matches)?;
     Ok(PlayWords {
         shown,
+        restarts,
         board: named(alloc, matches, "BOARD")?,
         plan: named(alloc, matches, "PLAN")?,
         schedule: named(alloc, matches, "SCHEDULE")?,
-    })
-}
-
-/// What the words behind `check` ask for.
-fn check_words(alloc: Global, matches: &ArgMatches) -> Result<CheckWords, Refusal>
-    ensures asked { IfOk result (AsksCheck (rows_of (found_of matches.now))) }
-    ensures refused { IfErr result (RefusesWords (AsksCheck (rows_of (found_of matches.now)))) }
-{
-    Ok(CheckWords {
-        files: all_named(alloc, matches, "FILE")?,
     })
 }
 

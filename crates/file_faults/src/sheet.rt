@@ -22,6 +22,12 @@ impl Sheet {
         }
     }
 
+    /// The lines that are told.
+    pub fn into_text(self) -> String {
+        let Sheet { text, count: _ } = self;
+        text
+    }
+
     /// Whether one more line of this sort is told. It is counted if not, too.
     pub fn takes(&mut self) -> bool {
         self.count = self.count.saturating_add(1);

@@ -1,4 +1,7 @@
 //! The tables of a file, and how a line that is told of one begins.
+ghost use Rattle.std.specs.Prelude.{◌≡◌, IfOk, IfSome};
+ghost use Rattle.file_faults.specs.Lines.{array_of, IsLineIn, IsLineOf};
+
 use crate::group::Group;
 use file_words::push_line;
 use std::alloc::{AllocError, Global};
@@ -29,7 +32,9 @@ pub struct Spot<'a> {
 
 impl Group {
     /// The key that has the group's table or array; none of a file's own table.
-    pub(crate) fn array(self) -> Option<Field> {
+    pub(crate) fn array(self) -> Option<Field>
+        ensures { result ≡ array_of self }
+    {
         match self {
             Group::Top | Group::Plan => None,
             Group::Device => Some(Field::Device),
@@ -57,32 +62,38 @@ fn push_kind(text: &mut String, step: &Table) -> Result<(), AllocError> {
     text.push_str(")")
 }
 
-impl<'a> Spot<'a> {
-    /// What is looked for in the file, to find the line of a key of the table.
-    fn wanted<'k>(&self, table: Option<&'k str>, key: &'k str) -> Wanted<'k> {
-        Wanted {
+impl Spot<'_> {
+    /// The line in which the key stands, or else the key of this table or array, if there is one.
+    fn line_in(
+        &self,
+        alloc: Global,
+        table: Option<&str>,
+        key: &str,
+    ) -> Result<Option<usize>, AllocError>
+        ensures { IfOk result (λ found. IfSome found
+            (IsLineIn self.now.source.file.now table.entry key.now)) }
+    {
+        let wanted = Wanted {
             table,
             place: self.place,
             key,
+        };
+        match place_of(alloc, self.source.file, wanted)? {
+            Some(Found::Key(line)) => Ok(Some(line)),
+            Some(Found::Head(line)) => Ok(Some(line)),
+            None => Ok(None),
         }
     }
 
     /// The line in which the key stands, or else the table's head.
-    fn line_of(&self, alloc: Global, key: &str) -> Result<Option<usize>, AllocError> {
-        let found = match self.group.array() {
-            None => place_of(alloc, self.source.file, self.wanted(None, key))?,
-            Some(array) => {
-                place_of(
-                    alloc,
-                    self.source.file,
-                    self.wanted(Some(array.word()), key),
-                )?
-            }
-        };
-        Ok(match found {
-            Some(Found::Key(line) | Found::Head(line)) => Some(line),
-            None => None,
-        })
+    fn line_of(&self, alloc: Global, key: &str) -> Result<Option<usize>, AllocError>
+        ensures { IfOk result (λ found. IfSome found
+            (IsLineOf self.now.source.file.now self.now.group key.now)) }
+    {
+        match self.group.array() {
+            None => self.line_in(alloc, None, key),
+            Some(array) => self.line_in(alloc, Some(array.word()), key),
+        }
     }
 
     /// Adds what the table is called: the group's word and, of an item of an array, its place, and of a step its kind.

@@ -1,3 +1,2 @@
-pub mod Edits
 pub mod Lines
 pub mod Comes

@@ -1,5 +1,5 @@
--- Which keys the readers of files know, and which of them they don't use.
-use Rattle.std.specs.Prelude.{ℕ, Bool, false, not, ◌&&◌, ◌||◌, List, [], ◌∷◌, ◌++◌, Option, None, Some, is_some, if◌then◌else◌, codes}
+-- The keys of a table: which its reader doesn't know, and which it doesn't use.
+use Rattle.std.specs.Prelude.{ℕ, Bool, false, not, ◌&&◌, ◌||◌, List, [], ◌∷◌, is_some, if◌then◌else◌, codes}
 use Rattle.std.specs.List.{list_any}
 use Rattle.std.specs.Option.{option_map_or}
 use Rattle.std.specs.Str.{bytes_eq}
@@ -11,33 +11,10 @@ use Rattle.text_fields.specs.declared.row.Row.{Row}
 use Rattle.text_fields.specs.Words.{word}
 use Rattle.text_fields.specs.Ranges.{has_text}
 use Rattle.text_fields.specs.Trees.{in_field, members_in}
-use Rattle.text_board.specs.declared.tables.TheConstants.{TOP, DEVICE, SENSOR, STATE, NUMERIC}
-use Rattle.text_board.specs.declared.lan_items.TheConstants.{LAN}
-use Rattle.text_board.specs.Faults.{attribute_rows, has_sessions, session_rows}
-use Rattle.plan_file.specs.declared.kind.Kind.{Kind}
-use Rattle.plan_file.specs.declared.kind.TheConstants.{KIND}
-use Rattle.plan_file.specs.declared.plan.TheConstants.{PLAN}
-use Rattle.plan_file.specs.Kinds.{of_kind, kind_in}
-use Rattle.text_check.specs.declared.group.Group.{Group}
-use Rattle.text_check.specs.declared.group.Group.TheVariants as group
-
--- the fields of a step of this kind
-abbrev pub step_rows : Option Kind → List Row
-step_rows None = KIND
-step_rows (Some kind) = KIND ++ (of_kind kind).rows
-
--- the fields that a table of the group can have
-abbrev pub known : Group → Members → List Row
-known group.Top tree = TOP
-known group.Device tree = DEVICE
-known group.Sensor tree = SENSOR
-known group.Channel tree = session_rows 0
-known group.Lan tree = LAN
-known group.Attribute tree = attribute_rows tree
-known group.State tree = STATE
-known group.Numeric tree = NUMERIC
-known group.Plan tree = PLAN
-known group.Step tree = step_rows (kind_in tree)
+use Rattle.text_board.specs.Faults.{has_sessions}
+use Rattle.file_faults.specs.declared.group.Group.{Group}
+use Rattle.file_faults.specs.declared.group.Group.TheVariants as group
+use Rattle.file_faults.specs.Known.{known}
 
 -- the keys of a table
 abbrev pub keys_in : Members → List (List ℕ)

@@ -1,5 +1,5 @@
 pub mod Looks
-pub mod Near
 pub mod Known
 pub mod Unfit
 pub mod Outcomes
+pub mod BadLines

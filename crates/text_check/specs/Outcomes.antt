@@ -15,11 +15,12 @@ use Rattle.text_board.specs.Holds.{ReadsText}
 use Rattle.plan_file.specs.PlanHolds.{ReadsPlan}
 use Rattle.text_schedule.specs.Schedule.{TextIsRead}
 use Rattle.text_undo.specs.UndoText.{IsTextOf, IsFirstBad}
+use Rattle.undo_journal.specs.Kept.{Kept}
+use Rattle.text_journal.specs.JournalText.{IsTextOf as IsTextOfJournal, IsFirstBad as IsFirstBadOfJournal}
 use Rattle.text_check.specs.declared.text_form.TextForm.{TextForm}
 use Rattle.text_check.specs.declared.text_form.TextForm.TheVariants as looks
 use Rattle.text_check.specs.declared.outcome.Outcome.{Outcome}
 use Rattle.text_check.specs.declared.outcome.Outcome.TheVariants.{Fine, Told, Refused}
-use Rattle.text_check.specs.Looks.{looks_of}
 use Rattle.text_check.specs.Known.{is_told_board, is_told_plan}
 use Rattle.text_check.specs.Unfit.{has_unfit}
 
@@ -55,17 +56,19 @@ IsScheduleOutcome text = OutcomeOf ((line : ℕ) × TextIsRead text (Err (Line l
 abbrev pub IsUndoOutcome : List ℕ → Outcome → Type 0
 IsUndoOutcome text = OutcomeOf ((line : ℕ) × IsFirstBad text line) ((list : UndoList) × IsTextOf text list) false
 
--- what comes of a text that looks like this; an empty one has no fault
+-- what comes of a journal
+abbrev pub IsJournalOutcome : List ℕ → Outcome → Type 0
+IsJournalOutcome text = OutcomeOf ((line : ℕ) × IsFirstBadOfJournal text line) ((kept : Kept) × IsTextOfJournal text kept) false
+
+-- What comes of a text of this form. An empty one has no fault. Readings aren't read here, and are refused.
 abbrev pub IsOutcomeBy : TextForm → List ℕ → Outcome → Type 0
 IsOutcomeBy looks.Undo text = IsUndoOutcome text
+IsOutcomeBy looks.Journal text = IsJournalOutcome text
 IsOutcomeBy looks.Board text = IsBoardOutcome text
 IsOutcomeBy looks.Plan text = IsPlanOutcome text
+IsOutcomeBy looks.Readings text = λ outcome. outcome ≡ Refused
 IsOutcomeBy looks.Schedule text = IsScheduleOutcome text
 IsOutcomeBy looks.Empty text = OutcomeOf ⊥ (Unit {0}) false
-
--- what comes of a text, by what it looks like
-abbrev pub IsOutcome : List ℕ → Outcome → Type 0
-IsOutcome text = IsOutcomeBy (looks_of text) text
 
 -- ---- several files
 

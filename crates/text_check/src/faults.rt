@@ -46,7 +46,7 @@ pub(crate) fn push_board_fault(text: &mut String, fault: FileFault) -> Result<()
 }
 
 /// The field in which a step asks for what no Get shows.
-fn field_of(no_get: NoGet) -> Field {
+pub(crate) fn field_of(no_get: NoGet) -> Field {
     match no_get {
         NoGet::SessionLimit => Field::SessionLimit,
         NoGet::FlagsClear => Field::FlagsClear,

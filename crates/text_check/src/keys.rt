@@ -3,7 +3,7 @@ ghost use Rattle.std.specs.Prelude.{◌≡◌};
 ghost use Rattle.toml.specs.View.{table_view};
 ghost use Rattle.text_check.specs.Known.{is_known, leaves_events, unused};
 
-use crate::group::Group;
+use file_faults::Group;
 use std::alloc::AllocError;
 use text_board::has_sessions;
 use text_fields::tree::has_text;

@@ -1,20 +1,20 @@
-//! What `bmclab check` tells of a text: what it looks like, what it holds, its first fault, the keys that nothing reads, and the sensor data records
+//! What `bmclab check` tells of a text: what it looks like, what it holds, its faults, the keys that nothing reads, and the sensor data records
 //! that fit no sensor.
 #![tactic(auto)]
 
+mod bad_line;
 mod faults;
-mod group;
+mod held;
 mod keys;
-mod near;
+mod line_forms;
 mod notes;
 mod outcome;
+mod refusals;
 mod text_form;
 mod texts;
 mod unfit;
 
-pub use group::{Group, known_rows};
-pub use near::{nearest, within};
 pub use outcome::{Outcome, worst};
-pub use text_form::{TextForm, looks_like};
-pub use texts::checked;
+pub use text_form::{TextForm, form_or};
+pub use texts::{checked, refuse_readings, tell_readings};
 pub use unfit::tell_unfit;

@@ -2,7 +2,7 @@
 ghost use Rattle.std.specs.Prelude.{◌≡◌, ◌≤◌, IsTrue, IfOk, length, map, not, option_map};
 ghost use Rattle.std.specs.List.{list_all, list_any, find};
 ghost use Rattle.text_schedule.specs.Text.{lines_of};
-ghost use Rattle.text_check.specs.Looks.{begins, is_digit, is_silent, is_number, is_undo, is_toml, begins_board, first_spoken, looks_by, looks_of};
+ghost use Rattle.text_check.specs.Looks.{begins, form_named, form_or, is_digit, is_silent, is_number, is_undo, is_journal, is_toml, begins_with_digit, begins_board, first_spoken, looks_by, looks_of};
 
 use std::alloc::{AllocError, Global};
 
@@ -11,14 +11,35 @@ use std::alloc::{AllocError, Global};
 pub enum TextForm {
     /// An undo text.
     Undo,
+    /// A journal.
+    Journal,
     /// A board file.
     Board,
     /// A plan.
     Plan,
+    /// A text of readings.
+    Readings,
     /// A schedule.
     Schedule,
     /// Nothing: no line says anything.
     Empty,
+}
+
+impl TextForm {
+    /// What the word calls a text.
+    pub fn named(word: &str) -> Option<TextForm>
+        ensures { result ≡ form_named word.now }
+    {
+        match word {
+            "board" => Some(TextForm::Board),
+            "plan" => Some(TextForm::Plan),
+            "undo" => Some(TextForm::Undo),
+            "journal" => Some(TextForm::Journal),
+            "readings" => Some(TextForm::Readings),
+            "schedule" => Some(TextForm::Schedule),
+            _ => None,
+        }
+    }
 }
 
 /// Whether the text begins with the words.
@@ -68,11 +89,28 @@ fn is_undo(line: &str) -> bool
     is_number(&line.as_bytes()[5..])
 }
 
+/// Whether the line is `journal` with a number.
+fn is_journal(line: &str) -> bool
+    ensures { result ≡ is_journal line.now }
+{
+    if !begins("journal ", line) {
+        return false;
+    }
+    is_number(&line.as_bytes()[8..])
+}
+
 /// Whether the line is one of TOML: it has a `=`, or begins with `[`.
 fn is_toml(line: &str) -> bool
     ensures { result ≡ is_toml line.now }
 {
     line.as_bytes().contains(&b'=') || begins("[", line)
+}
+
+/// Whether the line begins with a decimal digit.
+fn begins_with_digit(line: &str) -> bool
+    ensures { result ≡ begins_with_digit line.now }
+{
+    !line.is_empty() && is_digit(line.as_bytes()[0])
 }
 
 /// Whether the line begins as one of a board file alone does.
@@ -84,7 +122,7 @@ fn begins_board(line: &str) -> bool
 }
 
 /// The lines of a text.
-fn lines(alloc: Global, text: &str) -> Result<Vec<&str>, AllocError>
+pub(crate) fn lines(alloc: Global, text: &str) -> Result<Vec<&str>, AllocError>
     ensures { IfOk result (λ lines. map (λ line. line.now) lines.items ≡ lines_of text.now) }
 {
     text.split('\n').collect(alloc)
@@ -130,20 +168,37 @@ fn looks_by(lines: &[&str]) -> TextForm
     if is_undo(line) {
         return TextForm::Undo;
     }
-    if !is_toml(line) {
-        return TextForm::Schedule;
+    if is_journal(line) {
+        return TextForm::Journal;
     }
-    if has_board(lines) {
-        TextForm::Board
+    if is_toml(line) {
+        return if has_board(lines) {
+            TextForm::Board
+        } else {
+            TextForm::Plan
+        };
+    }
+    if begins_with_digit(line) {
+        TextForm::Readings
     } else {
-        TextForm::Plan
+        TextForm::Schedule
     }
 }
 
 /// What the text looks like. White space at the ends of a line counts for nothing.
-pub fn looks_like(alloc: Global, text: &str) -> Result<TextForm, AllocError>
+fn looks_like(alloc: Global, text: &str) -> Result<TextForm, AllocError>
     ensures { IfOk result (λ looks. looks ≡ looks_of text.now) }
 {
     let lines = lines(alloc, text)?;
     Ok(looks_by(lines.as_slice()))
+}
+
+/// What the text is: what it is said to be, or else what it looks like.
+pub fn form_or(alloc: Global, said: Option<TextForm>, text: &str) -> Result<TextForm, AllocError>
+    ensures { IfOk result (λ form. form ≡ form_or said text.now) }
+{
+    match said {
+        Some(form) => Ok(form),
+        None => looks_like(alloc, text),
+    }
 }

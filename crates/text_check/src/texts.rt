@@ -1,95 +1,27 @@
 //! What is told of a text, by what it looks like.
 ghost use Rattle.std.specs.Prelude.{◌≡◌, IfOk, if◌then◌else◌};
 ghost use Rattle.text_check.specs.Known.{is_told_board, is_told_plan};
-ghost use Rattle.text_check.specs.Outcomes.{tells, tells_board, IsBoardOutcome, IsPlanOutcome, IsScheduleOutcome, IsUndoOutcome, IsOutcome};
+ghost use Rattle.text_check.specs.Outcomes.{tells, tells_board, IsBoardOutcome, IsPlanOutcome, IsScheduleOutcome, IsUndoOutcome, IsJournalOutcome, IsOutcomeBy};
 
-use crate::faults::{push_board_fault, push_plan_fault};
+use crate::bad_line::{tell_journal_line, tell_readings_line, tell_schedule_line, tell_undo_line};
+use crate::held::{push_board, push_held, push_plan};
 use crate::notes::{tell_board, tell_plan};
 use crate::outcome::Outcome;
-use crate::text_form::{TextForm, looks_like};
+use crate::refusals::{refuse_board, refuse_plan};
+use crate::text_form::TextForm;
 use crate::unfit::tell_unfit;
 use cfg_records::BoardFile;
+use file_faults::{Sheet, Source};
 use plan_file::{PlanFault, read_plan};
 use std::alloc::{AllocError, Global};
 use text_board::{FileFault, read_board};
+use text_journal::{JournalTextFault, read_journal};
 use text_schedule::{ScheduleFault, read_schedule};
 use text_undo::{UndoFault, read_undo};
-use undo_plans::Plan;
-
-/// Adds how many there are, and what they are called.
-fn push_count(text: &mut String, count: usize, called: &str) -> Result<(), AllocError> {
-    if count == 1 {
-        write!(text, ", 1 {called}")
-    } else {
-        write!(text, ", {count} {called}s")
-    }
-}
-
-/// What a board file holds: how many of each sort, and what they are called.
-fn held_by(file: &BoardFile) -> [(usize, &'static str); 7] {
-    let channels = file.channels.items.as_slice().len();
-    let sessionless = file.sessionless.items.as_slice().len();
-    [
-        (file.sensors.items.as_slice().len(), "sensor"),
-        (file.users.items.as_slice().len(), "user"),
-        (channels.saturating_add(sessionless), "channel"),
-        (file.attributes.items.as_slice().len(), "attribute"),
-        (
-            file.state_effecters.items.as_slice().len(),
-            "state effecter",
-        ),
-        (
-            file.numeric_effecters.items.as_slice().len(),
-            "numeric effecter",
-        ),
-        (file.sdr.items.as_slice().len(), "sensor data record"),
-    ]
-}
-
-/// Adds the line of a file of a sort that holds these.
-fn push_held(
-    text: &mut String,
-    name: &str,
-    sort: &str,
-    held: &[(usize, &str)],
-) -> Result<(), AllocError> {
-    write!(text, "{name}: {sort}")?;
-    for (count, called) in held {
-        push_count(text, *count, called)?;
-    }
-    text.push_str("\n")
-}
-
-/// Adds the line of a board.
-fn push_board(text: &mut String, name: &str, file: &BoardFile) -> Result<(), AllocError> {
-    push_held(text, name, "board", &held_by(file))
-}
-
-/// Adds the line of a plan that isn't used any more.
-fn push_plan(text: &mut String, name: &str, plan: Plan) -> Result<(), AllocError> {
-    let steps = plan.steps.len();
-    let retries = plan.retries.number();
-    drop(plan);
-    write!(text, "{name}: plan")?;
-    push_count(text, steps, "step")?;
-    writeln!(text, ", retries {retries}")
-}
 
 /// Adds that a file of a sort is refused for its line of this number.
 fn refuse_line(text: &mut String, name: &str, sort: &str, line: usize) -> Result<(), AllocError> {
     writeln!(text, "{name}: {sort} refused, line {line}")
-}
-
-/// Adds where a text is no TOML, and why not.
-fn push_toml_fault(alloc: Global, text: &mut String, file: &str) -> Result<(), AllocError> {
-    match toml::table_from_str(alloc, file) {
-        Ok(_) => text.push_str("Text\n"),
-        Err(error) => {
-            let whole = format!(in alloc; "{error}")?;
-            let place = whole.as_str().lines().next().unwrap_or("");
-            writeln!(text, "{place}: {}", error.message())
-        }
-    }
 }
 
 /// What came of a file that is read, of which something is told or nothing.
@@ -104,115 +36,78 @@ fn read_outcome(is_told: bool) -> Outcome
 }
 
 /// Tells of the keys of a board file.
-fn told_board(alloc: Global, text: &mut String, name: &str, file: &str) -> Result<bool, AllocError>
-    ensures { IfOk result (λ told. told ≡ tells is_told_board file.now) }
+fn told_board(alloc: Global, sheet: &mut Sheet, source: Source<'_>) -> Result<bool, AllocError>
+    ensures { IfOk result (λ told. told ≡ tells is_told_board source.entry.file.now) }
 {
-    match toml::table_from_str(alloc, file) {
-        Ok(tree) => tell_board(alloc, text, name, &tree),
+    match toml::table_from_str(alloc, source.file) {
+        Ok(tree) => tell_board(alloc, sheet, source, &tree),
         Err(error) if error.is_memory() => Err(AllocError),
         Err(_) => Ok(false),
     }
 }
 
 /// Tells of the keys of a plan.
-fn told_plan(alloc: Global, text: &mut String, name: &str, file: &str) -> Result<bool, AllocError>
-    ensures { IfOk result (λ told. told ≡ tells is_told_plan file.now) }
+fn told_plan(alloc: Global, sheet: &mut Sheet, source: Source<'_>) -> Result<bool, AllocError>
+    ensures { IfOk result (λ told. told ≡ tells is_told_plan source.entry.file.now) }
 {
-    match toml::table_from_str(alloc, file) {
-        Ok(tree) => tell_plan(alloc, text, name, &tree),
+    match toml::table_from_str(alloc, source.file) {
+        Ok(tree) => tell_plan(alloc, sheet, source, &tree),
         Err(error) if error.is_memory() => Err(AllocError),
         Err(_) => Ok(false),
-    }
-}
-
-/// Tells that a board file is refused.
-fn refuse_board(
-    alloc: Global,
-    text: &mut String,
-    name: &str,
-    file: &str,
-    why: FileFault,
-) -> Result<(), AllocError> {
-    write!(text, "{name}: board refused, ")?;
-    match why {
-        FileFault::Text => push_toml_fault(alloc, text, file),
-        _ => push_board_fault(text, why),
-    }
-}
-
-/// Tells that a plan is refused.
-fn refuse_plan(
-    alloc: Global,
-    text: &mut String,
-    name: &str,
-    file: &str,
-    why: PlanFault,
-) -> Result<(), AllocError> {
-    write!(text, "{name}: plan refused, ")?;
-    match why {
-        PlanFault::Text => push_toml_fault(alloc, text, file),
-        _ => push_plan_fault(text, why),
     }
 }
 
 /// Tells of a board file that is read: what it holds, its keys, and its sensor data records. Gives whether something is told of these.
 fn told_read(
     alloc: Global,
-    text: &mut String,
-    name: &str,
-    file: &str,
+    sheet: &mut Sheet,
+    source: Source<'_>,
     board: &BoardFile,
 ) -> Result<bool, AllocError>
-    ensures { IfOk result (λ told. told ≡ tells_board file.now board.now) }
+    ensures { IfOk result (λ told. told ≡ tells_board source.entry.file.now board.now) }
 {
-    push_board(text, name, board)?;
-    let keys = told_board(alloc, text, name, file)?;
-    let records = tell_unfit(alloc, text, name, board)?;
+    push_board(&mut sheet.text, source.name, board)?;
+    let keys = told_board(alloc, sheet, source)?;
+    let records = tell_unfit(alloc, &mut sheet.text, source.name, board)?;
     Ok(keys || records)
 }
 
 /// Tells of a board file.
 fn checked_board(
     alloc: Global,
-    text: &mut String,
-    name: &str,
-    file: &str,
+    sheet: &mut Sheet,
+    source: Source<'_>,
 ) -> Result<Outcome, AllocError>
-    ensures { IfOk result (IsBoardOutcome file.now) }
+    ensures { IfOk result (IsBoardOutcome source.entry.file.now) }
 {
-    match read_board(alloc, file) {
+    match read_board(alloc, source.file) {
         Ok(board) => {
-            let told = told_read(alloc, text, name, file, &board);
+            let told = told_read(alloc, sheet, source, &board);
             drop(board);
             let told = told?;
             Ok(read_outcome(told))
         }
         Err(FileFault::Memory) => Err(AllocError),
         Err(why) => {
-            refuse_board(alloc, text, name, file, why)?;
+            refuse_board(alloc, sheet, source, why)?;
             Ok(Outcome::Refused)
         }
     }
 }
 
 /// Tells of a plan.
-fn checked_plan(
-    alloc: Global,
-    text: &mut String,
-    name: &str,
-    file: &str,
-) -> Result<Outcome, AllocError>
-    ensures { IfOk result (IsPlanOutcome file.now) }
+fn checked_plan(alloc: Global, sheet: &mut Sheet, source: Source<'_>) -> Result<Outcome, AllocError>
+    ensures { IfOk result (IsPlanOutcome source.entry.file.now) }
 {
-    match read_plan(alloc, file) {
+    match read_plan(alloc, source.file) {
         Ok(plan) => {
-            push_plan(text, name, plan)?;
-            let told = told_plan(alloc, text, name, file)?;
+            push_plan(&mut sheet.text, source.name, plan)?;
+            let told = told_plan(alloc, sheet, source)?;
             Ok(read_outcome(told))
         }
         Err(PlanFault::Memory) => Err(AllocError),
         Err(why) => {
-            refuse_plan(alloc, text, name, file, why)?;
+            refuse_plan(alloc, sheet, source, why)?;
             Ok(Outcome::Refused)
         }
     }
@@ -221,69 +116,143 @@ fn checked_plan(
 /// Tells of a schedule.
 fn checked_schedule(
     alloc: Global,
-    text: &mut String,
-    name: &str,
-    file: &str,
+    sheet: &mut Sheet,
+    source: Source<'_>,
 ) -> Result<Outcome, AllocError>
-    ensures { IfOk result (IsScheduleOutcome file.now) }
+    ensures { IfOk result (IsScheduleOutcome source.entry.file.now) }
 {
-    match read_schedule(alloc, file) {
+    match read_schedule(alloc, source.file) {
         Ok(events) => {
             let count = events.as_slice().len();
             drop(events);
-            push_held(text, name, "schedule", &[(count, "event")])?;
+            push_held(&mut sheet.text, source.name, "schedule", count, "event")?;
             Ok(Outcome::Fine)
         }
         Err(ScheduleFault::Memory) => Err(AllocError),
         Err(ScheduleFault::Line(line)) => {
-            refuse_line(text, name, "schedule", line)?;
+            refuse_line(&mut sheet.text, source.name, "schedule", line)?;
+            tell_schedule_line(alloc, sheet, source, line)?;
             Ok(Outcome::Refused)
         }
     }
 }
 
 /// Tells of an undo text.
-fn checked_undo(
-    alloc: Global,
-    text: &mut String,
-    name: &str,
-    file: &str,
-) -> Result<Outcome, AllocError>
-    ensures { IfOk result (IsUndoOutcome file.now) }
+fn checked_undo(alloc: Global, sheet: &mut Sheet, source: Source<'_>) -> Result<Outcome, AllocError>
+    ensures { IfOk result (IsUndoOutcome source.entry.file.now) }
 {
-    match read_undo(alloc, file) {
+    match read_undo(alloc, source.file) {
         Ok(list) => {
             let count = list.requests.len();
             drop(list);
-            push_held(text, name, "undo text", &[(count, "request")])?;
+            push_held(&mut sheet.text, source.name, "undo text", count, "request")?;
             Ok(Outcome::Fine)
         }
         Err(UndoFault::Memory) => Err(AllocError),
         Err(UndoFault::Line(line)) => {
-            refuse_line(text, name, "undo text", line)?;
+            refuse_line(&mut sheet.text, source.name, "undo text", line)?;
+            tell_undo_line(alloc, sheet, source, line)?;
             Ok(Outcome::Refused)
         }
     }
 }
 
-/// Reads a file's text as what it looks like, and adds what is told of the file of this name: a line of what it holds or why it is refused,
-/// and, where it is read, one for each key that is unknown or not used, and for each sensor data record that fits no sensor. Gives what came of it.
-pub fn checked(
+/// Tells of a journal.
+fn checked_journal(
     alloc: Global,
-    text: &mut String,
-    name: &str,
-    file: &str,
+    sheet: &mut Sheet,
+    source: Source<'_>,
 ) -> Result<Outcome, AllocError>
-    ensures { IfOk result (IsOutcome file.now) }
+    ensures { IfOk result (IsJournalOutcome source.entry.file.now) }
 {
-    match looks_like(alloc, file)? {
-        TextForm::Undo => checked_undo(alloc, text, name, file),
-        TextForm::Board => checked_board(alloc, text, name, file),
-        TextForm::Plan => checked_plan(alloc, text, name, file),
-        TextForm::Schedule => checked_schedule(alloc, text, name, file),
+    match read_journal(alloc, source.file) {
+        Ok(journal) => {
+            let count = journal.contents.steps.len();
+            drop(journal);
+            push_held(&mut sheet.text, source.name, "journal", count, "step")?;
+            Ok(Outcome::Fine)
+        }
+        Err(JournalTextFault::Memory) => Err(AllocError),
+        Err(JournalTextFault::Line(line)) => {
+            refuse_line(&mut sheet.text, source.name, "journal", line)?;
+            tell_journal_line(alloc, sheet, source, line)?;
+            Ok(Outcome::Refused)
+        }
+    }
+}
+
+/// Tells of a text that isn't read.
+fn unread(text: &mut String, name: &str) -> Result<Outcome, AllocError>
+    ensures { IfOk result (λ outcome. outcome ≡ Outcome.Refused) }
+{
+    writeln!(text, "{name}: readings, which aren't read here")?;
+    Ok(Outcome::Refused)
+}
+
+/// Tells of a text of this form.
+fn checked_by(
+    alloc: Global,
+    sheet: &mut Sheet,
+    source: Source<'_>,
+    form: TextForm,
+) -> Result<Outcome, AllocError>
+    ensures { IfOk result (IsOutcomeBy form source.entry.file.now) }
+{
+    match form {
+        TextForm::Undo => checked_undo(alloc, sheet, source),
+        TextForm::Journal => checked_journal(alloc, sheet, source),
+        TextForm::Board => checked_board(alloc, sheet, source),
+        TextForm::Plan => checked_plan(alloc, sheet, source),
+        TextForm::Readings => unread(&mut sheet.text, source.name),
+        TextForm::Schedule => checked_schedule(alloc, sheet, source),
         TextForm::Empty => {
-            writeln!(text, "{name}: empty")?;
+            writeln!(sheet.text, "{}: empty", source.name)?;
             Ok(Outcome::Fine)
         }
     }
+}
+
+/// Tells of a byte order mark in front of a text of TOML, which its reader skips.
+fn tell_mark(text: &mut String, source: Source<'_>, form: TextForm) -> Result<(), AllocError> {
+    if matches!(form, TextForm::Board | TextForm::Plan) && source.file.starts_with('\u{FEFF}') {
+        writeln!(text, "{}:1: it begins with a byte order mark", source.name)?;
+    }
+    Ok(())
+}
+
+/// Reads a file's text as one of this form, and adds what is told of the file: a line of what it holds or why it is refused; of one that is
+/// refused where its faults are, what stands there and what would be right; a line for each key that is unknown or not used; and of a board
+/// that is read one for each sensor data record that fits no sensor. Gives what came of it. Readings are refused: their reader stands above
+/// this crate, and `tell_readings` and `refuse_readings` tell of them.
+pub fn checked(
+    alloc: Global,
+    sheet: &mut Sheet,
+    source: Source<'_>,
+    form: TextForm,
+) -> Result<Outcome, AllocError>
+    ensures { IfOk result (IsOutcomeBy form source.entry.file.now) }
+{
+    let outcome = checked_by(alloc, sheet, source, form)?;
+    tell_mark(&mut sheet.text, source, form)?;
+    Ok(outcome)
+}
+
+/// Tells how many events a text of readings has.
+pub fn tell_readings(
+    sheet: &mut Sheet,
+    source: Source<'_>,
+    count: usize,
+) -> Result<(), AllocError> {
+    push_held(&mut sheet.text, source.name, "readings", count, "event")
+}
+
+/// Tells that a text of readings is refused for its line of this number.
+pub fn refuse_readings(
+    alloc: Global,
+    sheet: &mut Sheet,
+    source: Source<'_>,
+    line: usize,
+) -> Result<(), AllocError> {
+    refuse_line(&mut sheet.text, source.name, "readings", line)?;
+    tell_readings_line(alloc, sheet, source, line)
 }

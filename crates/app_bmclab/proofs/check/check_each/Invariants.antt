@@ -4,4 +4,4 @@ use Rattle.app_bmclab.specs.Checks.{FileOutcome}
 use Rattle.app_bmclab.proofs.check.check_each.Given as goal
 
 abbrev pub invariant-loop-word : goal.invariant-loop-word
-invariant-loop-word g l = AllZip (FileOutcome (g.F.TextFiles.gives l.files)) (map string_bytes (take l.word-index l.words)) l.outcomes.items
+invariant-loop-word g l = AllZip (FileOutcome (g.F.TextFiles.gives l.files) l.said) (map string_bytes (take l.word-index l.words)) l.outcomes.items

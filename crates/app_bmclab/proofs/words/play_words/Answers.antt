@@ -15,9 +15,14 @@ returns-in_default-clause-refused c =
     let flags = shown_alike _ _ _ _ _ _ frames premises chart in
     refuses_none _ c.shown_refusal.result (λ asked asks. shown_refuses c.has_flag-frames.result c.has_flag-premises.result c.has_flag-chart.result (sym c.shown.ensures ∙ c.in_default.is) asked.shown (flags ∙ asks.shown))
 
+pub returns-in_err-restarts-clause-refused : goal.returns-in_err-restarts-clause-refused
+returns-in_err-restarts-clause-refused c =
+    let p = err_from_is_err_and c.from_residual.result c.from_residual.ensures.1 in
+    rw (p.1, p.2) (refuses_more _ _ _ (λ asked asks. (asked.restarts.items, asks.restarts)) c.in_err-restarts.ensures.refused)
+
 pub returns-in_err-named-clause-refused : goal.returns-in_err-named-clause-refused
 returns-in_err-named-clause-refused c =
-    let p = err_from_is_err_and c.from_residual.result c.from_residual.ensures.1 in
+    let p = err_from_is_err_and c.from_residual-in_err-named.result c.from_residual-in_err-named.ensures.1 in
     rw (p.1, p.2) (refuses_more _ _ _ (λ asked asks. (string_bytes asked.board, first_value-rows (found_of c.args.matches.now) (codes "BOARD") ∙ asks.board)) c.in_err-named.ensures.refused)
 
 pub returns-in_err-named-2-clause-refused : goal.returns-in_err-named-2-clause-refused
@@ -38,6 +43,7 @@ returns-clause-asked c =
     let flags = shown_alike _ _ _ _ _ _ frames premises chart in
     record {
       shown = sym flags ∙ (sym c.shown.ensures ∙ c.in-Some.is);
+      restarts = c.in_ok-restarts.ensures.named;
       board = first_by_rows (found_of c.args.matches.now) (codes "BOARD") _ c.in_ok-named.ensures.word;
       plan = first_by_rows (found_of c.args.matches.now) (codes "PLAN") _ c.in_ok-named-2.ensures.word;
       schedule = first_by_rows (found_of c.args.matches.now) (codes "SCHEDULE") _ c.in_ok-named-3.ensures.word;
