@@ -5,6 +5,7 @@ mod calls;
 mod came;
 mod channels;
 mod checks;
+mod faulty;
 mod files;
 mod journal;
 mod lan;
@@ -19,6 +20,7 @@ mod states;
 mod story;
 mod undo;
 mod users;
+mod words;
 mod wrong;
 
 use std::alloc::Global;

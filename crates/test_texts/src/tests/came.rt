@@ -2,13 +2,14 @@
 use app_play::{Inputs, read_inputs};
 use app_serve::read_readings;
 use cfg_records::{Op, RecordKind};
+use file_faults::{Sheet, Source};
 use plan_file::read_plan;
 use record_kinds::Limits;
 use std::alloc::Global;
 use std::fmt::{Debug, Display};
 use std::process::Abort;
 use text_board::read_board;
-use text_check::checked;
+use text_check::{checked, form_or};
 use text_journal::read_journal;
 use text_lines::{behind, byte, bytes, first_line, first_word, number, plain_number};
 use text_schedule::read_schedule;
@@ -253,8 +254,11 @@ fn came_of_play(rt: &impl Abort, alloc: Global, text: &str) -> Came {
 
 /// A file that is looked at shows what is told of it, and then what came of it.
 fn came_of_check(rt: &impl Abort, alloc: Global, file: &str) -> Came {
-    let mut text = String::new(alloc);
-    let outcome = checked(alloc, &mut text, "file", file).expect(rt, "memory");
+    let name = "file";
+    let mut sheet = Sheet::new(alloc);
+    let form = form_or(alloc, None, file).expect(rt, "memory");
+    let outcome = checked(alloc, &mut sheet, Source { name, file }, form).expect(rt, "memory");
+    let mut text = sheet.into_text();
     write!(text, "{outcome:?}").expect(rt, "memory");
     read_as(text)
 }

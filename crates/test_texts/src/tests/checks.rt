@@ -18,22 +18,23 @@ file check
 undo 1\nnext ipmb 4 smbus 0\n => file: undo text, 0 requests\nFine
 undo 1\nnext ipmb 4 smbus 0\nipmb 10260530000000005A6E\n => file: undo text, 1 request\nFine
 undo 2\nnext ipmb 4 smbus 0\nnames ipmb 2C 20 smbus 30 20 eid 08 0A\nipmb 10260530000000005A6E\n => file: undo text, 1 request\nFine
-undo 2\nnext ipmb 4 smbus 0\nipmb 10260530000000005A6E\n => file: undo text refused, line 3\nRefused
+undo 2\nnext ipmb 4 smbus 0\nipmb 10260530000000005A6E\n => file: undo text refused, line 3\nfile:3: ipmb 10260530000000005A6E: names ipmb OWN PEER smbus OWN PEER eid OWN PEER: two hexadecimal digits each, of even numbers but for eid\nRefused
 undo 1\n | undo 1\r\n | undo 2\n | undo 1\nnext ipmb 64 smbus 0\n => holds 1 Refused
-# undo 1\nundo 1\n => file: undo text refused, line 1\nRefused
-undo 1\n => file: undo text refused, line 2\nRefused
+# undo 1\nundo 1\n => file: undo text refused, line 1\nfile:1: # undo 1: undo 1 or undo 2 alone\nRefused
+undo 1\n => file: undo text refused, line 2\nfile:2: nothing stands here: next ipmb N smbus N: numbers below 64 and below 32, without leading zeros\nRefused
 undo | undo\nundo 1\n | start\nundo => holds 1 file: schedule
 undo => file: schedule, 1 event\nFine
-undo x => file: schedule refused, line 1\nRefused
+undo x => file: schedule refused, line 1\nfile:1: undo x: undo alone\nRefused
 start\n\n# quiet\nstop => file: schedule, 2 events\nFine
-start\nquit => file: schedule refused, line 2\nRefused
-tid 5 | device => file: schedule refused, line 1\nRefused
+start\nquit => file: schedule refused, line 2\nfile:2: quit: no line has the word quit, nearest is quiet\nRefused
+tid 5 => file: schedule refused, line 1\nfile:1: tid 5: no line has the word tid, nearest is tick\nRefused
+device => file: schedule refused, line 1\nfile:1: device: no line has the word device\nRefused
 retries = 9 => file: plan, 0 steps, retries 9\nFine
 [[step]]\nkind = "power-policy"\npolicy = 2 => file: plan, 1 step, retries 3\nFine
   [[step]]\r\n  kind = "power-policy"\r\n  policy = 2 => file: plan, 1 step, retries 3\nFine
 # a board\ntid = 5 | log = 1\n  tid = 5 | log = 1\n[device] => holds 1 file: board refused
 log = 1 | [devices] => holds 1 file: plan, 0 steps
-start\ntid = 5 => file: schedule refused, line 2\nRefused
+start\ntid = 5 => file: schedule refused, line 2\nfile:2: tid = 5: no line has the word tid, nearest is tick\nRefused
 "#;
 
 /// What is told of a file that is refused.
@@ -46,32 +47,32 @@ retries = => file: plan refused, TOML parse error at line 1, column 10: invalid 
 file check
 with sample
 at number = 7
-number = 5 => file: board refused, Twice: table sensor, item 1, field number\nRefused
-number = true => file: board refused, WrongType: table sensor, item 1, field number\nRefused
+number = 5 => file: board refused, Twice: table sensor, item 1, field number\nfile:32: sensor 1: number = 5: a sensor before has it, too\nRefused
+number = true => file: board refused, WrongType: table sensor, item 1, field number\nfile:32: sensor 1: number = true: a number from 0 to 254\nRefused
 at tid = 5
-tid = 256 => file: board refused, Range: table top, field tid\nRefused
+tid = 256 => file: board refused, Range: table top, field tid\nfile:1: top: tid = 256: a number from 0 to 255\nRefused
 tid = 5\ntid = 5 => holds 1 file: board refused, TOML parse error at line 2, column 1: 
 at support = 0x07
-# support => file: board refused, Missing: table device, field support\nRefused
+suport = 7 => file: board refused, Missing: table device, field support\nfile:12: device: lacks support: a number from 0 to 255\nfile:17: device: unknown key suport, nearest is support\nRefused
 at sessions = true
-sessions = 1 => file: board refused, WrongType: table channel, item 0, field sessions\nRefused
+sessions = 1 => file: board refused, WrongType: table channel, item 0, field sessions\nfile:44: channel 0: sessions = 1: true or false\nfile:45: channel 0: key access not used\nfile:46: channel 0: key limit not used\nfile:47: channel 0: key users not used\nRefused
 at default = ""
-default = 1 => file: board refused, WrongType: table attribute, item 1, field default\nRefused
+default = 1 => file: board refused, WrongType: table attribute, item 1, field default\nfile:61: attribute 1: default = 1: a text of 0 to 200 bytes, as least and most say\nRefused
 file check
 with bare
-[[state]] => file: board refused, Missing: table state, item 0, field id\nRefused
-[[numeric]] => file: board refused, Missing: table numeric, item 0, field id\nRefused
+[[state]] => file: board refused, Missing: table state, item 0, field id\nfile:20: state 0: lacks id: a number from 0 to 65535\nRefused
+[[numeric]] => file: board refused, Missing: table numeric, item 0, field id\nfile:20: numeric 0: lacks id: a number from 0 to 65535\nRefused
 
 file check
-retries = 16 => file: plan refused, Range: table top, field retries\nRefused
-<257:[[step]]\n> => file: plan refused, TooMany: table top, field step\nRefused
-[[step]]\nkind = "hysteresis"\nsensor = 5\npositive = 1 => file: plan refused, Missing: table step, item 0, field negative\nRefused
-[[step]]\nkind = "power-policy"\npolicy = 2\n[[step]]\nkind = "clock" => file: plan refused, OutsidePlan Clock: table step, item 1, field kind\nRefused
-[[step]]\nkind = "reset" => file: plan refused, UnknownKind: table step, item 0, field kind\nRefused
-[[step]]\nkind = "user-access"\nsession_limit = 1 => file: plan refused, NoGet SessionLimit: table step, item 0, field session_limit\nRefused
-[[step]]\nkind = "watchdog"\nflags_clear = 1 => file: plan refused, NoGet FlagsClear: table step, item 0, field flags_clear\nRefused
-[[step]]\nkind = "channel-access"\nstore = "both" => file: plan refused, NoGet BothStores: table step, item 0, field store\nRefused
-[[step]]\nkind = "boot-param"\nparam = 0 => file: plan refused, NoGet SetInProgress: table step, item 0, field param\nRefused
+retries = 16 => file: plan refused, Range: table top, field retries\nfile:1: top: retries = 16: a number from 0 to 15\nRefused
+<257:[[step]]\n> => file: plan refused, TooMany: table top, field step\nfile:257: top: 257 steps; at most 256\nfile:1: step 0: lacks kind: a text\nfile:2: step 1: lacks kind: a text\nfile:3: step 2: lacks kind: a text\nfile:4: step 3: lacks kind: a text\nfile:5: step 4: lacks kind: a text\nfile:6: step 5: lacks kind: a text\nfile:7: step 6: lacks kind: a text\nfile:8: step 7: lacks kind: a text\nfile:9: step 8: lacks kind: a text\nfile: and 248 more faults\nRefused
+[[step]]\nkind = "hysteresis"\nsensor = 5\npositive = 1 => file: plan refused, Missing: table step, item 0, field negative\nfile:1: step 0 (hysteresis): lacks negative: a number from 0 to 255\nRefused
+[[step]]\nkind = "power-policy"\npolicy = 2\n[[step]]\nkind = "clock" => file: plan refused, OutsidePlan Clock: table step, item 1, field kind\nfile:5: step 1 (clock): kind = "clock": no plan sets the clock, since it goes on meanwhile\nRefused
+[[step]]\nkind = "reset" => file: plan refused, UnknownKind: table step, item 0, field kind\nfile:2: step 0 (reset): kind = "reset": no kind of step\nRefused
+[[step]]\nkind = "user-access"\nsession_limit = 1 => file: plan refused, NoGet SessionLimit: table step, item 0, field session_limit\nfile:3: step 0 (user-access): session_limit = 1: no Get shows a user's session limit\nRefused
+[[step]]\nkind = "watchdog"\nflags_clear = 1 => file: plan refused, NoGet FlagsClear: table step, item 0, field flags_clear\nfile:3: step 0 (watchdog): flags_clear = 1: no Get shows which expiration flags were cleared\nRefused
+[[step]]\nkind = "channel-access"\nstore = "both" => file: plan refused, NoGet BothStores: table step, item 0, field store\nfile:3: step 0 (channel-access): store = "both": no Get shows both stores at once: a step for each, "non-volatile" and "volatile"\nRefused
+[[step]]\nkind = "boot-param"\nparam = 0 => file: plan refused, NoGet SetInProgress: table step, item 0, field param\nfile:3: step 0 (boot-param): param = 0: no Get shows whose set is in progress: 3, 4 or 5\nRefused
 "#;
 
 /// What is told of keys that nothing reads.
@@ -83,41 +84,41 @@ file check
 + sensor = 5
 + uc = 0x40
 at uc = 0x40
-ucc = 0x40 => file: plan, 1 step, retries 3\nfile: step 0: unknown key ucc, nearest is unc\nTold
-xc = 1 => file: plan, 1 step, retries 3\nfile: step 0: unknown key xc, nearest is lc\nTold
-nuc = 1 => file: plan, 1 step, retries 3\nfile: step 0: unknown key nuc, nearest is uc\nTold
-frobnicate = 1 => file: plan, 1 step, retries 3\nfile: step 0: unknown key frobnicate\nTold
-"a b" = 1 => file: plan, 1 step, retries 3\nfile: step 0: unknown key "a b"\nTold
-zz = 1\nknd = 1 => file: plan, 1 step, retries 3\nfile: step 0: unknown key knd, nearest is kind\nfile: step 0: unknown key zz, nearest is lc\nTold
-uc = 0x40\n[[step]]\nkind = "power-policy"\npolicy = 2\npolicies = 2 => file: plan, 2 steps, retries 3\nfile: step 1: unknown key policies\nTold
-uc = 0x40\n[[steps]]\nkind = "power-policy" => file: plan, 1 step, retries 3\nfile: top: unknown key steps, nearest is step\nTold
+ucc = 0x40 => file: plan, 1 step, retries 3\nfile:4: step 0 (thresholds): unknown key ucc, nearest is unc\nTold
+xc = 1 => file: plan, 1 step, retries 3\nfile:4: step 0 (thresholds): unknown key xc, nearest is lc\nTold
+nuc = 1 => file: plan, 1 step, retries 3\nfile:4: step 0 (thresholds): unknown key nuc, nearest is uc\nTold
+frobnicate = 1 => file: plan, 1 step, retries 3\nfile:4: step 0 (thresholds): unknown key frobnicate\nTold
+"a b" = 1 => file: plan, 1 step, retries 3\nfile:4: step 0 (thresholds): unknown key "a b"\nTold
+zz = 1\nknd = 1 => file: plan, 1 step, retries 3\nfile:5: step 0 (thresholds): unknown key knd, nearest is kind\nfile:4: step 0 (thresholds): unknown key zz, nearest is lc\nTold
+uc = 0x40\n[[step]]\nkind = "power-policy"\npolicy = 2\npolicies = 2 => file: plan, 2 steps, retries 3\nfile:8: step 1 (power-policy): unknown key policies\nTold
+uc = 0x40\n[[steps]]\nkind = "power-policy" => file: plan, 1 step, retries 3\nfile:5: top: unknown key steps, nearest is step\nTold
 file check
-retires = 9 => file: plan, 0 steps, retries 3\nfile: top: unknown key retires, nearest is retries\nTold
+retires = 9 => file: plan, 0 steps, retries 3\nfile:1: top: unknown key retires, nearest is retries\nTold
 
 # Keys of each table of a board file. Fields of another kind of attribute are unknown.
 file check
 with sample
 at tid = 5
-tid = 5\ntidd = 5 => holds 1 \nfile: top: unknown key tidd, nearest is tid\nTold
+tid = 5\ntidd = 5 => holds 1 \nfile:2: top: unknown key tidd, nearest is tid\nTold
 at support = 0x07
-support = 0x07\nsuport = 7 => holds 1 \nfile: device: unknown key suport, nearest is support\nTold
+support = 0x07\nsuport = 7 => holds 1 \nfile:18: device: unknown key suport, nearest is support\nTold
 at number = 7
-number = 7\nnumbers = 7 => holds 1 \nfile: sensor 1: unknown key numbers, nearest is number\nTold
+number = 7\nnumbers = 7 => holds 1 \nfile:33: sensor 1: unknown key numbers, nearest is number\nTold
 at sessions = true
-sessions = true\nsession = 7 => holds 1 \nfile: channel 0: unknown key session, nearest is sessions\nTold
-sessions = false => holds 1 \nfile: channel 0: key access not used\nfile: channel 0: key limit not used\nfile: channel 0: key users not used\nTold
+sessions = true\nsession = 7 => holds 1 \nfile:45: channel 0: unknown key session, nearest is sessions\nTold
+sessions = false => holds 1 \nfile:45: channel 0: key access not used\nfile:46: channel 0: key limit not used\nfile:47: channel 0: key users not used\nTold
 at string_type = 1
-string_type = 1\nlower = 7 => holds 1 \nfile: attribute 1: unknown key lower\nTold
+string_type = 1\nlower = 7 => holds 1 \nfile:59: attribute 1: unknown key lower\nTold
 at default = [0]
-default = [0]\nmots = 7 => holds 1 \nfile: attribute 0: unknown key mots\nTold
+default = [0]\nmots = 7 => holds 1 \nfile:53: attribute 0: unknown key mots\nTold
 at increment = 10
-increment = 10\nuper = 7 => holds 1 \nfile: attribute 2: unknown key uper, nearest is upper\nTold
+increment = 10\nuper = 7 => holds 1 \nfile:70: attribute 2: unknown key uper, nearest is upper\nTold
 file check
 with bare
-[[state]]\nid = 1\noperational = 2\nstates = [[1, 2]]\ncurrent = [1]\nstate = 1 => holds 1 \nfile: state 0: unknown key state, nearest is states\nTold
-[[numeric]]\nid = 1\nsize = 0\noperational = 2\nlower = 1\nupper = 2\ncurrent = 1\nsizes = 1 => holds 1 \nfile: numeric 0: unknown key sizes, nearest is size\nTold
+[[state]]\nid = 1\noperational = 2\nstates = [[1, 2]]\ncurrent = [1]\nstate = 1 => holds 1 \nfile:25: state 0: unknown key state, nearest is states\nTold
+[[numeric]]\nid = 1\nsize = 0\noperational = 2\nlower = 1\nupper = 2\ncurrent = 1\nsizes = 1 => holds 1 \nfile:27: numeric 0: unknown key sizes, nearest is size\nTold
 [[channel]]\nnumber = 2\nsessions = false => holds 1 \nFine
-[[channel]]\nnumber = 2\nsessions = false\nlimit = true => holds 1 \nfile: channel 0: key limit not used\nTold
+[[channel]]\nnumber = 2\nsessions = false\nlimit = true => holds 1 \nfile:23: channel 0: key limit not used\nTold
 
 # Events that are left.
 file check
@@ -127,8 +128,8 @@ file check
 + messages = true
 + scanning = false
 select = "leave" => file: plan, 1 step, retries 3\nFine
-select = "leave"\nassert = [1] => file: plan, 1 step, retries 3\nfile: step 0: key assert not used\nTold
-select = "leave"\nassert = []\ndeassert = [] => file: plan, 1 step, retries 3\nfile: step 0: key assert not used\nfile: step 0: key deassert not used\nTold
+select = "leave"\nassert = [1] => file: plan, 1 step, retries 3\nfile:7: step 0 (event-enable): key assert not used\nTold
+select = "leave"\nassert = []\ndeassert = [] => file: plan, 1 step, retries 3\nfile:7: step 0 (event-enable): key assert not used\nfile:8: step 0 (event-enable): key deassert not used\nTold
 select = "enable"\nassert = [1]\ndeassert = [] => file: plan, 1 step, retries 3\nFine
 "#;
 
@@ -151,7 +152,7 @@ sdr = ["0200510203201005"] => holds 1 \nfile: sdr record 2: no sensor has the ke
 sdr = ["02005101022000"] => holds 1 \nfile: sdr record 2: no sensor has the key 2000\nTold
 
 # Each is told, in the file's order, behind the keys.
-sdr = ["0900510103200006", "0200510103200005", "0100510203200008"]\ntidd = 5 => holds 1 \nfile: top: unknown key tidd, nearest is tid\nfile: sdr record 9: no sensor has the key 200006\nfile: sdr record 1: no sensor has the key 200008\nTold
+sdr = ["0900510103200006", "0200510103200005", "0100510203200008"]\ntidd = 5 => holds 1 \nfile:12: top: unknown key tidd, nearest is tid\nfile: sdr record 9: no sensor has the key 200006\nfile: sdr record 1: no sensor has the key 200008\nTold
 "#;
 
 #[test]
