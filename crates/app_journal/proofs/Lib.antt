@@ -1,0 +1,3 @@
+pub mod KeepingFacts
+pub mod LookedAt
+pub mod RevivingFacts

@@ -1,0 +1,4 @@
+pub mod Beside
+pub mod Keeping
+pub mod Reviving
+pub mod Standing

@@ -1,0 +1,16 @@
+//! The file of a journal: a manager's journal is put there before the manager's frames go out, and a manager is made again of it.
+#![tactic(auto)]
+
+mod files;
+mod keeper;
+mod laws;
+mod reviving;
+mod standing;
+mod undo_files;
+
+pub use files::{HoldFault, WriteFault, WritesFiles};
+pub use keeper::JournalKeeper;
+pub use laws::{journals_are_kept, kept_texts_revive};
+pub use reviving::{ReviveFault, revive_text};
+pub use standing::{Standing, standing_in};
+pub use undo_files::UndoFiles;
