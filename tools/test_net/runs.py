@@ -141,8 +141,8 @@ def distinct_steps(seed, number):
 
 
 def killed(program, folder, board, place):
-    """A run that is killed once the controller set the record of the step of this place, and before the run heard of that: the list so far, undone, leaves every
-    record but that one as it was, and the file UNDO is as it was."""
+    """A run that is killed once the controller set the record of the step of this place, and before the run heard of that: its journal, undone, leaves every
+    record as it was, and the file UNDO is as it was."""
     steps = distinct_steps("killed", STEPS)
     gets = [step.get for step in steps]
     plan, undo = servers.write(f"{folder}/plan.toml", text_of(steps, 15)), servers.write(f"{folder}/undo.txt", "what was there\n")
@@ -155,13 +155,12 @@ def killed(program, folder, board, place):
             run.stop()
         expect("UNDO behind the kill", servers.read(undo), "what was there\n")
         lines = servers.read(f"{undo}.part").split("\n")
-        expect("the list so far", (lines[0], len(lines)), ("undo 2", place + 4))
+        expect("the journal", (lines[0], f"stage set {place} 0" in lines), ("journal 1", True))
         behind = asker.get_all(gets)
         expect("the records that the run left", [behind[get] != before[get] for get in gets], [at <= place for at in range(STEPS)])
         expect("undo", proxies.call(Troubles(), program, "undo", f"{undo}.part", TURNS), (0, "phase Undone\n", ""))
         undone = asker.get_all(gets)
-        expect("the records behind the undo", [undone[get] == before[get] for get in gets], [at != place for at in range(STEPS)])
-        expect("the record in doubt", undone[gets[place]], behind[gets[place]])
+        expect("the records behind the undo", [undone[get] == before[get] for get in gets], [True] * STEPS)
         server.ended()
 
 
@@ -172,13 +171,13 @@ def unnamed(program, folder, board):
     os.mkdir(undo)
     with Server(program, board, 400) as server:
         expect("run", servers.call(program, "run", plan, *server.ports, TURNS, undo), (3, "phase Done\n", f"file {undo}\n"))
-        expect("the files", sorted(os.listdir(folder)), ["plan.toml", "undo.txt", "undo.txt.part"])
+        expect("the files", sorted(os.listdir(folder)), ["plan.toml", "undo.txt", "undo.txt.next", "undo.txt.part"])
         expect("undo", servers.call(program, "undo", f"{undo}.part", *server.ports, TURNS), (0, "phase Undone\n", ""))
         expect("serve", server.ended(), (0, f"served {3 * STEPS}\nrecords same\n", ""))
 
 
 def unmade(program, folder):
-    """A run that can't make the file of the list so far says so, and sends nothing."""
+    """A run that can't make the file of its journal says so, and sends nothing."""
     plan = servers.write(f"{folder}/plan.toml", text_of(distinct_steps("unmade", 1), 0))
     os.mkdir(f"{folder}/taken.part")
     with socket.socket(socket.AF_INET, socket.SOCK_DGRAM) as nobody:

@@ -10,6 +10,8 @@ import time
 
 import frames
 
+TOP = os.path.dirname(os.path.dirname(os.path.dirname(os.path.realpath(__file__))))
+BOARD = f"{TOP}/sample.toml"
 HOST = "127.0.0.1"
 # How long a call, the start of a server and its end may take, in seconds.
 CALL = 120
@@ -41,6 +43,14 @@ def call(program, *words):
     except subprocess.TimeoutExpired as late:
         raise Failed(f"{' '.join(map(str, words))} didn't end in {CALL} s") from late
     return ran.returncode, ran.stdout, ran.stderr
+
+
+def program_of_script():
+    """Returns the program that ./bmcnet runs, once that answers its example."""
+    plan = f"{TOP}/examples/reply_lost/plan.toml"
+    ran = subprocess.run([f"{TOP}/bmcnet", "pair", BOARD, plan, "20"], stdin=subprocess.DEVNULL, capture_output=True, text=True, check=False)
+    expect("./bmcnet pair", (ran.returncode, ran.stdout), (0, "phase Done\nphase Undone\nrecords same\n"))
+    return f"{TOP}/crates/bmcnet/out/bmcnet{'.unproved' if 'unproved' in ran.stderr else ''}"
 
 
 class Ports:

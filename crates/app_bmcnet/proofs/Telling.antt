@@ -31,7 +31,7 @@ is_fault A why memory (inr r) = inr r
 
 -- whatever comes of a call, the manager shows some machine then
 pub shown_then : (called : Option (ManagerStepResult (board_plans lab_names))) (turns : ℕ) (before : DrivenState) (m : Manager) (phase : Phase) (counted counts : Links)
-    → RunFrom (DrivesAgain 0 turns) called before m phase counted counts → (s : DrivenState) × Represents lab_names m s
+    → RunFrom (DrivesAgain 0 turns) called before m (Ok phase) counted counts → (s : DrivenState) × Represents lab_names m s
 shown_then (Some deed) turns before m phase counted counts drives = (drives.after, drives.shown)
 shown_then None turns before m phase counted counts rests = (before, rests.shown)
 

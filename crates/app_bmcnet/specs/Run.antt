@@ -8,7 +8,7 @@ use Rattle.app_base.specs.Ending.{RunEnds, Saying}
 use Rattle.app_base.specs.Files.{Readings}
 use Rattle.app_base.specs.Version.{SaysVersion}
 use Rattle.app_serve.specs.Run.{ServeEnds}
-use Rattle.app_run.specs.Beside.{Renamings, Writings}
+use Rattle.app_journal.specs.Beside.{Removals, Renamings, Writings}
 use Rattle.app_run.specs.Run.{RunEndsOf}
 use Rattle.app_run.specs.Undo.{UndoEndsOf}
 use Rattle.app_run.specs.declared.progress.Progress.{Progress}
@@ -18,18 +18,18 @@ use Rattle.app_bmcnet.specs.declared.words.Words.{Words}
 use Rattle.app_bmcnet.specs.declared.words.Words.TheVariants.{Serve, Run, Undo, Pair, Version}
 use Rattle.app_bmcnet.specs.Asked.{AsksFor}
 
--- So a run ends that does what words ask for: as `serve`, `run`, `undo` or `pair` does with the files that they name, or by the version. Only `run` writes files.
-abbrev pub EndsAsAsked : {Files Stdout Stderr : Type 0} → (out : Stdout → Option (List ℕ)) → (err : Stderr → Option (List ℕ)) → Readings → Writings Files → Renamings Files → Words → (before after : Files)
+-- So a run ends that does what words ask for: as `serve`, `run`, `undo` or `pair` does with the files that they name, or by the version. Only `run` and `undo` write files.
+abbrev pub EndsAsAsked : {Files Stdout Stderr : Type 0} → (out : Stdout → Option (List ℕ)) → (err : Stderr → Option (List ℕ)) → Readings → Writings Files → Renamings Files → Removals Files → Words → (before after : Files)
     → (old new : Console Stdout Stderr) → ℕ → Type 0
-EndsAsAsked out err gives takes renames (Serve asked) before after old new result =
+EndsAsAsked out err gives takes renames removes (Serve asked) before after old new result =
     (after ≡ before) × ServeEnds out err gives asked old new result
-EndsAsAsked out err gives takes renames (Run asked) before after old new result =
-    RunEndsOf out err gives takes renames (string_bytes asked.plan) asked before after old new result
-EndsAsAsked out err gives takes renames (Undo asked) before after old new result =
-    (after ≡ before) × UndoEndsOf out err gives (string_bytes asked.undo) asked old new result
-EndsAsAsked out err gives takes renames (Pair asked) before after old new result =
+EndsAsAsked out err gives takes renames removes (Run asked) before after old new result =
+    RunEndsOf out err gives takes renames removes (string_bytes asked.plan) asked before after old new result
+EndsAsAsked out err gives takes renames removes (Undo asked) before after old new result =
+    UndoEndsOf out err gives takes renames (string_bytes asked.undo) asked before after old new result
+EndsAsAsked out err gives takes renames removes (Pair asked) before after old new result =
     (after ≡ before) × RunEnds out err (PrintsPairOfFiles gives (words_of asked) asked.turns) old new result
-EndsAsAsked out err gives takes renames Version before after old new result =
+EndsAsAsked out err gives takes renames removes Version before after old new result =
     (after ≡ before) × RunEnds out err SaysVersion old new result
 
 -- so is told of how far that is: `run` and `undo` tell it alone
@@ -43,10 +43,10 @@ abbrev pub SaysNothingAsked : (words : List Text) → Saying
 SaysNothingAsked words stream text status = ((asked : Words) → AsksFor words asked → ⊥) × (stream ≡ Error) × (status ≡ RefusedWords)
 
 -- So a run of a command line's words ends: as what they ask for, or, where they ask for nothing, with the status of refused words.
-abbrev pub LineEnds : {Files Stdout Stderr : Type 0} → (out : Stdout → Option (List ℕ)) → (err : Stderr → Option (List ℕ)) → Readings → Writings Files → Renamings Files → (words : List Text) → (before after : Files)
+abbrev pub LineEnds : {Files Stdout Stderr : Type 0} → (out : Stdout → Option (List ℕ)) → (err : Stderr → Option (List ℕ)) → Readings → Writings Files → Renamings Files → Removals Files → (words : List Text) → (before after : Files)
     → (old new : Console Stdout Stderr) → ℕ → Type 0
-LineEnds out err gives takes renames words before after old new result =
-    ((asked : Words) × AsksFor words asked × EndsAsAsked out err gives takes renames asked before after old new result)
+LineEnds out err gives takes renames removes words before after old new result =
+    ((asked : Words) × AsksFor words asked × EndsAsAsked out err gives takes renames removes asked before after old new result)
     ⊎ ((after ≡ before) × RunEnds out err (SaysNothingAsked words) old new result)
 
 -- So a run of a command line's words tells how far it is: as what they ask for, or, where they ask for nothing, not at all.

@@ -1,7 +1,7 @@
 //! The files of the host that are written, too.
 use app_base::{HostFiles, TextFiles, UnreadFile};
-use app_run::{WriteFault, WritesFiles};
-use std::fs::OpenFile;
+use app_journal::{HoldFault, WriteFault, WritesFiles};
+use std::fs::{File, OpenFile, OpenOptions};
 use std::io::Write;
 use std::rt::Files;
 use std::{fs, io};
@@ -11,6 +11,8 @@ use std::{fs, io};
 pub struct NetFiles<'a, R: Files + AllocGlobal> {
     /// How they are read.
     pub read: HostFiles<'a, R>,
+    /// Those that the process holds.
+    pub held: Vec<File>,
 }
 
 impl<R: Files + AllocGlobal> TextFiles for NetFiles<'_, R> {
@@ -22,31 +24,95 @@ impl<R: Files + AllocGlobal> TextFiles for NetFiles<'_, R> {
     }
 }
 
-/// Writes the text to the file of this path, and waits until the disk has it.
+/// The folder that has the file of this path.
+fn folder_of(path: &str) -> &str {
+    match path.rsplit_once('/') {
+        Some(("", _)) => "/",
+        Some((folder, _)) => folder,
+        None => ".",
+    }
+}
+
+/// Makes the file of this path anew, writes the text to it, and waits until the disk has it. No link is followed: one that has the path goes, as an older
+/// file does.
 fn write_through<R: Files>(rt: &R, path: &str, text: &str) -> io::Result<()> {
-    let mut file = fs::create(rt, path)?;
+    if fs::symlink_metadata(rt, path).is_ok() {
+        fs::remove_file(rt, path)?;
+    }
+    let mut file = File::create_new(rt, path)?;
     file.write_all(text.as_bytes())?;
     file.sync_all()
 }
 
-impl<R: Files + AllocGlobal> WritesFiles for NetFiles<'_, R> {
+/// Waits until the disk has the names in the folder of this path.
+fn sync_names<R: Files>(rt: &R, path: &str) -> io::Result<()> {
+    let folder = File::open(rt, folder_of(path))?;
+    folder.sync_all()
+}
+
+/// Renames a file, and waits until the disk has its name.
+fn rename_through<R: Files>(rt: &R, from: &str, to: &str) -> io::Result<()> {
+    fs::rename(rt, from, to)?;
+    sync_names(rt, to)
+}
+
+/// Removes a file, and waits until the disk has lost its name.
+fn remove_through<R: Files>(rt: &R, path: &str) -> io::Result<()> {
+    fs::remove_file(rt, path)?;
+    sync_names(rt, path)
+}
+
+/// The file of this path, which is made where there is none, once it is locked.
+fn lock_file<R: Files<File = File>>(rt: &R, path: &str) -> Result<File, HoldFault> {
+    let mut how = OpenOptions::new();
+    how.read(true).write(true).create(true);
+    let Ok(file) = how.open(rt, path) else {
+        return Err(HoldFault);
+    };
+    match file.try_lock() {
+        Ok(()) => Ok(file),
+        Err(_) => Err(HoldFault),
+    }
+}
+
+/// What came of writing, as a run tells it.
+fn written(answer: io::Result<()>) -> Result<(), WriteFault> {
+    match answer {
+        Ok(()) => Ok(()),
+        Err(_) => Err(WriteFault),
+    }
+}
+
+impl<R: Files<File = File> + AllocGlobal> WritesFiles for NetFiles<'_, R> {
     // Nothing is promised of what the host keeps of a text.
     ghost takes = { λ old word text answer new. Unit {0} };
 
     // Nor of where a renaming leaves it.
     ghost renames = { λ old from to answer new. Unit {0} };
 
+    // Nor of what a removal leaves.
+    ghost removes = { λ old word answer new. Unit {0} };
+
+    // Nor of who holds what.
+    ghost holds = { λ old word answer new. Unit {0} };
+
     fn write(&mut self, word: &str, text: &str) -> Result<(), WriteFault> {
-        match write_through(self.read.rt, word, text) {
-            Ok(()) => Ok(()),
-            Err(_) => Err(WriteFault),
-        }
+        written(write_through(self.read.rt, word, text))
     }
 
     fn rename(&mut self, from: &str, to: &str) -> Result<(), WriteFault> {
-        match fs::rename(self.read.rt, from, to) {
+        written(rename_through(self.read.rt, from, to))
+    }
+
+    fn remove(&mut self, word: &str) -> Result<(), WriteFault> {
+        written(remove_through(self.read.rt, word))
+    }
+
+    fn hold(&mut self, word: &str) -> Result<(), HoldFault> {
+        let file = lock_file(self.read.rt, word)?;
+        match self.held.push(file) {
             Ok(()) => Ok(()),
-            Err(_) => Err(WriteFault),
+            Err(_) => Err(HoldFault),
         }
     }
 }

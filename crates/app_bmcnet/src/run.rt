@@ -5,7 +5,8 @@ ghost use Rattle.app_bmcnet.specs.Run.{EndsAsAsked, LineEnds, LineTells, MayTell
 use crate::pairing::pair;
 use crate::words::{Words, read};
 use app_base::{Console, TextFiles, refuse, tell_version};
-use app_run::{Progress, WritesFiles, run, undo};
+use app_journal::WritesFiles;
+use app_run::{Progress, run, undo};
 use app_serve::serve;
 use std::alloc::Global;
 use std::io;
@@ -29,15 +30,15 @@ fn carry_out<
     progress: &mut Progress<P>,
     console: &mut Console<W, E>,
 ) -> u8
-    ensures ends { EndsAsAsked W.contents E.contents (F.gives files.old) F.takes F.renames words.now
-        files.old files.new console.old console.new result }
+    ensures ends { EndsAsAsked W.contents E.contents (F.gives files.old) F.takes F.renames F.removes
+        words.now files.old files.new console.old console.new result }
     ensures told { MayTellAsAsked P.contents (F.gives files.old) words.now
         progress.old progress.new }
 {
     match words {
         Words::Serve(words) => serve(rt, alloc, &*files, words, console),
         Words::Run(words) => run(rt, alloc, files, words, progress, console),
-        Words::Undo(words) => undo(rt, alloc, &*files, words, progress, console),
+        Words::Undo(words) => undo(rt, alloc, files, words, progress, console),
         Words::Pair(words) => pair(rt, alloc, &*files, words, console),
         Words::Version => tell_version(console),
     }
@@ -60,7 +61,7 @@ pub fn run_line<
     progress: &mut Progress<P>,
     console: &mut Console<W, E>,
 ) -> u8
-    ensures ends { LineEnds W.contents E.contents (F.gives files.old) F.takes F.renames
+    ensures ends { LineEnds W.contents E.contents (F.gives files.old) F.takes F.renames F.removes
         (map string_bytes words.now) files.old files.new console.old console.new result }
     ensures told { LineTells P.contents (F.gives files.old) (map string_bytes words.now)
         progress.old progress.new }

@@ -20,7 +20,8 @@ use Rattle.app_run.specs.declared.greeting.Unanswered.{Unanswered}
 use Rattle.app_run.specs.declared.running.Outcome.{Outcome}
 use Rattle.app_run.specs.declared.running.RunWords.{RunWords}
 use Rattle.app_run.specs.declared.undoing.Told.{Told}
-use Rattle.app_run.specs.Beside.{Renamings, Writings}
+use Rattle.app_journal.specs.declared.undo_files.UndoFiles.{UndoFiles}
+use Rattle.app_journal.specs.Beside.{Removals, Renamings, Writings}
 use Rattle.app_run.specs.Driven.{DrivenState, resumed_from}
 use Rattle.app_run.specs.Greeted.{GreetedFirst, GreetsBus, unanswered_by}
 use Rattle.app_run.specs.Outcome.{GoesFrom, StaysGreeted}
@@ -56,13 +57,13 @@ module _ {L : Type 0} (of : Ghosts L) (bus : Bus) (retries turns : ℕ) (link : 
 
 -- ---- a manager that did nothing
 
-module _ {Files : Type 0} (takes : Writings Files) (renames : Renamings Files) where
+module _ {Files : Type 0} (takes : Writings Files) (renames : Renamings Files) (removes : Removals Files) where
   -- one that was to run a plan
-  pub left_run : (greetings : Greetings) (word : List ℕ) (before : DrivenState) (words : RunWords) (manager : Manager) (why : GreetFault) (outcome : Result Outcome ReportFault) (files : Files)
+  pub left_run : (greetings : Greetings) (beside : UndoFiles) (before : DrivenState) (words : RunWords) (had : List ℕ) (manager : Manager) (why : GreetFault) (outcome : Result Outcome ReportFault) (files : Files)
       → Represents lab_names manager before → GreetedFirst greetings words.turns (Err why) → StaysGreeted manager why outcome
-      → GoesFrom takes renames greetings word before words outcome files files
-  left_run greetings word before words manager fault.NoLink outcome files shows greeted is = inr (inr (is, refl))
-  left_run greetings word before words manager (fault.Unanswered why) outcome files shows greeted (phase, is, named) =
+      → GoesFrom takes renames removes greetings beside before words had outcome files files
+  left_run greetings beside before words had manager fault.NoLink outcome files shows greeted is = inr (inr (is, refl))
+  left_run greetings beside before words had manager (fault.Unanswered why) outcome files shows greeted (phase, is, named) =
       inr (inl (record { phase = phase; why = why; is = is; unanswered = greeted; phase_is = named before shows; same = refl }))
 
 -- one that was to go on from a list

@@ -1,6 +1,6 @@
 pub mod Driving
 pub mod Tries
-pub mod Looks
+pub mod Courses
 pub mod Keeping
 pub mod Telling
 pub mod Ways

@@ -14,7 +14,6 @@ use Rattle.app_base.specs.declared.ending.ReportFault.TheVariants as untold
 use Rattle.app_base.specs.declared.console.Console.{Console}
 use Rattle.app_base.specs.Ending.{Saying, ReportTells, RunEnds}
 use Rattle.app_base.specs.EndingLaws.{run_ends_as}
-use Rattle.app_base.specs.Files.{Readings}
 use Rattle.app_run.specs.declared.driven.RemakeFault.{RemakeFault}
 use Rattle.app_run.specs.declared.driven.RemakeFault.TheVariants.{OtherNames}
 use Rattle.app_run.specs.declared.progress.Progress.{Progress}
@@ -26,7 +25,7 @@ use Rattle.app_run.specs.declared.undoing.Told.TheVariants.{Says, Ungreeted}
 use Rattle.app_run.specs.declared.undoing.UndoWords.{UndoWords}
 use Rattle.app_run.specs.Ends.{EndsUngreeted, PrintsNothing}
 use Rattle.app_run.specs.Greeted.{greetings_before_undo}
-use Rattle.app_run.specs.Undo.{PrintsUndo, SaysOfList, SaysOfNames, SaysUndone, Staying, StaysOfNames, StaysOfText, StaysUndone, UndoEnds, UndoEndsOf, UndoTells, told_by}
+use Rattle.app_run.specs.Undo.{PrintsUndo, SaysOfNames, SaysUndone, Staying, StaysOfNames, StaysOfText, StaysUndone, UndoEnds, UndoTells, told_by}
 
 -- what may come of one may come of another
 tells_as : (says other : Saying) (stays others : Staying) (told : Result Told ReportFault) → ((stream : Stream) (text : List ℕ) (status : Status) → says stream text status → other stream text status)
@@ -81,10 +80,3 @@ module _ {W E : Type 0} (out : W → Option (List ℕ)) (err : E → Option (Lis
       → RunEnds out err PrintsNothing old new result ⊎ EndsUngreeted out err phase why old new result → UndoEnds out err says stays old new result
   ungreeted_ends says stays phase why stay (inl nothing) = inl (run_ends_as out err PrintsNothing says old new result (λ stream text status said. absurd said) nothing)
   ungreeted_ends says stays phase why stay (inr ends) = inr (phase, why, stay, ends)
-
-  -- so ends the undo of the file of a text
-  pub ends_of_file : (gives : Readings) (word text : List ℕ) (words : UndoWords) → gives word (Ok text)
-      → UndoEnds out err (PrintsUndo text words) (StaysOfText text words) old new result → UndoEndsOf out err gives word words old new result
-  ends_of_file gives word text words given (inl ends) =
-      inl (run_ends_as out err (PrintsUndo text words) (SaysOfList gives word words) old new result (λ stream said status s. inl (text, given, s)) ends)
-  ends_of_file gives word text words given (inr (phase, why, stays, ends)) = inr (phase, why, (text, given, stays), ends)

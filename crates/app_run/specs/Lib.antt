@@ -1,13 +1,15 @@
 pub mod Driven
-pub mod Beside
-pub mod Moments
 pub mod Stops
+pub mod Course
+pub mod Ways
 pub mod Buses
 pub mod Greeted
 pub mod Lines
 pub mod Ends
 pub mod Outcome
 pub mod Run
+pub mod Reverting
+pub mod JournalUndo
 pub mod Undo
 pub mod Progress
 pub mod Told

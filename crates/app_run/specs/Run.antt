@@ -15,7 +15,7 @@ use Rattle.app_base.specs.Report.{file_line}
 use Rattle.app_run.specs.declared.running.RunWords.{RunWords}
 use Rattle.app_run.specs.declared.running.Outcome.{Outcome}
 use Rattle.app_run.specs.declared.running.Outcome.TheVariants.{Ran, Unmade, Ungreeted}
-use Rattle.app_run.specs.Beside.{Writings, Renamings}
+use Rattle.app_journal.specs.Beside.{Writings, Renamings, Removals}
 use Rattle.app_run.specs.Ends.{EndsUngreeted, PrintsNothing, SaysFile, SaysPhase, TellsBoth}
 use Rattle.app_run.specs.Lines.{phase_line, plan_line}
 use Rattle.app_run.specs.Outcome.{RunEnd}
@@ -36,20 +36,20 @@ EndsBy out err word (Ok (Ungreeted phase why)) old new result =
 EndsBy out err word (Err why) old new result = RunEnds out err (SaysReport (Err why)) old new result
 
 -- so a run of a plan ends
-abbrev pub RunEndsOver : {Files Stdout Stderr : Type 0} → (out : Stdout → Option (List ℕ)) → (err : Stderr → Option (List ℕ)) → Writings Files → Renamings Files → Plan → RunWords
+abbrev pub RunEndsOver : {Files Stdout Stderr : Type 0} → (out : Stdout → Option (List ℕ)) → (err : Stderr → Option (List ℕ)) → Writings Files → Renamings Files → Removals Files → Plan → RunWords
     → (before after : Files) → (old new : Console Stdout Stderr) → ℕ → Type 0
-RunEndsOver out err takes renames plan words before after old new result =
-    (outcome : Result Outcome ReportFault) × RunEnd takes renames plan words outcome before after × EndsBy out err (string_bytes words.undo) outcome old new result
+RunEndsOver out err takes renames removes plan words before after old new result =
+    (outcome : Result Outcome ReportFault) × RunEnd takes renames removes plan words outcome before after × EndsBy out err (string_bytes words.undo) outcome old new result
 
 -- why a text is no plan, as standard error says it
 abbrev pub SaysFault : (text : List ℕ) → Saying
 SaysFault text stream said status = (why : PlanFault) × ReadsPlan text (Err why) × (stream ≡ Error) × (said ≡ plan_line why) × (status ≡ RefusedFile)
 
 -- so a run of a plan's text ends: as one of the plan; or it says why the text is none, and writes no file
-abbrev pub RunEndsOn : {Files Stdout Stderr : Type 0} → (out : Stdout → Option (List ℕ)) → (err : Stderr → Option (List ℕ)) → Writings Files → Renamings Files → (text : List ℕ) → RunWords
+abbrev pub RunEndsOn : {Files Stdout Stderr : Type 0} → (out : Stdout → Option (List ℕ)) → (err : Stderr → Option (List ℕ)) → Writings Files → Renamings Files → Removals Files → (text : List ℕ) → RunWords
     → (before after : Files) → (old new : Console Stdout Stderr) → ℕ → Type 0
-RunEndsOn out err takes renames text words before after old new result =
-    ((plan : Plan) × ReadsPlan text (Ok plan) × RunEndsOver out err takes renames plan words before after old new result)
+RunEndsOn out err takes renames removes text words before after old new result =
+    ((plan : Plan) × ReadsPlan text (Ok plan) × RunEndsOver out err takes renames removes plan words before after old new result)
     ⊎ ((after ≡ before) × RunEnds out err (SaysFault text) old new result)
 
 -- why the file of a plan isn't read, as standard error says it
@@ -57,8 +57,8 @@ abbrev pub SaysUnread : Readings → (named : List ℕ) → Saying
 SaysUnread gives named stream said status = (why : UnreadFile) × gives named (Err why) × PrintsRefusal why named stream said status
 
 -- so a run of a plan's file ends: as one of its text; or it says that the file isn't read, and writes none
-abbrev pub RunEndsOf : {Files Stdout Stderr : Type 0} → (out : Stdout → Option (List ℕ)) → (err : Stderr → Option (List ℕ)) → Readings → Writings Files → Renamings Files → (named : List ℕ) → RunWords
+abbrev pub RunEndsOf : {Files Stdout Stderr : Type 0} → (out : Stdout → Option (List ℕ)) → (err : Stderr → Option (List ℕ)) → Readings → Writings Files → Renamings Files → Removals Files → (named : List ℕ) → RunWords
     → (before after : Files) → (old new : Console Stdout Stderr) → ℕ → Type 0
-RunEndsOf out err gives takes renames named words before after old new result =
-    ((text : List ℕ) × gives named (Ok text) × RunEndsOn out err takes renames text words before after old new result)
+RunEndsOf out err gives takes renames removes named words before after old new result =
+    ((text : List ℕ) × gives named (Ok text) × RunEndsOn out err takes renames removes text words before after old new result)
     ⊎ ((after ≡ before) × RunEnds out err (SaysUnread gives named) old new result)

@@ -1,22 +1,27 @@
 -- What a run and an undo tell on a terminal of how far they are.
-use Rattle.std.specs.Prelude.{◌≡◌, ◌⊎◌, ℕ, List, [], ◌∷◌, Option, Ok, length, map}
+use Rattle.std.specs.Prelude.{◌≡◌, ◌⊎◌, ℕ, List, [], Option, Ok, length, map}
 use Rattle.undo_plans.specs.declared.plan.Plan.{Plan}
 use Rattle.undo_plans.specs.declared.undo_list.UndoList.{UndoList}
 use Rattle.plan_file.specs.declared.kind.Kind.{Kind}
 use Rattle.plan_file.specs.Kinds.{kind_of}
 use Rattle.plan_file.specs.PlanHolds.{ReadsPlan}
 use Rattle.text_undo.specs.UndoText.{IsTextOf}
-use Rattle.model_undo.specs.declared.call.Call.TheVariants.{Undo}
+use Rattle.model_undo.specs.declared.call.Call.TheVariants.{Start, Undo, Again}
 use Rattle.model_undo.specs.Machine.{phase_of}
 use Rattle.model_lab.specs.Meaning.{lab_names}
 use Rattle.undo_core.specs.declared.manager.Manager.{Manager}
 use Rattle.undo_core.specs.Shown.{words_of, AreOthers, Represents}
 use Rattle.bmc_ports.specs.Driving.{Links}
+use Rattle.bmc_ports.specs.Conversation.{BothLinks}
+use Rattle.bmc_ports.specs.Observing.{Look, SeesAll, permit_at}
+use Rattle.wire_links.specs.declared.udp_link.UdpLink.{UdpLink}
+use Rattle.wire_links.specs.contracts.udp_link.UdpLinkLink.TheImpl as udp
+use Rattle.app_journal.specs.Reviving.{IsMadeOf}
 use Rattle.app_base.specs.Files.{Readings}
 use Rattle.app_run.specs.declared.progress.Snapshot.{Snapshot}
 use Rattle.app_run.specs.declared.progress.Progress.{Progress}
-use Rattle.app_run.specs.Driven.{DrivenState, fresh_links, opened_with, resumed_from}
-use Rattle.app_run.specs.Moments.{PassesTo, SeesMoments, CallTaken}
+use Rattle.app_run.specs.Driven.{DriveEnd, DrivenState, opened_with, resumed_from}
+use Rattle.app_run.specs.Course.{CallWay, OwnWay}
 use Rattle.app_run.specs.Progress.{EndsLine, MayTell}
 
 -- the manager is there
@@ -24,25 +29,50 @@ pub record IsAt (manager : Manager) (now : Snapshot) : Type 0 where
   pub phase : (state : DrivenState) → Represents lab_names manager state → now.phase ≡ phase_of (words_of lab_names) state.machine
   pub resent : (state : DrivenState) → Represents lab_names manager state → now.resent ≡ state.machine.resent
 
+-- These are the looks at a manager that was made of a text, was called to try again and was driven over links.
+pub record IsSettling (looks : List Look) : Type 0 where
+  pub text : List ℕ
+  pub revived : Manager
+  pub made : IsMadeOf text revived
+  pub way : (state : DrivenState) → Represents lab_names revived state
+      → (last : Manager) × (end : DriveEnd) × (links : BothLinks UdpLink UdpLink) × (left : BothLinks UdpLink UdpLink)
+      × CallWay udp.ghosts udp.ghosts lab_names Again state looks last links left (permit_at end)
+
 module _ {Writer : Type 0} (out : Writer → Option (List ℕ)) where
   -- a look at a manager, whose moment may be told
   abbrev pub LooksOn : List Kind → (steps : ℕ) → (old : Progress Writer) → Manager → (new : Progress Writer) → Type 0
   LooksOn kinds steps old manager new = (now : Snapshot) × IsAt manager now × MayTell out kinds steps now old new
 
+  -- at each of these looks, in their order, the moment may be told, whatever the look answered
+  abbrev pub TellsLooks : List Kind → (steps : ℕ) → List Look → (old new : Progress Writer) → Type 0
+  TellsLooks kinds steps = SeesAll (λ old manager allowed. LooksOn kinds steps old manager)
+
   -- ---- a run
 
-  -- a manager went its way over links of its own, and each moment of that may be told
+  -- a manager was told to start and went its way over links of its own, and the moment of each look of that may be told
   pub record LooksOnWay (kinds : List Kind) (steps : ℕ) (before : DrivenState) (manager : Manager) (old new : Progress Writer) : Type 0 where
+    pub end : DriveEnd
     pub counts : Links
-    pub moments : List Manager
-    pub way : PassesTo moments before manager fresh_links counts
-    pub looks : SeesMoments (LooksOn kinds steps) moments old new
+    pub looks : List Look
+    pub way : OwnWay Start before looks manager end counts
+    pub tells : TellsLooks kinds steps looks old new
+
+  -- so may the moments of one that settles what was open when frames were kept back; or nothing is told
+  abbrev pub TellsSettling : List Kind → (steps : ℕ) → (old new : Progress Writer) → Type 0
+  TellsSettling kinds steps old new = (new ≡ old) ⊎ ((looks : List Look) × IsSettling looks × TellsLooks kinds steps looks old new)
+
+  -- both, one after the other
+  abbrev pub LooksOnRun : List Kind → (steps : ℕ) → (before : DrivenState) → (old new : Progress Writer) → Type 0
+  LooksOnRun kinds steps before old new = (manager : Manager) × (mid : Progress Writer) × LooksOnWay kinds steps before manager old mid × TellsSettling kinds steps mid new
 
   -- and then the line is ended
   abbrev pub TellsWay : List Kind → (steps : ℕ) → (before : DrivenState) → (old new : Progress Writer) → Type 0
-  TellsWay kinds steps before old new = (manager : Manager) × (mid : Progress Writer) × LooksOnWay kinds steps before manager old mid × EndsLine out mid new
+  TellsWay kinds steps before old new = (mid : Progress Writer) × LooksOnRun kinds steps before old mid × EndsLine out mid new
 
   -- the same, whatever machine the manager showed before
+  abbrev pub LooksBeside : List Kind → (steps : ℕ) → (manager : Manager) → (old new : Progress Writer) → Type 0
+  LooksBeside kinds steps manager old new = (before : DrivenState) → Represents lab_names manager before → LooksOnRun kinds steps before old new
+
   abbrev pub TellsBeside : List Kind → (steps : ℕ) → (manager : Manager) → (old new : Progress Writer) → Type 0
   TellsBeside kinds steps manager old new = (before : DrivenState) → Represents lab_names manager before → TellsWay kinds steps before old new
 
@@ -63,17 +93,14 @@ module _ {Writer : Type 0} (out : Writer → Option (List ℕ)) where
 
   -- ---- an undo
 
-  -- a manager went on from the list, and each moment of its way from the call on may be told
+  -- a manager that goes on from the list was told to undo, went its way over links of its own, and the moment of each look of that may be told
   pub record LooksOnUndo (list : UndoList) (old new : Progress Writer) : Type 0 where
-    pub first : Manager
-    pub start : DrivenState
-    pub called : CallTaken Undo (resumed_from list) start
-    pub shown : Represents lab_names first start
     pub last : Manager
+    pub end : DriveEnd
     pub counts : Links
-    pub moments : List Manager
-    pub way : PassesTo moments start last fresh_links counts
-    pub looks : SeesMoments (LooksOn [] (length list.requests.members)) (first ∷ moments) old new
+    pub looks : List Look
+    pub way : OwnWay Undo (resumed_from list) looks last end counts
+    pub tells : TellsLooks [] (length list.requests.members) looks old new
 
   -- and then the line is ended
   abbrev pub TellsUndo : UndoList → (old new : Progress Writer) → Type 0

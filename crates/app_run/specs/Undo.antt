@@ -26,6 +26,8 @@ use Rattle.app_run.specs.declared.undoing.UndoWords.{UndoWords}
 use Rattle.app_run.specs.Driven.{DrivenState, UndoRun, resumed_from}
 use Rattle.app_run.specs.Ends.{EndsUngreeted}
 use Rattle.app_run.specs.Greeted.{AreGreeted, greetings_before_undo}
+use Rattle.app_journal.specs.Beside.{Writings, Renamings}
+use Rattle.app_run.specs.JournalUndo.{IsJournal, JournalEnds}
 use Rattle.app_run.specs.Lines.{phase_line, undo_line, others_line}
 use Rattle.app_run.specs.Outcome.{IsPhaseAt}
 
@@ -50,12 +52,6 @@ PrintsUndo text words stream said status =
     ((list : UndoList) × IsTextOf text list × SaysOfNames list words stream said status)
     ⊎ ((line : ℕ) × IsFirstBad text line × (stream ≡ Error) × (said ≡ undo_line (Line line)) × (status ≡ RefusedFile))
 
--- what is said of the file of an undo text: what is said of its text, or that it isn't read
-abbrev pub SaysOfList : Readings → (word : List ℕ) → UndoWords → Saying
-SaysOfList gives word words stream said status =
-    ((text : List ℕ) × gives word (Ok text) × PrintsUndo text words stream said status)
-    ⊎ ((why : UnreadFile) × gives word (Err why) × PrintsRefusal why word stream said status)
-
 -- ---- where a greeting isn't answered
 
 -- this one wasn't answered, and in this phase a manager is that did nothing
@@ -70,12 +66,9 @@ StaysUndone greetings list turns phase why = AreGreeted greetings turns (Some wh
 abbrev pub StaysOfNames : UndoList → UndoWords → Staying
 StaysOfNames list words phase why = (¬ AreOthers lab_names list.names) × StaysUndone (greetings_before_undo words.greet list) list words.turns phase why
 
--- one of an undo text, and of the file of one
+-- one of an undo text
 abbrev pub StaysOfText : (undo : List ℕ) → UndoWords → Staying
 StaysOfText text words phase why = (list : UndoList) × IsTextOf text list × StaysOfNames list words phase why
-
-abbrev pub StaysOfFile : Readings → (word : List ℕ) → UndoWords → Staying
-StaysOfFile gives word words phase why = (text : List ℕ) × gives word (Ok text) × StaysOfText text words phase why
 
 -- a greeting failed so, and the manager did nothing
 abbrev pub StaysUngreeted : Manager → GreetFault → Result Told ReportFault → Type 0
@@ -102,7 +95,20 @@ abbrev pub UndoEnds : {Stdout Stderr : Type 0} → (out : Stdout → Option (Lis
 UndoEnds out err says stays old new result =
     RunEnds out err says old new result ⊎ ((phase : Phase) × (why : Unanswered) × stays phase why × EndsUngreeted out err phase why old new result)
 
+-- what is said of a file that isn't read
+abbrev pub SaysUnread : Readings → (word : List ℕ) → Saying
+SaysUnread gives word stream said status = (why : UnreadFile) × gives word (Err why) × PrintsRefusal why word stream said status
+
+-- so the undo of a text ends, in the file of this word: of a journal, or of an undo text, which writes no file
+abbrev pub TextEnds : {Files Stdout Stderr : Type 0} → (out : Stdout → Option (List ℕ)) → (err : Stderr → Option (List ℕ)) → Writings Files → Renamings Files → (word text : List ℕ) → UndoWords
+    → (before after : Files) → (old new : Console Stdout Stderr) → ℕ → Type 0
+TextEnds out err takes renames word text words before after old new result =
+    (IsJournal text × JournalEnds out err takes renames word text words before after old new result)
+    ⊎ ((¬ IsJournal text) × (after ≡ before) × UndoEnds out err (PrintsUndo text words) (StaysOfText text words) old new result)
+
 -- so an undo of the file of this word ends
-abbrev pub UndoEndsOf : {Stdout Stderr : Type 0} → (out : Stdout → Option (List ℕ)) → (err : Stderr → Option (List ℕ)) → Readings → (word : List ℕ) → UndoWords
-    → (old new : Console Stdout Stderr) → ℕ → Type 0
-UndoEndsOf out err gives word words = UndoEnds out err (SaysOfList gives word words) (StaysOfFile gives word words)
+abbrev pub UndoEndsOf : {Files Stdout Stderr : Type 0} → (out : Stdout → Option (List ℕ)) → (err : Stderr → Option (List ℕ)) → Readings → Writings Files → Renamings Files → (word : List ℕ) → UndoWords
+    → (before after : Files) → (old new : Console Stdout Stderr) → ℕ → Type 0
+UndoEndsOf out err gives takes renames word words before after old new result =
+    ((text : List ℕ) × gives word (Ok text) × TextEnds out err takes renames word text words before after old new result)
+    ⊎ ((after ≡ before) × RunEnds out err (SaysUnread gives word) old new result)

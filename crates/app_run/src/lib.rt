@@ -4,23 +4,21 @@
 
 mod buses;
 pub mod driven;
-pub mod files;
 mod greeting;
+mod kept_run;
 mod lines;
 mod links;
-pub mod observer;
+mod observer;
 pub mod progress;
+mod reverting;
 pub mod running;
 mod trying;
-mod undo_files;
 pub mod undoing;
 
 pub use driven::{RemakeFault, open_manager, resume_manager, run_plan, undo_plan};
-pub use files::{WriteFault, WritesFiles};
 pub use greeting::Unanswered;
 pub use lines::push_phase;
 pub use links::WAIT_MS;
-pub use observer::Observer;
 pub use progress::Progress;
 pub use running::{RunWords, run};
 pub use trying::try_plan;

@@ -2,54 +2,12 @@
 ghost use Rattle.std.specs.Prelude.{◌≡◌};
 ghost use Rattle.app_run.specs.Progress.{EndsLine};
 
-use crate::files::WritesFiles;
 use crate::progress::{PlanOutline, Progress, Snapshot};
-use crate::undo_files::UndoFiles;
+use app_journal::{JournalKeeper, WritesFiles};
+use bmc_ports::Observer;
 use std::alloc::Global;
 use std::io;
 use undo_core::Manager;
-
-/// Looks at a manager once in a while.
-pub trait Observer {
-    ghost use Rattle.undo_core.specs.declared.manager.Manager.{Manager};
-
-    /// What a look at this manager may make of it.
-    ghost sees: { Self → Manager → Self → Type 0 };
-
-    /// Looks at the manager as it is now.
-    fn look(&mut self, manager: &Manager)
-        ensures { sees self.old manager.now self.new };
-}
-
-/// Keeps the list so far of a manager that runs a plan: the file beside the one of the undo text gets it wherever it has grown.
-#[derive(Drop)]
-pub(crate) struct ListWriter<'a, F: WritesFiles> {
-    pub alloc: Global,
-    pub files: &'a mut F,
-    pub beside: &'a UndoFiles<'a>,
-    /// How many requests the list had at the last look.
-    pub seen: usize,
-}
-
-impl<F: WritesFiles> Observer for ListWriter<'_, F> {
-    ghost use Rattle.std.specs.Prelude.{◌≡◌};
-    ghost use Rattle.app_run.specs.Moments.{LooksAt};
-
-    ghost sees = { λ old manager new. LooksAt F.takes F.renames old.beside.now manager
-        old.seen new.seen old.files.now new.files.now
-        × (new.beside ≡ old.beside) × (new.files.ghost_name ≡ old.files.ghost_name) };
-
-    fn look(&mut self, manager: &Manager) {
-        let list = manager.undo_list();
-        let known = self.seen;
-        self.seen = list.requests.len();
-        if self.seen <= known {
-            return;
-        }
-        // A list that isn't kept in the middle doesn't end the run: the one before it stays.
-        let _kept = self.beside.put_list(self.alloc, self.files, list);
-    }
-}
 
 /// Tells where a manager is, on a line of its own.
 #[derive(Drop)]
@@ -70,35 +28,52 @@ impl<P: io::Write> ProgressWriter<'_, P> {
 }
 
 impl<P: io::Write> Observer for ProgressWriter<'_, P> {
-    ghost use Rattle.std.specs.Prelude.{◌≡◌};
+    ghost use Rattle.std.specs.Prelude.{◌≡◌, true};
     ghost use Rattle.app_run.specs.Told.{LooksOn};
 
-    ghost sees = { λ old manager new. LooksOn P.contents old.course.kinds.now old.course.steps
+    ghost sees = { λ old manager allowed new. (allowed ≡ true)
+        × LooksOn P.contents old.course.kinds.now old.course.steps
         old.progress.now manager new.progress.now
         × (new.course ≡ old.course) × (new.progress.ghost_name ≡ old.progress.ghost_name) };
 
-    fn look(&mut self, manager: &Manager) {
+    fn look(&mut self, manager: &Manager) -> bool {
         let now = Snapshot {
             phase: manager.phase(),
             resent: manager.resent(),
         };
         self.progress.show(self.alloc, self.course, now);
+        true
     }
 }
 
-/// Two that look, one after the other.
+/// Looks at a manager that runs its plan: its journal is kept, and then the line of its progress is written, whether frames go out or not.
 #[derive(Drop)]
-pub(crate) struct Chained<A: Observer, B: Observer> {
-    pub first: A,
-    pub second: B,
+pub(crate) struct RunWatch<'a, 'b, 'c, F: WritesFiles, P: io::Write> {
+    pub keeper: &'a mut JournalKeeper<'b, F>,
+    pub teller: &'a mut ProgressWriter<'c, P>,
 }
 
-impl<A: Observer, B: Observer> Observer for Chained<A, B> {
-    ghost sees = { λ old manager new. A.sees old.first manager new.first
-        × B.sees old.second manager new.second };
+impl<F: WritesFiles, P: io::Write> Observer for RunWatch<'_, '_, '_, F, P> {
+    ghost use Rattle.std.specs.Prelude.{◌≡◌, string_bytes};
+    ghost use Rattle.app_journal.specs.Keeping.{KeepsJournal};
+    ghost use Rattle.app_run.specs.Told.{LooksOn};
 
-    fn look(&mut self, manager: &Manager) {
-        self.first.look(manager);
-        self.second.look(manager);
+    ghost sees = { λ old manager allowed new. KeepsJournal F.takes F.renames
+        old.keeper.now.beside.now manager allowed
+        (string_bytes old.keeper.now.text.now) (string_bytes new.keeper.now.text.now)
+        old.keeper.now.files.now new.keeper.now.files.now
+        × (new.keeper.now.beside ≡ old.keeper.now.beside)
+        × LooksOn P.contents old.teller.now.course.kinds.now old.teller.now.course.steps
+        old.teller.now.progress.now manager new.teller.now.progress.now
+        × (new.teller.now.course ≡ old.teller.now.course)
+        × (new.keeper.now.files.ghost_name ≡ old.keeper.now.files.ghost_name)
+        × (new.teller.now.progress.ghost_name ≡ old.teller.now.progress.ghost_name)
+        × (new.keeper.ghost_name ≡ old.keeper.ghost_name)
+        × (new.teller.ghost_name ≡ old.teller.ghost_name) };
+
+    fn look(&mut self, manager: &Manager) -> bool {
+        let allowed = self.keeper.look(manager);
+        self.teller.look(manager);
+        allowed
     }
 }

@@ -1,35 +1,33 @@
 //! `bmcnet run`: a plan on a controller over UDP.
-ghost use Rattle.std.specs.Prelude.{◌≡◌, ◌⊎◌, ℕ, List, true, false, IfOk, OnErr, Ok, Err, map, string_bytes};
+ghost use Rattle.std.specs.Prelude.{◌≡◌, ◌⊎◌, ℕ, List, false, IfOk, Ok, Err, map, string_bytes};
 ghost use Rattle.plan_file.specs.Kinds.{kind_of};
 ghost use Rattle.plan_file.specs.PlanHolds.{ReadsPlan};
 ghost use Rattle.model_lab.specs.Meaning.{lab_names};
 ghost use Rattle.undo_core.specs.Shown.{Represents};
 ghost use Rattle.app_base.specs.Ending.{RunEnds, ReportTells};
-ghost use Rattle.wire_links.specs.Counted.{none_counted};
 ghost use Rattle.app_run.specs.declared.running.Outcome.TheVariants.{Ran as HasRun};
-ghost use Rattle.app_run.specs.Driven.{is_over, opened_with};
+ghost use Rattle.app_run.specs.Driven.{opened_with};
 ghost use Rattle.app_run.specs.Ends.{PrintsNothing, SaysFile, SaysPhase};
 ghost use Rattle.app_run.specs.Greeted.{greetings_before_run};
-ghost use Rattle.app_run.specs.Outcome.{RunEnd, ComesBeside, ComesGreeted, KeepsBeside, RunsBeside, StaysGreeted};
-ghost use Rattle.app_run.specs.Told.{MayTellWay, TellsBeside, TellsFile, TellsPlan, TellsText};
+ghost use Rattle.app_run.specs.Outcome.{RunEnd, ComesBeside, ComesGreeted, StaysGreeted, first_fault};
+ghost use Rattle.app_run.specs.Told.{MayTellWay, TellsFile, TellsPlan, TellsText};
 ghost use Rattle.app_run.specs.Run.{EndsBy, EndsUnkept, RunEndsOf, RunEndsOn, RunEndsOver, SaysFault};
 
 use crate::driven::open_manager;
-use crate::files::{WriteFault, WritesFiles};
 use crate::greeting::{GreetFault, Greetings, Unanswered, greet_first};
+use crate::kept_run::{Ran, Ready, keep, run_on};
 use crate::lines::{phase_report, plan_refusal, tell_both, tell_ungreeted};
-use crate::links::{BusLinks, open_ends, sit_out};
-use crate::observer::{Chained, ListWriter, ProgressWriter};
-use crate::progress::{PlanOutline, Progress, kinds_of};
-use crate::trying::try_plan;
-use crate::undo_files::UndoFiles;
+use crate::links::{open_ends, sit_out};
+use crate::progress::{Progress, kinds_of};
 use app_base::files::refuse;
 use app_base::{Console, Report, ReportFault, TextFiles, end_run, text_of};
-use plan_file::{Kind, PlanFault, read_plan};
+use app_journal::{UndoFiles, WriteFault, WritesFiles};
+use plan_file::{PlanFault, read_plan};
 use std::alloc::{AllocError, Global};
 use std::io;
 use std::net::Net;
-use undo_core::{Manager, Phase};
+use text_journal::write_journal;
+use undo_core::Phase;
 use undo_plans::Plan;
 
 /// What the words of `bmcnet run` ask for.
@@ -58,27 +56,13 @@ pub struct RunWords {
 /// What came of a run.
 #[derive(Clone, Copy)]
 pub enum Outcome {
-    /// The run left the manager in this phase. The list is kept where the plan ended or halted, or the file can't be written or get its name.
+    /// The run left the manager in this phase. Its journal was kept, and where the plan ended or halted its list, or a file can't be written, get its
+    /// name or be removed.
     Ran(Phase, Result<(), WriteFault>),
-    /// The file beside the one of the undo text can't be made.
+    /// The file of the journal can't be made.
     Unmade,
     /// This greeting wasn't answered, and the manager, in this phase, did nothing.
     Ungreeted(Phase, Unanswered),
-}
-
-/// A manager of a plan, the kinds of the plan's steps, and the greetings before it is called.
-#[derive(Drop)]
-struct Ready {
-    manager: Manager,
-    kinds: Vec<Kind>,
-    greetings: Greetings,
-}
-
-/// A manager that ran a plan, and its phase.
-#[derive(Drop)]
-struct Ran {
-    manager: Manager,
-    phase: Phase,
 }
 
 /// Lets go by the turns that the words ask for before a run. It gives whether it could.
@@ -92,105 +76,17 @@ fn wait_first<R: Net>(rt: &R, words: &RunWords) -> bool {
     }
 }
 
-/// Has a manager run its plan over these links, while a keeper looks at it that has seen no list yet, and a teller, whose line is ended then.
-fn try_kept<F: WritesFiles, P: io::Write>(
-    manager: &mut Manager,
-    ends: BusLinks,
-    words: &RunWords,
-    watch: &mut Chained<ListWriter<F>, ProgressWriter<P>>,
-) -> Phase
-    requires ipmb { ends.ipmb.counts ≡ none_counted }
-    requires smbus { ends.smbus.counts ≡ none_counted }
-    requires unseen { watch.old.first.seen ≡ 0 }
-    ensures runs { RunsBeside F.takes F.renames watch.old.first.beside.now manager.old words.now
-        manager.new result watch.old.first.files.now watch.new.first.files.now }
-    ensures told { TellsBeside P.contents watch.old.second.course.kinds.now
-        watch.old.second.course.steps manager.old
-        watch.old.second.progress.now watch.new.second.progress.now }
-    ensures same_files { watch.new.first.files.ghost_name ≡ watch.old.first.files.ghost_name }
-    ensures same_line { watch.new.second.progress.ghost_name
-        ≡ watch.old.second.progress.ghost_name }
+/// The first of two answers that is a fault.
+fn first_fault(
+    first: Result<(), WriteFault>,
+    last: Result<(), WriteFault>,
+) -> Result<(), WriteFault>
+    ensures { result ≡ first_fault first last }
 {
-    let BusLinks {
-        mut ipmb,
-        mut smbus,
-    } = ends;
-    let phase = try_plan(
-        manager,
-        &mut ipmb,
-        &mut smbus,
-        words.turns,
-        words.again,
-        watch,
-    );
-    watch.second.end();
-    phase
-}
-
-/// Has a manager run its plan over these links. The file beside the one of the undo text gets the list so far, and the line of its progress is
-/// written and ended.
-fn run_on<F: WritesFiles, P: io::Write>(
-    alloc: Global,
-    files: &mut F,
-    beside: &UndoFiles,
-    ready: Ready,
-    ends: BusLinks,
-    words: &RunWords,
-    progress: &mut Progress<P>,
-) -> Ran
-    requires ipmb { ends.ipmb.counts ≡ none_counted }
-    requires smbus { ends.smbus.counts ≡ none_counted }
-    ensures runs { RunsBeside F.takes F.renames beside.now ready.manager words.now
-        result.manager result.phase files.old files.new }
-    ensures told { MayTellWay P.contents ready.kinds.items ready.manager progress.old progress.new }
-{
-    let Ready {
-        mut manager,
-        kinds,
-        greetings: _,
-    } = ready;
-    let first = ListWriter {
-        alloc,
-        files,
-        beside,
-        seen: 0,
-    };
-    let course = PlanOutline {
-        steps: kinds.len(),
-        kinds: kinds.as_slice(),
-    };
-    let second = ProgressWriter {
-        alloc,
-        progress,
-        course,
-    };
-    let mut watch = Chained { first, second };
-    let phase = try_kept(&mut manager, ends, words, &mut watch);
-    Ran { manager, phase }
-}
-
-/// Whether the plan ended or halted, so that there is a list to keep.
-fn is_over(phase: Phase) -> bool
-    ensures { result ≡ is_over phase }
-{
-    matches!(phase, Phase::Done | Phase::Halted(_, _))
-}
-
-/// Keeps the manager's undo text in its file, where the plan ended or halted. Else it writes nothing.
-fn keep<F: WritesFiles>(
-    alloc: Global,
-    files: &mut F,
-    beside: &UndoFiles,
-    ran: &Ran,
-) -> Result<Result<(), WriteFault>, AllocError>
-    ensures kept { IfOk result (λ answer. KeepsBeside F.takes F.renames beside.now
-        (is_over ran.now.phase) ran.now.manager files.old answer files.new) }
-    ensures memory { OnErr result ((is_over ran.now.phase ≡ true) × (files.new ≡ files.old)) }
-{
-    if is_over(ran.phase) {
-        return beside.put_last(alloc, files, ran.manager.undo_list());
+    match first {
+        Ok(()) => last,
+        Err(why) => Err(why),
     }
-    Ok(Ok(()))
 }
 
 /// Has a manager run its plan, once the controller was greeted, and keeps its list.
@@ -199,12 +95,13 @@ fn run_made<F: WritesFiles, P: io::Write, R: Net>(
     alloc: Global,
     files: &mut F,
     beside: &UndoFiles,
+    text: String,
     ready: Ready,
     words: &RunWords,
     progress: &mut Progress<P>,
 ) -> Result<Outcome, ReportFault>
-    ensures comes { ComesBeside F.takes F.renames beside.now ready.manager words.now
-        result files.old files.new }
+    ensures comes { ComesBeside F.takes F.renames F.removes beside.now ready.manager words.now
+        (string_bytes text) result files.old files.new }
     ensures told { MayTellWay P.contents ready.kinds.items ready.manager progress.old progress.new }
 {
     let ends = open_ends(rt, words.ipmb_port, words.smbus_port, words.wait_ms);
@@ -212,12 +109,19 @@ fn run_made<F: WritesFiles, P: io::Write, R: Net>(
         drop(ready);
         return Err(ReportFault::Stopped);
     };
-    let ran = run_on(alloc, files, beside, ready, ends, words, progress);
-    let kept = keep(alloc, files, beside, &ran);
-    let phase = ran.phase;
-    drop(ran);
-    match kept {
-        Ok(kept) => Ok(Outcome::Ran(phase, kept)),
+    let ran = match run_on(alloc, files, beside, text, ready, ends, words, progress) {
+        Ok(ran) => ran,
+        Err(_) => return Err(ReportFault::Memory),
+    };
+    let last = keep(alloc, files, beside, &ran);
+    let Ran {
+        manager,
+        phase,
+        kept,
+    } = ran;
+    drop(manager);
+    match last {
+        Ok(last) => Ok(Outcome::Ran(phase, first_fault(kept, last))),
         Err(_) => Err(ReportFault::Memory),
     }
 }
@@ -234,19 +138,20 @@ fn leave_ungreeted(ready: Ready, fault: GreetFault) -> Result<Outcome, ReportFau
     }
 }
 
-/// Waits, once the file of the list so far is made, and greets the controller, as the words ask
-/// for. Where each greeting was answered, the manager runs its plan, and its list is kept.
+/// Waits, once the file of the journal is made with this text, and greets the controller, as the words ask for. Where each greeting was answered,
+/// the manager runs its plan, and its list is kept.
 fn run_greeted<F: WritesFiles, P: io::Write, R: Net>(
     rt: &R,
     alloc: Global,
     files: &mut F,
     beside: &UndoFiles,
+    text: String,
     ready: Ready,
     words: &RunWords,
     progress: &mut Progress<P>,
 ) -> Result<Outcome, ReportFault>
-    ensures comes { ComesGreeted F.takes F.renames ready.greetings beside.now ready.manager
-        words.now result files.old files.new }
+    ensures comes { ComesGreeted F.takes F.renames F.removes ready.greetings beside.now
+        ready.manager words.now (string_bytes text) result files.old files.new }
     ensures told { MayTellWay P.contents ready.kinds.items ready.manager progress.old progress.new }
 {
     if !wait_first(rt, words) {
@@ -262,7 +167,7 @@ fn run_greeted<F: WritesFiles, P: io::Write, R: Net>(
         words.turns,
     );
     match greeted {
-        Ok(()) => run_made(rt, alloc, files, beside, ready, words, progress),
+        Ok(()) => run_made(rt, alloc, files, beside, text, ready, words, progress),
         Err(fault) => leave_ungreeted(ready, fault),
     }
 }
@@ -294,7 +199,7 @@ fn make_ready(alloc: Global, plan: Plan, greet: bool) -> Result<Ready, AllocErro
     }
 }
 
-/// Makes the file of the list so far, with the list of a manager that did nothing. Then the manager runs the plan, and its list is kept.
+/// Makes the file of the journal, with that of a manager that did nothing. Then the manager runs the plan, and its list is kept.
 fn carry_out<F: WritesFiles, P: io::Write, R: Net>(
     rt: &R,
     alloc: Global,
@@ -303,7 +208,7 @@ fn carry_out<F: WritesFiles, P: io::Write, R: Net>(
     words: &RunWords,
     progress: &mut Progress<P>,
 ) -> Result<Outcome, ReportFault>
-    ensures comes { RunEnd F.takes F.renames plan words.now result files.old files.new }
+    ensures comes { RunEnd F.takes F.renames F.removes plan words.now result files.old files.new }
     ensures told { TellsPlan P.contents plan progress.old progress.new }
 {
     let Ok(beside) = UndoFiles::of(alloc, words.undo.as_str()) else {
@@ -312,15 +217,14 @@ fn carry_out<F: WritesFiles, P: io::Write, R: Net>(
     let Ok(ready) = make_ready(alloc, plan, words.greet) else {
         return Err(ReportFault::Memory);
     };
-    match beside.put_list(alloc, files, ready.manager.undo_list()) {
-        Ok(Ok(())) => run_greeted(rt, alloc, files, &beside, ready, words, progress),
-        Ok(Err(WriteFault)) => {
+    let Ok(text) = write_journal(alloc, &ready.manager.journal()) else {
+        return Err(ReportFault::Memory);
+    };
+    match beside.put(files, text.as_str()) {
+        Ok(()) => run_greeted(rt, alloc, files, &beside, text, ready, words, progress),
+        Err(WriteFault) => {
             drop(ready);
             Ok(Outcome::Unmade)
-        }
-        Err(AllocError) => {
-            drop(ready);
-            Err(ReportFault::Memory)
         }
     }
 }
@@ -401,7 +305,7 @@ fn run_over<F: WritesFiles, W: io::Write, E: io::Write, P: io::Write, R: Net>(
     progress: &mut Progress<P>,
     console: &mut Console<W, E>,
 ) -> u8
-    ensures ends { RunEndsOver W.contents E.contents F.takes F.renames plan words.now
+    ensures ends { RunEndsOver W.contents E.contents F.takes F.renames F.removes plan words.now
         files.old files.new console.old console.new result }
     ensures told { TellsPlan P.contents plan progress.old progress.new }
 {
@@ -428,7 +332,7 @@ fn run_text<F: WritesFiles, W: io::Write, E: io::Write, P: io::Write, R: Net>(
     progress: &mut Progress<P>,
     console: &mut Console<W, E>,
 ) -> u8
-    ensures ends { RunEndsOn W.contents E.contents F.takes F.renames text.now words.now
+    ensures ends { RunEndsOn W.contents E.contents F.takes F.renames F.removes text.now words.now
         files.old files.new console.old console.new result }
     ensures told { TellsText P.contents text.now progress.old progress.new }
 {
@@ -449,7 +353,7 @@ fn run_file<F: TextFiles + WritesFiles, W: io::Write, E: io::Write, P: io::Write
     progress: &mut Progress<P>,
     console: &mut Console<W, E>,
 ) -> u8
-    ensures ends { RunEndsOf W.contents E.contents (F.gives files.old) F.takes F.renames
+    ensures ends { RunEndsOf W.contents E.contents (F.gives files.old) F.takes F.renames F.removes
         word.now words.now files.old files.new console.old console.new result }
     ensures told { TellsFile P.contents (F.gives files.old) word.now progress.old progress.new }
 {
@@ -460,9 +364,10 @@ fn run_file<F: TextFiles + WritesFiles, W: io::Write, E: io::Write, P: io::Write
 }
 
 /// Runs the plan of the file that the words name, on the controller at their two ports, and writes to standard output in which phase the
-/// manager is then. Before a link is had, a file beside that of the word UNDO is made, `.part`. It gets the list so far wherever that has grown,
-/// by a writing of `.next` and a renaming. Where the plan ended or halted, it gets the last list and then the name UNDO. The phase is said
-/// behind that, so that no failed output costs the list. Where the line of its progress is written, that tells of each step and is ended before
+/// manager is then. Before a link is had, a file beside that of the word UNDO is made, `.part`. It has the manager's journal whenever frames go out, by a
+/// writing of `.next` and a renaming wherever that has changed. Where the journal can't be kept, the frames don't go out: a manager is made again of the
+/// last text that was put, and is called to try again, for as many turns. Where the plan ended or halted, UNDO gets the list, by `.next` as well, and
+/// then `.part` is removed. The phase is said behind that, so that no failed output costs the list. Where the line of its progress is written, that tells of each step and is ended before
 /// the phase is said. A write of it that fails costs nothing but the rest of it.
 ///
 /// Where the words ask for it, each bus on which requests of the steps go is greeted before the plan is begun, over links of its own and in as
@@ -470,8 +375,8 @@ fn run_file<F: TextFiles + WritesFiles, W: io::Write, E: io::Write, P: io::Write
 /// `no answer on` or `busy on` and the bus behind it, and the status is 0.
 ///
 /// It gives the status: 0, or 3 with `file` or `plan` and the fault on standard error where the plan's file can't be read or holds no plan,
-/// also 3 with `file` and the word UNDO on standard error where `.part` can't be made, and behind the phase on standard output where the undo
-/// text can't be written or get its name, 4 and no line where a link can't be had, 5 with `memory` on standard error where memory was refused,
+/// also 3 with `file` and the word UNDO on standard error where `.part` can't be made, and behind the phase on standard output where the journal
+/// or the undo text can't be kept, or `.part` can't be removed, 4 and no line where a link can't be had, 5 with `memory` on standard error where memory was refused,
 /// and 6 where a write to either stream failed.
 pub fn run<F: TextFiles + WritesFiles, W: io::Write, E: io::Write, P: io::Write, R: Net>(
     rt: &R,
@@ -481,7 +386,7 @@ pub fn run<F: TextFiles + WritesFiles, W: io::Write, E: io::Write, P: io::Write,
     progress: &mut Progress<P>,
     console: &mut Console<W, E>,
 ) -> u8
-    ensures ends { RunEndsOf W.contents E.contents (F.gives files.old) F.takes F.renames
+    ensures ends { RunEndsOf W.contents E.contents (F.gives files.old) F.takes F.renames F.removes
         (string_bytes words.now.plan) words.now files.old files.new console.old console.new result }
     ensures told { TellsFile P.contents (F.gives files.old) (string_bytes words.now.plan)
         progress.old progress.new }

@@ -1,16 +1,16 @@
 //! A manager that is driven while something looks at it, and called again where it is unsettled.
-ghost use Rattle.std.specs.Prelude.{◌≡◌, ◌≤◌, List};
-ghost use Rattle.model_undo.specs.declared.call.Call.TheVariants.{Start, Undo};
+ghost use Rattle.std.specs.Prelude.{◌≡◌};
+ghost use Rattle.model_undo.specs.declared.call.Call.TheVariants.{Start, Undo, Again};
 ghost use Rattle.model_lab.specs.Meaning.{lab_names as the_names};
-ghost use Rattle.undo_core.specs.declared.manager.Manager.{Manager as AnyManager};
 ghost use Rattle.undo_core.specs.Shown.{Represents};
-ghost use Rattle.bmc_ports.specs.Driving.{both, DriveResult};
-ghost use Rattle.app_run.specs.Driven.{DrivenState, DrivesAgain, CallRun, GoesAgain, is_unsettled};
-ghost use Rattle.app_run.specs.Moments.{SeesMoments, WatchedStep, WatchedFrom};
+ghost use Rattle.bmc_ports.specs.Conversation.{frames_given, links};
+ghost use Rattle.bmc_ports.specs.Driving.{both};
+ghost use Rattle.bmc_ports.specs.Observing.{Observed, permit_at, permit_for};
+ghost use Rattle.app_run.specs.Driven.{DrivenState, DrivesAgain, GoesAgain, is_unsettled};
+ghost use Rattle.app_run.specs.Course.{RunCourse, SeenTries};
 ghost use Rattle.app_run.specs.Stops.{StopsAfter};
 
-use crate::observer::Observer;
-use bmc_ports::drive;
+use bmc_ports::{DriveEnd, KeptBack, Observer, drive_observed};
 use undo_core::{Manager, Phase, Sent, WrongPhase};
 use wire_links::Link;
 
@@ -21,56 +21,8 @@ fn is_unsettled(phase: Phase) -> bool
     matches!(phase, Phase::Unsettled(_))
 }
 
-/// Drives a manager for at most one turn, and has it looked at.
-fn drive_on<A: Link, B: Link, T: Observer>(
-    manager: &mut Manager,
-    first: Option<Sent>,
-    ipmb: &mut A,
-    smbus: &mut B,
-    turns: u32,
-    watch: &mut T,
-) -> Phase
-    requires { turns ≤ 1 }
-    ensures drives { (s : DrivenState) → Represents the_names manager.old s
-        → DriveResult the_names turns s manager.new result
-        (both (A.counts_of ipmb.old) (B.counts_of smbus.old))
-        (both (A.counts_of ipmb.new) (B.counts_of smbus.new)) }
-    ensures seen { T.sees watch.old manager.new watch.new }
-{
-    let phase = drive(manager, first, ipmb, smbus, turns);
-    watch.look(manager);
-    phase
-}
-
-/// Drives a manager as `drive` does, and has it looked at once what it gave is sent, and after each turn.
-fn drive_watched<A: Link, B: Link, T: Observer>(
-    manager: &mut Manager,
-    first: Option<Sent>,
-    ipmb: &mut A,
-    smbus: &mut B,
-    turns: u32,
-    watch: &mut T,
-) -> Phase
-    ensures drives { (s : DrivenState) → Represents the_names manager.old s
-        → DriveResult the_names turns s manager.new result
-        (both (A.counts_of ipmb.old) (B.counts_of smbus.old))
-        (both (A.counts_of ipmb.new) (B.counts_of smbus.new)) }
-    ensures watched { WatchedStep T.sees manager.old manager.new
-        (both (A.counts_of ipmb.old) (B.counts_of smbus.old))
-        (both (A.counts_of ipmb.new) (B.counts_of smbus.new)) watch.old watch.new }
-{
-    let mut phase = drive_on(manager, first, ipmb, smbus, 0, watch);
-    for _ in 0..turns {
-        let Some(_) = manager.open_bus() else {
-            return phase;
-        };
-        phase = drive_on(manager, None, ipmb, smbus, 1, watch);
-    }
-    phase
-}
-
-/// Drives a manager likewise, but no further than to a turn that leaves it unsettled while others are left. It gives how many, if that
-/// came.
+/// Drives a manager as `drive_observed` does, but no further than to a turn that leaves it unsettled while others are left. It gives how many,
+/// if that came.
 fn drive_heeded<A: Link, B: Link, T: Observer>(
     manager: &mut Manager,
     first: Option<Sent>,
@@ -78,32 +30,39 @@ fn drive_heeded<A: Link, B: Link, T: Observer>(
     smbus: &mut B,
     turns: u32,
     watch: &mut T,
-) -> Option<u32>
+) -> Result<Option<u32>, KeptBack>
     ensures stops { (s : DrivenState) → Represents the_names manager.old s
-        → StopsAfter turns s manager.new result (both (A.counts_of ipmb.old) (B.counts_of smbus.old))
-        (both (A.counts_of ipmb.new) (B.counts_of smbus.new)) }
-    ensures watched { WatchedStep T.sees manager.old manager.new
+        → StopsAfter turns s manager.new result
         (both (A.counts_of ipmb.old) (B.counts_of smbus.old))
-        (both (A.counts_of ipmb.new) (B.counts_of smbus.new)) watch.old watch.new }
+        (both (A.counts_of ipmb.new) (B.counts_of smbus.new)) }
+    ensures observed { Observed T.sees A.Link B.Link (permit_for (frames_given first)) first
+        manager.old manager.new (links ipmb.old smbus.old) (links ipmb.new smbus.new)
+        (permit_at result) watch.old watch.new }
 {
-    let _begun = drive_on(manager, first, ipmb, smbus, 0, watch);
+    if let Err(kept) = drive_observed(manager, first, ipmb, smbus, 0, watch) {
+        return Err(kept);
+    }
     if turns == 0 {
-        return None;
+        return Ok(None);
     }
     for made in 1..turns {
-        let phase = drive_on(manager, None, ipmb, smbus, 1, watch);
-        if is_unsettled(phase) {
-            return Some(turns - made);
+        match drive_observed(manager, None, ipmb, smbus, 1, watch) {
+            Ok(phase) if is_unsettled(phase) => return Ok(Some(turns - made)),
+            Ok(_) => {}
+            Err(kept) => return Err(kept),
         }
         let Some(_) = manager.open_bus() else {
-            return None;
+            return Ok(None);
         };
     }
-    let _ended = drive_on(manager, None, ipmb, smbus, 1, watch);
-    None
+    match drive_observed(manager, None, ipmb, smbus, 1, watch) {
+        Ok(_) => Ok(None),
+        Err(kept) => Err(kept),
+    }
 }
 
-/// Drives a manager likewise, and calls it again wherever that leaves it unsettled, up to so many times. Then it is driven as `drive` does.
+/// Drives a manager likewise, and calls it again wherever that leaves it unsettled, up to so many times. Then it is driven as `drive_observed`
+/// does.
 fn drive_again<A: Link, B: Link, T: Observer>(
     manager: &mut Manager,
     first: Option<Sent>,
@@ -112,33 +71,34 @@ fn drive_again<A: Link, B: Link, T: Observer>(
     turns: u32,
     agains: u32,
     watch: &mut T,
-) -> Phase
+) -> DriveEnd
     ensures drives { (s : DrivenState) → Represents the_names manager.old s
         → DrivesAgain agains turns s manager.new result
         (both (A.counts_of ipmb.old) (B.counts_of smbus.old))
         (both (A.counts_of ipmb.new) (B.counts_of smbus.new)) }
-    ensures watched { WatchedStep T.sees manager.old manager.new
-        (both (A.counts_of ipmb.old) (B.counts_of smbus.old))
-        (both (A.counts_of ipmb.new) (B.counts_of smbus.new)) watch.old watch.new }
+    ensures seen { SeenTries T.sees A.Link B.Link manager.old manager.new first
+        (links ipmb.old smbus.old) (links ipmb.new smbus.new) (permit_at result)
+        watch.old watch.new }
 {
     let mut sent = first;
     let mut left = turns;
     for _ in 0..agains {
-        let Some(rest) = drive_heeded(manager, sent, ipmb, smbus, left, watch) else {
-            return manager.phase();
+        left = match drive_heeded(manager, sent, ipmb, smbus, left, watch) {
+            Ok(Some(rest)) => rest,
+            Ok(None) => return Ok(manager.phase()),
+            Err(kept) => return Err(kept),
         };
-        left = rest;
         let Ok(again) = manager.again() else {
-            return manager.phase();
+            return Ok(manager.phase());
         };
-        watch.look(manager);
         sent = again;
     }
-    drive_watched(manager, sent, ipmb, smbus, left, watch)
+    drive_observed(manager, sent, ipmb, smbus, left, watch)
 }
 
 /// Begins a manager's plan, and drives it as `run_plan` does. Where a turn leaves it unsettled and others are left, it is called again, up to so
-/// many times. The watch looks at it after each call, once what that gave is sent, and after each turn.
+/// many times. The watch looks at it behind each call that gave something to send, and behind each turn, before what the manager gave goes out.
+/// Where a look doesn't allow that, nothing is sent or called behind it.
 pub fn try_plan<A: Link, B: Link, T: Observer>(
     manager: &mut Manager,
     ipmb: &mut A,
@@ -146,48 +106,61 @@ pub fn try_plan<A: Link, B: Link, T: Observer>(
     turns: u32,
     agains: u32,
     watch: &mut T,
-) -> Phase
+) -> DriveEnd
     ensures goes { (before : DrivenState) → Represents the_names manager.old before
         → GoesAgain agains Start turns before manager.new result
         (both (A.counts_of ipmb.old) (B.counts_of smbus.old))
         (both (A.counts_of ipmb.new) (B.counts_of smbus.new)) }
-    ensures watched { WatchedStep T.sees manager.old manager.new
-        (both (A.counts_of ipmb.old) (B.counts_of smbus.old))
-        (both (A.counts_of ipmb.new) (B.counts_of smbus.new)) watch.old watch.new }
+    ensures seen { RunCourse T.sees A.Link B.Link Start manager.old manager.new
+        (links ipmb.old smbus.old) (links ipmb.new smbus.new) (permit_at result)
+        watch.old watch.new }
 {
     match manager.start() {
-        Ok(first) => {
-            watch.look(manager);
-            drive_again(manager, first, ipmb, smbus, turns, agains, watch)
-        }
-        Err(WrongPhase) => manager.phase(),
+        Ok(first) => drive_again(manager, first, ipmb, smbus, turns, agains, watch),
+        Err(WrongPhase) => Ok(manager.phase()),
     }
 }
 
-/// Begins a manager's undo, and drives it as `undo_plan` does. The watch looks at it after the call, once what that gave is sent, and after each
-/// turn.
+/// Begins a manager's undo, and drives it as `undo_plan` does. The watch looks at it as at a plan.
 pub(crate) fn undo_watched<A: Link, B: Link, T: Observer>(
     manager: &mut Manager,
     ipmb: &mut A,
     smbus: &mut B,
     turns: u32,
     watch: &mut T,
-) -> Phase
+) -> DriveEnd
     ensures goes { (before : DrivenState) → Represents the_names manager.old before
-        → CallRun Undo turns before manager.new result
+        → GoesAgain 0 Undo turns before manager.new result
         (both (A.counts_of ipmb.old) (B.counts_of smbus.old))
         (both (A.counts_of ipmb.new) (B.counts_of smbus.new)) }
-    ensures watched { (before : DrivenState) → Represents the_names manager.old before
-        → WatchedFrom T.sees Undo before manager.new
-        (both (A.counts_of ipmb.old) (B.counts_of smbus.old))
-        (both (A.counts_of ipmb.new) (B.counts_of smbus.new)) watch.old watch.new }
-    ensures seen { (moments : List AnyManager) × SeesMoments T.sees moments watch.old watch.new }
+    ensures seen { RunCourse T.sees A.Link B.Link Undo manager.old manager.new
+        (links ipmb.old smbus.old) (links ipmb.new smbus.new) (permit_at result)
+        watch.old watch.new }
 {
     match manager.undo() {
-        Ok(first) => {
-            watch.look(manager);
-            drive_watched(manager, first, ipmb, smbus, turns, watch)
-        }
-        Err(WrongPhase) => manager.phase(),
+        Ok(first) => drive_observed(manager, first, ipmb, smbus, turns, watch),
+        Err(WrongPhase) => Ok(manager.phase()),
+    }
+}
+
+/// Calls an unsettled manager again, and drives it likewise.
+pub(crate) fn settle_watched<A: Link, B: Link, T: Observer>(
+    manager: &mut Manager,
+    ipmb: &mut A,
+    smbus: &mut B,
+    turns: u32,
+    watch: &mut T,
+) -> DriveEnd
+    ensures goes { (before : DrivenState) → Represents the_names manager.old before
+        → GoesAgain 0 Again turns before manager.new result
+        (both (A.counts_of ipmb.old) (B.counts_of smbus.old))
+        (both (A.counts_of ipmb.new) (B.counts_of smbus.new)) }
+    ensures seen { RunCourse T.sees A.Link B.Link Again manager.old manager.new
+        (links ipmb.old smbus.old) (links ipmb.new smbus.new) (permit_at result)
+        watch.old watch.new }
+{
+    match manager.again() {
+        Ok(first) => drive_observed(manager, first, ipmb, smbus, turns, watch),
+        Err(WrongPhase) => Ok(manager.phase()),
     }
 }

@@ -10,7 +10,7 @@ ghost use Rattle.app_run.specs.Driven.{UndoRun, resumed_from};
 ghost use Rattle.app_run.specs.Greeted.{AreGreeted};
 ghost use Rattle.app_run.specs.Told.{MayTellUndo, TellsOfNames, TellsUndo, TellsUndoFile, TellsUndoText};
 ghost use Rattle.app_run.specs.Undo.{PrintsUndo, SaysOfNames, SaysUndone, StaysOfNames, StaysOfText};
-ghost use Rattle.app_run.specs.Undo.{StaysUndone, StaysUngreeted, UndoEnds, UndoEndsOf, UndoTells, told_by};
+ghost use Rattle.app_run.specs.Undo.{StaysUndone, StaysUngreeted, TextEnds, UndoEnds, UndoEndsOf, UndoTells, told_by};
 
 use crate::driven::{RemakeFault, resume_manager};
 use crate::greeting::{GreetFault, Greetings, Unanswered, greet_first};
@@ -18,9 +18,12 @@ use crate::lines::{names_refusal, phase_report, tell_ungreeted, undo_refusal};
 use crate::links::{BusLinks, open_ends};
 use crate::observer::ProgressWriter;
 use crate::progress::{PlanOutline, Progress};
+use crate::reverting::{is_journal, undo_journal};
 use crate::trying::undo_watched;
 use app_base::files::refuse;
 use app_base::{Console, Report, ReportFault, TextFiles, end_run, text_of};
+use app_journal::WritesFiles;
+use bmc_ports::KeptBack;
 use std::alloc::Global;
 use std::io;
 use std::net::Net;
@@ -82,9 +85,12 @@ fn undo_seen<P: io::Write>(
         mut ipmb,
         mut smbus,
     } = ends;
-    let phase = undo_watched(manager, &mut ipmb, &mut smbus, turns, teller);
+    let end = undo_watched(manager, &mut ipmb, &mut smbus, turns, teller);
     teller.end();
-    phase
+    match end {
+        Ok(phase) => phase,
+        Err(KeptBack) => unreachable!(),
+    }
 }
 
 /// Has a manager undo its list over these links, while the line of its progress is written.
@@ -253,7 +259,7 @@ fn text_told<P: io::Write, R: Net>(
 }
 
 /// Undoes the list of this text, and says what came of it.
-fn undo_text<W: io::Write, E: io::Write, P: io::Write, R: Net>(
+fn undo_list<W: io::Write, E: io::Write, P: io::Write, R: Net>(
     rt: &R,
     alloc: Global,
     text: &str,
@@ -272,22 +278,52 @@ fn undo_text<W: io::Write, E: io::Write, P: io::Write, R: Net>(
     }
 }
 
-/// Undoes the list of the file that this word names, and says what came of it.
-fn undo_file<F: TextFiles, W: io::Write, E: io::Write, P: io::Write, R: Net>(
+/// Undoes what this text says, in the file of this word: a journal, or an undo text. It says what came of it.
+fn undo_text<F: WritesFiles, W: io::Write, E: io::Write, P: io::Write, R: Net>(
     rt: &R,
     alloc: Global,
-    files: &F,
+    files: &mut F,
+    word: &str,
+    text: &str,
+    words: &UndoWords,
+    progress: &mut Progress<P>,
+    console: &mut Console<W, E>,
+) -> u8
+    ensures ends { TextEnds W.contents E.contents F.takes F.renames word.now text.now words.now
+        files.old files.new console.old console.new result }
+    ensures told { TellsUndoText P.contents text.now progress.old progress.new }
+{
+    if is_journal(text) {
+        return undo_journal(rt, alloc, files, word, text, words, console);
+    }
+    undo_list(rt, alloc, text, words, progress, console)
+}
+
+/// Undoes what the file says that this word names, and says what came of it.
+fn undo_file<F: TextFiles + WritesFiles, W: io::Write, E: io::Write, P: io::Write, R: Net>(
+    rt: &R,
+    alloc: Global,
+    files: &mut F,
     word: &str,
     words: &UndoWords,
     progress: &mut Progress<P>,
     console: &mut Console<W, E>,
 ) -> u8
-    ensures ends { UndoEndsOf W.contents E.contents (F.gives files.now) word.now words.now
-        console.old console.new result }
-    ensures told { TellsUndoFile P.contents (F.gives files.now) word.now progress.old progress.new }
+    ensures ends { UndoEndsOf W.contents E.contents (F.gives files.old) F.takes F.renames
+        word.now words.now files.old files.new console.old console.new result }
+    ensures told { TellsUndoFile P.contents (F.gives files.old) word.now progress.old progress.new }
 {
-    match text_of(files, word) {
-        Ok(text) => undo_text(rt, alloc, text.as_str(), words, progress, console),
+    match text_of(&*files, word) {
+        Ok(text) => undo_text(
+            rt,
+            alloc,
+            files,
+            word,
+            text.as_str(),
+            words,
+            progress,
+            console,
+        ),
         Err(unread) => refuse(alloc, &unread, console),
     }
 }
@@ -298,17 +334,23 @@ fn undo_file<F: TextFiles, W: io::Write, E: io::Write, P: io::Write, R: Net>(
 /// before the phase is said. It gives the status: 0, or 3 with `file` or `undo` and the fault on standard error where the file can't be read or
 /// is no undo text, or `undo OtherNames` where its list has names that aren't the lab's, 4 and no line where a link can't be had, 5 with `memory` on standard error where memory was refused, and 6 where a write
 /// of these failed.
-pub fn undo<F: TextFiles, W: io::Write, E: io::Write, P: io::Write, R: Net>(
+///
+/// Of a journal, the open request is settled first, if one is open: it is sent again, for as many turns. Where the plan is over then, it is greeted, where the
+/// words ask for it, and taken back. Before frames go out, the file gets the journal by its name alone. Where it doesn't, while a request is open, nothing is sent
+/// any more, and standard error has `file` and the word, with the status 3. A journal with a bad line is refused with 3 and `journal` and the line. No line
+/// of progress is written.
+pub fn undo<F: TextFiles + WritesFiles, W: io::Write, E: io::Write, P: io::Write, R: Net>(
     rt: &R,
     alloc: Global,
-    files: &F,
+    files: &mut F,
     words: &UndoWords,
     progress: &mut Progress<P>,
     console: &mut Console<W, E>,
 ) -> u8
-    ensures ends { UndoEndsOf W.contents E.contents (F.gives files.now)
-        (string_bytes words.now.undo) words.now console.old console.new result }
-    ensures told { TellsUndoFile P.contents (F.gives files.now) (string_bytes words.now.undo)
+    ensures ends { UndoEndsOf W.contents E.contents (F.gives files.old) F.takes F.renames
+        (string_bytes words.now.undo) words.now files.old files.new
+        console.old console.new result }
+    ensures told { TellsUndoFile P.contents (F.gives files.old) (string_bytes words.now.undo)
         progress.old progress.new }
     ensures untold { progress.old.on ≡ false → progress.new ≡ progress.old }
 {

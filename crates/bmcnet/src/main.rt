@@ -10,6 +10,7 @@ fn main(rt: HostRuntime) -> ExitCode {
     let mut progress = line_on(rt.stderr());
     let mut files = NetFiles {
         read: HostFiles { rt: &rt },
+        held: Vec::new(rt.alloc()),
     };
     ExitCode::from(match words_of_process(&rt) {
         Ok(words) => run_line(

@@ -2,6 +2,7 @@
 mod driven;
 mod forgotten;
 mod greeted;
+mod journals;
 mod lent;
 mod program;
 mod served;

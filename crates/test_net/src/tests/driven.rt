@@ -14,7 +14,7 @@ use wire_links::{Link, MemLink};
 /// The most calls of a link that are tried to fail.
 const MOST_CALLS: u32 = 1_000;
 
-const TURNS: u32 = 100;
+pub(crate) const TURNS: u32 = 100;
 
 fn names() -> Names {
     Names {
@@ -65,7 +65,7 @@ fn steps_on(rt: &impl Abort, alloc: Global, bus: Bus) -> Steps {
 }
 
 /// A manager of the steps on this bus, with three retries.
-fn manager_on(rt: &impl Abort, alloc: Global, bus: Bus) -> Manager {
+pub(crate) fn manager_on(rt: &impl Abort, alloc: Global, bus: Bus) -> Manager {
     let plan = Plan {
         steps: steps_on(rt, alloc, bus),
         retries: Retries::new(3),
@@ -76,7 +76,7 @@ fn manager_on(rt: &impl Abort, alloc: Global, bus: Bus) -> Manager {
 }
 
 /// The records of the sample board.
-fn sample_records(rt: &impl Abort, alloc: Global) -> Vec<(Key, StartValue)> {
+pub(crate) fn sample_records(rt: &impl Abort, alloc: Global) -> Vec<(Key, StartValue)> {
     let file = sample_board(alloc).expect(rt, "memory");
     let records = file.records(alloc).expect(rt, "memory");
     drop(file);

@@ -2,6 +2,7 @@
 mod files;
 mod pairs;
 mod refusals;
+mod reverted;
 mod terminals;
 mod texts;
 

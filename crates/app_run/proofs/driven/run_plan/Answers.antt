@@ -1,3 +1,4 @@
+use Rattle.std.proofs.Common.{Ok}
 use Rattle.model_undo.specs.declared.call.Call.TheVariants.{Start}
 use Rattle.model_lab.specs.Meaning.{lab_names}
 use Rattle.model_lab.specs.ManagerSteps.{board_plans, called}
@@ -7,7 +8,7 @@ use Rattle.app_run.proofs.driven.run_plan.Goals as goal
 
 pub returns-in-Ok : goal.returns-in-Ok
 returns-in-Ok g c before shows =
-    goes_on (DrivesAgain 0 c.args.turns) before c.start.new.self c.drive.new.manager c.in-Ok.first c.drive.result _ _ (called (board_plans lab_names) Start before)
+    goes_on (DrivesAgain 0 c.args.turns) before c.start.new.self c.drive.new.manager c.in-Ok.first (Ok c.drive.result) _ _ (called (board_plans lab_names) Start before)
     (c.in-Ok.ensures lab_names before shows) (λ s shown. c.drive.ensures.drives lab_names s shown)
 
 pub returns-in-Err : goal.returns-in-Err

@@ -1,52 +1,59 @@
-use Rattle.std.specs.Prelude.{Result}
-use Rattle.std.proofs.Common.{◌≡◌, ◌⊎◌, length, List, ℕ, inl, inr, refl, subst, string_bytes}
+use Rattle.std.proofs.Common.{◌≡◌, ◌⊎◌, ◌∙◌, Ok, Err, length, List, ℕ, ap, inl, inr, refl, subst, string_bytes}
 use Rattle.plan_file.specs.declared.kind.Kind.{Kind}
-use Rattle.text_undo.specs.UndoText.{text_of}
-use Rattle.model_lab.specs.Meaning.{lab_names}
-use Rattle.app_run.specs.declared.files.WriteFault.{WriteFault}
+use Rattle.text_journal.specs.JournalText.{IsTextOf}
+use Rattle.text_journal.specs.Written.{text_of}
+use Rattle.app_journal.specs.Beside.{IsBeside, PutsText}
 use Rattle.app_run.specs.declared.greeting.Greetings.{Greetings}
-use Rattle.app_run.specs.Beside.{IsBeside, PutsText}
 use Rattle.app_run.specs.Driven.{opened_with}
 use Rattle.app_run.specs.Outcome.{GoesFrom}
 use Rattle.app_run.specs.Told.{TellsWay}
 use Rattle.app_run.proofs.running.carry_out.Goals as goal
 
-pub returns-in-Ok-Ok-clause-comes : goal.returns-in-Ok-Ok-clause-comes
-returns-in-Ok-Ok-clause-comes g c =
-    let word : List ℕ = string_bytes c.args.words.now.undo in
-    let shown = c.in-Ok-make_ready.ensures.manager in
+pub returns-in-Ok-put-clause-comes : goal.returns-in-Ok-put-clause-comes
+returns-in-Ok-put-clause-comes g c =
+    let text = string_bytes c.in-Ok-write_journal.text in
     let opened = opened_with c.args.plan in
-    let is = subst (λ (word : List ℕ). IsBeside word c.in-Ok.beside) c.as_str.ensures.value c.in-Ok.ensures in
     inl (
-      c.put_list.new.files,
+      c.in-Ok.beside,
+      text,
+      c.put.new.files,
+      subst (λ (word : List ℕ). IsBeside word c.in-Ok.beside) c.as_str.ensures.value c.in-Ok.ensures,
       (
-        c.undo_list.result.now,
-        c.undo_list.ensures lab_names opened shown,
-        subst (λ (a : Result (Unit {0}) WriteFault). PutsText g.F.WritesFiles.takes g.F.WritesFiles.renames word (text_of c.undo_list.result.now) c.args.files.now a c.put_list.new.files)
-            c.in-Ok-Ok.field-0-is (c.in-Ok-Ok.ensures.put word is),
+        c.in-Ok-make_ready.ready.manager,
+        c.in-Ok-make_ready.ensures.manager,
+        record {
+          written = c.in-Ok-write_journal.ensures.text ∙ ap text_of c.journal.ensures.kept;
+          stands = subst (IsTextOf text) c.journal.ensures.kept c.in-Ok-write_journal.ensures.stands;
+        },
+        subst (λ (put : List ℕ). PutsText g.F.WritesFiles.takes g.F.WritesFiles.renames (string_bytes c.in-Ok.beside.next) (string_bytes c.in-Ok.beside.part) put c.args.files.now (Ok tt) c.put.new.files)
+            c.as_str-2.ensures.value c.in-Ok-put.ensures,
       ),
-      subst (λ (greetings : Greetings). GoesFrom g.F.WritesFiles.takes g.F.WritesFiles.renames greetings word opened c.args.words.now c.run_greeted.result c.put_list.new.files c.run_greeted.new.files)
-          c.in-Ok-make_ready.ensures.greetings (c.run_greeted.ensures.comes word opened is shown),
+      subst (λ (greetings : Greetings). GoesFrom g.F.WritesFiles.takes g.F.WritesFiles.renames g.F.WritesFiles.removes greetings c.in-Ok.beside opened c.args.words.now text c.run_greeted.result c.put.new.files c.run_greeted.new.files)
+          c.in-Ok-make_ready.ensures.greetings (c.run_greeted.ensures.comes opened c.in-Ok-make_ready.ensures.manager),
     )
 
-pub returns-in-Ok-Err-clause-comes : goal.returns-in-Ok-Err-clause-comes
-returns-in-Ok-Err-clause-comes g c =
-    let word : List ℕ = string_bytes c.args.words.now.undo in
-    let shown = c.in-Ok-make_ready.ensures.manager in
-    let opened = opened_with c.args.plan in
-    let is = subst (λ (word : List ℕ). IsBeside word c.in-Ok.beside) c.as_str.ensures.value c.in-Ok.ensures in
+pub returns-clause-comes : goal.returns-clause-comes
+returns-clause-comes g c =
+    let text = string_bytes c.in-Ok-write_journal.text in
     inr (inl (
-      c.in-Ok-Err.field-0-0,
+      c.in-Ok.beside,
+      text,
+      c.in-Err.field-0,
+      subst (λ (word : List ℕ). IsBeside word c.in-Ok.beside) c.as_str.ensures.value c.in-Ok.ensures,
       refl,
       (
-        c.undo_list.result.now,
-        c.undo_list.ensures lab_names opened shown,
-        subst (λ (a : Result (Unit {0}) WriteFault). PutsText g.F.WritesFiles.takes g.F.WritesFiles.renames word (text_of c.undo_list.result.now) c.args.files.now a c.put_list.new.files)
-            c.in-Ok-Err.field-0-is (c.in-Ok-Err.ensures.put word is),
+        c.in-Ok-make_ready.ready.manager,
+        c.in-Ok-make_ready.ensures.manager,
+        record {
+          written = c.in-Ok-write_journal.ensures.text ∙ ap text_of c.journal.ensures.kept;
+          stands = subst (IsTextOf text) c.journal.ensures.kept c.in-Ok-write_journal.ensures.stands;
+        },
+        subst (λ (put : List ℕ). PutsText g.F.WritesFiles.takes g.F.WritesFiles.renames (string_bytes c.in-Ok.beside.next) (string_bytes c.in-Ok.beside.part) put c.args.files.now (Err c.in-Err.field-0) c.put.new.files)
+            c.as_str-2.ensures.value c.in-Err.ensures,
       ),
     ))
 
-pub returns-in-Ok-Ok-clause-told : goal.returns-in-Ok-Ok-clause-told
-returns-in-Ok-Ok-clause-told g c =
+pub returns-in-Ok-put-clause-told : goal.returns-in-Ok-put-clause-told
+returns-in-Ok-put-clause-told g c =
     subst (λ (kinds : List Kind). (c.run_greeted.new.progress ≡ c.args.progress.now) ⊎ TellsWay g.P.Write.contents kinds (length kinds) (opened_with c.args.plan) c.args.progress.now c.run_greeted.new.progress)
     c.in-Ok-make_ready.ensures.kinds (c.run_greeted.ensures.told (opened_with c.args.plan) c.in-Ok-make_ready.ensures.manager)

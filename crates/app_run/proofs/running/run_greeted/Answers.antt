@@ -1,11 +1,11 @@
-use Rattle.std.proofs.Common.{inl}
+use Rattle.std.proofs.Common.{inl, string_bytes}
 use Rattle.app_run.proofs.Greets.{left_run}
 use Rattle.app_run.proofs.running.run_greeted.Goals as goal
 
 pub returns-in-Ok-clause-comes : goal.returns-in-Ok-clause-comes
-returns-in-Ok-clause-comes g c word before is shows = inl (c.in-Ok.ensures, c.run_made.ensures.comes word before is shows)
+returns-in-Ok-clause-comes g c before shows = inl (c.in-Ok.ensures, c.run_made.ensures.comes before shows)
 
 pub returns-in-Err-clause-comes : goal.returns-in-Err-clause-comes
-returns-in-Err-clause-comes g c word before is shows =
-    left_run g.F.WritesFiles.takes g.F.WritesFiles.renames c.args.ready.greetings word before c.args.words.now c.args.ready.manager c.in-Err.fault c.leave_ungreeted.result c.args.files.now
-    shows c.in-Err.ensures c.leave_ungreeted.ensures
+returns-in-Err-clause-comes g c before shows =
+    left_run g.F.WritesFiles.takes g.F.WritesFiles.renames g.F.WritesFiles.removes c.args.ready.greetings c.args.beside.now before c.args.words.now (string_bytes c.args.text) c.args.ready.manager
+    c.in-Err.fault c.leave_ungreeted.result c.args.files.now shows c.in-Err.ensures c.leave_ungreeted.ensures

@@ -1,7 +1,7 @@
 use Rattle.std.specs.Prelude.{Result}
 use Rattle.std.proofs.Common.{Ok, sym, subst}
 use Rattle.app_base.specs.EndingLaws.{run_reports}
-use Rattle.app_run.specs.declared.files.WriteFault.{WriteFault}
+use Rattle.app_journal.specs.declared.files.WriteFault.{WriteFault}
 use Rattle.app_run.specs.declared.running.Outcome.TheVariants.{Ran}
 use Rattle.app_run.specs.Ends.{SaysPhase}
 use Rattle.app_run.specs.Run.{EndsBy}

@@ -1,9 +1,10 @@
 use Rattle.std.proofs.Common.{◌-◌}
 use Rattle.model_lab.specs.Meaning.{lab_names}
 use Rattle.undo_core.specs.Shown.{Represents}
+use Rattle.bmc_ports.specs.Conversation.{links}
 use Rattle.bmc_ports.specs.Driving.{both}
 use Rattle.app_run.specs.Driven.{DrivenState}
-use Rattle.app_run.specs.Moments.{WatchedStep}
+use Rattle.app_run.proofs.Courses.{SeenOn}
 use Rattle.app_run.proofs.Tries.{Continues}
 use Rattle.app_run.proofs.trying.drive_again.Given as goal
 
@@ -11,4 +12,4 @@ abbrev pub invariant-loop : goal.invariant-loop
 invariant-loop g l =
     ((s : DrivenState) → Represents lab_names l.fn.manager s
     → Continues l.agains l.fn.turns s (both (g.A.Link.counts_of l.fn.ipmb) (g.B.Link.counts_of l.fn.smbus)) (l.agains - l.counter) l.left l.manager (both (g.A.Link.counts_of l.ipmb) (g.B.Link.counts_of l.smbus)))
-    × WatchedStep g.T.Observer.sees l.fn.manager l.manager (both (g.A.Link.counts_of l.fn.ipmb) (g.B.Link.counts_of l.fn.smbus)) (both (g.A.Link.counts_of l.ipmb) (g.B.Link.counts_of l.smbus)) l.fn.watch l.watch
+    × SeenOn g.T.Observer.sees g.A.Link g.B.Link l.fn.manager l.manager l.fn.first l.sent (links l.fn.ipmb l.fn.smbus) (links l.ipmb l.smbus) l.fn.watch l.watch

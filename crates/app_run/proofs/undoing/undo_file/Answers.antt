@@ -1,20 +1,20 @@
-use Rattle.std.proofs.Common.{◌∙◌, ℕ, List, Ok, inl, inr, sym, ap, subst}
+use Rattle.std.proofs.Common.{◌∙◌, ℕ, List, Ok, inl, inr, refl, sym, ap, subst}
 use Rattle.app_base.specs.EndingLaws.{run_ends_as}
 use Rattle.app_base.specs.Files.{PrintsRefusal}
 use Rattle.app_base.specs.Report.{file_line}
-use Rattle.app_run.specs.Undo.{SaysOfList}
-use Rattle.app_run.proofs.Saying.{ends_of_file}
+use Rattle.app_run.specs.Undo.{SaysUnread}
 use Rattle.app_run.proofs.undoing.undo_file.Goals as goal
 
 pub returns-in-Ok-clause-ends : goal.returns-in-Ok-clause-ends
 returns-in-Ok-clause-ends g c =
-    ends_of_file g.W.Write.contents g.E.Write.contents c.args.console.now c.undo_text.new.console c.undo_text.result (g.F.TextFiles.gives c.args.files.now) c.args.word.now
-    c.as_str.result.now c.args.words.now
-    (subst (λ (text : List ℕ). g.F.TextFiles.gives c.args.files.now c.args.word.now (Ok text)) (sym c.as_str.ensures.value) c.in-Ok.ensures.text) c.undo_text.ensures.ends
+    inl (c.as_str.result.now, subst (λ (text : List ℕ). g.F.TextFiles.gives c.args.files.now c.args.word.now (Ok text)) (sym c.as_str.ensures.value) c.in-Ok.ensures.text, c.undo_text.ensures.ends)
 
 pub returns-in-Err-clause-ends : goal.returns-in-Err-clause-ends
 returns-in-Err-clause-ends g c =
-    inl (run_ends_as g.W.Write.contents g.E.Write.contents (PrintsRefusal c.in-Err.unread.why c.in-Err.unread.word.now)
-    (SaysOfList (g.F.TextFiles.gives c.args.files.now) c.args.word.now c.args.words.now) c.args.console.now c.refuse.new.console c.refuse.result
-    (λ stream said status told. inr (c.in-Err.unread.why, c.in-Err.ensures.unread, (told.0, told.1, told.2 ∙ ap file_line c.in-Err.ensures.word, told.3)))
-    c.refuse.ensures)
+    inr (
+      refl,
+      run_ends_as g.W.Write.contents g.E.Write.contents (PrintsRefusal c.in-Err.unread.why c.in-Err.unread.word.now)
+          (SaysUnread (g.F.TextFiles.gives c.args.files.now) c.args.word.now) c.args.console.now c.refuse.new.console c.refuse.result
+          (λ stream said status told. (c.in-Err.unread.why, c.in-Err.ensures.unread, (told.0, told.1, told.2 ∙ ap file_line c.in-Err.ensures.word, told.3)))
+          c.refuse.ensures,
+    )

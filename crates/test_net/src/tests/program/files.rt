@@ -1,6 +1,6 @@
 //! Files in memory.
 use app_base::{TextFiles, UnreadFile};
-use app_run::{WriteFault, WritesFiles};
+use app_journal::{HoldFault, WriteFault, WritesFiles};
 use std::alloc::{AllocError, Global};
 
 /// Files that hold these texts, each by its word, and take others, unless they are locked.
@@ -8,7 +8,7 @@ use std::alloc::{AllocError, Global};
 pub(crate) struct FakeFiles<'a> {
     alloc: Global,
     texts: &'a [(&'a str, &'a str)],
-    /// So many changes are left until no file is written or renamed any more.
+    /// So many changes are left until no file is written, renamed or removed any more.
     pub changes_left: usize,
     /// The words of the files that were written, and their texts.
     written: Vec<(String, String)>,
@@ -52,7 +52,7 @@ impl<'a> FakeFiles<'a> {
     }
 
     /// Takes the file of this word away.
-    fn remove(&mut self, word: &str) -> Option<String> {
+    fn take(&mut self, word: &str) -> Option<String> {
         for place in 0..self.written.len() {
             if self.written[place].0.as_str() == word {
                 return Some(self.written.remove(place).1);
@@ -62,7 +62,7 @@ impl<'a> FakeFiles<'a> {
     }
 
     fn keep(&mut self, word: &str, text: &str) -> Result<(), AllocError> {
-        let _old = self.remove(word);
+        let _old = self.take(word);
         let word = String::from_str(self.alloc, word)?;
         let text = String::from_str(self.alloc, text)?;
         self.written.push((word, text))?;
@@ -97,6 +97,10 @@ impl WritesFiles for FakeFiles<'_> {
 
     ghost renames = { λ before from to answer after. Unit {0} };
 
+    ghost removes = { λ before word answer after. Unit {0} };
+
+    ghost holds = { λ before word answer after. Unit {0} };
+
     fn write(&mut self, word: &str, text: &str) -> Result<(), WriteFault> {
         self.change()?;
         self.keep(word, text).map_err(|_| WriteFault)
@@ -104,10 +108,22 @@ impl WritesFiles for FakeFiles<'_> {
 
     fn rename(&mut self, from: &str, to: &str) -> Result<(), WriteFault> {
         self.change()?;
-        let Some(text) = self.remove(from) else {
+        let Some(text) = self.take(from) else {
             return Err(WriteFault);
         };
         self.keep(to, text.as_str()).map_err(|_| WriteFault)?;
         self.note(to, text.as_str()).map_err(|_| WriteFault)
+    }
+
+    fn remove(&mut self, word: &str) -> Result<(), WriteFault> {
+        self.change()?;
+        match self.take(word) {
+            Some(_) => Ok(()),
+            None => Err(WriteFault),
+        }
+    }
+
+    fn hold(&mut self, _word: &str) -> Result<(), HoldFault> {
+        Ok(())
     }
 }

@@ -155,10 +155,11 @@ fn expect_undo(
     end: End,
 ) {
     let words = undo_words(alloc, "list.txt", greet).expect(rt, "memory");
-    let files = FakeFiles::new(alloc, texts);
+    let mut files = FakeFiles::new(alloc, texts);
     let mut paper = new_paper(alloc);
     let mut line = new_line(alloc, is_terminal);
-    let status = undo(rt, alloc, &files, &words, &mut line, &mut paper);
+    let status = undo(rt, alloc, &mut files, &words, &mut line, &mut paper);
+    assert_eq!(rt; files.count(), 0);
     drop(files);
     drop(words);
     expect_line(rt, line, &[]);
@@ -211,7 +212,7 @@ fn all_files_are_read_before_a_text_is_refused(rt: HostRuntime) {
     expect_pair(&rt, rt.alloc(), 1, &second, retries);
 }
 
-/// The texts that a run leaves in the file of the undo text and in that of the list so far.
+/// The texts that a run leaves in the file of the undo text and in that of the journal.
 #[derive(Clone, Copy)]
 struct Left<'a> {
     undo: Option<&'a str>,
@@ -253,6 +254,25 @@ fn expect_run(rt: &(impl Abort + Net), alloc: Global, found: Found, end: End, le
 /// The undo text of a manager that did nothing.
 const NOTHING_DONE: &str = "undo 2\nnext ipmb 0 smbus 0\nnames ipmb 2C 20 smbus 30 20 eid 08 0A\n";
 
+/// The journal of a manager that has no step, and did nothing.
+const FRESH_WITHOUT_STEPS: &str = concat!(
+    "journal 1\nretries 3\nnames 2C203020080A\nlisted 2C203020080A\nsteps 0\n",
+    "undo 0\nwaiting 0\nstage fresh 0 0\ngo\ncounts 0 0\nno replies\n"
+);
+
+/// The journal of the plan's manager that did nothing: its step is Set Sensor Event Enable of sensor 5, for its upper non-critical
+/// threshold and its upper critical one, each going high.
+const FRESH: &str = concat!(
+    "journal 1\nretries 3\nnames 2C203020080A\nlisted 2C203020080A\nsteps 1\nipmb 102805D080020000\n",
+    "undo 0\nwaiting 0\nstage fresh 0 0\ngo\ncounts 0 0\nno replies\n"
+);
+
+/// The journal of the plan's manager whose first Get is open.
+const FIRST_GET: &str = concat!(
+    "journal 1\nretries 3\nnames 2C203020080A\nlisted 2C203020080A\nsteps 1\nipmb 102805D080020000\n",
+    "undo 0\nwaiting 0\nstage get 0 0\nstop\ncounts 0 0\nno replies\n"
+);
+
 #[test]
 fn nobody_answers_a_manager_without_turns(rt: HostRuntime) {
     let found = Found {
@@ -269,7 +289,7 @@ fn nobody_answers_a_manager_without_turns(rt: HostRuntime) {
     };
     let left = Left {
         undo: None,
-        part: Some(NOTHING_DONE),
+        part: Some(FIRST_GET),
     };
     expect_run(&rt, rt.alloc(), found, getting, left);
     let undoing = End {
@@ -304,7 +324,7 @@ fn nobody_answers_a_greeting(rt: HostRuntime) {
     };
     let left = Left {
         undo: None,
-        part: Some(NOTHING_DONE),
+        part: Some(FRESH),
     };
     expect_run(&rt, rt.alloc(), found, fresh, left);
     let halted = End {
@@ -347,11 +367,16 @@ fn an_undo_text_that_can_not_be_written_is_told_behind_the_phase(rt: HostRuntime
     };
     let part = Left {
         undo: None,
-        part: Some(NOTHING_DONE),
+        part: Some(FRESH_WITHOUT_STEPS),
     };
-    for changes in 2..5 {
+    for changes in 2..4 {
         expect_empty_run(&rt, rt.alloc(), changes, unkept, part);
     }
+    let both = Left {
+        undo: Some(NOTHING_DONE),
+        part: Some(FRESH_WITHOUT_STEPS),
+    };
+    expect_empty_run(&rt, rt.alloc(), 4, unkept, both);
     let kept = End {
         status: 0,
         out: b"phase Done\n",
@@ -362,4 +387,28 @@ fn an_undo_text_that_can_not_be_written_is_told_behind_the_phase(rt: HostRuntime
         part: None,
     };
     expect_empty_run(&rt, rt.alloc(), 5, kept, undo);
+}
+
+/// The journal can't be kept before the first request goes out: so nothing is sent, and the manager is the one that did nothing.
+#[test]
+fn a_request_whose_journal_can_not_be_kept_is_not_sent(rt: HostRuntime) {
+    let unkept = End {
+        status: 3,
+        out: b"phase Fresh\n",
+        err: b"file out.txt\n",
+    };
+    let left = Left {
+        undo: None,
+        part: Some(FRESH),
+    };
+    for changes in 2..4 {
+        let found = Found {
+            plan: "plan.toml",
+            texts: &[("plan.toml", PLAN)],
+            changes,
+            is_terminal: false,
+            greet: false,
+        };
+        expect_run(&rt, rt.alloc(), found, unkept, left);
+    }
 }

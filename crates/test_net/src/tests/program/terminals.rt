@@ -50,10 +50,10 @@ fn expect_run(rt: &(impl Abort + Net), alloc: Global, told: &str, end: End) {
 /// An undo of a list of one request tells this on its line, and ends so.
 fn expect_undo(rt: &(impl Abort + Net), alloc: Global, told: &str, end: End) {
     let words = undo_words(alloc, "list.txt", 0).expect(rt, "memory");
-    let files = FakeFiles::new(alloc, &[("list.txt", UNDO)]);
+    let mut files = FakeFiles::new(alloc, &[("list.txt", UNDO)]);
     let mut paper = new_paper(alloc);
     let mut line = new_line(alloc, true);
-    let status = undo(rt, alloc, &files, &words, &mut line, &mut paper);
+    let status = undo(rt, alloc, &mut files, &words, &mut line, &mut paper);
     drop(files);
     drop(words);
     expect_line(rt, line, told.as_bytes());

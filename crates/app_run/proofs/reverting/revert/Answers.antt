@@ -1,0 +1,17 @@
+use Rattle.std.proofs.Common.{ap, inl, string_bytes, subst}
+use Rattle.app_journal.specs.declared.undo_files.UndoFiles.{UndoFiles}
+use Rattle.app_run.specs.Reverting.{GoesOn}
+use Rattle.app_run.proofs.reverting.revert.Goals as goal
+
+pub returns-in-Ok-clause-reverts : goal.returns-in-Ok-clause-reverts
+returns-in-Ok-clause-reverts g c =
+    inl (
+      c.recall_on.new.manager,
+      c.in-Ok.end,
+      string_bytes c.recall_on.new.keeper.text.now,
+      c.recall_on.new.keeper.files.now,
+      c.in-Ok.ensures.runs,
+      subst (λ (beside : UndoFiles). GoesOn g.F.WritesFiles.takes g.F.WritesFiles.renames beside c.args.words.now c.recall_on.new.manager c.in-Ok.end c.go_on.result
+          (string_bytes c.recall_on.new.keeper.text.now) (string_bytes c.go_on.new.keeper.text.now) c.recall_on.new.keeper.files.now c.go_on.new.keeper.files.now)
+          (ap (λ b. b.now) c.in-Ok.ensures.same_words) c.go_on.ensures.goes,
+    )

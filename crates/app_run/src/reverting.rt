@@ -1,0 +1,402 @@
+//! `bmcnet undo` of a journal: its open request is settled, and what its manager did is taken back, while the journal's file keeps the journal.
+ghost use Rattle.std.specs.Prelude.{◌≡◌, ◌↔◌, true, Ok, IfErr, IfOk, OnErr, string_bytes};
+ghost use Rattle.app_base.specs.declared.console.Stream.TheVariants.{Error};
+ghost use Rattle.app_base.specs.declared.status.Status.TheVariants.{RefusedFile};
+ghost use Rattle.app_base.specs.Ending.{ReportTells};
+ghost use Rattle.app_journal.specs.declared.reviving.ReviveFault.{ReviveFault as AnyFault};
+ghost use Rattle.app_journal.specs.Beside.{IsOwn};
+ghost use Rattle.app_base.specs.declared.ending.ReportFault.TheVariants.{Stopped as HasStopped};
+ghost use Rattle.model_lab.specs.Meaning.{lab_names};
+ghost use Rattle.undo_core.specs.Shown.{CallStep, Represents};
+ghost use Rattle.wire_links.specs.Counted.{none_counted};
+ghost use Rattle.bmc_ports.specs.Conversation.{links};
+ghost use Rattle.bmc_ports.specs.Driving.{both};
+ghost use Rattle.bmc_ports.specs.Observing.{permit_at};
+ghost use Rattle.app_run.specs.Course.{RunCourse};
+ghost use Rattle.app_run.specs.Driven.{DrivenState, GoesAgain, is_over as over_in};
+ghost use Rattle.app_run.specs.Reverting.{GoesOn, Reverts, RevertsText, RunsKept, Undoes};
+ghost use Rattle.app_run.specs.Reverting.{call_for, left_ungreeted};
+ghost use Rattle.app_run.specs.JournalUndo.{EndsReverted, IsJournal, JournalEnds};
+ghost use Rattle.app_run.specs.JournalUndo.{SaysEnd, SaysJournalFault, journal_line};
+
+use crate::greeting::{GreetFault, Greetings, Unanswered, greet_first};
+use crate::lines::{names_refusal, phase_report, tell_ungreeted};
+use crate::links::{BusLinks, open_ends};
+use crate::undoing::UndoWords;
+use app_base::{Console, Report, ReportFault, Status, Stream, end_run};
+use app_journal::{JournalKeeper, ReviveFault, UndoFiles, WritesFiles, revive_text};
+use bmc_ports::{DriveEnd, KeptBack, Observer, drive_observed};
+use std::alloc::{AllocError, Global};
+use std::io;
+use std::net::Net;
+use text_journal::JournalTextFault;
+use text_lines::behind;
+use undo_core::{Manager, Phase, Sent, WrongPhase};
+use wire_links::Link;
+
+/// What the manager of a journal is called for.
+#[derive(Clone, Copy)]
+pub(crate) enum Recall {
+    /// Its open request is heeded again.
+    Settle,
+    /// What it did is taken back.
+    Undo,
+}
+
+/// What came of a manager that was made of a journal.
+#[derive(Clone, Copy)]
+pub(crate) enum Reverted {
+    /// It came to this end.
+    Ended(DriveEnd),
+    /// Its request was settled in this phase. This greeting wasn't answered, and the manager did nothing else.
+    Ungreeted(Phase, Unanswered),
+}
+
+impl Recall {
+    /// The call.
+    fn call(self, manager: &mut Manager) -> Result<Option<Sent>, WrongPhase>
+        ensures { CallStep (call_for self) manager.old manager.new result }
+    {
+        match self {
+            Recall::Settle => manager.again(),
+            Recall::Undo => manager.undo(),
+        }
+    }
+}
+
+/// Calls a manager so, and drives it, while a watch looks at it.
+fn recall_watched<A: Link, B: Link, T: Observer>(
+    manager: &mut Manager,
+    recall: Recall,
+    ipmb: &mut A,
+    smbus: &mut B,
+    turns: u32,
+    watch: &mut T,
+) -> DriveEnd
+    ensures goes { (before : DrivenState) → Represents lab_names manager.old before
+        → GoesAgain 0 (call_for recall) turns before manager.new result
+        (both (A.counts_of ipmb.old) (B.counts_of smbus.old))
+        (both (A.counts_of ipmb.new) (B.counts_of smbus.new)) }
+    ensures seen { RunCourse T.sees A.Link B.Link (call_for recall) manager.old manager.new
+        (links ipmb.old smbus.old) (links ipmb.new smbus.new) (permit_at result)
+        watch.old watch.new }
+{
+    match recall.call(manager) {
+        Ok(first) => drive_observed(manager, first, ipmb, smbus, turns, watch),
+        Err(WrongPhase) => Ok(manager.phase()),
+    }
+}
+
+/// The same over these links, while its journal is kept.
+fn recall_over<F: WritesFiles>(
+    manager: &mut Manager,
+    recall: Recall,
+    ends: BusLinks,
+    turns: u32,
+    keeper: &mut JournalKeeper<F>,
+) -> DriveEnd
+    requires ipmb { ends.ipmb.counts ≡ none_counted }
+    requires smbus { ends.smbus.counts ≡ none_counted }
+    ensures runs { RunsKept F.takes F.renames keeper.old.beside.now (call_for recall) turns
+        manager.old manager.new result
+        (string_bytes keeper.old.text.now) (string_bytes keeper.new.text.now)
+        keeper.old.files.now keeper.new.files.now }
+    ensures same_words { keeper.new.beside ≡ keeper.old.beside }
+    ensures same_files { keeper.new.files.ghost_name ≡ keeper.old.files.ghost_name }
+{
+    let BusLinks {
+        mut ipmb,
+        mut smbus,
+    } = ends;
+    recall_watched(manager, recall, &mut ipmb, &mut smbus, turns, keeper)
+}
+
+/// The same over links of its own to the ports that the words name. Where one can't be had, nothing is done.
+fn recall_on<F: WritesFiles, R: Net>(
+    rt: &R,
+    manager: &mut Manager,
+    recall: Recall,
+    words: &UndoWords,
+    keeper: &mut JournalKeeper<F>,
+) -> Result<DriveEnd, ReportFault>
+    ensures runs { IfOk result (λ end. RunsKept F.takes F.renames keeper.old.beside.now
+        (call_for recall) words.now.turns manager.old manager.new end
+        (string_bytes keeper.old.text.now) (string_bytes keeper.new.text.now)
+        keeper.old.files.now keeper.new.files.now) }
+    ensures stopped { IfErr result (λ why. why ≡ HasStopped) }
+    ensures same_text { OnErr result
+        (string_bytes keeper.new.text.now ≡ string_bytes keeper.old.text.now) }
+    ensures same { OnErr result (keeper.new.files.now ≡ keeper.old.files.now) }
+    ensures same_words { keeper.new.beside ≡ keeper.old.beside }
+    ensures same_files { keeper.new.files.ghost_name ≡ keeper.old.files.ghost_name }
+{
+    let ends = open_ends(rt, words.ipmb_port, words.smbus_port, words.wait_ms);
+    let Some(ends) = ends else {
+        return Err(ReportFault::Stopped);
+    };
+    Ok(recall_over(manager, recall, ends, words.turns, keeper))
+}
+
+/// What comes of a greeting that failed, before a manager in this phase was told to undo.
+fn unfit_to_undo(phase: Phase, fault: GreetFault) -> Result<Reverted, ReportFault>
+    ensures { result ≡ left_ungreeted phase fault }
+{
+    match fault {
+        GreetFault::NoLink => Err(ReportFault::Stopped),
+        GreetFault::Unanswered(why) => Ok(Reverted::Ungreeted(phase, why)),
+    }
+}
+
+/// Greets the controller, and has a manager take back what it did, whose plan is over in this phase.
+fn undo_over<F: WritesFiles, R: Net>(
+    rt: &R,
+    manager: &mut Manager,
+    phase: Phase,
+    words: &UndoWords,
+    greetings: &Greetings,
+    keeper: &mut JournalKeeper<F>,
+) -> Result<Reverted, ReportFault>
+    ensures undoes { Undoes F.takes F.renames keeper.old.beside.now greetings.now words.now.turns
+        manager.old phase result (string_bytes keeper.old.text.now) (string_bytes keeper.new.text.now)
+        keeper.old.files.now keeper.new.files.now }
+    ensures same_files { keeper.new.files.ghost_name ≡ keeper.old.files.ghost_name }
+{
+    let greeted = greet_first(
+        rt,
+        greetings,
+        words.ipmb_port,
+        words.smbus_port,
+        words.wait_ms,
+        words.turns,
+    );
+    match greeted {
+        Ok(()) => match recall_on(rt, manager, Recall::Undo, words, keeper) {
+            Ok(end) => Ok(Reverted::Ended(end)),
+            Err(why) => Err(why),
+        },
+        Err(fault) => unfit_to_undo(phase, fault),
+    }
+}
+
+/// Whether the plan ended or halted, so that it can be taken back.
+fn is_over(phase: &Phase) -> bool
+    ensures { result ≡ over_in phase.now }
+{
+    matches!(phase, Phase::Done | Phase::Halted(_, _))
+}
+
+/// What comes of a manager that ends in this phase.
+fn ended_in(phase: Phase) -> Result<Reverted, ReportFault>
+    ensures { result ≡ Ok (Reverted.Ended (Ok phase)) }
+{
+    Ok(Reverted::Ended(Ok(phase)))
+}
+
+/// Goes on with a manager whose open request was settled, and that is in this phase.
+fn go_on_in<F: WritesFiles, R: Net>(
+    rt: &R,
+    manager: &mut Manager,
+    phase: Phase,
+    words: &UndoWords,
+    keeper: &mut JournalKeeper<F>,
+) -> Result<Reverted, ReportFault>
+    ensures goes { GoesOn F.takes F.renames keeper.old.beside.now words.now manager.old (Ok phase)
+        result (string_bytes keeper.old.text.now) (string_bytes keeper.new.text.now)
+        keeper.old.files.now keeper.new.files.now }
+    ensures same_files { keeper.new.files.ghost_name ≡ keeper.old.files.ghost_name }
+{
+    if !is_over(&phase) {
+        return ended_in(phase);
+    }
+    let greetings = Greetings::before_undo(words.greet, manager.undo_list());
+    undo_over(rt, manager, phase, words, &greetings, keeper)
+}
+
+/// Goes on with a manager whose open request was settled to this end.
+fn go_on<F: WritesFiles, R: Net>(
+    rt: &R,
+    manager: &mut Manager,
+    end: DriveEnd,
+    words: &UndoWords,
+    keeper: &mut JournalKeeper<F>,
+) -> Result<Reverted, ReportFault>
+    ensures goes { GoesOn F.takes F.renames keeper.old.beside.now words.now manager.old end result
+        (string_bytes keeper.old.text.now) (string_bytes keeper.new.text.now)
+        keeper.old.files.now keeper.new.files.now }
+    ensures same_files { keeper.new.files.ghost_name ≡ keeper.old.files.ghost_name }
+{
+    match end {
+        Ok(phase) => go_on_in(rt, manager, phase, words, keeper),
+        Err(kept) => Ok(Reverted::Ended(Err(kept))),
+    }
+}
+
+/// Settles the open request of a manager that was made of a journal, and has it take back what it did. Meanwhile its journal is kept.
+fn revert<F: WritesFiles, R: Net>(
+    rt: &R,
+    mut manager: Manager,
+    words: &UndoWords,
+    keeper: &mut JournalKeeper<F>,
+) -> Result<Reverted, ReportFault>
+    ensures reverts { Reverts F.takes F.renames keeper.old.beside.now words.now manager result
+        (string_bytes keeper.old.text.now) (string_bytes keeper.new.text.now)
+        keeper.old.files.now keeper.new.files.now }
+    ensures same_files { keeper.new.files.ghost_name ≡ keeper.old.files.ghost_name }
+{
+    match recall_on(rt, &mut manager, Recall::Settle, words, keeper) {
+        Ok(end) => go_on(rt, &mut manager, end, words, keeper),
+        Err(why) => Err(why),
+    }
+}
+
+/// The same, while the journal of this text is kept in the file that these words are beside.
+fn revert_text<F: WritesFiles, R: Net>(
+    rt: &R,
+    alloc: Global,
+    files: &mut F,
+    manager: Manager,
+    beside: &UndoFiles,
+    text: String,
+    words: &UndoWords,
+) -> Result<Reverted, ReportFault>
+    ensures { RevertsText F.takes F.renames beside.now words.now manager result
+        (string_bytes text) files.old files.new }
+{
+    let mut text = text;
+    let mut keeper = JournalKeeper {
+        alloc,
+        files,
+        beside: &*beside,
+        text: &mut text,
+    };
+    revert(rt, manager, words, &mut keeper)
+}
+
+// ---- what is said
+
+/// Whether the text begins as that of a journal does.
+pub(crate) fn is_journal(text: &str) -> bool
+    ensures { (result ≡ true) ↔ IsJournal text.now }
+{
+    behind("journal 1\n", text).is_some()
+}
+
+/// What is said of a journal that is refused for this.
+fn line_refusal(alloc: Global, line: usize) -> Result<Report, AllocError>
+    ensures stream { IfOk result (λ report. report.stream ≡ Error) }
+    ensures text { IfOk result (λ report. string_bytes report.text
+        ≡ journal_line (AnyFault.Line line)) }
+    ensures status { IfOk result (λ report. report.status ≡ RefusedFile) }
+{
+    let why = JournalTextFault::Line(line);
+    let mut text = String::new(alloc);
+    writeln!(text, "journal {why}")?;
+    Ok(Report {
+        stream: Stream::Error,
+        text,
+        status: Status::RefusedFile,
+    })
+}
+
+/// What is said of one whose manager sends a request again more often than any can.
+fn retries_refusal(alloc: Global) -> Result<Report, AllocError>
+    ensures stream { IfOk result (λ report. report.stream ≡ Error) }
+    ensures text { IfOk result (λ report. string_bytes report.text
+        ≡ journal_line AnyFault.Retries) }
+    ensures status { IfOk result (λ report. report.status ≡ RefusedFile) }
+{
+    Ok(Report {
+        stream: Stream::Error,
+        text: String::from_str(alloc, "journal Retries\n")?,
+        status: Status::RefusedFile,
+    })
+}
+
+/// What is said of the text of a journal that no manager is made of.
+fn journal_refusal(alloc: Global, why: ReviveFault) -> Result<Report, ReportFault>
+    ensures { ReportTells (SaysJournalFault why) result }
+{
+    let report = match why {
+        ReviveFault::Line(line) => line_refusal(alloc, line),
+        ReviveFault::Retries => retries_refusal(alloc),
+        ReviveFault::OtherNames => names_refusal(alloc),
+        ReviveFault::Memory => return Err(ReportFault::Memory),
+    };
+    match report {
+        Ok(report) => Ok(report),
+        Err(AllocError) => Err(ReportFault::Memory),
+    }
+}
+
+/// What is said of a manager that came to this end, with the file of its journal: its phase, or the file that didn't take the journal.
+fn end_report(alloc: Global, word: &str, end: DriveEnd) -> Result<Report, ReportFault>
+    ensures { ReportTells (SaysEnd word.now end) result }
+{
+    let report = match end {
+        Ok(phase) => phase_report(alloc, phase),
+        Err(KeptBack) => Report::of_file(alloc, word),
+    };
+    match report {
+        Ok(report) => Ok(report),
+        Err(AllocError) => Err(ReportFault::Memory),
+    }
+}
+
+/// Says what came of a manager that was made of the journal in the file of this word.
+fn say_reverted<W: io::Write, E: io::Write>(
+    alloc: Global,
+    word: &str,
+    reverted: Result<Reverted, ReportFault>,
+    console: &mut Console<W, E>,
+) -> u8
+    ensures { EndsReverted W.contents E.contents word.now reverted console.old console.new result }
+{
+    match reverted {
+        Ok(Reverted::Ended(end)) => end_run(&end_report(alloc, word, end), console),
+        Ok(Reverted::Ungreeted(phase, why)) => tell_ungreeted(alloc, phase, why, console),
+        Err(why) => end_run(&Err(why), console),
+    }
+}
+
+/// What a journal's undo keeps: the words beside its file, and its text.
+#[derive(Drop)]
+struct Kept<'a> {
+    beside: UndoFiles<'a>,
+    text: String,
+}
+
+/// That of the journal of this text in the file of this word.
+fn kept_of<'a>(alloc: Global, word: &'a str, text: &str) -> Result<Kept<'a>, AllocError>
+    ensures beside { IfOk result (λ kept. IsOwn word.entry.now kept.beside) }
+    ensures text { IfOk result (λ kept. string_bytes kept.text ≡ text.now) }
+{
+    let beside = UndoFiles::of_journal(alloc, word)?;
+    let text = String::from_str(alloc, text)?;
+    Ok(Kept { beside, text })
+}
+
+/// Has what the journal of this text says taken back, while the file of this word keeps it, and says what came of it.
+pub(crate) fn undo_journal<F: WritesFiles, W: io::Write, E: io::Write, R: Net>(
+    rt: &R,
+    alloc: Global,
+    files: &mut F,
+    word: &str,
+    text: &str,
+    words: &UndoWords,
+    console: &mut Console<W, E>,
+) -> u8
+    ensures { JournalEnds W.contents E.contents F.takes F.renames word.now text.now words.now
+        files.old files.new console.old console.new result }
+{
+    let manager = match revive_text(alloc, text) {
+        Ok(manager) => manager,
+        Err(why) => return end_run(&journal_refusal(alloc, why), console),
+    };
+    match kept_of(alloc, word, text) {
+        Ok(Kept { beside, text }) => {
+            let reverted = revert_text(rt, alloc, files, manager, &beside, text, words);
+            say_reverted(alloc, word, reverted, console)
+        }
+        Err(AllocError) => end_run(&Err(ReportFault::Memory), console),
+    }
+}
