@@ -23,7 +23,7 @@ MANUALS = {
     "hozterqui.1": ("hozterqui", "hozterqui", None, None, []),
     "hozterqui-board.5": ("hozterqui", None, "BOARD_FILES.md", None, []),
     "hozterqui-plan.5": ("hozterqui", None, "PLAN_FILES.md", None, []),
-    "hozterqui-undo.5": ("hozterqui", None, "BMCNET.md", ["The undo text", "The list so far"], []),
+    "hozterqui-undo.5": ("hozterqui", None, "BMCNET.md", ["The undo text", "The journal's text", "The journal of a run"], []),
     "hozterqui-schedule.5": ("hozterqui", None, "SCHEDULES.md", None, []),
     "lan-bridge.1": ("hozterqui-clients", "lan-bridge", "CLIENTS.md", ["Clients reach the controller"], []),
     "controller-bridge.1": ("hozterqui-clients", "controller-bridge", "CLIENTS.md", ["A plan on somebody else's controller"], []),

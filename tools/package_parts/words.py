@@ -12,12 +12,12 @@ BRIDGED = {"--listen": None}
 WORDS = {
     "bmclab": {
         "frame": ({"--bus": ("ipmb", "smbus"), "--board": BOARD}, [("HEX", None)]),
-        "play": ({"--frames": FLAG, "--premises": FLAG, "--chart": FLAG}, [("BOARD", BOARD), ("PLAN", PLAN), ("SCHEDULE", SCHEDULE)]),
+        "play": ({"--frames": FLAG, "--premises": FLAG, "--chart": FLAG, "--restart": None}, [("BOARD", BOARD), ("PLAN", PLAN), ("SCHEDULE", SCHEDULE)]),
         "schedule": (
             {"--lose": None, "--repeat": None, "--delay": None, "--others": None, "--seed": None, "--undo": FLAG},
             [("BOARD", BOARD), ("PLAN", PLAN)],
         ),
-        "check": ({}, [("FILE...", FILE)]),
+        "check": ({"--as": ("board", "plan", "undo", "journal", "readings", "schedule")}, [("FILE...", FILE)]),
         "version": ({}, []),
     },
     "bmcnet": {
