@@ -17,6 +17,14 @@ pub enum Status {
     Memory = 5,
     /// Writing to standard output or standard error failed.
     Output = 6,
+    /// A plan halted, or a record isn't as it was.
+    Halted = 10,
+    /// A request is open to which no reply came, and what it did is in doubt.
+    Unsettled = 11,
+    /// A request that undoes was refused.
+    UndoRefused = 12,
+    /// Everything was undone, and a record has another value than it began with.
+    RecordsChanged = 13,
 }
 
 impl From<Status> for u8 {
