@@ -1,12 +1,13 @@
 -- Laws of changes of fields.
-use Rattle.std.proofs.Common.{◌≡◌, ℕ, ◌*◌, ◌<◌, ◌≤◌, List, [], ◌∷◌, length, take, drop, slice_index, Bool, true, false, ◌||◌, if◌then◌else◌, refl, ap, subst, ◌∙◌, arith}
+use Rattle.std.proofs.Common.{◌≡◌, ℕ, zero, suc, ◌*◌, ◌<◌, ◌≤◌, List, [], ◌∷◌, length, take, drop, slice_get, slice_index, Some, Bool, true, false, ◌||◌, if◌then◌else◌, refl, sym, ap, subst, ◌∙◌, arith}
 use Rattle.std.proofs.Props.{props}
 use Rattle.std.specs.List.{list_any, list_all}
+use Rattle.std.proofs.lemmas.Grind.{same_number_lists}
 use Rattle.std.proofs.lemmas.List.{length-take, take_all}
 use Rattle.record_base.specs.MaskLaws.{both}
 use Rattle.record_base.specs.declared.field_changes.FieldChange.{FieldChange}
 use Rattle.record_base.specs.declared.state_effecter.SetStateEffecter.{SetStateEffecter}
-use Rattle.effecter_recs.specs.FieldChanges.{set_to, leave, is_set, is_choice, is_plain_change, changed, changed_states, change_bytes, changes_of, shown_fields, shown_states, undo_changes}
+use Rattle.effecter_recs.specs.FieldChanges.{set_to, leave, is_set, is_choice, is_plain_change, ChangesStates, changed, changed_states, change_bytes, changes_of, shown_fields, shown_states, undo_changes}
 
 -- ---- how many there are
 
@@ -60,6 +61,53 @@ first_in (a ∷ b ∷ bytes) some = refl
 -- 9 of at most 9 are all
 pub all_read : (changes : List FieldChange) → length changes ≤ 9 → take 9 (changes_of (change_bytes changes)) ≡ changes
 all_read changes few = ap (take 9) (read_back changes) ∙ take_all 9 changes few
+
+-- ---- what changes make
+
+pub as_many_changed : (changes : List FieldChange) (old : List ℕ) → length (changed_states changes old) ≡ length changes
+as_many_changed [] old = refl
+as_many_changed (c ∷ cs) old = ap suc (as_many_changed cs (drop 1 old))
+
+behind_one : (old : List ℕ) (place : ℕ) → slice_index (drop 1 old) place ≡ slice_index old (suc place)
+behind_one [] place = refl
+behind_one (s ∷ ss) place = refl
+
+same_some : (c d : FieldChange) → Some c ≡ Some d → c ≡ d
+same_some c d same = cc
+
+changed_at : (changes : List FieldChange) (old : List ℕ) (place : ℕ) (change : FieldChange) → slice_get changes place ≡ Some change
+    → slice_index (changed_states changes old) place ≡ changed change (slice_index old place)
+changed_at [] old place change there = cc
+changed_at (c ∷ cs) old zero change there = ap (λ (d : FieldChange). changed d (slice_index old 0)) (same_some c change there)
+changed_at (c ∷ cs) old (suc place) change there = changed_at cs (drop 1 old) place change there ∙ ap (changed change) (behind_one old place)
+
+-- the relation holds of the function's states, and of no others
+pub changes_states : (changes : List FieldChange) (old : List ℕ) → ChangesStates changes old (changed_states changes old)
+changes_states changes old = record {
+  many = as_many_changed changes old;
+  set = λ place change there is. changed_at changes old place change there ∙ ap (λ (b : Bool). if b then change.state else slice_index old place) is;
+  left = λ place change there is. changed_at changes old place change there ∙ ap (λ (b : Bool). if b then change.state else slice_index old place) is;
+}
+
+one_state : (changes : List FieldChange) (old new : List ℕ) (place : ℕ) (change : FieldChange) (b : Bool) → ChangesStates changes old new → slice_get changes place ≡ Some change → is_set change ≡ b
+    → slice_index new place ≡ (if b then change.state else slice_index old place)
+one_state changes old new place change true made there is = made.set place change there is
+one_state changes old new place change false made there is = made.left place change there is
+
+change_at : (changes : List FieldChange) (place : ℕ) → place < length changes → (change : FieldChange) × (slice_get changes place ≡ Some change)
+change_at [] place within = absurd (omega arith)
+change_at (c ∷ cs) zero within = (c, refl)
+change_at (c ∷ cs) (suc place) within = change_at cs place (omega arith)
+
+state_at : (changes : List FieldChange) (old new : List ℕ) (place : ℕ) → ChangesStates changes old new → place < length changes → slice_index new place ≡ slice_index (changed_states changes old) place
+state_at changes old new place made within =
+    let found = change_at changes place within in
+    one_state changes old new place found.0 (is_set found.0) made found.1 refl ∙ sym (changed_at changes old place found.0 found.1)
+
+pub only_states : (changes : List FieldChange) (old new : List ℕ) → ChangesStates changes old new → new ≡ changed_states changes old
+only_states changes old new made =
+    same_number_lists new (changed_states changes old) (made.many ∙ sym (as_many_changed changes old))
+    (λ place within. state_at changes old new place made (subst (λ (n : ℕ). place < n) made.many within))
 
 -- ---- what undoes changes
 

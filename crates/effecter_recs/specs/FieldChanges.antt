@@ -1,5 +1,5 @@
 -- Changes of the fields of a state effecter, and the fields in a Get reply (DSP0248).
-use Rattle.std.specs.Prelude.{ℕ, List, [], ◌∷◌, drop, slice_index, Bool, true, nat_le, not, ◌==◌, ◌&&◌, ◌||◌, if◌then◌else◌}
+use Rattle.std.specs.Prelude.{◌≡◌, ℕ, List, [], ◌∷◌, drop, length, slice_get, slice_index, Some, Bool, true, false, nat_le, not, ◌==◌, ◌&&◌, ◌||◌, IsTrue, if◌then◌else◌}
 use Rattle.record_base.specs.declared.field_changes.FieldChange.{FieldChange}
 use Rattle.effecter_recs.specs.Requests.{enabled_state}
 
@@ -24,6 +24,14 @@ abbrev pub is_plain_change : FieldChange → Bool
 is_plain_change change = not (change.choice == 0) || (change.state == 0)
 
 -- ---- what changes make
+
+-- each field gets the state of its change where the change sets it, and keeps its state where the change leaves it
+pub record ChangesStates (changes : List FieldChange) (old new : List ℕ) : Type 0 where
+  pub many : length new ≡ length changes
+  pub set : (place : ℕ) (change : FieldChange) → slice_get changes place ≡ Some change → IsTrue (is_set change) → slice_index new place ≡ change.state
+  pub left : (place : ℕ) (change : FieldChange) → slice_get changes place ≡ Some change → is_set change ≡ false → slice_index new place ≡ slice_index old place
+
+-- ---- the same as functions
 
 -- the state of a field after a change
 abbrev pub changed : FieldChange → ℕ → ℕ

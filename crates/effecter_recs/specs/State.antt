@@ -14,7 +14,7 @@ use Rattle.record_base.specs.StateEffecter.{are_states}
 use Rattle.record_base.specs.Kind.{KindWords, RecordWords}
 use Rattle.record_base.specs.AllKinds.{Place}
 use Rattle.effecter_recs.specs.Requests.{effecter_request, id_bytes, id_in, operational_state}
-use Rattle.effecter_recs.specs.FieldChanges.{is_set, is_choice, is_plain_change, changed_states, change_bytes, changes_of, shown_fields, shown_states, are_enabled, undo_changes}
+use Rattle.effecter_recs.specs.FieldChanges.{is_set, is_choice, is_plain_change, ChangesStates, changed_states, change_bytes, changes_of, shown_fields, shown_states, are_enabled, undo_changes}
 use Rattle.effecter_recs.specs.ChangeLaws.{nine_taken, few_undone}
 
 -- the Set command and the Get command
@@ -32,7 +32,7 @@ pub record SetsStates (effecter : StateEffecter) (op : SetStateEffecter) (old ne
   pub many : length op.changes ≡ length effecter.fields
   pub choices : IsTrue (list_all is_choice op.changes)
   pub enabled : IsTrue (effecter.enabled || not (list_any is_set op.changes))
-  pub is_new : new ≡ changed_states op.changes old
+  pub is_new : ChangesStates op.changes old new
   pub allowed : IsTrue (are_states effecter.fields new)
 
 -- the request fits the effecter, apart from the states that it names

@@ -13,8 +13,8 @@ use Rattle.record_base.specs.BoardSizes.{most_state_fields}
 use Rattle.record_base.specs.StateEffecter.{are_states}
 use Rattle.record_base.specs.StateLaws.{as_many}
 use Rattle.effecter_recs.specs.Requests.{operational_state}
-use Rattle.effecter_recs.specs.FieldChanges.{changed_states, shown_fields, undo_changes}
-use Rattle.effecter_recs.specs.ChangeLaws.{as_many_undone, three_each, same_set, undo_chooses, undo_is_plain, states_back, states_told}
+use Rattle.effecter_recs.specs.FieldChanges.{ChangesStates, changed_states, shown_fields, undo_changes}
+use Rattle.effecter_recs.specs.ChangeLaws.{changes_states, only_states, as_many_undone, three_each, same_set, undo_chooses, undo_is_plain, states_back, states_told}
 use Rattle.effecter_recs.specs.State.{SetsStates, fits_effecter, state_view, IsStateReply, is_state_reply, is_undoable, undo_states, words, record_words}
 
 -- ---- tests say what they are named for
@@ -41,7 +41,7 @@ fits_true : (effecter : StateEffecter) (op : SetStateEffecter) (old : List ℕ) 
 fits_true effecter op old h is =
     let tests = both_true _ _ h in
     let more = both_true _ _ tests.1 in
-    record { many = tested_same _ _ tests.0; choices = more.0; enabled = more.1; is_new = refl; allowed = is }
+    record { many = tested_same _ _ tests.0; choices = more.0; enabled = more.1; is_new = changes_states op.changes old; allowed = is }
 
 true_fits : (effecter : StateEffecter) (op : SetStateEffecter) (old new : List ℕ) → SetsStates effecter op old new → fits_effecter effecter op.changes ≡ true
 true_fits effecter op old new s = both _ _ (same_tested _ _ s.many) (both _ _ s.choices s.enabled)
@@ -50,7 +50,7 @@ decided : (effecter : StateEffecter) (op : SetStateEffecter) (old : List ℕ) (a
     → DecidesValue (if a then (if b then Ok (changed_states op.changes old) else Err pldm_invalid_state) else Err pldm_invalid_data) (SetsStates effecter op old)
 decided effecter op old true true fits is = fits_true effecter op old fits is
 decided effecter op old true false fits is = λ new s.
-    let takes : are_states effecter.fields (changed_states op.changes old) ≡ true = subst (λ (v : List ℕ). are_states effecter.fields v ≡ true) s.is_new s.allowed in cc
+    let takes : are_states effecter.fields (changed_states op.changes old) ≡ true = subst (λ (v : List ℕ). are_states effecter.fields v ≡ true) (only_states op.changes old new s.is_new) s.allowed in cc
 decided effecter op old false b fits is = λ new s.
     let has : fits_effecter effecter op.changes ≡ true = true_fits effecter op old new s in cc
 
@@ -80,11 +80,13 @@ reply_is effecter value is =
 undoes_states : (effecter : StateEffecter) (op : SetStateEffecter) (old new : List ℕ) → are_states effecter.fields old ≡ true → SetsStates effecter op old new → SetsStates effecter (undo_states op (state_view effecter old)) new old
 undoes_states effecter op old new is_valid s =
     let shown : List ℕ = shown_fields (operational_state effecter.enabled) old in
+    let again : changed_states (undo_changes op.changes shown) new ≡ old =
+    ap (changed_states (undo_changes op.changes shown)) (only_states op.changes old new s.is_new) ∙ states_back (operational_state effecter.enabled) op.changes old (s.many ∙ sym (as_many effecter.fields old is_valid)) in
     record {
       many = as_many_undone op.changes shown ∙ s.many;
       choices = undo_chooses op.changes shown;
       enabled = ap (λ (b : Bool). effecter.enabled || not b) (same_set op.changes shown) ∙ s.enabled;
-      is_new = sym (ap (changed_states (undo_changes op.changes shown)) s.is_new ∙ states_back (operational_state effecter.enabled) op.changes old (s.many ∙ sym (as_many effecter.fields old is_valid)));
+      is_new = subst (ChangesStates (undo_changes op.changes shown) new) again (changes_states (undo_changes op.changes shown) new);
       allowed = is_valid;
     }
 
@@ -106,7 +108,7 @@ record_laws effecter = record {
   taken = λ op old new done. tt;
   decides = λ op value. decided effecter op value _ _ refl refl;
   refuses = λ op value code is. refused (changed_states op.changes value) code (fits_effecter effecter op.changes) (are_states effecter.fields (changed_states op.changes value)) is;
-  determined = λ op old new other done also. done.is_new ∙ sym also.is_new;
+  determined = λ op old new other done also. only_states op.changes old new done.is_new ∙ sym (only_states op.changes old other also.is_new);
   keeps = λ op old new is_valid done. done.allowed;
   fits = λ op old new done. let count = counted effecter new done.allowed in both _ _ (le_true _ _ count.0) (le_true _ _ count.1);
   replies = λ op value live here is_valid. reply_is effecter value is_valid;

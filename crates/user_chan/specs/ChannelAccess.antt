@@ -39,16 +39,40 @@ is_change (Access access) = has_mode access.number
 is_change (Limit limit) = is_limit limit.number
 is_change (Both access limit) = has_mode access.number && is_limit limit.number
 
+-- the access that the change sets, and the limit, in bits 3:0 of its byte: none where the change leaves the part
+abbrev pub set_access : ChannelChange → Option ℕ
+set_access (Access access) = Some access.number
+set_access (Limit limit) = None
+set_access (Both access limit) = Some access.number
+
+abbrev pub set_limit : ChannelChange → Option ℕ
+set_limit (Access access) = None
+set_limit (Limit limit) = Some (limit.number % 16)
+set_limit (Both access limit) = Some (limit.number % 16)
+
+-- a part becomes what a change sets, and stays where the change sets nothing
+abbrev pub IsSetOrLeft : Option ℕ → ℕ → ℕ → Type 0
+IsSetOrLeft (Some number) old new = new ≡ number
+IsSetOrLeft None old new = new ≡ old
+
+-- each part of the value is set or left, as the change says
+pub record ChangesAccess (change : ChannelChange) (old new : List ℕ) : Type 0 where
+  pub two : length new ≡ 2
+  pub access : IsSetOrLeft (set_access change) (slice_index old 0) (slice_index new 0)
+  pub limit : IsSetOrLeft (set_limit change) (slice_index old 1) (slice_index new 1)
+
+-- the change is one that a channel can have, and makes the new value
+pub record SetsChannelAccess (op : SetChannelAccess) (old new : List ℕ) : Type 0 where
+  pub accepted : IsTrue (is_change op.change)
+  pub made : ChangesAccess op.change old new
+
+-- ---- the same as functions
+
 -- the value after a change: the parts that the change names become new, and the others stay
 abbrev pub changed : ChannelChange → List ℕ → List ℕ
 changed (Access access) old = access.number ∷ slice_index old 1 ∷ []
 changed (Limit limit) old = slice_index old 0 ∷ limit.number % 16 ∷ []
 changed (Both access limit) old = access.number ∷ limit.number % 16 ∷ []
-
--- the change is one that a channel can have, and makes the new value
-pub record SetsChannelAccess (op : SetChannelAccess) (old new : List ℕ) : Type 0 where
-  pub accepted : IsTrue (is_change op.change)
-  pub made : new ≡ changed op.change old
 
 -- the new value, or CCh
 abbrev pub channel_outcome : SetChannelAccess → List ℕ → Result (List ℕ) ℕ

@@ -15,22 +15,31 @@ use Rattle.record_base.specs.PartLaws.{IsChannelAccess-prop}
 use Rattle.record_base.specs.AttributeRangeLaws.{le_true, true_le}
 use Rattle.record_base.specs.UserSizes.{least_privilege, most_privilege, most_mode, has_mode}
 use Rattle.user_chan.specs.CommonLaws.{two, true_not_false}
-use Rattle.user_chan.specs.ChannelAccess.{is_limit, is_change, changed, SetsChannelAccess, undo_change, undo_channel, is_plain_change, words, record_words}
+use Rattle.user_chan.specs.ChannelAccess.{is_limit, is_change, changed, ChangesAccess, SetsChannelAccess, undo_change, undo_channel, is_plain_change, words, record_words}
 
 -- ---- what a Set makes
 
+pairs : (a b c d : ℕ) → a ≡ c → b ≡ d → a ∷ b ∷ [] ≡ c ∷ d ∷ []
+pairs a b c d p q i = p i ∷ q i ∷ []
+
+-- the relation holds of the function's value, and of no other
+changes_access : (change : ChannelChange) (old : List ℕ) → ChangesAccess change old (changed change old)
+changes_access (Access access) old = record { two = refl; access = refl; limit = refl }
+changes_access (Limit limit) old = record { two = refl; access = refl; limit = refl }
+changes_access (Both access limit) old = record { two = refl; access = refl; limit = refl }
+
+only_changed : (change : ChannelChange) (old new : List ℕ) → ChangesAccess change old new → new ≡ changed change old
+only_changed (Access access) old new made = two new made.two ∙ pairs _ _ _ _ made.access made.limit
+only_changed (Limit limit) old new made = two new made.two ∙ pairs _ _ _ _ made.access made.limit
+only_changed (Both access limit) old new made = two new made.two ∙ pairs _ _ _ _ made.access made.limit
+
 decided : (op : SetChannelAccess) (old : List ℕ) (b : Bool) → is_change op.change ≡ b → DecidesValue (if b then Ok (changed op.change old) else Err invalid_data_field) (SetsChannelAccess op old)
-decided op old true is = record { accepted = is; made = refl }
+decided op old true is = record { accepted = is; made = changes_access op.change old }
 decided op old false is = λ new s. true_not_false _ s.accepted is
 
 refused : (made : List ℕ) (code : ℕ) (b : Bool) → (if b then Ok made else Err invalid_data_field) ≡ Err code → IsRefusal code
 refused made code true is = cc
 refused made code false is = refused_field code (Err invalid_data_field) refl is
-
-two_long : (change : ChannelChange) (old : List ℕ) → length (changed change old) ≡ 2
-two_long (Access access) old = refl
-two_long (Limit limit) old = refl
-two_long (Both access limit) old = refl
 
 keeps_change : (change : ChannelChange) (old : List ℕ) → IsTrue (is_change change) → IsChannelAccess old → IsChannelAccess (changed change old)
 keeps_change (Access access) old is v = record { two = refl; six_bits = access.below; mode = true_le _ _ is; least = v.least; most = v.most }
@@ -62,9 +71,6 @@ limit_again n least most =
     let below : n % 16 % 64 % 16 ≤ most_privilege = omega arith in
     both _ _ (le_true _ _ above) (le_true _ _ below)
 
-pairs : (a b c d : ℕ) → a ≡ c → b ≡ d → a ∷ b ∷ [] ≡ c ∷ d ∷ []
-pairs a b c d p q i = p i ∷ q i ∷ []
-
 accepts_undo : (change : ChannelChange) (old : List ℕ) → IsChannelAccess old → is_change (undo_change change old) ≡ true
 accepts_undo (Access access) old v = access_again _ v.mode
 accepts_undo (Limit limit) old v = limit_again _ v.least v.most
@@ -76,10 +82,12 @@ back (Limit limit) old v = pairs _ _ _ _ refl (sym (four _ v.most))
 back (Both access limit) old v = pairs _ _ _ _ (sym (six _ v.six_bits)) (sym (four _ v.most))
 
 undoes_channel : (op : SetChannelAccess) (old new : List ℕ) → IsChannelAccess old → SetsChannelAccess op old new → SetsChannelAccess (undo_channel op old) new old
-undoes_channel op old new v s = record {
-  accepted = accepts_undo op.change old v;
-  made = two old v.two ∙ back op.change old v ∙ ap (changed (undo_change op.change old)) (sym s.made);
-}
+undoes_channel op old new v s =
+    let again : old ≡ changed (undo_change op.change old) new =
+    two old v.two ∙ back op.change old v ∙ ap (changed (undo_change op.change old)) (sym (only_changed op.change old new s.made)) in record {
+      accepted = accepts_undo op.change old v;
+      made = subst (ChangesAccess (undo_change op.change old) new) (sym again) (changes_access (undo_change op.change old) new);
+    }
 
 -- bits 5:4 of a limit are 0
 small : (n : ℕ) → n % 16 % 64 < 16
@@ -109,9 +117,9 @@ record_laws = record {
   taken = λ op old new done. tt;
   decides = λ op value. decided op value (is_change op.change) refl;
   refuses = λ op value code is. refused (changed op.change value) code (is_change op.change) is;
-  determined = λ op old new other done also. done.made ∙ sym also.made;
-  keeps = λ op old new is_valid done. subst IsChannelAccess (sym done.made) (keeps_change op.change old done.accepted is_valid);
-  fits = λ op old new done. same_tested (length new) 2 (ap length done.made ∙ two_long op.change old);
+  determined = λ op old new other done also. only_changed op.change old new done.made ∙ sym (only_changed op.change old other also.made);
+  keeps = λ op old new is_valid done. subst IsChannelAccess (sym (only_changed op.change old new done.made)) (keeps_change op.change old done.accepted is_valid);
+  fits = λ op old new done. same_tested (length new) 2 done.made.two;
   replies = λ op value live here is_valid. is_valid.two;
   get_short = λ at value live here is_valid. let long : length value ≡ 2 = is_valid.two in omega arith;
   steady = λ value live other. refl;

@@ -1,6 +1,6 @@
 -- The LAN parameters of a channel, as a kind of record (IPMI 2.0, Set and Get LAN Configuration Parameters). A value has the data of the
 -- parameter: an address, the source of the address in bits 3:0, or the bytes of the VLAN.
-use Rattle.std.specs.Prelude.{◌≡◌, ℕ, ◌+◌, ◌%◌, ◌<◌, List, [], ◌∷◌, drop, length, slice_index, Bool, true, nat_le, ◌&&◌, ◌==◌, IsTrue, if◌then◌else◌, Result, Ok, Err, Option, Some, None, refl}
+use Rattle.std.specs.Prelude.{◌≡◌, ℕ, ◌+◌, ◌/◌, ◌%◌, ◌<◌, List, [], ◌∷◌, drop, length, slice_index, Bool, true, nat_le, ◌&&◌, ◌==◌, IsTrue, if◌then◌else◌, Result, Ok, Err, Option, Some, None, refl}
 use Rattle.two_wire.specs.Codes.{invalid_data_field}
 use Rattle.record_base.specs.declared.key.Key.{Key}
 use Rattle.record_base.specs.declared.key.Key.TheVariants as key
@@ -43,17 +43,47 @@ is_change (Address which address) = true
 is_change (AddressSource byte) = nat_le (byte % 16) 4
 is_change (Vlan vlan) = true
 
--- the value after a change, without the ignored bits: 7:4 of a source, and 6:4 of a VLAN's second byte
-abbrev pub value_after : LanChange → List ℕ
-value_after (Address which address) = address_bytes address
-value_after (AddressSource byte) = byte % 16 ∷ []
-value_after (Vlan vlan) = vlan.low ∷ vlan_high vlan.high ∷ []
+-- the value has the bytes of the address, the most significant first
+pub record HasAddress (address : Ipv4Address) (value : List ℕ) : Type 0 where
+  pub four : length value ≡ 4
+  pub first : slice_index value 0 ≡ address.first
+  pub second : slice_index value 1 ≡ address.second
+  pub third : slice_index value 2 ≡ address.third
+  pub fourth : slice_index value 3 ≡ address.fourth
+
+-- the value has bits 3:0 of the byte, and 0 in bits 7:4
+pub record HasSource (byte : ℕ) (value : List ℕ) : Type 0 where
+  pub one : length value ≡ 1
+  pub source : slice_index value 0 % 16 ≡ byte % 16
+  pub no_others : slice_index value 0 < 16
+
+-- the value has the VLAN's low byte, and bits 7 and 3:0 of its second byte, with 0 in bits 6:4
+pub record HasVlan (vlan : VlanBytes) (value : List ℕ) : Type 0 where
+  pub two : length value ≡ 2
+  pub low : slice_index value 0 ≡ vlan.low
+  pub enabled : slice_index value 1 / 128 ≡ vlan.high / 128
+  pub high : slice_index value 1 % 16 ≡ vlan.high % 16
+  pub no_others : slice_index value 1 / 16 % 8 ≡ 0
+
+-- the value has what the change sets the parameter to
+abbrev pub HasChange : LanChange → List ℕ → Type 0
+HasChange (Address which address) value = HasAddress address value
+HasChange (AddressSource byte) value = HasSource byte value
+HasChange (Vlan vlan) value = HasVlan vlan value
 
 -- the parameter can have the data of the change, and gets them
 pub record SetsLanParam (parameter : LanParameter) (op : SetLanParam) (old new : List ℕ) : Type 0 where
   pub of_it : IsTrue (same_parameter (changed_parameter op.change) parameter)
   pub accepted : IsTrue (is_change op.change)
-  pub made : new ≡ value_after op.change
+  pub made : HasChange op.change new
+
+-- ---- the same as functions
+
+-- the value after a change, without the ignored bits: 7:4 of a source, and 6:4 of a VLAN's second byte
+abbrev pub value_after : LanChange → List ℕ
+value_after (Address which address) = address_bytes address
+value_after (AddressSource byte) = byte % 16 ∷ []
+value_after (Vlan vlan) = vlan.low ∷ vlan_high vlan.high ∷ []
 
 -- the change is on the parameter, and the parameter accepts it
 abbrev pub is_taken : LanParameter → LanChange → Bool

@@ -47,12 +47,27 @@ body_of parameter.ValidBitClearing value = slice_index value 1 ∷ []
 body_of parameter.InfoAcknowledge value = slice_index value 1 ∷ []
 body_of parameter.Flags value = slice_index value 1 ∷ slice_index value 2 ∷ slice_index value 3 ∷ slice_index value 4 ∷ slice_index value 5 ∷ []
 
+-- the data of parameter 3 have bits 4:0 of the byte, and 0 in bits 7:5
+pub record HasClearing (byte : ℕ) (body : List ℕ) : Type 0 where
+  pub one : length body ≡ 1
+  pub bits : slice_index body 0 % 32 ≡ byte % 32
+  pub no_others : slice_index body 0 < 32
+
+-- the data of parameter 5 are the flags, each in its byte
+pub record HasFlags (flags : BootFlags) (body : List ℕ) : Type 0 where
+  pub five : length body ≡ 5
+  pub validity : slice_index body 0 ≡ flags.validity
+  pub device : slice_index body 1 ≡ flags.device
+  pub console : slice_index body 2 ≡ flags.console
+  pub overrides : slice_index body 3 ≡ flags.overrides
+  pub instance : slice_index body 4 ≡ flags.instance
+
 -- the new data of a value: the old data, bits 4:0 of the byte, the old byte with the masked bits written, or the flags
 abbrev pub ChangesParameter : BootChange → List ℕ → List ℕ → Type 0
 ChangesParameter (MarkAlone parameter) old body = body ≡ body_of parameter old
-ChangesParameter (ValidBitClearing byte) old body = body ≡ byte % 32 ∷ []
+ChangesParameter (ValidBitClearing byte) old body = HasClearing byte body
 ChangesParameter (InfoAcknowledge masked) old body = (length body ≡ 1) × IsMasked masked.mask masked.bits (slice_index old 1) (slice_index body 0)
-ChangesParameter (Flags flags) old body = body ≡ flag_bytes flags
+ChangesParameter (Flags flags) old body = HasFlags flags body
 
 -- the mark becomes the operation's mark, and the data behind the mark change by the operation's change
 pub record SetsBootParam (parameter : BootParameter) (op : SetBootParam) (old new : List ℕ) : Type 0 where

@@ -8,6 +8,7 @@ use Rattle.two_wire.specs.Codes.{invalid_data_field}
 use Rattle.record_base.specs.declared.key.Key.TheVariants as key
 use Rattle.record_base.specs.declared.boot_param.BootParameter.{BootParameter}
 use Rattle.record_base.specs.declared.boot_param.BootParameter.TheVariants as parameter
+use Rattle.record_base.specs.declared.boot_param.BootFlags.{BootFlags}
 use Rattle.record_base.specs.declared.boot_param.BootChange.{BootChange}
 use Rattle.record_base.specs.declared.boot_param.BootChange.TheVariants.{MarkAlone, ValidBitClearing, InfoAcknowledge, Flags}
 use Rattle.record_base.specs.declared.boot_param.SetBootParam.{SetBootParam}
@@ -17,9 +18,9 @@ use Rattle.record_base.specs.Meaning.{DecidesValue, IsRefusal}
 use Rattle.record_base.specs.InverseLaws.{some_where, made_where, tested_same, same_tested}
 use Rattle.record_base.specs.Kind.{KindLaws, RecordLaws}
 use Rattle.record_base.specs.RefusalLaws.{refused_field}
-use Rattle.record_base.specs.BootParam.{selector, parameter_of, boot_length, IsBootParam}
+use Rattle.record_base.specs.BootParam.{selector, parameter_of, flag_bytes, boot_length, IsBootParam}
 use Rattle.record_base.specs.PartLaws.{IsBootParam-prop}
-use Rattle.watch_boot.specs.BootParam.{same_parameter, IsMasked, mark_of, body_of, ChangesParameter, SetsBootParam, masked_byte, body_after, marked, boot_view, reply_length, undo_change, undo_boot, is_plain_change, words, record_words}
+use Rattle.watch_boot.specs.BootParam.{same_parameter, IsMasked, mark_of, body_of, HasFlags, ChangesParameter, SetsBootParam, masked_byte, body_after, marked, boot_view, reply_length, undo_change, undo_boot, is_plain_change, words, record_words}
 
 -- ---- parameters
 
@@ -111,6 +112,9 @@ one xs h = same_number_lists _ _ h (λ k lt. grind (arith, common_steps))
 two : (xs : List ℕ) → length xs ≡ 2 → xs ≡ slice_index xs 0 ∷ slice_index xs 1 ∷ []
 two xs h = same_number_lists _ _ h (λ k lt. grind (arith, common_steps))
 
+five : (xs : List ℕ) → length xs ≡ 5 → xs ≡ slice_index xs 0 ∷ slice_index xs 1 ∷ slice_index xs 2 ∷ slice_index xs 3 ∷ slice_index xs 4 ∷ []
+five xs h = same_number_lists _ _ h (λ k lt. grind (arith, common_steps))
+
 six : (xs : List ℕ) → length xs ≡ 6 → xs ≡ slice_index xs 0 ∷ slice_index xs 1 ∷ slice_index xs 2 ∷ slice_index xs 3 ∷ slice_index xs 4 ∷ slice_index xs 5 ∷ []
 six xs h = same_number_lists _ _ h (λ k lt. grind (arith, common_steps))
 
@@ -126,11 +130,31 @@ mark_small false = omega arith
 
 -- ---- what a Set makes
 
+bits_again : (byte : ℕ) → byte % 32 % 32 ≡ byte % 32
+bits_again byte = omega arith
+
+five_bits : (byte : ℕ) → byte % 32 < 32
+five_bits byte = omega arith
+
+low_five : (n byte : ℕ) → n % 32 ≡ byte % 32 → n < 32 → n ≡ byte % 32
+low_five n byte same small = omega arith
+
+-- the relation holds of the function's data, and of no others
 changed_after : (c : BootChange) (old : List ℕ) → ChangesParameter c old (body_after c old)
 changed_after (MarkAlone p) old = refl
-changed_after (ValidBitClearing byte) old = refl
+changed_after (ValidBitClearing byte) old = record { one = refl; bits = bits_again byte; no_others = five_bits byte }
 changed_after (InfoAcknowledge masked) old = (refl, masked_is masked.mask masked.bits (slice_index old 1))
-changed_after (Flags flags) old = refl
+changed_after (Flags flags) old = record { five = refl; validity = refl; device = refl; console = refl; overrides = refl; instance = refl }
+
+only_flags : (flags : BootFlags) (body : List ℕ) → HasFlags flags body → body ≡ flag_bytes flags
+only_flags flags body has = five body has.five ∙ (λ i. has.validity i ∷ has.device i ∷ has.console i ∷ has.overrides i ∷ has.instance i ∷ [])
+
+only_after : (c : BootChange) (old body : List ℕ) → ChangesParameter c old body → body ≡ body_after c old
+only_after (MarkAlone p) old body s = s
+only_after (ValidBitClearing byte) old body s = one body s.one ∙ ap (λ (n : ℕ). n ∷ []) (low_five (slice_index body 0) byte s.bits s.no_others)
+only_after (InfoAcknowledge masked) old body s =
+    one body s.0 ∙ ap (λ (n : ℕ). n ∷ []) (masked_same masked.mask masked.bits (slice_index old 1) _ _ s.1 (masked_is masked.mask masked.bits (slice_index old 1)))
+only_after (Flags flags) old body s = only_flags flags body s
 
 true_not_false : (b : Bool) → b ≡ true → b ≡ false → ⊥
 true_not_false b t f = cc
@@ -146,11 +170,7 @@ refused made code false is = refused_field code (Err invalid_data_field) refl is
 
 -- a change makes one body
 same_body : (c : BootChange) (old a b : List ℕ) → ChangesParameter c old a → ChangesParameter c old b → a ≡ b
-same_body (MarkAlone p) old a b s t = s ∙ sym t
-same_body (ValidBitClearing byte) old a b s t = s ∙ sym t
-same_body (InfoAcknowledge masked) old a b s t =
-    one a s.0 ∙ ap (λ (n : ℕ). n ∷ []) (masked_same masked.mask masked.bits (slice_index old 1) _ _ s.1 t.1) ∙ sym (one b t.0)
-same_body (Flags flags) old a b s t = s ∙ sym t
+same_body c old a b s t = only_after c old a s ∙ sym (only_after c old b t)
 
 kept_mark : (p : BootParameter) (invalid : Bool) (old : List ℕ) → IsBootParam p old → IsBootParam p (mark_of invalid ∷ body_of p old)
 kept_mark parameter.ValidBitClearing invalid old v = record { long = refl; mark = mark_small invalid; body = v.body }
@@ -160,11 +180,9 @@ kept_mark parameter.Flags invalid old v = record { long = refl; mark = mark_smal
 -- a change keeps a value valid
 keeps_change : (c : BootChange) (invalid : Bool) (old body : List ℕ) → IsBootParam (parameter_of c) old → ChangesParameter c old body → IsBootParam (parameter_of c) (mark_of invalid ∷ body)
 keeps_change (MarkAlone p) invalid old body v s = subst (λ (b : List ℕ). IsBootParam p (mark_of invalid ∷ b)) (sym s) (kept_mark p invalid old v)
-keeps_change (ValidBitClearing byte) invalid old body v s =
-    subst (λ (b : List ℕ). IsBootParam parameter.ValidBitClearing (mark_of invalid ∷ b)) (sym s) (record { long = refl; mark = mark_small invalid; body = omega arith })
+keeps_change (ValidBitClearing byte) invalid old body v s = record { long = ap suc s.one; mark = mark_small invalid; body = s.no_others }
 keeps_change (InfoAcknowledge masked) invalid old body v s = record { long = ap suc s.0; mark = mark_small invalid; body = s.1.byte }
-keeps_change (Flags flags) invalid old body v s =
-    subst (λ (b : List ℕ). IsBootParam parameter.Flags (mark_of invalid ∷ b)) (sym s) (record { long = refl; mark = mark_small invalid; body = tt })
+keeps_change (Flags flags) invalid old body v s = record { long = ap suc s.five; mark = mark_small invalid; body = tt }
 
 keeps_param : (p : BootParameter) (op : SetBootParam) (old new : List ℕ) → IsBootParam p old → SetsBootParam p op old new → IsBootParam p new
 keeps_param p op old new v s =
@@ -180,9 +198,9 @@ mark_fits parameter.Flags old = refl
 -- a new value is as long as the parameter's
 fits_change : (c : BootChange) (old body : List ℕ) → ChangesParameter c old body → IsTrue (suc (length body) == boot_length (parameter_of c))
 fits_change (MarkAlone p) old body s = subst (λ (b : List ℕ). IsTrue (suc (length b) == boot_length p)) (sym s) (mark_fits p old)
-fits_change (ValidBitClearing byte) old body s = ap (λ (b : List ℕ). suc (length b) == 2) s
+fits_change (ValidBitClearing byte) old body s = ap (λ (n : ℕ). suc n == 2) s.one
 fits_change (InfoAcknowledge masked) old body s = ap (λ (n : ℕ). suc n == 2) s.0
-fits_change (Flags flags) old body s = ap (λ (b : List ℕ). suc (length b) == 6) s
+fits_change (Flags flags) old body s = ap (λ (n : ℕ). suc n == 6) s.five
 
 -- ---- replies
 
@@ -247,9 +265,9 @@ body_again parameter.Flags mark old = refl
 changed_back : (c : BootChange) (mark : ℕ) (old body : List ℕ) → IsBootParam (parameter_of c) old → ChangesParameter c old body
     → ChangesParameter (undo_change c (boot_view (parameter_of c) old)) (mark ∷ body) (body_of (parameter_of c) old)
 changed_back (MarkAlone p) mark old body v s = body_again p mark old ∙ ap (λ (b : List ℕ). body_of p (mark ∷ b)) (sym s)
-changed_back (ValidBitClearing byte) mark old body v s = let small : slice_index old 1 < 32 = v.body in ap (λ (n : ℕ). n ∷ []) (omega arith)
+changed_back (ValidBitClearing byte) mark old body v s = record { one = refl; bits = sym (bits_again (slice_index old 1)); no_others = v.body }
 changed_back (InfoAcknowledge masked) mark old body v s = (refl, masked_back masked.mask masked.bits (slice_index old 1) (slice_index body 0) v.body s.1)
-changed_back (Flags flags) mark old body v s = refl
+changed_back (Flags flags) mark old body v s = record { five = refl; validity = refl; device = refl; console = refl; overrides = refl; instance = refl }
 
 undoes_change : (c : BootChange) (invalid : Bool) (old body : List ℕ) → IsBootParam (parameter_of c) old → ChangesParameter c old body
     → SetsBootParam (parameter_of c) (undo_boot (record { invalid = invalid; change = c }) (boot_view (parameter_of c) old)) (mark_of invalid ∷ body) old

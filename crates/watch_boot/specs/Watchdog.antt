@@ -1,5 +1,5 @@
 -- The watchdog timer, as a kind of record (IPMI 2.0).
-use Rattle.std.specs.Prelude.{◌≡◌, ℕ, ◌+◌, ◌-◌, ◌*◌, ◌/◌, ◌%◌, ◌^◌, ◌<◌, ◌≤◌, List, [], ◌∷◌, length, slice_index, bit_and, bit_or, nat_le, ◌&&◌, ◌==◌, not, Bool, true, false, IsFalse, if◌then◌else◌, Result, Ok, Err, Option, Some, None, refl}
+use Rattle.std.specs.Prelude.{◌≡◌, ℕ, ◌+◌, ◌-◌, ◌*◌, ◌/◌, ◌%◌, ◌^◌, ◌<◌, ◌≤◌, List, [], ◌∷◌, drop, length, slice_index, bit_and, bit_or, nat_le, ◌&&◌, ◌==◌, not, Bool, true, false, IsFalse, if◌then◌else◌, Result, Ok, Err, Option, Some, None, refl}
 use Rattle.std.specs.Int.{w16, to_le_bytes, from_le_bytes}
 use Rattle.two_wire.specs.Codes.{invalid_data_field}
 use Rattle.record_base.specs.declared.key.Key.{Key}
@@ -48,9 +48,19 @@ kept_actions actions = interrupt_in actions * 16 + action_in actions
 
 -- ---- Set Watchdog Timer
 
--- the settings of the operation's bytes
-abbrev pub settings_of : SetWatchdog → List ℕ
-settings_of op = watchdog_value (kept_use op.timer_use) (kept_actions op.actions) op.pre_timeout op.initial
+-- the settings are the operation's: don't log and the use, with 0 in bits 6:3 beside them, the interrupt and the action, with 0 in bits 7
+-- and 3, the pre-timeout interval, and the countdown's first number, low byte first
+pub record HasSettings (op : SetWatchdog) (value : List ℕ) : Type 0 where
+  pub five : length value ≡ 5
+  pub same_log : slice_index value 0 / 128 ≡ op.timer_use / 128
+  pub same_use : use_in (slice_index value 0) ≡ use_in op.timer_use
+  pub no_other_use : slice_index value 0 % 128 < 8
+  pub same_interrupt : interrupt_in (slice_index value 1) ≡ interrupt_in op.actions
+  pub same_action : action_in (slice_index value 1) ≡ action_in op.actions
+  pub no_bit_7 : slice_index value 1 < 128
+  pub no_bit_3 : slice_index value 1 % 16 < 8
+  pub pre_timeout : slice_index value 2 ≡ op.pre_timeout
+  pub initial : drop 3 value ≡ to_le_bytes w16 op.initial
 
 -- the operation has a use from 1 to 5, and an interrupt and an action of at most 3, and its settings become the value
 pub record SetsWatchdog (op : SetWatchdog) (new : List ℕ) : Type 0 where
@@ -58,7 +68,13 @@ pub record SetsWatchdog (op : SetWatchdog) (new : List ℕ) : Type 0 where
   pub known_use : use_in op.timer_use ≤ 5
   pub known_interrupt : interrupt_in op.actions ≤ 3
   pub known_action : action_in op.actions ≤ 3
-  pub settings : new ≡ settings_of op
+  pub settings : HasSettings op new
+
+-- ---- the same as functions
+
+-- the settings of the operation's bytes
+abbrev pub settings_of : SetWatchdog → List ℕ
+settings_of op = watchdog_value (kept_use op.timer_use) (kept_actions op.actions) op.pre_timeout op.initial
 
 -- the test of the bytes
 abbrev pub is_accepted : SetWatchdog → Bool

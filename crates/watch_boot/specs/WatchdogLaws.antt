@@ -1,5 +1,5 @@
 -- The laws of the kind Watchdog.
-use Rattle.std.proofs.Common.{◌≡◌, ℕ, zero, suc, ◌-◌, ◌==◌, min, not, ◌/◌, ◌%◌, ◌<◌, ◌≤◌, List, [], ◌∷◌, length, slice_index, get_or, nat_le, ◌&&◌, Bool, true, false, if◌then◌else◌, Ok, Err, IsFalse, refl, sym, ◌∙◌, ap, subst, Some, arith}
+use Rattle.std.proofs.Common.{◌≡◌, ℕ, zero, suc, ◌-◌, ◌==◌, min, not, ◌/◌, ◌%◌, ◌<◌, ◌≤◌, List, [], ◌∷◌, drop, length, slice_index, get_or, nat_le, ◌&&◌, Bool, true, false, if◌then◌else◌, Ok, Err, IsFalse, refl, sym, ◌∙◌, ap, subst, Some, arith}
 use Rattle.std.proofs.lemmas.Grind.{same_number_lists, common_steps}
 use Rattle.std.proofs.lemmas.Bool.Decides.{nat_tests}
 use Rattle.std.proofs.lemmas.Nat.{le_bytes_2}
@@ -18,7 +18,7 @@ use Rattle.record_base.specs.Kind.{KindLaws, RecordLaws}
 use Rattle.record_base.specs.RefusalLaws.{refused_field}
 use Rattle.record_base.specs.Watchdog.{IsWatchdog, watchdog_value}
 use Rattle.record_base.specs.PartLaws.{IsWatchdog-prop}
-use Rattle.watch_boot.specs.Watchdog.{use_in, kept_use, without_bit_6, interrupt_in, action_in, kept_actions, SetsWatchdog, settings_of, is_accepted, shown_use, watchdog_view, ClearsNamed, configuration, IsStopped, is_stopped, undo_watchdog, words, record_words}
+use Rattle.watch_boot.specs.Watchdog.{use_in, kept_use, without_bit_6, interrupt_in, action_in, kept_actions, HasSettings, SetsWatchdog, settings_of, is_accepted, shown_use, watchdog_view, ClearsNamed, configuration, IsStopped, is_stopped, undo_watchdog, words, record_words}
 
 -- ---- what a Set makes
 
@@ -42,6 +42,63 @@ all_true true true false d h = cc
 all_true true false c d h = cc
 all_true false b c d h = cc
 
+log_kept : (byte : ℕ) → kept_use byte / 128 ≡ byte / 128
+log_kept byte = omega arith
+
+use_kept : (byte : ℕ) → use_in (kept_use byte) ≡ use_in byte
+use_kept byte = omega arith
+
+use_alone : (byte : ℕ) → kept_use byte % 128 < 8
+use_alone byte = omega arith
+
+interrupt_kept : (byte : ℕ) → interrupt_in (kept_actions byte) ≡ interrupt_in byte
+interrupt_kept byte = omega arith
+
+action_kept : (byte : ℕ) → action_in (kept_actions byte) ≡ action_in byte
+action_kept byte = omega arith
+
+seven_bits : (byte : ℕ) → kept_actions byte < 128
+seven_bits byte = omega arith
+
+action_alone : (byte : ℕ) → kept_actions byte % 16 < 8
+action_alone byte = omega arith
+
+only_use : (n byte : ℕ) → n / 128 ≡ byte / 128 → use_in n ≡ use_in byte → n % 128 < 8 → n ≡ kept_use byte
+only_use n byte log same alone = omega arith
+
+only_actions : (n byte : ℕ) → interrupt_in n ≡ interrupt_in byte → action_in n ≡ action_in byte → n < 128 → n % 16 < 8 → n ≡ kept_actions byte
+only_actions n byte interrupt action small alone = omega arith
+
+-- a list of five is its first three members and the others
+three_and : (xs : List ℕ) → length xs ≡ 5 → xs ≡ slice_index xs 0 ∷ slice_index xs 1 ∷ slice_index xs 2 ∷ drop 3 xs
+three_and (a ∷ b ∷ c ∷ xs) five = refl
+three_and [] five = absurd (omega arith)
+three_and (a ∷ []) five = absurd (omega arith)
+three_and (a ∷ b ∷ []) five = absurd (omega arith)
+
+four_parts : (a b c x y z : ℕ) (rest last : List ℕ) → a ≡ x → b ≡ y → c ≡ z → rest ≡ last → a ∷ b ∷ c ∷ rest ≡ x ∷ y ∷ z ∷ last
+four_parts a b c x y z rest last p q r s i = p i ∷ q i ∷ r i ∷ s i
+
+-- the relation holds of the function's value, and of no other
+has_settings : (op : SetWatchdog) → HasSettings op (settings_of op)
+has_settings op = record {
+  five = refl;
+  same_log = log_kept op.timer_use;
+  same_use = use_kept op.timer_use;
+  no_other_use = use_alone op.timer_use;
+  same_interrupt = interrupt_kept op.actions;
+  same_action = action_kept op.actions;
+  no_bit_7 = seven_bits op.actions;
+  no_bit_3 = action_alone op.actions;
+  pre_timeout = refl;
+  initial = refl;
+}
+
+only_settings : (op : SetWatchdog) (value : List ℕ) → HasSettings op value → value ≡ settings_of op
+only_settings op value has =
+    three_and value has.five
+    ∙ four_parts _ _ _ _ _ _ _ _ (only_use (slice_index value 0) op.timer_use has.same_log has.same_use has.no_other_use) (only_actions (slice_index value 1) op.actions has.same_interrupt has.same_action has.no_bit_7 has.no_bit_3) has.pre_timeout has.initial
+
 accepted_sets : (op : SetWatchdog) → is_accepted op ≡ true → SetsWatchdog op (settings_of op)
 accepted_sets op h =
     let tests = all_true (nat_le 1 (use_in op.timer_use)) (nat_le (use_in op.timer_use) 5) (nat_le (interrupt_in op.actions) 3) (nat_le (action_in op.actions) 3) h in record {
@@ -49,7 +106,7 @@ accepted_sets op h =
       known_use = le_from _ _ tests.second;
       known_interrupt = le_from _ _ tests.third;
       known_action = le_from _ _ tests.fourth;
-      settings = refl;
+      settings = has_settings op;
     }
 
 sets_accepted : (op : SetWatchdog) (new : List ℕ) → SetsWatchdog op new → is_accepted op ≡ true
@@ -64,7 +121,7 @@ refused made code true is = cc
 refused made code false is = refused_field code (Err invalid_data_field) refl is
 
 keeps_watchdog : (op : SetWatchdog) (new : List ℕ) → SetsWatchdog op new → IsWatchdog new
-keeps_watchdog op new s = rw s.settings (record {
+keeps_watchdog op new s = rw (only_settings op new s.settings) (record {
   five = refl;
   known_use = let h : use_in op.timer_use ≤ 5 = s.known_use in omega arith;
   known_interrupt = let h : interrupt_in op.actions ≤ 3 = s.known_interrupt in omega arith;
@@ -105,13 +162,15 @@ value_of_same : (a b c n v w x y z : ℕ) → a ≡ v → b ≡ w → c ≡ x �
 value_of_same a b c n v w x y z p q r s = cc
 
 undoes_watchdog : (old : List ℕ) (live : Live) → IsWatchdog old → IsStopped (watchdog_view old live) → SetsWatchdog (undo_watchdog (watchdog_view old live)) old
-undoes_watchdog old live v stopped = record {
-  a_use = let h : 1 ≤ use_in (shown_use (slice_index old 0) live.running) = stopped.a_use in omega (arith, same_use (slice_index old 0) live.running v.known_use);
-  known_use = let h : use_in (shown_use (slice_index old 0) live.running) ≤ 5 = stopped.known_use in omega (arith, same_use (slice_index old 0) live.running v.known_use);
-  known_interrupt = let h : slice_index old 1 / 16 ≤ 3 = v.known_interrupt in omega arith;
-  known_action = let h : slice_index old 1 % 16 ≤ 3 = v.known_action in omega arith;
-  settings = five_members old v.five ∙ sym (value_of_same _ _ _ _ _ _ _ _ _ (kept_whole (slice_index old 0) live.running v.known_use) (kept_both (slice_index old 1) v.known_interrupt v.known_action) refl (same_bytes (slice_index old 3) (slice_index old 4) v.low_byte v.high_byte));
-}
+undoes_watchdog old live v stopped =
+    let again : old ≡ settings_of (undo_watchdog (watchdog_view old live)) =
+    five_members old v.five ∙ sym (value_of_same _ _ _ _ _ _ _ _ _ (kept_whole (slice_index old 0) live.running v.known_use) (kept_both (slice_index old 1) v.known_interrupt v.known_action) refl (same_bytes (slice_index old 3) (slice_index old 4) v.low_byte v.high_byte)) in record {
+      a_use = let h : 1 ≤ use_in (shown_use (slice_index old 0) live.running) = stopped.a_use in omega (arith, same_use (slice_index old 0) live.running v.known_use);
+      known_use = let h : use_in (shown_use (slice_index old 0) live.running) ≤ 5 = stopped.known_use in omega (arith, same_use (slice_index old 0) live.running v.known_use);
+      known_interrupt = let h : slice_index old 1 / 16 ≤ 3 = v.known_interrupt in omega arith;
+      known_action = let h : slice_index old 1 % 16 ≤ 3 = v.known_action in omega arith;
+      settings = subst (HasSettings (undo_watchdog (watchdog_view old live))) (sym again) (has_settings (undo_watchdog (watchdog_view old live)));
+    }
 
 false_of : (b : Bool) → not b ≡ true → IsFalse b
 false_of true h = cc
@@ -192,9 +251,9 @@ record_laws = record {
   taken = λ op old new done. tt;
   decides = λ op value. decided op (is_accepted op) refl;
   refuses = λ op value code is. refused (settings_of op) code (is_accepted op) is;
-  determined = λ op old new other done also. done.settings ∙ sym also.settings;
+  determined = λ op old new other done also. only_settings op new done.settings ∙ sym (only_settings op other also.settings);
   keeps = λ op old new is_valid done. keeps_watchdog op new done;
-  fits = λ op old new done. ap (λ (xs : List ℕ). is_length key.Watchdog (length xs)) done.settings;
+  fits = λ op old new done. ap (λ (xs : List ℕ). is_length key.Watchdog (length xs)) (only_settings op new done.settings);
   replies = λ op value live here is_valid. refl;
   steady = λ value live other.
       ap (λ (n : ℕ). n ∷ slice_index value 1 ∷ slice_index value 2 ∷ slice_index value 3 ∷ slice_index value 4 ∷ [])
