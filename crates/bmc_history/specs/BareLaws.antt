@@ -60,5 +60,7 @@ bare_file = record {
   lans = record { items = []; differ = none_differ (λ (l : Lan). l.number.number); few = lit≤ tt };
   apart = none_differ (λ (number : ℕ). number);
   few = lit≤ tt;
+  known = refl;
+  listed = refl;
   each = refl;
 }

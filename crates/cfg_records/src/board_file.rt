@@ -1,8 +1,9 @@
 //! What a board begins with.
-ghost use Rattle.std.specs.Prelude.{◌≡◌, ◌≤◌, map, length};
+ghost use Rattle.std.specs.Prelude.{◌≡◌, ◌≤◌, IsTrue, map, length};
+ghost use Rattle.std.specs.List.{list_all};
 ghost use Rattle.record_base.specs.BoardSizes.{most_channels};
 ghost use Rattle.record_base.specs.Distinct.{NamesDiffer};
-ghost use Rattle.cfg_records.specs.BoardChannels.{channel_numbers, on_numbers, each_user_on};
+ghost use Rattle.cfg_records.specs.BoardChannels.{channel_numbers, is_channel, are_listed, on_numbers, each_user_on};
 
 use record_base::{
     Attributes, BootOptions, BootParameter, Channels, Device, GlobalEnables, Key, Lans,
@@ -29,19 +30,23 @@ pub struct BoardFile {
     pub numeric_effecters: NumericEffecters,
     pub state_effecters: StateEffecters,
     pub users: Users,
-    /// The channels with sessions, and those without: few together, and no two have one number.
+    /// The channels with sessions, and those without: few together, no two have one number, and each has a number from 0 to 11, or 15.
     pub channels: Channels,
     pub sessionless: SessionlessChannels,
     /// What each user may do on each channel with sessions, in the channels' order and then in the users'.
     pub user_accesses: UserAccesses,
     /// The attributes of its BIOS.
     pub attributes: Attributes,
-    /// The LAN parameters of its channels.
+    /// The LAN parameters of its channels. Each is of a channel that is listed.
     pub lans: Lans,
     ghost apart: { NamesDiffer (λ number. number)
         (channel_numbers channels.items sessionless.items) },
     ghost few: { length (channel_numbers channels.items sessionless.items)
         ≤ most_channels },
+    ghost known: { IsTrue
+        (list_all is_channel (channel_numbers channels.items sessionless.items)) },
+    ghost listed: { IsTrue
+        (are_listed (channel_numbers channels.items sessionless.items) lans.items) },
     ghost each: { map on_numbers user_accesses.items ≡ each_user_on channels.items users.items },
 }
 

@@ -139,6 +139,8 @@ board_file = record {
   lans = record { items = []; differ = no_lans; few = lit≤ tt };
   apart = no_number_twice;
   few = lit≤ tt;
+  known = refl;
+  listed = refl;
   each = refl;
 }
 

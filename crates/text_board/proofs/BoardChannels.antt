@@ -80,7 +80,7 @@ numbers_without (d ∷ ds) [] zip = absurd zip
 numbers_without (d ∷ ds) (c ∷ channels) zip = let here = ap or_zero zip.0 in let rest = numbers_without ds channels zip.1 in λ i. here i ∷ rest i
 
 module _ (ds : List Data) (channels : List Channel) (sessionless : List ChannelNumber) (with : AllZip IsChannelIn (with_sessions ds) channels) (without : AllZip IsNumberIn (without_sessions ds) sessionless) where
-  numbers_in : map channel_of (with_sessions ds) ++ map channel_of (without_sessions ds) ≡ channel_numbers channels sessionless
+  pub numbers_in : map channel_of (with_sessions ds) ++ map channel_of (without_sessions ds) ≡ channel_numbers channels sessionless
   numbers_in = let a = numbers_with (with_sessions ds) channels with in let b = numbers_without (without_sessions ds) sessionless without in λ i. a i ++ b i
 
   -- no two channels have one number

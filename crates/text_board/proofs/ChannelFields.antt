@@ -65,7 +65,7 @@ users_told users tree none =
 
 -- ---- arrays
 
-map_empty : {A B : Type 0} (f : A → B) (xs : List A) → map f xs ≡ [] → xs ≡ []
+pub map_empty : {A B : Type 0} (f : A → B) (xs : List A) → map f xs ≡ [] → xs ≡ []
 map_empty f [] is = refl
 map_empty f (x ∷ xs) is = cc
 

@@ -63,6 +63,12 @@ no_channel_faults tree none =
     let rest = (both_empty (sensor_faults (members_in field.Sensor tree)) _ none).1 in
     (both_empty (channel_faults (users_in tree) (members_in field.Channel tree)) _ rest).0
 
+pub no_lan_faults : (tree : Members) → ipmi_faults tree ≡ [] → lan_faults tree ≡ []
+unfolding ipmi_faults
+no_lan_faults tree none =
+    let rest = (both_empty (sensor_faults (members_in field.Sensor tree)) _ none).1 in
+    (both_empty (channel_faults (users_in tree) (members_in field.Channel tree)) _ rest).1
+
 pub no_pldm_faults : (tree : Members) → attribute_faults (members_in field.Attribute tree) ≡ [] → state_faults (members_in field.State tree) ≡ [] → numeric_faults (members_in field.Numeric tree) ≡ [] → pldm_faults tree ≡ []
 unfolding pldm_faults
 no_pldm_faults tree attributes states effecters = rw (attributes, states) effecters

@@ -8,6 +8,7 @@ pub mod UserNames
 pub mod ChannelLists
 pub mod ChannelFields
 pub mod BoardChannels
+pub mod ListedChannels
 pub mod AttributeFields
 pub mod LanFields
 pub mod OneLan

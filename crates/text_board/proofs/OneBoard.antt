@@ -2,7 +2,7 @@
 use Rattle.std.proofs.Common.{◌≡◌, ◌≤◌, ◌<◌, ◌==◌, ◌/◌, ◌%◌, ◌^◌, ◌+◌, ◌∙◌, ℕ, List, [], ◌∷◌, length, map, Bool, true, false, Option, Some, None, MatchOption, Result, Ok, Err, IsTrue, refl, sym, ap, subst, codes}
 use Rattle.std.proofs.Props.{props}
 use Rattle.std.proofs.lemmas.Option.{same_Some}
-use Rattle.std.specs.List.{AllZip}
+use Rattle.std.specs.List.{list_all, AllZip}
 use Rattle.std.proofs.Math.Path.{PathP}
 use mathlib.Core.HLevel.{is_prop→PathP}
 use Rattle.toml.specs.Data.{Data, Members}
@@ -34,7 +34,7 @@ use Rattle.two_wire.specs.LogSize.{least_log_records, most_log_records}
 use Rattle.record_base.specs.StateField.{allows}
 use Rattle.record_base.specs.BootParam.{flag_bytes}
 use Rattle.cfg_records.specs.declared.board_file.BoardFile.{BoardFile}
-use Rattle.cfg_records.specs.BoardChannels.{channel_numbers, on_numbers, each_user_on}
+use Rattle.cfg_records.specs.BoardChannels.{channel_numbers, is_channel, are_listed, on_numbers, each_user_on}
 use Rattle.record_base.specs.declared.device.Device.{Device}
 use Rattle.record_base.specs.declared.device.Bcd.{Bcd}
 use Rattle.record_base.specs.declared.device.ManufacturerId.{ManufacturerId}
@@ -498,6 +498,8 @@ one_held tree a b p q =
       lans = lans i;
       apart = differ (λ (n : ℕ). n) numbers a.apart b.apart i;
       few = up_to 8 (ap length numbers) a.few b.few i;
+      known = is_prop→PathP (λ j. IsTrue (list_all is_channel (numbers j))) (λ j. hlevel props) a.known b.known i;
+      listed = is_prop→PathP (λ j. IsTrue (are_listed (numbers j) (lan_items j))) (λ j. hlevel props) a.listed b.listed i;
       each = is_prop→PathP (λ j. map on_numbers (access_items j) ≡ each_user_on (channel_items j) (user_items j)) (λ j. hlevel props) a.each b.each i;
     }
 

@@ -162,7 +162,8 @@ fn own_parts(alloc: Global, top: &Checked<'_>) -> Result<OwnParts, FileFault>
 fn board_in(alloc: Global, top: &Checked<'_>) -> Result<BoardFile, FileFault>
     requires rows { top.now.rows.now ≡ TOP }
     requires sound { field_faults TOP (table_view top.now.table.now) ≡ [] }
-    ensures { (result ≡ Err FileFault.Memory) ⊎ MembersAnswer (table_view top.now.table.now) result }
+    ensures { (result ≡ Err FileFault.Memory)
+        ⊎ MembersAnswer (table_view top.now.table.now) result }
 {
     let own = own_parts(alloc, top)?;
     let ipmi = ipmi_items(alloc, top)?;

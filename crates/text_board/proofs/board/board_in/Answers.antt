@@ -7,7 +7,8 @@ use Rattle.text_fields.specs.Trees.{members_in}
 use Rattle.text_board.specs.Faults.{channel_faults, users_in}
 use Rattle.text_board.specs.Holds.{IsNameIn}
 use Rattle.text_board.proofs.BoardChannels.{each_held}
-use Rattle.text_board.proofs.FileFaults.{own_first, ipmi_first, pldm_first, no_channel_faults, no_faults}
+use Rattle.text_board.proofs.ListedChannels.{numbers_known, lans_listed}
+use Rattle.text_board.proofs.FileFaults.{own_first, ipmi_first, pldm_first, no_channel_faults, no_lan_faults, no_faults}
 use Rattle.text_board.proofs.board.board_in.Goals as goal
 
 pub returns-in_err-own : goal.returns-in_err-own
@@ -45,6 +46,8 @@ invariant_of-result c =
     record {
       apart = channels.apart;
       few = channels.few;
+      known = numbers_known (members_in field.Channel tree) channels.channels.items channels.sessionless.items held.with held.without (length users) sound;
+      listed = lans_listed tree channels.channels.items channels.sessionless.items c.in_ok-ipmi.ipmi.lans.items (no_lan_faults tree c.in_ok-ipmi.ensures.sound) held.with held.without c.in_ok-ipmi.ensures.held.lans;
       each = each_held (members_in field.Channel tree) channels.channels.items users channels.accesses.items sound held.with held.rights c.in_ok-own.own.users.valid.numbered;
     }
 
