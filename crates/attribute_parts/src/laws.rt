@@ -6,7 +6,8 @@ ghost use Rattle.attribute_parts.specs.Stagings.{StagedParts, staged_by, without
 pub fn staged_is_kept()
     ensures staged { (stagings : StagedParts) (from : ℕ) (entry : List ℕ)
         → staged_by from (with_staged from entry stagings) ≡ Some entry }
-    ensures ended { (stagings : StagedParts) (from : ℕ) → staged_by from (without from stagings) ≡ None }
+    ensures ended { (stagings : StagedParts) (from : ℕ)
+        → staged_by from (without from stagings) ≡ None }
 {}
 
 /// A part changes no other requester's staging, and neither does its end.

@@ -116,7 +116,8 @@ impl Stagings {
         from: u8,
         entry: &[u8],
     ) -> Result<u32, Code>
-        ensures { PartLeaves from (start_outcome (option_copied limits.entry) self.old from entry.now)
+        ensures { PartLeaves from
+            (start_outcome (option_copied limits.entry) self.old from entry.now)
             result self.old self.new }
     {
         let Some(limits) = limits else {

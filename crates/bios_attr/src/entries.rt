@@ -158,7 +158,8 @@ pub(crate) fn push_attributes(
     requires { length strings.now ≤ 65535 }
     ensures bytes { OnOk result (table.new.items
         ≡ table.old.items ++ attribute_entries strings.now attributes.now) }
-    ensures whole { OnOk result (AreEntriesOf Attributes (attribute_contents strings.now attributes.now)) }
+    ensures whole { OnOk result
+        (AreEntriesOf Attributes (attribute_contents strings.now attributes.now)) }
 {
     for attribute in attributes {
         push_attribute(table, strings, attribute)?;

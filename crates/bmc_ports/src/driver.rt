@@ -22,7 +22,8 @@ pub type DriveEnd = Result<Phase, KeptBack>;
 /// Sends frames in their order, up to the first whose sending fails.
 fn send_frames<L: Link>(link: &mut L, frames: &[Frame]) -> Result<(), LinkFault>
     ensures sends { SendsTo L.Link result link.old frames.now link.new }
-    ensures counts { CountsFailures (faults_in result) (L.counts_of link.old) (L.counts_of link.new) }
+    ensures counts { CountsFailures (faults_in result)
+        (L.counts_of link.old) (L.counts_of link.new) }
 {
     for frame in frames {
         match link.send(frame) {
@@ -112,7 +113,8 @@ fn hear_on<A: Link, B: Link>(
 ) -> Option<Sent>
     ensures { (answer : Result AnyHeard AnyFault)
         × GivesOn A.Link B.Link bus (links ipmb.old smbus.old) answer (links ipmb.new smbus.new)
-        × HaveCounted (Answers bus answer ∷ []) (both (A.counts_of ipmb.old) (B.counts_of smbus.old))
+        × HaveCounted (Answers bus answer ∷ [])
+        (both (A.counts_of ipmb.old) (B.counts_of smbus.old))
         (both (A.counts_of ipmb.new) (B.counts_of smbus.new))
         × ((names : Names) (s : DrivenState names) → Represents names manager.old s
         → InputResult names (call_for (Answers bus answer)) s manager.new result) }

@@ -16,7 +16,8 @@ pub(crate) fn scan<J: Opening, S: Store + Drop, R: Wait>(
     bench: &[Bench],
     turns: u32,
 ) -> End
-    ensures scanned { ScannerTurns result turns bench.now seat.old.calls.items seat.new.calls.items }
+    ensures scanned { ScannerTurns result turns bench.now
+        seat.old.calls.items seat.new.calls.items }
     ensures marked { result ≡ Full → seat.new.refused ≡ true }
     ensures mark { result ≡ Turns → seat.new.refused ≡ seat.old.refused }
     ensures number { seat.new.number ≡ seat.old.number }

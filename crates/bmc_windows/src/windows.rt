@@ -123,7 +123,8 @@ impl<const NUMBERS: u8, const CAP: usize> Windows<NUMBERS, CAP> {
             → outcome (is_above NUMBERS) (request_of reading request.now) log ≡ IsNew
             → WindowsKeep NUMBERS reading self.new
             (Carried (kept_of reading request.now reply.now) ∷ log) }
-        ensures busy { (reading : Reading) (log : List Entry) → WindowsKeep NUMBERS reading self.old log
+        ensures busy { (reading : Reading) (log : List Entry)
+            → WindowsKeep NUMBERS reading self.old log
             → outcome (is_above NUMBERS) (request_of reading request.now) log ≡ IsBusy
             → self.new ≡ self.old }
     {
@@ -145,7 +146,8 @@ impl<const NUMBERS: u8, const CAP: usize> Windows<NUMBERS, CAP> {
             → outcome (is_above NUMBERS) (request_of reading request.now) log ≡ IsNew
             → WindowsKeep NUMBERS reading self.new
             (Carried (kept_of reading request.now reply.now) ∷ log) }
-        ensures busy { (reading : Reading) (log : List Entry) → WindowsKeep NUMBERS reading self.old log
+        ensures busy { (reading : Reading) (log : List Entry)
+            → WindowsKeep NUMBERS reading self.old log
             → outcome (is_above NUMBERS) (request_of reading request.now) log ≡ IsBusy
             → self.new ≡ self.old }
     {
@@ -164,7 +166,8 @@ impl<const NUMBERS: u8, const CAP: usize> Windows<NUMBERS, CAP> {
         ensures keeps { (reading : Reading) (log : List Entry)
             → WindowsKeep NUMBERS reading self.old log
             → WindowsKeep NUMBERS reading self.new (Idled requester ∷ log) }
-        ensures had { (reading : Reading) (log : List Entry) → WindowsKeep NUMBERS reading self.old log
+        ensures had { (reading : Reading) (log : List Entry)
+            → WindowsKeep NUMBERS reading self.old log
             → result ≡ list_any (λ q. q == requester) (requesters log) }
     {
         match self.slot(requester) {

@@ -34,7 +34,8 @@ fn begins_with_mark(line: &[u8]) -> bool
 
 /// The offset of the first space that another follows.
 fn two_spaces(line: &[u8]) -> Option<usize>
-    ensures { IfSome result (λ place. (slice_index line.now place ≡ 32) × (slice_index line.now (place + 1) ≡ 32)) }
+    ensures { IfSome result (λ place. (slice_index line.now place ≡ 32)
+        × (slice_index line.now (place + 1) ≡ 32)) }
 {
     for place in 0..line.len() {
         if byte_at(line, place) == b' ' && byte_at(line, place + 1) == b' ' {

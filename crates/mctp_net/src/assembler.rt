@@ -37,7 +37,8 @@ impl Model for Assembler {
 
     ghost view = { λ a. record { places = a.places.items; made = a.made } };
 
-    ghost invariant = { λ a. AreSoundPlaces a.places.items × IfSome a.made (λ i. i < most_assemblies) };
+    ghost invariant = { λ a. AreSoundPlaces a.places.items
+        × IfSome a.made (λ i. i < most_assemblies) };
 }
 
 impl Assembler {

@@ -46,7 +46,8 @@ pub fn comes_back()
 /// Whatever packets come, under each name those that wait are the first of a cut, and at most eight assemblies are open.
 pub fn stays_sound()
     ensures none { AreSoundAssemblies nothing }
-    ensures next { (own : ℕ) (a : Assemblies) (p : Packet) → AreSoundAssemblies a → AreSoundAssemblies (after own a p) }
+    ensures next { (own : ℕ) (a : Assemblies) (p : Packet) → AreSoundAssemblies a
+        → AreSoundAssemblies (after own a p) }
 {}
 
 /// A packet changes what waits under its own name alone: unless it is dropped as NotOurs or NoStart, its assembly is longer

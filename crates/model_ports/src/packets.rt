@@ -13,8 +13,8 @@ ghost use Rattle.model_ports.specs.Seen.{seen, seen_name, AreSeen, WaitsAlike, A
 /// A packet's step under its name is the model's, and afterwards the same waits in both under every name. A message that the packet ends
 /// has the same bytes in both.
 pub fn assemblies_agree()
-    ensures step { (own : ℕ) (a : Assemblies) (p : Packet) (s : SentPacket) (taken : List SentPacket)
-        → s.packet ≡ seen (piece p)
+    ensures step { (own : ℕ) (a : Assemblies) (p : Packet) (s : SentPacket)
+        (taken : List SentPacket) → s.packet ≡ seen (piece p)
         → AreSeen taken (taken_under p a)
         → AgreesWithJoin (drop_cause own a p) p.end (waiting taken s ++ s ∷ []) (takes taken s) }
     ensures waits { (own : ℕ) (a : Assemblies) (p : Packet) (s : SentPacket)
@@ -22,8 +22,8 @@ pub fn assemblies_agree()
         → WaitsAlike port a
         → WaitsAlike (model_after (drop_cause own a p) (seen_name (name_of p.envelope)) s port)
         (after own a p) }
-    ensures whole { (own : ℕ) (a : Assemblies) (p : Packet) (s : SentPacket) (taken : List SentPacket)
-        → s.packet ≡ seen (piece p)
+    ensures whole { (own : ℕ) (a : Assemblies) (p : Packet) (s : SentPacket)
+        (taken : List SentPacket) → s.packet ≡ seen (piece p)
         → AreSeen taken (taken_under p a) → drop_cause own a p ≡ None → p.end ≡ true
         → model_message_of (waiting taken s ++ s ∷ []) ≡ (message_of (after own a p) p).body }
 {}

@@ -30,7 +30,7 @@ impl<'a> SetBiosAttribute<'a> {
     ghost use Rattle.std.specs.Prelude.{◌≡◌};
     ghost use Rattle.record_base.specs.BiosAttribute.{setting};
 
-    /// Sets the value of an attribute to the first of these bytes, as many as a request has at most.
+    /// Sets the value of an attribute to the first of these bytes, as many as a Set has at most, in one request or in parts.
     pub fn of(attribute: u16, attribute_type: u8, bytes: &'a [u8]) -> Self
         ensures { result ≡ setting attribute attribute_type bytes.now }
     {

@@ -417,7 +417,8 @@ impl Draft {
     fn stage<'a>(&mut self, text: &'a str) -> Option<&'a str>
         ensures some { IfSome result (λ rest. Takes (IsWaiting 0 (kept_so_far self.old.contents))
             text.now rest.now (said_in self.new)) }
-        ensures none { IfNone result (Lacks (IsWaiting 0 (kept_so_far self.old.contents)) text.now) }
+        ensures none { IfNone result
+            (Lacks (IsWaiting 0 (kept_so_far self.old.contents)) text.now) }
     {
         let Some(found) = first_stage(text) else {
             return None;

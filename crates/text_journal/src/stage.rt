@@ -120,7 +120,8 @@ fn begins_with(text: &str, word: StageWord) -> bool
 /// The word that the text begins with.
 fn word_at(text: &str) -> Option<StageWord>
     ensures some { IfSome result (λ word. (rest : List ℕ) × (text.now ≡ spelt word ++ rest)) }
-    ensures none { IfNone result ((word : AnyWord) (rest : List ℕ) → text.now ≢ spelt word ++ rest) }
+    ensures none { IfNone result ((word : AnyWord) (rest : List ℕ)
+        → text.now ≢ spelt word ++ rest) }
 {
     use StageWord::*;
     if begins_with(text, Fresh) {

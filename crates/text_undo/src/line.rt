@@ -77,8 +77,10 @@ pub fn first_numbers(text: &str) -> Option<(NextNumbers, &str)>
 
 /// The IPMI request of these bytes: a network function with logical unit 0, a command and data.
 fn ipmi(bytes: &[u8]) -> Option<UndoRequest<'_>>
-    ensures some { IfSome result (λ request. SpellsRequestOf (codes "ipmb ") bytes.now (meant request)) }
-    ensures none { IfNone result ((asked : AnyAsked) → ¬ SpellsRequestOf (codes "ipmb ") bytes.now asked) }
+    ensures some { IfSome result (λ request.
+        SpellsRequestOf (codes "ipmb ") bytes.now (meant request)) }
+    ensures none { IfNone result ((asked : AnyAsked)
+        → ¬ SpellsRequestOf (codes "ipmb ") bytes.now asked) }
 {
     let [first, command, body @ ..] = bytes else {
         return None;
@@ -96,8 +98,10 @@ fn ipmi(bytes: &[u8]) -> Option<UndoRequest<'_>>
 
 /// The PLDM request of these bytes: a type, a command and data.
 fn pldm(bytes: &[u8]) -> Option<UndoRequest<'_>>
-    ensures some { IfSome result (λ request. SpellsRequestOf (codes "smbus ") bytes.now (meant request)) }
-    ensures none { IfNone result ((asked : AnyAsked) → ¬ SpellsRequestOf (codes "smbus ") bytes.now asked) }
+    ensures some { IfSome result (λ request.
+        SpellsRequestOf (codes "smbus ") bytes.now (meant request)) }
+    ensures none { IfNone result ((asked : AnyAsked)
+        → ¬ SpellsRequestOf (codes "smbus ") bytes.now asked) }
 {
     let [kind, command, body @ ..] = bytes else {
         return None;
@@ -113,8 +117,10 @@ fn pldm(bytes: &[u8]) -> Option<UndoRequest<'_>>
 
 /// The request of the bus of these bytes.
 fn request(bus: Bus, bytes: &[u8]) -> Option<UndoRequest<'_>>
-    ensures some { IfSome result (λ request. SpellsRequestOf (name_of bus) bytes.now (meant request)) }
-    ensures none { IfNone result ((asked : AnyAsked) → ¬ SpellsRequestOf (name_of bus) bytes.now asked) }
+    ensures some { IfSome result (λ request.
+        SpellsRequestOf (name_of bus) bytes.now (meant request)) }
+    ensures none { IfNone result ((asked : AnyAsked)
+        → ¬ SpellsRequestOf (name_of bus) bytes.now asked) }
 {
     match bus {
         Bus::Ipmb => ipmi(bytes),

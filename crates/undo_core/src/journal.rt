@@ -1,5 +1,6 @@
 //! What is kept of a manager.
-ghost use Rattle.std.specs.Prelude.{◌≡◌};
+ghost use Rattle.std.specs.Prelude.{◌≡◌, ◌≤◌};
+ghost use Rattle.two_wire.specs.Retries.{most_retries};
 ghost use Rattle.undo_journal.specs.Journals.{kept_of};
 ghost use Rattle.undo_core.specs.Shown.{ForRepresented};
 ghost use Rattle.undo_core.specs.Journals.{kept_by, IsJournalOf};
@@ -14,6 +15,7 @@ impl Manager {
         ensures kept { kept_of result ≡ kept_by self.now }
         ensures shown { ForRepresented self.now (λ names s.
             IsJournalOf names (kept_of result) s) }
+        ensures few { result.retries ≤ most_retries }
     {
         let stage = self.stage.kept();
         JournalView {

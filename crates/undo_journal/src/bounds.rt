@@ -82,7 +82,8 @@ impl KeptStage {
     /// How many replies the manager may still take, of a plan of so many steps, with so many requests that undo.
     fn replies_left(&self, steps: &Steps, requests: &Requests) -> usize
         requires { IsStageOf steps.now requests.now self.now }
-        ensures value { result ≡ replies_left (length steps.now) (length requests.now.members) self.now }
+        ensures value { result
+            ≡ replies_left (length steps.now) (length requests.now.members) self.now }
         ensures few { result ≤ most_replies }
     {
         let (steps, backs) = (steps.len(), requests.len());
@@ -97,7 +98,8 @@ impl KeptStage {
     /// Whether the counts, with the replies that the manager may still take, are no more than the replies that it takes.
     pub fn has_counts(&self, steps: &Steps, requests: &Requests, counts: Counts) -> bool
         requires { IsStageOf steps.now requests.now self.now }
-        ensures { (result ≡ true) ↔ AreFew (length steps.now) (length requests.now.members) self.now counts }
+        ensures { (result ≡ true)
+            ↔ AreFew (length steps.now) (length requests.now.members) self.now counts }
     {
         let answered = usize::from(counts.ipmb) + usize::from(counts.smbus);
         answered + self.replies_left(steps, requests) <= MOST_REPLIES

@@ -34,7 +34,8 @@ impl<'a> JournalView<'a> {
     pub fn waiting(&self) -> Option<UndoRequest<'a>>
         ensures there { IfSome result (λ request.
             waiting_at self.now.stage self.now.requests.now.waiting ≡ Some (meant request)) }
-        ensures missing { IfNone result (waiting_at self.now.stage self.now.requests.now.waiting ≡ None) }
+        ensures missing { IfNone result
+            (waiting_at self.now.stage self.now.requests.now.waiting ≡ None) }
     {
         match self.stage {
             KeptStage::Open {

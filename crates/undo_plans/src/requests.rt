@@ -163,6 +163,7 @@ impl Requests {
         requires none { self.old.waiting ≡ None }
         ensures members { OnOk result (self.new.members
             ≡ self.old.members ++ meant request.now ∷ []) }
+        ensures kept { OnErr result (self.new.members ≡ self.old.members) }
         ensures waiting { self.new.waiting ≡ None }
     {
         self.hold(request)?;

@@ -111,10 +111,12 @@ impl Link for MemLink {
 
     ghost counts_of = { λ link. link.counts };
 
-    ghost gives = { λ link answer after. HearsNext (into_iter_items link.script) answer (into_iter_items after.script)
+    ghost gives = { λ link answer after.
+        HearsNext (into_iter_items link.script) answer (into_iter_items after.script)
         × (after.sent.items ≡ link.sent.items) };
 
-    ghost takes = { λ link frame answer after. KeepsFrame link.sent.items frame answer after.sent.items
+    ghost takes = { λ link frame answer after.
+        KeepsFrame link.sent.items frame answer after.sent.items
         × (into_iter_items after.script ≡ into_iter_items link.script) };
 
     /// The script's next frame. It never fails.

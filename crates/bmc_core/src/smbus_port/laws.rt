@@ -18,5 +18,6 @@ pub fn what_is_answered_is_kept_by_the_rule()
 /// Over any list of packets and idle requesters, whatever others do to the board between, the requests that a port has carried out are
 /// those of the rule, over what is heard, each with the board's answer at that moment.
 pub fn what_is_heard_is_carried_out_by_the_rule()
-    ensures { (setup : BoardFile) (x : PortAndBoard) (es : List PortEvent) → CarriesTheRule setup x es }
+    ensures { (setup : BoardFile) (x : PortAndBoard) (es : List PortEvent)
+        → CarriesTheRule setup x es }
 {}

@@ -59,7 +59,8 @@ fn begin(header: &Header, code: u8, reply: &mut Reply)
 
 /// Answers that the port is busy.
 fn refuse(at: &At, request: &RequestInMessage<'_>, out: &mut Out)
-    ensures { ReplyPackets at.now request.now.envelope (busy_reply request.now) done_as.Busy out.new }
+    ensures { ReplyPackets at.now request.now.envelope (busy_reply request.now)
+        done_as.Busy out.new }
 {
     let mut reply = Bytes::new();
     begin(
