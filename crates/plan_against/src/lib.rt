@@ -1,0 +1,10 @@
+//! A plan against a board: what the board lacks of it, what it would refuse, and what couldn't be taken back, step by step.
+#![tactic(auto)]
+
+mod finding;
+mod getting;
+mod setting;
+mod steps;
+
+pub use finding::Finding;
+pub use steps::try_steps;
