@@ -42,9 +42,9 @@ is_toml line = list_any (λ byte. byte == 61) line || begins (codes "[") line
 abbrev pub begins_with_digit : List ℕ → Bool
 begins_with_digit line = not (is_empty line) && is_digit (slice_index line 0)
 
--- a line begins as one of a board file alone does
+-- a line begins as one of a board file alone does: with its key `tid`, whole, or with its table `device`
 abbrev pub begins_board : List ℕ → Bool
-begins_board line = begins (codes "tid") (trim line) || begins (codes "[device]") (trim line)
+begins_board line = begins (codes "tid ") (trim line) || begins (codes "tid=") (trim line) || begins (codes "[device]") (trim line)
 
 -- what lines look like, whose first that says something is this one
 abbrev pub looks_from : List (List ℕ) → Option (List ℕ) → TextForm

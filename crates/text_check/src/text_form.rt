@@ -118,7 +118,7 @@ fn begins_board(line: &str) -> bool
     ensures { result ≡ begins_board line.now }
 {
     let line = line.trim();
-    begins("tid", line) || begins("[device]", line)
+    begins("tid ", line) || begins("tid=", line) || begins("[device]", line)
 }
 
 /// The lines of a text.

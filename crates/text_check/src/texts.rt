@@ -1,7 +1,8 @@
 //! What is told of a text, by what it looks like.
-ghost use Rattle.std.specs.Prelude.{◌≡◌, IfOk, if◌then◌else◌};
+ghost use Rattle.std.specs.Prelude.{◌≡◌, IfOk, OnOk, if◌then◌else◌, string_bytes};
 ghost use Rattle.text_check.specs.Known.{is_told_board, is_told_plan};
 ghost use Rattle.text_check.specs.Outcomes.{tells, tells_board, IsBoardOutcome, IsPlanOutcome, IsScheduleOutcome, IsUndoOutcome, IsJournalOutcome, IsOutcomeBy};
+ghost use Rattle.text_check.specs.Worded.{EndsInWords};
 
 use crate::bad_line::{tell_journal_line, tell_readings_line, tell_schedule_line, tell_undo_line};
 use crate::held::{push_board, push_held, push_plan};
@@ -10,6 +11,7 @@ use crate::outcome::Outcome;
 use crate::refusals::{refuse_board, refuse_plan};
 use crate::text_form::TextForm;
 use crate::unfit::tell_unfit;
+use crate::worded::tell_words;
 use cfg_records::BoardFile;
 use file_faults::{Sheet, Source};
 use plan_file::{PlanFault, read_plan};
@@ -35,8 +37,8 @@ fn read_outcome(is_told: bool) -> Outcome
     }
 }
 
-/// Tells of the keys of a board file.
-fn told_board(alloc: Global, sheet: &mut Sheet, source: Source<'_>) -> Result<bool, AllocError>
+/// Tells of the keys of a board file that are unknown or not used, a line each for the first ten, and whether there is one.
+pub fn told_board(alloc: Global, sheet: &mut Sheet, source: Source<'_>) -> Result<bool, AllocError>
     ensures { IfOk result (λ told. told ≡ tells is_told_board source.entry.file.now) }
 {
     match toml::table_from_str(alloc, source.file) {
@@ -46,8 +48,8 @@ fn told_board(alloc: Global, sheet: &mut Sheet, source: Source<'_>) -> Result<bo
     }
 }
 
-/// Tells of the keys of a plan.
-fn told_plan(alloc: Global, sheet: &mut Sheet, source: Source<'_>) -> Result<bool, AllocError>
+/// Tells of the keys of a plan that are unknown or not used, a line each for the first ten, and whether there is one.
+pub fn told_plan(alloc: Global, sheet: &mut Sheet, source: Source<'_>) -> Result<bool, AllocError>
     ensures { IfOk result (λ told. told ≡ tells is_told_plan source.entry.file.now) }
 {
     match toml::table_from_str(alloc, source.file) {
@@ -223,17 +225,21 @@ fn tell_mark(text: &mut String, source: Source<'_>, form: TextForm) -> Result<()
 /// Reads a file's text as one of this form, and adds what is told of the file: a line of what it holds or why it is refused; of one that is
 /// refused where its faults are, what stands there and what would be right; a line for each key that is unknown or not used; and of a board
 /// that is read one for each sensor data record that fits no sensor. Gives what came of it. Readings are refused: their reader stands above
-/// this crate, and `tell_readings` and `refuse_readings` tell of them.
+/// this crate, and `tell_readings` and `refuse_readings` tell of them. Behind all that stand the lines in words of a plan, an undo text or a
+/// journal that is read.
 pub fn checked(
     alloc: Global,
     sheet: &mut Sheet,
     source: Source<'_>,
     form: TextForm,
 ) -> Result<Outcome, AllocError>
-    ensures { IfOk result (IsOutcomeBy form source.entry.file.now) }
+    ensures outcome { IfOk result (IsOutcomeBy form source.entry.file.now) }
+    ensures words { OnOk result (EndsInWords form source.entry.name.now source.entry.file.now
+        (string_bytes sheet.new.text)) }
 {
     let outcome = checked_by(alloc, sheet, source, form)?;
     tell_mark(&mut sheet.text, source, form)?;
+    tell_words(alloc, &mut sheet.text, source, form)?;
     Ok(outcome)
 }
 
