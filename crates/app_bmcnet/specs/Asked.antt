@@ -62,6 +62,8 @@ pub record AsksServe (rows : List Row) (asked : ServeWords) : Type 0 where
   pub readings : option_map string_bytes asked.readings ≡ first_of (codes "readings") rows
   pub repeats : is_given (codes "repeat-readings") rows ≡ asked.repeats
   pub clock : is_given (codes "clock") rows ≡ asked.clock
+  pub strict : is_given (codes "strict") rows ≡ asked.strict
+  pub list : is_given (codes "list") rows ≡ asked.list
   pub stand : OptionsStand rows
 
 -- what was matched behind `run` asks for this

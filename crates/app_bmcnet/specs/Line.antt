@@ -10,11 +10,12 @@ use Rattle.app_bmcnet.specs.declared.tasks.Task.TheVariants.{Serve, Run, Undo, P
 abbrev pub taking : (name : Text) → (options : List Rule) → (words : List Text) → App
 taking name options words = fold with_rule (new_app name) (options ++ map needed_rule words)
 
--- the options of `serve`: `[--wait MS] [--periods] [--quiet N] [--forget N] [--readings FILE] [--repeat-readings] [--clock]`
+-- the options of `serve`: `[--wait MS] [--periods] [--quiet N] [--forget N] [--readings FILE] [--repeat-readings] [--clock] [--strict] [--list]`
 abbrev pub serve_options : List Rule
 serve_options =
     option_rule (codes "wait") ∷ flag_rule (codes "periods") ∷ option_rule (codes "quiet") ∷ option_rule (codes "forget")
-    ∷ option_rule (codes "readings") ∷ flag_rule (codes "repeat-readings") ∷ flag_rule (codes "clock") ∷ []
+    ∷ option_rule (codes "readings") ∷ flag_rule (codes "repeat-readings") ∷ flag_rule (codes "clock")
+    ∷ flag_rule (codes "strict") ∷ flag_rule (codes "list") ∷ []
 
 -- those of `run`: `[--wait MS] [--again N] [--forget N] [--greet]`
 abbrev pub run_options : List Rule

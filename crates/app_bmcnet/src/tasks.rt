@@ -56,15 +56,21 @@ const REPEAT_READINGS_HELP: &str =
 const CLOCK_HELP: &str =
     "Has the board's clock and watchdog run, a tick each 100 ms, with --periods and without a file, as in --clock";
 
+const SERVE_STRICT_HELP: &str =
+    "Ends with 13 where records are changed, and refuses a board file with a key that nothing reads, as in --strict";
+
+const LIST_HELP: &str = "Prints each record that is changed, in words, as in --list";
+
 const SERVE_EXAMPLES: &str = "Examples:
   bmcnet serve --periods sample.toml 9620 9621 1000
   bmcnet serve --periods --clock sample.toml 9620 9621 1000
   bmcnet serve --periods --wait 500 sample.toml 9620 9621 1000
   bmcnet serve --periods --quiet 50 sample.toml 9620 9621 100000
   bmcnet serve --periods --forget 50 sample.toml 9620 9621 1000
+  bmcnet serve --periods --strict --list sample.toml 9620 9621 1000
   bmcnet serve --periods --readings examples/readings.txt --repeat-readings sample.toml 9620 9621 1000";
 
-const SERVE_ARGUMENTS: [Argument<'static>; 11] = [
+const SERVE_ARGUMENTS: [Argument<'static>; 13] = [
     Argument::Option("wait", "MS", WAIT_HELP),
     Argument::Flag("periods", PERIODS_HELP),
     Argument::Option("quiet", "N", QUIET_HELP),
@@ -72,13 +78,15 @@ const SERVE_ARGUMENTS: [Argument<'static>; 11] = [
     Argument::Option("readings", "FILE", READINGS_HELP),
     Argument::Flag("repeat-readings", REPEAT_READINGS_HELP),
     Argument::Flag("clock", CLOCK_HELP),
+    Argument::Flag("strict", SERVE_STRICT_HELP),
+    Argument::Flag("list", LIST_HELP),
     Argument::Needed("BOARD", BOARD_HELP),
     Argument::Needed("P0", P0_HELP),
     Argument::Needed("P1", P1_HELP),
     Argument::Needed("TURNS", TURNS_HELP),
 ];
 
-/// `serve [--wait MS] [--periods] [--quiet N] [--forget N] [--readings FILE] [--repeat-readings] [--clock] BOARD P0 P1 TURNS`.
+/// `serve [--wait MS] [--periods] [--quiet N] [--forget N] [--readings FILE] [--repeat-readings] [--clock] [--strict] [--list] BOARD P0 P1 TURNS`.
 fn serve_command<'a>(alloc: Global) -> Result<Command<'a>, AllocError>
     ensures { IfOk result (IsCommand (app_named Task.Serve)) }
 {

@@ -66,7 +66,8 @@ fn option_refusal(
 /// The port that the word of this name is.
 fn port(alloc: Global, matches: &ArgMatches, task: Task, name: &str) -> Result<u16, Refusal>
     ensures port { IfOk result (NamesPort (rows_of (found_of matches.now)) name.now) }
-    ensures refused { IfErr result (RefusesWords (NamesPort (rows_of (found_of matches.now)) name.now)) }
+    ensures refused { IfErr result
+        (RefusesWords (NamesPort (rows_of (found_of matches.now)) name.now)) }
 {
     let Some(word) = matches.get_str(name) else {
         return Err(lacking(alloc));
@@ -200,6 +201,8 @@ fn serve_words(alloc: Global, matches: &ArgMatches) -> Result<ServeWords, Refusa
         readings: given(alloc, matches, "readings")?,
         repeats: has_flag(matches, "repeat-readings"),
         clock: has_flag(matches, "clock"),
+        strict: has_flag(matches, "strict"),
+        list: has_flag(matches, "list"),
     })
 }
 

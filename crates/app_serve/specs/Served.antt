@@ -13,18 +13,21 @@ use Rattle.bmc_ports.specs.declared.agenda.Agenda.{Agenda}
 use Rattle.bmc_board.specs.declared.bench.Bench.TheVariants.{Tick}
 use Rattle.bmc_ports.specs.Timing.{GainsCalls}
 use Rattle.cfg_records.specs.Changed.{changed_in}
+use Rattle.changed_words.specs.Changes.{IsListOf, listed}
 use Rattle.text_lines.specs.RecordsLine.{records_line}
 use Rattle.app_serve.specs.declared.board.ClosedBoard.{ClosedBoard}
-use Rattle.app_serve.specs.declared.tally.Begun.{Begun}
+use Rattle.app_serve.specs.declared.tally.ListedBoard.{ListedBoard}
 use Rattle.app_serve.specs.declared.run.ServeWords.{ServeWords}
+use Rattle.app_serve.specs.Turns.{PortsRun}
 
 -- the most events of a history
 abbrev pub most_events : ℕ
 most_events = 4096
 
--- a board begins as the file has it, beside its records
-pub record IsBegunBoard (file : BoardFile) (begun : Begun) : Type 0 where
-  pub start : begun.start.items ≡ pairs_of file
+-- a board begins as the file has it, beside its records, and with a list of those that change, where that is asked for
+pub record IsListedBoard (asked : Bool) (file : BoardFile) (begun : ListedBoard) : Type 0 where
+  pub start : begun.first.start.items ≡ pairs_of file
+  pub list : IsListOf asked file begun.first.list
   pub setup : begun.board.setup ≡ file
   pub opens : state_of begun.board ≡ opened file
 
@@ -79,16 +82,19 @@ abbrev pub PlaysAgenda : ServeWords → Option (List Timed) → List (List Event
 PlaysAgenda words given histories =
     (place : ℕ) × GainsCalls (is_repeated words.clock words.repeats) (list_for words.clock given) 0 place [] (flat_map (calls_of 2) histories)
 
--- Some histories of the file's board, one unless the words ask for periods, play what these ask for with the list. They have so many events in all,
--- and lead to a state in which so many of the file's records have another value.
-pub record TalliesOf (words : ServeWords) (list : Option (List Timed)) (file : BoardFile) (events changed : ℕ) : Type 0 where
+-- Some histories of the file's board, one unless the words ask for periods, play what these ask for with the list, and have the calls of ports that
+-- were served as they ask. They have so many events in all, and lead to a state in which so many of the file's records have another value; the lines
+-- say which, where the words ask for that.
+pub record TalliesOf (words : ServeWords) (list : Option (List Timed)) (file : BoardFile) (events changed : ℕ) (changes : List ℕ) : Type 0 where
   pub histories : List (List Event)
   pub after : State
   pub plays : PlaysAgenda words list histories
+  pub ports : PortsRun words histories most_events events
   pub count : IsCount words.periods (length histories)
   pub lead : HistoriesLead file (opened file) histories after
   pub counted : events ≡ sum_by length histories
   pub differ : changed ≡ changed_in after.records (pairs_of file)
+  pub told : changes ≡ flat_map ended (listed words.list file after.records)
 
 -- how many events there were
 abbrev pub served_line : ℕ → List ℕ

@@ -31,7 +31,9 @@ fn open_end<'a, R: Net + Clock>(
     asked: u16,
     wait_ms: u32,
 ) -> Option<End<'a, R>>
-    ensures { IfSome result (λ end. IsTakenPort asked end.port) }
+    ensures taken { IfSome result (λ end. IsTakenPort asked end.port) }
+    ensures port { IfSome result (λ end. end.link.link.named ≡ asked) }
+    ensures wait { IfSome result (λ end. end.link.wait_ms ≡ wait_ms) }
 {
     let link = WakefulLink::bind(rt, bell, asked, wait_ms).ok()?;
     if asked != 0 {
@@ -54,6 +56,10 @@ pub(crate) fn open_ends<'a, R: Net + Clock>(
 ) -> Option<BusLinks<'a, R>>
     ensures ipmb { IfSome result (λ ends. IsTakenPort words.now.ipmb_port ends.ipmb.port) }
     ensures smbus { IfSome result (λ ends. IsTakenPort words.now.smbus_port ends.smbus.port) }
+    ensures ports { IfSome result (λ ends. (ends.ipmb.link.link.named ≡ words.now.ipmb_port)
+        × (ends.smbus.link.link.named ≡ words.now.smbus_port)) }
+    ensures waits { IfSome result (λ ends. (ends.ipmb.link.wait_ms ≡ words.now.wait_ms)
+        × (ends.smbus.link.wait_ms ≡ words.now.wait_ms)) }
 {
     let ipmb = open_end(rt, bell, words.ipmb_port, words.wait_ms)?;
     match open_end(rt, bell, words.smbus_port, words.wait_ms) {

@@ -4,6 +4,7 @@
 pub mod board;
 mod counting;
 mod ends;
+mod inputs;
 mod laws;
 pub mod periods;
 mod readings;

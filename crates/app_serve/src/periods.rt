@@ -2,7 +2,6 @@
 ghost use Rattle.std.specs.Prelude.{◌≡◌, ◌<◌, ◌+◌, ◌^◌, ◌↔◌, IfOk, IsTrue};
 ghost use Rattle.bmc_ports.specs.Slices.{EndsAt};
 ghost use Rattle.bmc_board.specs.State.{state_of};
-ghost use Rattle.bmc_shared.specs.Seated.{IsFreshSeat};
 ghost use Rattle.app_serve.specs.Served.{most_events};
 ghost use Rattle.app_serve.specs.Periods.{EndsServing, IsPeriod, IsClosed, GoesToNext, RunsTo, events_of_period};
 
@@ -10,8 +9,8 @@ use crate::board::{OpenGate, open_board};
 use app_base::ReportFault;
 use bmc_board::{Board, Records};
 use bmc_ports::{
-    Agenda, History, Lanes, Link, MOST_EVENTS, NoThread, Opening, RunResult, Seats, Shared,
-    StopRules, run_agenda,
+    Agenda, History, Lanes, Link, MOST_EVENTS, NoThread, Opening, RunResult, Shared, StopRules,
+    run_agenda,
 };
 use std::alloc::Global;
 use std::marker::Brand;
@@ -108,50 +107,9 @@ fn close_period<J: Opening, A: Drop, B: Drop>(
     }
 }
 
-/// Serves a board that is shared for a period, and closes it.
-fn serve_shared<J, A, B, R>(
-    rt: &R,
-    shared: Shared<J, Records>,
-    seats: Seats<J>,
-    lanes: Lanes<A, B>,
-    agenda: Agenda<'_>,
-    rules: ServeRules<'_>,
-) -> Result<Period<A, B>, ReportFault>
-where
-    J: Opening + Send + Sync,
-    A: Link + Send + Drop,
-    B: Link + Send + Drop,
-    R: Threads + Wait + Clock + Sync,
-    requires three { J.parts ≡ 3 }
-    requires first { IsFreshSeat seats.first }
-    requires second { IsFreshSeat seats.second }
-    requires scanner { IsFreshSeat seats.scanner }
-    requires most { J.room ≡ most_events }
-    ensures period { IfOk result (λ period. IsPeriod A.Link B.Link rules.entry.periods
-        rules.entry.quiet J.setup J.opening (state_of period.board) lanes period.lanes
-        agenda.entry.repeats agenda.entry.table.list.now agenda.entry.table.next
-        period.next period.history) }
-    ensures setup { IfOk result (λ period. period.board.setup ≡ J.setup) }
-{
-    match run_agenda(
-        rt,
-        &shared,
-        seats,
-        lanes,
-        agenda,
-        &OpenGate,
-        rules.stop_rules(),
-    ) {
-        Ok(sliced) => close_period(shared, sliced),
-        Err(NoThread) => {
-            drop(shared);
-            Err(ReportFault::Stopped)
-        }
-    }
-}
-
-/// Serves a board for a period, with room for so many events.
-fn serve_opened<J, A, B, R>(
+/// Serves a board for a period, with room for so many events, while what is left of the agenda happens on it: until both workers made their
+/// turns, until both links were quiet for so many turns in a row, where a number is given, or until its room is over.
+fn serve_period<J, A, B, R>(
     rt: &R,
     alloc: Global,
     blank: Blank,
@@ -179,45 +137,21 @@ where
         period.next period.history) }
     ensures setup { IfOk result (λ period. period.board.setup ≡ J.setup) }
 {
-    match open_board::<J>(alloc, blank, board, room) {
-        Ok((shared, seats)) => serve_shared(rt, shared, seats, lanes, agenda, rules),
+    let (shared, seats) = match open_board::<J>(alloc, blank, board, room) {
+        Ok(opened) => opened,
         Err(why) => {
             drop(lanes);
-            Err(why)
+            return Err(why);
+        }
+    };
+    let rules = rules.stop_rules();
+    match run_agenda(rt, &shared, seats, lanes, agenda, &OpenGate, rules) {
+        Ok(sliced) => close_period(shared, sliced),
+        Err(NoThread) => {
+            drop(shared);
+            Err(ReportFault::Stopped)
         }
     }
-}
-
-/// Serves a board for a period, while what is left of the agenda happens on it: until both workers made their turns, until both links were
-/// quiet for so many turns in a row, where a number is given, or until its room is over.
-fn serve_period<A, B, R>(
-    rt: &R,
-    alloc: Global,
-    board: Board<Records>,
-    lanes: Lanes<A, B>,
-    agenda: Agenda<'_>,
-    rules: ServeRules<'_>,
-) -> Result<Period<A, B>, ReportFault>
-where
-    A: Link + Send + Drop,
-    B: Link + Send + Drop,
-    R: Threads + Wait + Clock + Sync,
-    ensures period { IfOk result (λ period. IsPeriod A.Link B.Link rules.entry.periods
-        rules.entry.quiet board.setup (state_of board) (state_of period.board)
-        lanes period.lanes agenda.entry.repeats agenda.entry.table.list.now
-        agenda.entry.table.next period.next period.history) }
-    ensures setup { IfOk result (λ period. period.board.setup ≡ board.setup) }
-{
-    serve_opened::<Brand, A, B, R>(
-        rt,
-        alloc,
-        Blank::new(3),
-        board,
-        MOST_EVENTS,
-        lanes,
-        agenda,
-        rules,
-    )
 }
 
 impl<'a, A: Link + Send + Drop, B: Link + Send + Drop> PeriodState<'a, A, B> {
@@ -262,7 +196,17 @@ impl<'a, A: Link + Send + Drop, B: Link + Send + Drop> PeriodState<'a, A, B> {
             events,
         } = self;
         let next = agenda.table.next;
-        match serve_period(rt, alloc, board, lanes, agenda.from(next), rules) {
+        let blank = Blank::new(3);
+        match serve_period::<Brand, A, B, R>(
+            rt,
+            alloc,
+            blank,
+            board,
+            MOST_EVENTS,
+            lanes,
+            agenda.from(next),
+            rules,
+        ) {
             Ok(
                 Period {
                     board,

@@ -1,10 +1,11 @@
 //! What happens on a served board by a text of readings, where there is one.
-ghost use Rattle.std.specs.Prelude.{◌≡◌, ℕ, List, Option, IfOk, IfErr, string_bytes};
-ghost use Rattle.std.specs.Option.{option_copied};
+ghost use Rattle.std.specs.Prelude.{◌≡◌, ℕ, List, Option, IfOk, IfErr, Err, option_map, string_bytes};
 ghost use Rattle.app_base.specs.declared.console.Stream.TheVariants.{Error};
 ghost use Rattle.app_base.specs.declared.status.Status.TheVariants.{RefusedFile};
 ghost use Rattle.app_base.specs.Ending.{ReportTells};
-ghost use Rattle.app_serve.specs.Run.{IsBoard, IsRefused, SaysUnserved, StandsFor, readings_line};
+ghost use Rattle.app_serve.specs.Run.{AreInputs, IsRefused, SaysUnserved, StandsFor, readings_line};
+ghost use Rattle.app_serve.specs.declared.run.ServeWords.{ServeWords as AnyWords};
+ghost use Rattle.app_serve.specs.declared.inputs.InputFault.TheVariants.{Readings};
 ghost use Rattle.app_serve.specs.Served.{IsAsked, clock_list, list_for, list_in};
 
 use crate::readings_text::{ReadingsFault, read_readings};
@@ -18,15 +19,16 @@ use std::time::{Clock, Instant};
 /// The list that a text of readings stands for, where there is one.
 pub(crate) fn list_of(
     alloc: Global,
-    text: Option<&str>,
+    text: &Option<String>,
 ) -> Result<Option<Vec<Timed>>, ReadingsFault>
-    ensures list { IfOk result (λ list. StandsFor (option_copied text.entry) (list_in list)) }
-    ensures refused { IfErr result (IsRefused (option_copied text.entry)) }
+    ensures list { IfOk result
+        (λ list. StandsFor (option_map string_bytes text.now) (list_in list)) }
+    ensures refused { IfErr result (IsRefused (option_map string_bytes text.now)) }
 {
     let Some(text) = text else {
         return Ok(None);
     };
-    match read_readings(alloc, text) {
+    match read_readings(alloc, text.as_str()) {
         Ok(list) => Ok(Some(list)),
         Err(why) => Err(why),
     }
@@ -88,8 +90,9 @@ fn fault_report(alloc: Global, why: ReadingsFault) -> Result<Report, AllocError>
 
 /// What is said of a text of readings that stands for no list.
 pub(crate) fn readings_refusal(alloc: Global, why: ReadingsFault) -> Result<Report, ReportFault>
-    ensures { (board : List ℕ) (given : Option (List ℕ)) → IsBoard board
-        → IsRefused given why → ReportTells (SaysUnserved board given) result }
+    ensures { (words : AnyWords) (board : List ℕ) (given : Option (List ℕ))
+        → AreInputs board given (Err (Readings why))
+        → ReportTells (SaysUnserved words board given) result }
 {
     match why {
         ReadingsFault::Memory => Err(ReportFault::Memory),

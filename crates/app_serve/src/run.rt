@@ -1,21 +1,14 @@
 //! `bmcnet serve`: a board's ports over UDP.
-ghost use Rattle.std.specs.Prelude.{◌≡◌, ◌⊎◌, ℕ, List, Option, option_map, IfErr, OnOk, Ok, Err, string_bytes};
-ghost use Rattle.std.specs.Option.{option_copied};
-ghost use Rattle.app_base.specs.declared.console.Stream.TheVariants.{Output};
+ghost use Rattle.std.specs.Prelude.{ℕ, List, Option, IfErr, OnOk, string_bytes};
 ghost use Rattle.app_base.specs.Ending.{RunEnds, SaysReport, ReportTells};
-ghost use Rattle.text_board.specs.declared.fault.FileFault.TheVariants.{Memory};
-ghost use Rattle.text_board.specs.Holds.{ReadsText};
-ghost use Rattle.app_serve.specs.Run.{BesideEnds, BoardEnds, IsTakenPort, SaysNothing, SaysPorts, SaysTally, SaysUnserved, ServeEnds, StandsFor, TallyEnds, TellsRoom, TextEnds};
-ghost use Rattle.app_serve.specs.Served.{list_in};
+ghost use Rattle.app_serve.specs.Run.{AreServable, SaysNothing, SaysPorts, SaysTally, ServeEnds, TallyEnds, TellsRoom, TextEnds};
 
 use crate::counting::{Asked, served};
-use crate::ends::{BusLinks, open_ends, ports_text};
-use crate::readings::{list_of, readings_refusal};
-use crate::tally::{ROOM_LINE, Tally, report};
+use crate::ends::{open_ends, ports_text};
+use crate::inputs::{ServeInputs, servable_inputs, texts_of};
+use crate::tally::{ROOM_LINE, ServeAccount, Tally, report};
 use app_base::files::refuse;
-use app_base::{Console, Report, ReportFault, Status, Stream, TextFiles, end_run, text_of};
-use bmc_ports::Timed;
-use cfg_records::BoardFile;
+use app_base::{Console, Report, ReportFault, Status, Stream, TextFiles, end_run};
 use std::alloc::Global;
 use std::io;
 use std::net::Net;
@@ -23,7 +16,6 @@ use std::sync::Wait;
 use std::sync::atomic::AtomicBool;
 use std::thread::Threads;
 use std::time::Clock;
-use text_board::{FileFault, read_board};
 
 /// How many milliseconds a link waits for a frame, where the words don't say.
 pub const WAIT_MS: u32 = 200;
@@ -53,6 +45,10 @@ pub struct ServeWords {
     pub repeats: bool,
     /// Whether the board's clock runs in place of that: a tick each tenth of a second.
     pub clock: bool,
+    /// Whether a board file with a key that nothing reads is refused, and the status says whether records are changed.
+    pub strict: bool,
+    /// Whether each changed record is told.
+    pub list: bool,
 }
 
 /// Writes the report of a run, lets it go, and gives the status.
@@ -117,190 +113,78 @@ fn tell_room<W: io::Write, E: io::Write>(
 }
 
 /// What is told of a board that was served.
-fn tally_report(alloc: Global, tally: Tally) -> Result<Report, ReportFault>
-    ensures { ReportTells (SaysTally tally.events tally.changed) result }
+fn account_report(
+    alloc: Global,
+    account: &ServeAccount,
+    strict: bool,
+) -> Result<Report, ReportFault>
+    ensures { ReportTells (SaysTally strict account.now.tally.events account.now.tally.changed
+        (string_bytes account.now.changes)) result }
 {
-    Ok(report(alloc, tally)?)
+    Ok(report(alloc, account, strict)?)
 }
 
 /// Says what came of a board that was served.
-fn tell_tally<W: io::Write, E: io::Write>(
+fn tell_account<W: io::Write, E: io::Write>(
     alloc: Global,
-    tally: Tally,
+    account: &ServeAccount,
     words: &ServeWords,
     console: &mut Console<W, E>,
 ) -> u8
-    ensures { TallyEnds W.contents E.contents words.now.periods tally.events tally.changed
+    ensures { TallyEnds W.contents E.contents words.now account.now.tally.events
+        account.now.tally.changed (string_bytes account.now.changes)
         console.old console.new result }
 {
-    match tell_room(tally, words, console) {
-        Ok(()) => finish(tally_report(alloc, tally), console),
+    match tell_room(account.tally, words, console) {
+        Ok(()) => finish(account_report(alloc, account, words.strict), console),
         Err(status) => status,
     }
 }
 
-/// Serves the board of a file at these ends, and says what came of it.
-fn serve_told<W: io::Write, E: io::Write, R: Threads + Wait + Clock + Sync>(
+/// Serves a board while on it happens what the list has, at the ports that the words name, and says what came of it. Where nothing can be told of
+/// these, nothing is served.
+fn serve_inputs<W: io::Write, E: io::Write, R: Net + Threads + Wait + Clock + Sync>(
     rt: &R,
     alloc: Global,
-    file: BoardFile,
-    ends: BusLinks<'_, R>,
-    asked: Asked<'_>,
+    inputs: ServeInputs,
+    words: &ServeWords,
     console: &mut Console<W, E>,
 ) -> u8
-    ensures { (board : List ℕ) (given : Option (List ℕ)) → ReadsText board (Ok file)
-        → StandsFor given (list_in asked.entry.readings.now)
-        → BoardEnds W.contents E.contents asked.entry.words.now board given
-        console.old console.new result }
+    ensures { (board : List ℕ) (given : Option (List ℕ)) → AreServable words.now board given inputs
+        → TextEnds W.contents E.contents words.now board given console.old console.new result }
 {
-    let BusLinks { ipmb, smbus } = ends;
-    match served(rt, alloc, file, ipmb.link, smbus.link, asked) {
-        Ok(tally) => tell_tally(alloc, tally, asked.words, console),
+    let ServeInputs { file, readings } = inputs;
+    let bell = AtomicBool::new(false);
+    let Some(ends) = open_ends(rt, &bell, words) else {
+        drop(file);
+        return finish(Err(ReportFault::Stopped), console);
+    };
+    if let Err(status) = tell_ports(alloc, ends.ipmb.port, ends.smbus.port, console) {
+        drop(file);
+        drop(ends);
+        return status;
+    }
+    let asked = Asked {
+        readings: &readings,
+        words,
+        bell: &bell,
+    };
+    match served(rt, alloc, file, ends, asked) {
+        Ok(account) => tell_account(alloc, &account, words, console),
         Err(why) => finish(Err(why), console),
     }
 }
 
-/// Tells of the ports of these ends, and serves the board of a file there. Where nothing can be told, nothing is served.
-fn serve_ends<W: io::Write, E: io::Write, R: Threads + Wait + Clock + Sync>(
-    rt: &R,
-    alloc: Global,
-    file: BoardFile,
-    ends: BusLinks<'_, R>,
-    asked: Asked<'_>,
-    console: &mut Console<W, E>,
-) -> u8
-    requires ipmb { IsTakenPort asked.words.now.ipmb_port ends.ipmb.port }
-    requires smbus { IsTakenPort asked.words.now.smbus_port ends.smbus.port }
-    ensures { (board : List ℕ) (given : Option (List ℕ)) → ReadsText board (Ok file)
-        → StandsFor given (list_in asked.entry.readings.now)
-        → TextEnds W.contents E.contents asked.entry.words.now board given
-        console.old console.new result }
-{
-    match tell_ports(alloc, ends.ipmb.port, ends.smbus.port, console) {
-        Ok(()) => serve_told(rt, alloc, file, ends, asked, console),
-        Err(status) => {
-            drop(file);
-            drop(ends);
-            status
-        }
-    }
-}
-
-/// Serves the board of a file at the ports that the words name.
-fn serve_board<W: io::Write, E: io::Write, R: Net + Threads + Wait + Clock + Sync>(
-    rt: &R,
-    alloc: Global,
-    file: BoardFile,
-    readings: &Option<Vec<Timed>>,
-    words: &ServeWords,
-    console: &mut Console<W, E>,
-) -> u8
-    ensures { (board : List ℕ) (given : Option (List ℕ)) → ReadsText board (Ok file)
-        → StandsFor given (list_in readings.now)
-        → TextEnds W.contents E.contents words.now board given console.old console.new result }
-{
-    let bell = AtomicBool::new(false);
-    let asked = Asked {
-        readings,
-        words,
-        bell: &bell,
-    };
-    match open_ends(rt, &bell, words) {
-        Some(ends) => serve_ends(rt, alloc, file, ends, asked, console),
-        None => {
-            drop(file);
-            finish(Err(ReportFault::Stopped), console)
-        }
-    }
-}
-
-/// What is said of a text that holds no board.
-fn refusal(alloc: Global, why: FileFault) -> Result<Report, ReportFault>
-    ensures { (board : List ℕ) (given : Option (List ℕ))
-        → (why ≡ Memory) ⊎ ReadsText board (Err why) → ReportTells (SaysUnserved board given) result }
-{
-    match why {
-        FileFault::Memory => Err(ReportFault::Memory),
-        why => Ok(Report::of_board(alloc, why)?),
-    }
-}
-
-/// Serves the board of a file, with this text of readings, where there is one, and says what came of it.
-fn serve_file<W: io::Write, E: io::Write, R: Net + Threads + Wait + Clock + Sync>(
-    rt: &R,
-    alloc: Global,
-    file: BoardFile,
-    readings: Option<&str>,
-    words: &ServeWords,
-    console: &mut Console<W, E>,
-) -> u8
-    ensures { (board : List ℕ) → ReadsText board (Ok file)
-        → TextEnds W.contents E.contents words.now board (option_copied readings.entry)
-        console.old console.new result }
-{
-    match list_of(alloc, readings) {
-        Ok(list) => {
-            let status = serve_board(rt, alloc, file, &list, words, console);
-            drop(list);
-            status
-        }
-        Err(why) => {
-            drop(file);
-            finish(readings_refusal(alloc, why), console)
-        }
-    }
-}
-
-/// Serves the board of this text, with this text of readings, where there is one, and says what came of it.
-fn serve_text<W: io::Write, E: io::Write, R: Net + Threads + Wait + Clock + Sync>(
-    rt: &R,
-    alloc: Global,
-    board: &str,
-    readings: Option<&str>,
-    words: &ServeWords,
-    console: &mut Console<W, E>,
-) -> u8
-    ensures { TextEnds W.contents E.contents words.now board.now (option_copied readings.entry)
-        console.old console.new result }
-{
-    match read_board(alloc, board) {
-        Ok(file) => serve_file(rt, alloc, file, readings, words, console),
-        Err(why) => finish(refusal(alloc, why), console),
-    }
-}
-
-/// Serves the board of this text, with the readings of the file that the words name, where they name one.
-fn serve_beside<F: TextFiles, W: io::Write, E: io::Write, R: Net + Threads + Wait + Clock + Sync>(
-    rt: &R,
-    alloc: Global,
-    files: &F,
-    board: &str,
-    words: &ServeWords,
-    console: &mut Console<W, E>,
-) -> u8
-    ensures { BesideEnds W.contents E.contents (F.gives files.now) words.now
-        (option_map string_bytes words.now.readings) board.now console.old console.new result }
-{
-    let Some(word) = &words.readings else {
-        return serve_text(rt, alloc, board, None, words, console);
-    };
-    match text_of(files, word.as_str()) {
-        Ok(text) => {
-            let status = serve_text(rt, alloc, board, Some(text.as_str()), words, console);
-            drop(text);
-            status
-        }
-        Err(unread) => refuse(alloc, &unread, console),
-    }
-}
-
 /// Serves the board of the file that the words name at their two ports, while on the board happens what the file of readings says, where the
-/// words name one, or what a clock does. Both files are read first, the board's before the other, and then their texts are checked in that order. Once both ports are
-/// bound, standard error gets their line: with the port that was taken where the words say 0; and from then on the times of the readings
-/// count. At the end it writes to standard output how many events the board's history has, those of the readings among them, and whether
-/// records are changed; where the room of the one history is over, standard error gets a line before that which says so. It gives the status: 0, or 3 with `file`, `board` or `readings` and the fault on standard error where a file can't be
+/// words name one, or what a clock does. Both files are read first, the board's before the other, and then their texts are checked in that
+/// order. Once both ports are bound, standard error gets their line: with the port that was taken where the words say 0; and from then on the
+/// times of the readings count. At the end it writes to standard output how many events the board's history has, those of the readings among
+/// them, and whether records are changed, and with `list` which; where the room of the one history is over, standard error gets a line before
+/// that which says so. It gives the status: 0, or 3 with `file`, `board` or `readings` and the fault on standard error where a file can't be
 /// read, or the first holds no board, or the second no readings; 4 where a link or a thread can't be had or the board isn't closed, 5 with
 /// `memory` on standard error where memory was refused, and 6 where a write failed; where that of the ports' line fails, nothing is served.
+/// With `strict` it is 13 in place of 0 where records are changed, and 3 with what `bmclab check` tells of them on standard error where the
+/// board file has keys that nothing reads.
 pub fn serve<F: TextFiles, W: io::Write, E: io::Write, R: Net + Threads + Wait + Clock + Sync>(
     rt: &R,
     alloc: Global,
@@ -311,12 +195,12 @@ pub fn serve<F: TextFiles, W: io::Write, E: io::Write, R: Net + Threads + Wait +
     ensures { ServeEnds W.contents E.contents (F.gives files.now) words.now
         console.old console.new result }
 {
-    match text_of(files, words.board.as_str()) {
-        Ok(text) => {
-            let status = serve_beside(rt, alloc, files, text.as_str(), words, console);
-            drop(text);
-            status
-        }
-        Err(unread) => refuse(alloc, &unread, console),
+    let texts = match texts_of(files, words) {
+        Ok(texts) => texts,
+        Err(unread) => return refuse(alloc, &unread, console),
+    };
+    match servable_inputs(alloc, words, &texts) {
+        Ok(inputs) => serve_inputs(rt, alloc, inputs, words, console),
+        Err(report) => finish(report, console),
     }
 }

@@ -18,8 +18,8 @@ pub(crate) struct WakefulLink<'a, R: Clock> {
     rt: &'a R,
     bell: &'a AtomicBool,
     link: UdpLink,
-    /// How long a call of `next` waits for a frame.
-    wait: Duration,
+    /// How many milliseconds a call of `next` waits for a frame.
+    wait_ms: u32,
     /// How many naps it makes at most, where the clock can't be read.
     naps: u32,
     /// By how much the last wait was too long, if no frame came in it.
@@ -34,13 +34,14 @@ impl<'a, R: Clock> WakefulLink<'a, R> {
         R: Net,
         ensures counts { IfOk result (λ link. link.counts ≡ none_counted) }
         ensures port { IfOk result (λ link. link.link.named ≡ port) }
+        ensures wait { IfOk result (λ link. link.wait_ms ≡ wait_ms) }
     {
         match UdpLink::bind(rt, port, wait_ms.min(NAP_MS)) {
             Ok(link) => Ok(WakefulLink {
                 rt,
                 bell,
                 link,
-                wait: Duration::from_millis(u64::from(wait_ms)),
+                wait_ms,
                 naps: wait_ms / NAP_MS,
                 over: Duration::from_millis(0),
                 counts: Counts::NONE,
@@ -58,8 +59,10 @@ impl<'a, R: Clock> WakefulLink<'a, R> {
     fn has_waited(&mut self, start: Option<Instant>) -> bool
         ensures counts { self.new.counts ≡ self.old.counts }
         ensures link { self.new.link ≡ self.old.link }
+        ensures wait { self.new.wait_ms ≡ self.old.wait_ms }
     {
-        let wait = self.wait.saturating_sub(self.over);
+        let asked = Duration::from_millis(u64::from(self.wait_ms));
+        let wait = asked.saturating_sub(self.over);
         let Some(passed) = passed_since(self.rt, start) else {
             return false;
         };
@@ -74,6 +77,7 @@ impl<'a, R: Clock> WakefulLink<'a, R> {
     fn hear(&mut self) -> Result<Heard, LinkFault>
         ensures counts { self.new.counts ≡ self.old.counts }
         ensures port { self.new.link.named ≡ self.old.link.named }
+        ensures wait { self.new.wait_ms ≡ self.old.wait_ms }
     {
         let start = Instant::now(self.rt).ok();
         for _ in 0..self.naps {
@@ -102,9 +106,11 @@ impl<R: Clock> Link for WakefulLink<'_, R> {
 
     ghost counts_of = { λ link. link.counts };
 
-    ghost gives = { λ link answer after. after.link.named ≡ link.link.named };
+    ghost gives = { λ link answer after. (after.link.named ≡ link.link.named)
+        × (after.wait_ms ≡ link.wait_ms) };
 
-    ghost takes = { λ link frame answer after. after.link.named ≡ link.link.named };
+    ghost takes = { λ link frame answer after. (after.link.named ≡ link.link.named)
+        × (after.wait_ms ≡ link.wait_ms) };
 
     fn next(&mut self) -> Result<Heard, LinkFault> {
         let answer = self.hear();

@@ -59,5 +59,7 @@ returns-clause-asked c = record {
   readings = c.in_ok-given.ensures.word ∙ first_value-rows (found_of c.args.matches.now) (codes "readings");
   repeats = sym (c.has_flag-2.ensures ∙ ap says_yes (one_text-rows (found_of c.args.matches.now) (codes "repeat-readings")));
   clock = sym (c.has_flag-3.ensures ∙ ap says_yes (one_text-rows (found_of c.args.matches.now) (codes "clock")));
+  strict = sym (c.has_flag-4.ensures ∙ ap says_yes (one_text-rows (found_of c.args.matches.now) (codes "strict")));
+  list = sym (c.has_flag-5.ensures ∙ ap says_yes (one_text-rows (found_of c.args.matches.now) (codes "list")));
   stand = c.in_ok-stand_beside.ensures.fits;
 }

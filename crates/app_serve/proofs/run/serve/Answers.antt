@@ -1,11 +1,25 @@
-use Rattle.std.proofs.Common.{inl, ℕ, List, Ok, subst, sym, string_bytes}
+use Rattle.std.proofs.Common.{inl, inr, option_map, string_bytes}
+use Rattle.app_base.specs.EndingLaws.{run_reports}
+use Rattle.app_serve.specs.Run.{SaysUnserved}
 use Rattle.app_serve.proofs.run.serve.Goals as goal
 
-pub returns-in-Ok : goal.returns-in-Ok
-returns-in-Ok g c =
+pub returns-in-Ok-servable_inputs : goal.returns-in-Ok-servable_inputs
+returns-in-Ok-servable_inputs g c =
+    let board = string_bytes c.in-Ok.texts.board in
+    let given = option_map (λ s. string_bytes s) c.in-Ok.texts.readings in
+    inl (board, given, c.in-Ok.ensures.texts, c.serve_inputs.ensures board given c.in-Ok-servable_inputs.ensures.served)
+
+pub returns : goal.returns
+returns g c =
+    let board = string_bytes c.in-Ok.texts.board in
+    let given = option_map (λ s. string_bytes s) c.in-Ok.texts.readings in
     inl (
-      c.as_str-in-Ok.result.now,
-      subst (λ (text : List ℕ). g.F.TextFiles.gives c.args.files.now (string_bytes c.args.words.now.board) (Ok text)) (sym c.as_str-in-Ok.ensures.value)
-          (subst (λ (word : List ℕ). g.F.TextFiles.gives c.args.files.now word (Ok (string_bytes c.in-Ok.text))) c.as_str.ensures.value c.in-Ok.ensures.text),
-      c.serve_beside-status.ensures,
+      board,
+      given,
+      c.in-Ok.ensures.texts,
+      inl (run_reports g.W.Write.contents g.E.Write.contents (SaysUnserved c.args.words.now board given) c.in-Err-servable_inputs.report c.args.console.now c.finish.new.console
+          c.finish.result c.in-Err-servable_inputs.ensures.refused c.finish.ensures),
     )
+
+pub returns-in-Err : goal.returns-in-Err
+returns-in-Err g c = inr (c.in-Err.unread.word.now, c.in-Err.unread.why, c.in-Err.ensures.unread, c.refuse.ensures)

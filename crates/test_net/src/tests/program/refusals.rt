@@ -31,6 +31,8 @@ fn serve_words(alloc: Global, board: &str, port: u16) -> Result<ServeWords, Allo
         readings: None,
         repeats: false,
         clock: false,
+        strict: false,
+        list: false,
     })
 }
 
