@@ -1,22 +1,20 @@
 -- What words are read as numbers.
-use Rattle.std.proofs.Common.{◌≡◌, ℕ, ◌<◌, ◌≤◌, ◌^◌, List, Option, Some, None, refl, sym, subst, arith}
+use Rattle.std.proofs.Common.{◌≡◌, ℕ, ◌<◌, ◌^◌, List, Option, Some, None, refl, sym, subst}
 use Rattle.std.specs.Option.{SomeIff}
 use Rattle.std.specs.Str.Parse.{IsNumeral, digits_value}
 use Rattle.clap.specs.Words.{Row, Text, first_of}
 use Rattle.app_bmclab.specs.Drawn.{NamesBelow}
 
--- ---- numbers up to a hundred
+-- ---- numbers
 
--- the word is a number of 64 bits, or one up to a hundred
+-- the word is a number of 64 bits
 abbrev pub Fits : Text → Type 0
 Fits word = IsNumeral 10 word × (digits_value 10 word < 2 ^ 64)
 
-abbrev pub FitsPercent : Text → Type 0
-FitsPercent word = IsNumeral 10 word × (digits_value 10 word ≤ 100)
-
 -- ---- numbers among the words that were matched
 
-abbrev Below : (end : ℕ) → Text → Type 0
+-- the word is a number below the end
+abbrev pub Below : (end : ℕ) → Text → Type 0
 Below end word = IsNumeral 10 word × (digits_value 10 word < end)
 
 pub none_named : (end : ℕ) (rows : List Row) (name : Text) → first_of name rows ≡ None → NamesBelow end (first_of name rows) None
@@ -32,7 +30,3 @@ pub no_number : (end : ℕ) (rows : List Row) (name word : Text) → first_of na
 no_number end rows name word is none number named =
     let there : NamesBelow end (Some word) number = subst (λ (o : Option Text). NamesBelow end o number) is named in
     none (there.2.0, subst (λ (n : ℕ). n < end) (sym there.2.1) there.3)
-
-pub percent_below : (word : Text) (o : Option ℕ) → SomeIff o (FitsPercent word) (digits_value 10 word) → SomeIff o (Below 101 word) (digits_value 10 word)
-percent_below word None none = λ fits. none (fits.0, (let low = fits.1 in omega (arith, low)))
-percent_below word (Some n) (fits, same) = ((fits.0, (let low = fits.1 in omega (arith, low))), same)

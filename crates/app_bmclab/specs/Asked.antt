@@ -32,6 +32,7 @@ pub record AsksFrame (rows : List Row) (asked : FrameWords) : Type 0 where
 -- what was matched behind `play` asks for this
 pub record AsksPlay (rows : List Row) (asked : PlayWords) : Type 0 where
   pub shown : shown_of (is_given (codes "frames") rows) (is_given (codes "premises") rows) (is_given (codes "chart") rows) ≡ Some asked.shown
+  pub explain : asked.explain ≡ is_given (codes "explain") rows
   pub restarts : NamesPlaces (first_of (codes "restart") rows) asked.restarts.items
   pub board : first_of (codes "BOARD") rows ≡ Some (string_bytes asked.board)
   pub plan : first_of (codes "PLAN") rows ≡ Some (string_bytes asked.plan)

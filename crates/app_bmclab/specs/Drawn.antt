@@ -18,6 +18,10 @@ NamesBelow end (Some word) number = (n : ℕ) × (number ≡ Some n) × IsNumber
 abbrev pub NamesPercent : List Row → (name : Text) → Option ℕ → Type 0
 NamesPercent rows name percent = NamesBelow 101 (first_of name rows) percent
 
+-- so many of a hundred frames are late, where that is given: never all, since nothing would be left to come past them
+abbrev pub NamesDelay : List Row → Option ℕ → Type 0
+NamesDelay rows delay = NamesBelow 100 (first_of (codes "delay") rows) delay
+
 -- this seed is given, where one is
 abbrev pub NamesSeed : List Row → Option ℕ → Type 0
 NamesSeed rows seed = NamesBelow (2 ^ 64) (first_of (codes "seed") rows) seed
@@ -26,7 +30,7 @@ NamesSeed rows seed = NamesBelow (2 ^ 64) (first_of (codes "seed") rows) seed
 pub record AsksOptions (rows : List Row) (options : Options) : Type 0 where
   pub lose : NamesPercent rows (codes "lose") options.lose
   pub repeat : NamesPercent rows (codes "repeat") options.repeat
-  pub delay : NamesPercent rows (codes "delay") options.delay
+  pub delay : NamesDelay rows options.delay
   pub others : NamesPercent rows (codes "others") options.others
   pub seed : NamesSeed rows options.seed
 

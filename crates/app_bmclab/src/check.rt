@@ -30,7 +30,7 @@ pub enum Cause {
 
 /// Files that tell why one gives no text. Nothing is promised of that.
 pub trait TellsCause {
-    /// Why the file that the word names gave no text.
+    /// Why the file that the word names gave no text, when it was read last.
     fn cause(&self, word: &str) -> Cause;
 }
 

@@ -4,6 +4,7 @@
 
 pub mod check;
 pub mod check_words;
+mod explained;
 mod file;
 mod number;
 mod places;
@@ -15,6 +16,8 @@ pub mod words;
 
 pub use check::{Cause, TellsCause, check_files};
 pub use check_words::CheckWords;
+pub use explained::explained_play_of_files;
+pub use file::ToldFiles;
 pub use lab_schedule::{Chances, Links, Percent, ScheduleOptions};
 pub use run::run_line;
 pub use schedule_files::{ScheduleFiles, schedule_of_files};

@@ -5,11 +5,12 @@ ghost use Rattle.app_bmclab.specs.Run.{SaysOfLine, SaysOfWords};
 
 use crate::check::{TellsCause, check_files};
 use crate::check_words::CheckWords;
+use crate::explained::explained_play_of_files;
 use crate::schedule_files::{ScheduleFiles, schedule_of_files};
 use crate::schedule_words::ScheduleWords;
 use crate::words::{FrameWords, PlayWords, Words, read};
 use app_base::{Console, TextFiles, refuse, tell_version};
-use app_play::{PlayFiles, play_of_files};
+use app_play::PlayFiles;
 use bmc_lab::frame_of_file;
 use std::alloc::Global;
 use std::io;
@@ -37,10 +38,11 @@ fn send<F: TextFiles, W: io::Write, E: io::Write>(
 }
 
 /// Plays what the words ask for.
-fn play<F: TextFiles, W: io::Write, E: io::Write>(
+fn play<F: TextFiles, N: io::Write, W: io::Write, E: io::Write>(
     alloc: Global,
     files: &F,
     words: &PlayWords,
+    notes: &mut N,
     console: &mut Console<W, E>,
 ) -> u8
     ensures { RunEnds W.contents E.contents
@@ -53,14 +55,24 @@ fn play<F: TextFiles, W: io::Write, E: io::Write>(
         schedule: words.schedule.as_str(),
     };
     let restarts = words.restarts.as_slice();
-    play_of_files(alloc, files, words.shown, restarts, named, console)
+    explained_play_of_files(
+        alloc,
+        files,
+        words.explain,
+        words.shown,
+        restarts,
+        named,
+        notes,
+        console,
+    )
 }
 
 /// Writes the schedule that the words ask for.
-fn write<F: TextFiles, W: io::Write, E: io::Write>(
+fn write<F: TextFiles, N: io::Write, W: io::Write, E: io::Write>(
     alloc: Global,
     files: &F,
     words: &ScheduleWords,
+    notes: &mut N,
     console: &mut Console<W, E>,
 ) -> u8
     ensures { RunEnds W.contents E.contents
@@ -71,7 +83,7 @@ fn write<F: TextFiles, W: io::Write, E: io::Write>(
         board: words.board.as_str(),
         plan: words.plan.as_str(),
     };
-    schedule_of_files(alloc, files, words.wanted, named, console)
+    schedule_of_files(alloc, files, words.wanted, named, notes, console)
 }
 
 /// Checks the files that the words name.
@@ -89,10 +101,11 @@ fn check<F: TextFiles + TellsCause, W: io::Write, E: io::Write>(
 }
 
 /// Does what the words ask for.
-fn carry_out<F: TextFiles + TellsCause, W: io::Write, E: io::Write>(
+fn carry_out<F: TextFiles + TellsCause, N: io::Write, W: io::Write, E: io::Write>(
     alloc: Global,
     files: &F,
     words: &Words,
+    notes: &mut N,
     console: &mut Console<W, E>,
 ) -> u8
     ensures { RunEnds W.contents E.contents (SaysOfWords (F.gives files.now) words.now)
@@ -100,8 +113,8 @@ fn carry_out<F: TextFiles + TellsCause, W: io::Write, E: io::Write>(
 {
     match words {
         Words::Frame(words) => send(alloc, files, words, console),
-        Words::Play(words) => play(alloc, files, words, console),
-        Words::Schedule(words) => write(alloc, files, words, console),
+        Words::Play(words) => play(alloc, files, words, notes, console),
+        Words::Schedule(words) => write(alloc, files, words, notes, console),
         Words::Check(words) => check(alloc, files, words, console),
         Words::Version => tell_version(console),
     }
@@ -109,11 +122,12 @@ fn carry_out<F: TextFiles + TellsCause, W: io::Write, E: io::Write>(
 
 /// Does what the words of a command line ask for, the program's own name first among them, with these files: what `frame_of_file`,
 /// `play_of_files`, `schedule_of_files`, `check_files` or `tell_version` does. Where they ask for nothing it reads no file, standard error gets why or the
-/// help that is asked for, and the status is 2.
-pub fn run_line<F: TextFiles + TellsCause, W: io::Write, E: io::Write>(
+/// help that is asked for, and the status is 2. What explains a play, and what is told of a schedule that is written, goes to the notes.
+pub fn run_line<F: TextFiles + TellsCause, N: io::Write, W: io::Write, E: io::Write>(
     alloc: Global,
     files: &F,
     words: &[String],
+    notes: &mut N,
     console: &mut Console<W, E>,
 ) -> u8
     ensures { RunEnds W.contents E.contents
@@ -121,7 +135,7 @@ pub fn run_line<F: TextFiles + TellsCause, W: io::Write, E: io::Write>(
         console.old console.new result }
 {
     match read(alloc, words) {
-        Ok(asked) => carry_out(alloc, files, &asked, console),
+        Ok(asked) => carry_out(alloc, files, &asked, notes, console),
         Err(refusal) => refuse(&refusal, console),
     }
 }

@@ -43,11 +43,12 @@ fn texts_of<'a, F: TextFiles>(files: &F, words: ScheduleFiles<'a>) -> Result<Tex
 
 /// Writes a schedule of a plan on the board of a board file: what `schedule_run` does, once both files are read, in the order of the words.
 /// Where one can't be read, standard error gets `file` and its word, and the status is 3.
-pub fn schedule_of_files<F: TextFiles, W: io::Write, E: io::Write>(
+pub fn schedule_of_files<F: TextFiles, N: io::Write, W: io::Write, E: io::Write>(
     alloc: Global,
     files: &F,
     wanted: ScheduleOptions,
     words: ScheduleFiles,
+    notes: &mut N,
     console: &mut Console<W, E>,
 ) -> u8
     ensures { RunEnds W.contents E.contents
@@ -56,7 +57,7 @@ pub fn schedule_of_files<F: TextFiles, W: io::Write, E: io::Write>(
 {
     match texts_of(files, words) {
         Ok(Texts { board, plan }) => {
-            schedule_run(alloc, wanted, board.as_str(), plan.as_str(), console)
+            schedule_run(alloc, wanted, board.as_str(), plan.as_str(), notes, console)
         }
         Err(unread) => refuse(alloc, &unread, console),
     }

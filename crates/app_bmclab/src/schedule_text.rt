@@ -5,6 +5,7 @@ ghost use Rattle.app_base.specs.Ending.{RunEnds};
 ghost use Rattle.app_play.specs.Run.{PrintsPlay};
 ghost use Rattle.app_bmclab.specs.Writes.{WritesSchedule};
 
+use crate::explained::{note_of_schedule, write_notes};
 use app_base::{Console, Ending, Report, Status, Stream};
 use app_play::{Inputs, is_memory, read_inputs, refusal_report};
 use lab_schedule::{ScheduleOptions, make_schedule};
@@ -51,19 +52,43 @@ fn schedule_report(
     }
 }
 
+/// What is told of the schedule of this report, where it has one.
+fn note_of(
+    alloc: Global,
+    undo: bool,
+    board: &str,
+    plan: &str,
+    report: &Result<Report, AllocError>,
+) -> Result<String, AllocError> {
+    match report {
+        Ok(report) if report.status == Status::Success => {
+            note_of_schedule(alloc, undo, board, plan, report.text.as_str())
+        }
+        _ => Ok(String::new(alloc)),
+    }
+}
+
 /// Writes to standard output a schedule of a plan on the board of a board file, each given as its text. A play of the plan on that board
-/// takes each of its events. It gives the status: 0 where the schedule is written, 3 with `board` or `plan` and the fault on standard error
+/// takes each of its events. Where the plan halts in it, or it ends for want of room, the notes get what is told of that. It gives the status: 0 where
+/// the schedule is written, 3 with `board` or `plan` and the fault on standard error
 /// where a text is refused, 5 with `memory` on standard error where memory was refused, and 6 where a write failed.
-pub fn schedule_run<W: io::Write, E: io::Write>(
+pub fn schedule_run<N: io::Write, W: io::Write, E: io::Write>(
     alloc: Global,
     wanted: ScheduleOptions,
     board: &str,
     plan: &str,
+    notes: &mut N,
     console: &mut Console<W, E>,
 ) -> u8
     ensures { RunEnds W.contents E.contents (PrintsPlay (WritesSchedule wanted) board.now plan.now [])
         console.old console.new result }
 {
+    let undo = wanted.undo;
     let report = schedule_report(alloc, wanted, board, plan);
-    u8::from(Ending::of(&report).write(console))
+    let Ok(lines) = note_of(alloc, undo, board, plan, &report) else {
+        return u8::from(Ending::without_report(Status::Memory).write(console));
+    };
+    let status = u8::from(Ending::of(&report).write(console));
+    write_notes(notes, lines.as_str());
+    status
 }

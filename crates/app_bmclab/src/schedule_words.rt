@@ -1,12 +1,12 @@
 //! The words behind `schedule`.
-ghost use Rattle.std.specs.Prelude.{◌≡◌, IfOk, IfErr};
-ghost use Rattle.clap.specs.Words.{found_of, rows_of};
+ghost use Rattle.std.specs.Prelude.{◌≡◌, ◌<◌, ◌≤◌, IfOk, IfErr};
+ghost use Rattle.clap.specs.Words.{first_of, found_of, rows_of};
 ghost use Rattle.app_base.specs.Line.{IsCommand};
 ghost use Rattle.app_base.specs.Asked.{RefusesWords};
 ghost use Rattle.app_bmclab.specs.Line.{schedule_app};
-ghost use Rattle.app_bmclab.specs.Drawn.{AsksOptions, AsksSchedule, NamesPercent, NamesSeed, is_empty, links_of};
+ghost use Rattle.app_bmclab.specs.Drawn.{AsksOptions, AsksSchedule, NamesBelow, NamesSeed, is_empty, links_of};
 
-use crate::number::{MOST_PERCENT, number_of, percent_of};
+use crate::number::{DELAY_END, PERCENT_END, number_of, percent_of};
 use app_base::{Argument, Refusal, has_flag, named, new_command, refusal_by};
 use clap::error::ErrorKind;
 use clap::{ArgMatches, Command};
@@ -95,18 +95,26 @@ fn number_refusal(alloc: Global, name: &str, value: &str, word: &str, most: u64)
     }
 }
 
-/// How many of a hundred the option of this name says, where it is given.
-fn percent(alloc: Global, matches: &ArgMatches, name: &str) -> Result<Option<Percent>, Refusal>
-    ensures percent { IfOk result (NamesPercent (rows_of (found_of matches.now)) name.now) }
+/// How many of a hundred, below the end, the option of this name says, where it is given.
+fn percent(
+    alloc: Global,
+    matches: &ArgMatches,
+    name: &str,
+    end: u64,
+) -> Result<Option<Percent>, Refusal>
+    requires some { 0 < end }
+    requires few { end ≤ 101 }
+    ensures percent { IfOk result
+        (NamesBelow end (first_of name.now (rows_of (found_of matches.now)))) }
     ensures refused { IfErr result
-        (RefusesWords (NamesPercent (rows_of (found_of matches.now)) name.now)) }
+        (RefusesWords (NamesBelow end (first_of name.now (rows_of (found_of matches.now))))) }
 {
     let Some(word) = matches.get_str(name) else {
         return Ok(None);
     };
-    match percent_of(word) {
+    match percent_of(word, end) {
         Some(percent) => Ok(Some(percent)),
-        None => Err(number_refusal(alloc, name, "N", word, MOST_PERCENT)),
+        None => Err(number_refusal(alloc, name, "N", word, end - 1)),
     }
 }
 
@@ -130,10 +138,10 @@ fn given_options(alloc: Global, matches: &ArgMatches) -> Result<Options, Refusal
     ensures refused { IfErr result (RefusesWords (AsksOptions (rows_of (found_of matches.now)))) }
 {
     Ok(Options {
-        lose: percent(alloc, matches, "lose")?,
-        repeat: percent(alloc, matches, "repeat")?,
-        delay: percent(alloc, matches, "delay")?,
-        others: percent(alloc, matches, "others")?,
+        lose: percent(alloc, matches, "lose", PERCENT_END)?,
+        repeat: percent(alloc, matches, "repeat", PERCENT_END)?,
+        delay: percent(alloc, matches, "delay", DELAY_END)?,
+        others: percent(alloc, matches, "others", PERCENT_END)?,
         seed: seed(alloc, matches)?,
     })
 }

@@ -44,6 +44,8 @@ pub struct FrameWords {
 pub struct PlayWords {
     /// How the play is shown.
     pub shown: Shown,
+    /// Whether it is explained.
+    pub explain: bool,
     /// The places of the events behind which the manager's process ends, which rise from 1.
     pub restarts: Vec<usize>,
     /// The word of the board file.
@@ -98,6 +100,9 @@ const FRAMES_HELP: &str = "Prints each frame, too, as in frame 0 mgr ipmb 2010D0
 const PREMISES_HELP: &str =
     "Prints the first event at which a packet joined one that had waited too long, or premises kept";
 
+const EXPLAIN_HELP: &str =
+    "Says on standard error where the plan halts and why, and in which line of the schedule";
+
 const SCHEDULE_HELP: &str = "The schedule: what comes when, as examples/clean/schedule.txt";
 
 const RESTART_HELP: &str =
@@ -108,19 +113,21 @@ const PLAY_EXAMPLES: &str = "Examples:
   bmclab play --frames sample.toml examples/clean/plan.toml examples/clean/schedule.txt
   bmclab play --premises sample.toml examples/clean/plan.toml examples/clean/schedule.txt
   bmclab play --chart sample.toml examples/clean/plan.toml examples/clean/schedule.txt
+  bmclab play --explain sample.toml examples/refused/plan.toml examples/refused/schedule.txt
   bmclab play --restart 4 sample.toml examples/set_unheard/plan.toml examples/set_unheard/schedule.txt";
 
-const PLAY_ARGUMENTS: [Argument<'static>; 7] = [
+const PLAY_ARGUMENTS: [Argument<'static>; 8] = [
     Argument::Flag("frames", FRAMES_HELP),
     Argument::Flag("premises", PREMISES_HELP),
     Argument::Flag("chart", "Draws the play in place of its lines"),
+    Argument::Flag("explain", EXPLAIN_HELP),
     Argument::Option("restart", "PLACES", RESTART_HELP),
     Argument::Needed("BOARD", "The board file, as sample.toml"),
     Argument::Needed("PLAN", "The plan, as examples/clean/plan.toml"),
     Argument::Needed("SCHEDULE", SCHEDULE_HELP),
 ];
 
-/// `play [[--frames] [--premises] | --chart] [--restart PLACES] BOARD PLAN SCHEDULE`.
+/// `play [[--frames] [--premises] | --chart] [--explain] [--restart PLACES] BOARD PLAN SCHEDULE`.
 fn play_command<'a>(alloc: Global) -> Result<Command<'a>, AllocError>
     ensures { IfOk result (IsCommand play_app) }
 {
@@ -262,9 +269,11 @@ fn play_words(alloc: Global, matches: &ArgMatches) -> Result<PlayWords, Refusal>
     let Some(shown) = shown(frames, premises, chart) else {
         return Err(shown_refusal(alloc, frames));
     };
+    let explain = has_flag(matches, "explain");
     let restarts = restarts(alloc, matches)?;
     Ok(PlayWords {
         shown,
+        explain,
         restarts,
         board: named(alloc, matches, "BOARD")?,
         plan: named(alloc, matches, "PLAN")?,

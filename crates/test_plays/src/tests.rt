@@ -4,6 +4,7 @@ mod asked;
 mod calls;
 mod charts;
 mod drawn;
+mod explained;
 mod faults;
 mod frames;
 mod greeting;

@@ -122,7 +122,8 @@ fn address(digits: &str) -> Option<Address>
 
 /// The event that the words `other`, `ipmb`, a requester and a request's bytes say.
 fn other_ipmb(alloc: Global, from: &str, digits: &str) -> Result<Event, LineFault>
-    ensures { ReadsLine (AreWordsOf (codes "other" ∷ codes "ipmb" ∷ from.now ∷ digits.now ∷ [])) result }
+    ensures { ReadsLine
+        (AreWordsOf (codes "other" ∷ codes "ipmb" ∷ from.now ∷ digits.now ∷ [])) result }
 {
     let Some(from) = address(from) else {
         return Err(LineFault::Bad);
@@ -136,7 +137,8 @@ fn other_ipmb(alloc: Global, from: &str, digits: &str) -> Result<Event, LineFaul
 
 /// The event that the words `other`, `smbus`, an endpoint and a message's bytes say.
 fn other_smbus(alloc: Global, from: &str, digits: &str) -> Result<Event, LineFault>
-    ensures { ReadsLine (AreWordsOf (codes "other" ∷ codes "smbus" ∷ from.now ∷ digits.now ∷ [])) result }
+    ensures { ReadsLine
+        (AreWordsOf (codes "other" ∷ codes "smbus" ∷ from.now ∷ digits.now ∷ [])) result }
 {
     let Some(from) = byte(from) else {
         return Err(LineFault::Bad);
@@ -162,7 +164,8 @@ fn three_words(alloc: Global, word: &str, first: &str, second: &str) -> Result<E
 
 /// The event that the word `other`, a bus and two more words say.
 fn other(alloc: Global, name: &str, from: &str, digits: &str) -> Result<Event, LineFault>
-    ensures { ReadsLine (AreWordsOf (codes "other" ∷ name.now ∷ from.now ∷ digits.now ∷ [])) result }
+    ensures { ReadsLine
+        (AreWordsOf (codes "other" ∷ name.now ∷ from.now ∷ digits.now ∷ [])) result }
 {
     match Bus::named(name) {
         Some(Bus::Ipmb) => other_ipmb(alloc, from, digits),

@@ -117,7 +117,8 @@ fn push_idle(alloc: Global, text: &mut String, on: Bus, requester: u8) -> Result
 
 /// Adds the line of a reading.
 fn push_scan(alloc: Global, text: &mut String, sensor: u8, reading: u8) -> Result<(), AllocError>
-    ensures text { AddsLine (Event.OnBench (BenchEvent.Scan sensor reading)) result text.old text.new }
+    ensures text { AddsLine (Event.OnBench (BenchEvent.Scan sensor reading))
+        result text.old text.new }
     ensures stands { IsSaid (Event.OnBench (BenchEvent.Scan sensor reading)) }
 {
     let sensor = byte_digits(alloc, sensor)?;

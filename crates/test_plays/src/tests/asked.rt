@@ -96,7 +96,9 @@ fn push_words(
         Ok(Words::Play(words)) => {
             let (board, plan) = (words.board.as_str(), words.plan.as_str());
             let shown = shown_name(words.shown);
-            write!(text, "{shown} {board} {plan} {}", words.schedule.as_str())?;
+            let explain = if words.explain { " explained" } else { "" };
+            let schedule = words.schedule.as_str();
+            write!(text, "{shown}{explain} {board} {plan} {schedule}")?;
             push_restarts(text, words.restarts.as_slice())
         }
         Ok(Words::Schedule(words)) => push_schedule(text, words),

@@ -263,12 +263,14 @@ bmclab play --help -> 2 err
         --frames            Prints each frame, too, as in frame 0 mgr ipmb 2010D02C002905A6
         --premises          Prints the first event at which a packet joined one that had waited too long, or premises kept
         --chart             Draws the play in place of its lines
+        --explain           Says on standard error where the plan halts and why, and in which line of the schedule
         --restart <PLACES>  Ends the manager's process behind these events and makes it anew of its journal, as in --restart 3,7
     -h, --help              Print help /  / Examples:
     bmclab play sample.toml examples/clean/plan.toml examples/clean/schedule.txt
     bmclab play --frames sample.toml examples/clean/plan.toml examples/clean/schedule.txt
     bmclab play --premises sample.toml examples/clean/plan.toml examples/clean/schedule.txt
     bmclab play --chart sample.toml examples/clean/plan.toml examples/clean/schedule.txt
+    bmclab play --explain sample.toml examples/refused/plan.toml examples/refused/schedule.txt
     bmclab play --restart 4 sample.toml examples/set_unheard/plan.toml examples/set_unheard/schedule.txt
 bmclab version --help -> 2 err
   Prints the version /  / Usage: bmclab version /  / Options:
@@ -290,12 +292,14 @@ bmclab play -h a b c -> 2 err
         --frames            Prints each frame, too, as in frame 0 mgr ipmb 2010D02C002905A6
         --premises          Prints the first event at which a packet joined one that had waited too long, or premises kept
         --chart             Draws the play in place of its lines
+        --explain           Says on standard error where the plan halts and why, and in which line of the schedule
         --restart <PLACES>  Ends the manager's process behind these events and makes it anew of its journal, as in --restart 3,7
     -h, --help              Print help /  / Examples:
     bmclab play sample.toml examples/clean/plan.toml examples/clean/schedule.txt
     bmclab play --frames sample.toml examples/clean/plan.toml examples/clean/schedule.txt
     bmclab play --premises sample.toml examples/clean/plan.toml examples/clean/schedule.txt
     bmclab play --chart sample.toml examples/clean/plan.toml examples/clean/schedule.txt
+    bmclab play --explain sample.toml examples/refused/plan.toml examples/refused/schedule.txt
     bmclab play --restart 4 sample.toml examples/set_unheard/plan.toml examples/set_unheard/schedule.txt
 ";
 

@@ -33,6 +33,24 @@ impl io::Write for Sheet {
     }
 }
 
+/// An empty sheet, whose writer doesn't fail.
+pub fn new_sheet(alloc: Global) -> Sheet {
+    Sheet {
+        text: Vec::new(alloc),
+        left: None,
+    }
+}
+
+/// Appends what was written, behind a line that says whether anything was.
+pub fn push_sheet(came: &mut String, sheet: &Sheet) -> Result<(), NoOutcome> {
+    let Ok(text) = str::from_utf8(sheet.text.as_slice()) else {
+        return Err(NoOutcome::Unread);
+    };
+    let head = if text.is_empty() { "nothing" } else { "noted" };
+    write!(came, "{head}\n{text}")?;
+    Ok(())
+}
+
 /// Standard output and standard error.
 pub type Paper = Console<Sheet, Sheet>;
 

@@ -1,6 +1,6 @@
 //! The runs that a story's lines ask for.
 use super::asked::{push_asked, push_named};
-use super::paper::{Paper, push_ending};
+use super::paper::{Paper, Sheet, new_sheet, push_ending, push_sheet};
 use super::scene::Scene;
 use super::text::parted;
 use app_base::{Ending, Refusal, Report, refuse};
@@ -62,7 +62,10 @@ fn draw_late(alloc: Global, scene: &Scene, seed: &str, paper: &mut Paper) -> Res
         undo: true,
     };
     match (scene.file("board.toml"), scene.file("plan.toml")) {
-        (Ok(board), Ok(plan)) => Ok(schedule_run(alloc, wanted, board, plan, paper)),
+        (Ok(board), Ok(plan)) => {
+            let mut notes = new_sheet(alloc);
+            Ok(schedule_run(alloc, wanted, board, plan, &mut notes, paper))
+        }
         _ => Err(NoOutcome::Unread),
     }
 }
@@ -92,7 +95,8 @@ fn call(alloc: Global, scene: &Scene, name: &str, paper: &mut Paper) -> Result<u
                 links: Links::Clean,
                 undo: true,
             };
-            Ok(schedule_of_files(alloc, scene, wanted, files, paper))
+            let mut notes = new_sheet(alloc);
+            Ok(schedule_of_files(alloc, scene, wanted, files, &mut notes, paper))
         }
         _ => Err(NoOutcome::Unread),
     }
@@ -129,12 +133,45 @@ pub fn words_of(alloc: Global, line: &str) -> Result<Vec<String>, AllocError> {
     Ok(words)
 }
 
-/// A run of a command line, with the story's files.
-fn run_words(alloc: Global, scene: &Scene, line: &str, paper: &mut Paper) -> Result<u8, NoOutcome> {
+/// A run of a command line, with the story's files, which notes here.
+fn run_noted(
+    alloc: Global,
+    scene: &Scene,
+    line: &str,
+    notes: &mut Sheet,
+    paper: &mut Paper,
+) -> Result<u8, NoOutcome> {
     let words = words_of(alloc, line)?;
-    let ended = run_line(alloc, scene, words.as_slice(), paper);
+    let ended = run_line(alloc, scene, words.as_slice(), notes, paper);
     drop(words);
     Ok(ended)
+}
+
+/// A run of a command line, with the story's files.
+fn run_words(alloc: Global, scene: &Scene, line: &str, paper: &mut Paper) -> Result<u8, NoOutcome> {
+    let mut notes = new_sheet(alloc);
+    let ended = run_noted(alloc, scene, line, &mut notes, paper);
+    drop(notes);
+    ended
+}
+
+/// Appends what a run of a command line notes.
+fn push_notes(
+    alloc: Global,
+    scene: &Scene,
+    line: &str,
+    came: &mut String,
+) -> Result<(), NoOutcome> {
+    let mut paper = scene.paper();
+    let mut notes = new_sheet(alloc);
+    let ended = run_noted(alloc, scene, line, &mut notes, &mut paper);
+    drop(paper);
+    let pushed = match ended {
+        Ok(_) => push_sheet(came, &notes),
+        Err(why) => Err(why),
+    };
+    drop(notes);
+    pushed
 }
 
 /// The run that the line asks for, and its status.
@@ -173,6 +210,7 @@ pub fn push_came(
     match parted(line) {
         ("asks", words) => Ok(push_asked(alloc, came, words)?),
         ("names", words) => Ok(push_named(alloc, came, words)?),
+        ("notes", words) => push_notes(alloc, scene, words, came),
         _ => push_run(alloc, scene, line, came),
     }
 }

@@ -67,13 +67,6 @@ bmclab schedule --undo board.toml plan.toml -> 0 out
 make bmclab schedule --undo board.toml plan.toml
 premises -> 0 out: phase Undone / frames 9 / ..records same / premises kept
 
-story nothing is delivered where all is lost, and all room is used
-board sample
-plan events
-make bmclab schedule --lose 100 board.toml plan.toml
-premises -> 0 out
-  phase Getting 0 / frames 65536 / undo 0 / records same / premises kept
-
 story files are refused as those of a play are
 board: tid =
 plan events
@@ -88,6 +81,15 @@ unreadable plan
 bmclab schedule board.toml plan.toml -> 3 err: file plan.toml
 memory plan
 bmclab schedule board.toml plan.toml -> 5 err: memory
+";
+
+/// A schedule that uses all room.
+const ALL_LOST: &str = "story nothing is delivered where all is lost, and all room is used
+board sample
+plan events
+make bmclab schedule --lose 100 board.toml plan.toml
+premises -> 0 out
+  phase Getting 0 / frames 65536 / undo 0 / records same / premises kept
 ";
 
 /// Words that ask for no schedule.
@@ -106,7 +108,9 @@ bmclab schedule --lose 101 a b -> 2 err
 bmclab schedule --repeat x a b -> 2 err
   error: invalid value 'x' for '--repeat <N>': a decimal number from 0 to 100 /  / Usage: bmclab schedule [OPTIONS] <BOARD> <PLAN> /  / For more information, try '--help'.
 bmclab schedule --delay +1 a b -> 2 err
-  error: invalid value '+1' for '--delay <N>': a decimal number from 0 to 100 /  / Usage: bmclab schedule [OPTIONS] <BOARD> <PLAN> /  / For more information, try '--help'.
+  error: invalid value '+1' for '--delay <N>': a decimal number from 0 to 99 /  / Usage: bmclab schedule [OPTIONS] <BOARD> <PLAN> /  / For more information, try '--help'.
+bmclab schedule --delay 100 a b -> 2 err
+  error: invalid value '100' for '--delay <N>': a decimal number from 0 to 99 /  / Usage: bmclab schedule [OPTIONS] <BOARD> <PLAN> /  / For more information, try '--help'.
 bmclab schedule --others '' a b -> 2 err
   error: invalid value '' for '--others <N>': a decimal number from 0 to 100 /  / Usage: bmclab schedule [OPTIONS] <BOARD> <PLAN> /  / For more information, try '--help'.
 bmclab schedule --seed 18446744073709551616 a b -> 2 err
@@ -146,7 +150,8 @@ asks bmclab schedule --undo a b -> clean undo a b
 asks bmclab schedule a b --undo -> clean undo a b
 asks bmclab schedule --lose 10 a b -> lose 10 repeat 0 delay 0 others 0 seed 0 a b
 asks bmclab schedule --repeat=0 a b -> lose 0 repeat 0 delay 0 others 0 seed 0 a b
-asks bmclab schedule --delay 100 a --undo b -> lose 0 repeat 0 delay 100 others 0 seed 0 undo a b
+asks bmclab schedule --delay 99 a --undo b -> lose 0 repeat 0 delay 99 others 0 seed 0 undo a b
+asks bmclab schedule --lose 100 a b -> lose 100 repeat 0 delay 0 others 0 seed 0 a b
 asks bmclab schedule --others 007 a b -> lose 0 repeat 0 delay 0 others 7 seed 0 a b
 asks bmclab schedule --seed 18446744073709551615 a b -> lose 0 repeat 0 delay 0 others 0 seed 18446744073709551615 a b
 asks bmclab schedule --lose 1 --repeat 2 --delay 3 --others 4 --seed 5 a b -> lose 1 repeat 2 delay 3 others 4 seed 5 a b
@@ -207,6 +212,11 @@ premises -> 0 out: phase Undone / ..records same / premises kept
 fn schedules_are_written_or_refused_and_played(rt: HostRuntime) {
     expect_told(&rt, rt.alloc(), SCHEDULES);
     expect_told(&rt, rt.alloc(), REFUSED);
+}
+
+#[test]
+fn a_schedule_uses_all_room(rt: HostRuntime) {
+    expect_told(&rt, rt.alloc(), ALL_LOST);
 }
 
 #[test]

@@ -43,6 +43,7 @@ returns-clause-asked c =
     let flags = shown_alike _ _ _ _ _ _ frames premises chart in
     record {
       shown = sym flags ∙ (sym c.shown.ensures ∙ c.in-Some.is);
+      explain = c.has_flag-explain.ensures ∙ ap says_yes (one_text-rows (found_of c.args.matches.now) (codes "explain"));
       restarts = c.in_ok-restarts.ensures.named;
       board = first_by_rows (found_of c.args.matches.now) (codes "BOARD") _ c.in_ok-named.ensures.word;
       plan = first_by_rows (found_of c.args.matches.now) (codes "PLAN") _ c.in_ok-named-2.ensures.word;
