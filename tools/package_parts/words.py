@@ -12,7 +12,7 @@ BRIDGED = {"--listen": None}
 WORDS = {
     "bmclab": {
         "frame": ({"--bus": ("ipmb", "smbus"), "--board": BOARD}, [("HEX", None)]),
-        "play": ({"--frames": FLAG, "--premises": FLAG, "--chart": FLAG, "--restart": None}, [("BOARD", BOARD), ("PLAN", PLAN), ("SCHEDULE", SCHEDULE)]),
+        "play": ({"--frames": FLAG, "--premises": FLAG, "--chart": FLAG, "--explain": FLAG, "--restart": None}, [("BOARD", BOARD), ("PLAN", PLAN), ("SCHEDULE", SCHEDULE)]),
         "schedule": (
             {"--lose": None, "--repeat": None, "--delay": None, "--others": None, "--seed": None, "--undo": FLAG},
             [("BOARD", BOARD), ("PLAN", PLAN)],
@@ -30,6 +30,8 @@ WORDS = {
                 "--readings": READINGS,
                 "--repeat-readings": FLAG,
                 "--clock": FLAG,
+                "--strict": FLAG,
+                "--list": FLAG,
             },
             [("BOARD", BOARD), ("P0", None), ("P1", None), ("TURNS", None)],
         ),
