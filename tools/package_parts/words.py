@@ -33,7 +33,7 @@ WORDS = {
             },
             [("BOARD", BOARD), ("P0", None), ("P1", None), ("TURNS", None)],
         ),
-        "run": ({"--wait": None, "--again": None, "--forget": None, "--greet": FLAG}, [("PLAN", PLAN), ("P0", None), ("P1", None), ("TURNS", None), ("UNDO", UNDO)]),
+        "run": ({"--wait": None, "--again": None, "--forget": None, "--greet": FLAG, "--replace": FLAG}, [("PLAN", PLAN), ("P0", None), ("P1", None), ("TURNS", None), ("UNDO", UNDO)]),
         "undo": ({"--wait": None, "--greet": FLAG}, [("UNDO", UNDO), ("P0", None), ("P1", None), ("TURNS", None)]),
         "pair": ({}, [("BOARD", BOARD), ("PLAN", PLAN), ("TURNS", None)]),
         "version": ({}, []),
