@@ -4,6 +4,7 @@ ghost use Rattle.app_bmcnet.specs.Run.{EndsAsAsked, LineEnds, LineTells, MayTell
 
 use crate::pairing::pair;
 use crate::words::{Words, read};
+use app_apply::{apply, revert};
 use app_base::{Console, TextFiles, refuse, tell_version};
 use app_journal::WritesFiles;
 use app_run::{Progress, run, undo};
@@ -30,16 +31,18 @@ fn carry_out<
     progress: &mut Progress<P>,
     console: &mut Console<W, E>,
 ) -> u8
-    ensures ends { EndsAsAsked W.contents E.contents (F.gives files.old) F.takes F.renames F.removes
+    ensures ends { EndsAsAsked W.contents E.contents F.TextFiles F.WritesFiles
         words.now files.old files.new console.old console.new result }
-    ensures told { MayTellAsAsked P.contents (F.gives files.old) words.now
-        progress.old progress.new }
+    ensures told { MayTellAsAsked P.contents F.TextFiles F.WritesFiles words.now
+        files.old progress.old progress.new }
 {
     match words {
         Words::Serve(words) => serve(rt, alloc, &*files, words, console),
         Words::Run(words) => run(rt, alloc, files, words, progress, console),
         Words::Undo(words) => undo(rt, alloc, files, words, progress, console),
         Words::Pair(words) => pair(rt, alloc, &*files, words, console),
+        Words::Apply(words) => apply(rt, alloc, files, words, progress, console),
+        Words::Revert(words) => revert(rt, alloc, files, words, progress, console),
         Words::Version => tell_version(console),
     }
 }
@@ -61,10 +64,10 @@ pub fn run_line<
     progress: &mut Progress<P>,
     console: &mut Console<W, E>,
 ) -> u8
-    ensures ends { LineEnds W.contents E.contents (F.gives files.old) F.takes F.renames F.removes
+    ensures ends { LineEnds W.contents E.contents F.TextFiles F.WritesFiles
         (map string_bytes words.now) files.old files.new console.old console.new result }
-    ensures told { LineTells P.contents (F.gives files.old) (map string_bytes words.now)
-        progress.old progress.new }
+    ensures told { LineTells P.contents F.TextFiles F.WritesFiles (map string_bytes words.now)
+        files.old progress.old progress.new }
 {
     match read(alloc, words) {
         Ok(asked) => carry_out(rt, alloc, files, &asked, progress, console),

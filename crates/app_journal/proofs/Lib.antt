@@ -1,3 +1,4 @@
 pub mod KeepingFacts
 pub mod LookedAt
 pub mod RevivingFacts
+pub mod StandingFacts

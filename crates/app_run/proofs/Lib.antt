@@ -4,6 +4,5 @@ pub mod Courses
 pub mod Keeping
 pub mod Telling
 pub mod Ways
-pub mod Saying
 pub mod Used
 pub mod Greets

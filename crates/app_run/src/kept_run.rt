@@ -23,7 +23,7 @@ use wire_links::UdpLink;
 
 /// A manager of a plan, the kinds of the plan's steps, and the greetings before it is called.
 #[derive(Drop)]
-pub(crate) struct Ready {
+pub struct Ready {
     pub manager: Manager,
     pub kinds: Vec<Kind>,
     pub greetings: Greetings,
@@ -255,7 +255,7 @@ pub(crate) fn keep<F: WritesFiles>(
     beside: &UndoFiles,
     ran: &Ran,
 ) -> Result<Result<(), WriteFault>, AllocError>
-    ensures kept { IfOk result (λ answer. KeepsList F.takes F.renames F.removes
+    ensures kept { IfOk result (λ answer. KeepsList F.WritesFiles
         (is_over ran.now.phase) beside.now ran.now.manager files.old answer files.new) }
     ensures memory { OnErr result ((is_over ran.now.phase ≡ true) × (files.new ≡ files.old)) }
 {
