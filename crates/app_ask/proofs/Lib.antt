@@ -1,0 +1,3 @@
+mod Hearing
+mod Carried
+mod Saying

@@ -1,0 +1,3 @@
+mod Parts
+mod Answering
+mod Turns
