@@ -9,7 +9,7 @@ use crate::schedule_files::{ScheduleFiles, schedule_of_files};
 use crate::schedule_words::ScheduleWords;
 use crate::words::{FrameWords, PlayWords, Words, read};
 use app_base::{Console, TextFiles, refuse, tell_version};
-use app_play::{PlayFiles, play_of_files};
+use app_play::{PlayFiles, strict_play_of_files};
 use bmc_lab::frame_of_file;
 use std::alloc::Global;
 use std::io;
@@ -53,7 +53,15 @@ fn play<F: TextFiles, W: io::Write, E: io::Write>(
         schedule: words.schedule.as_str(),
     };
     let restarts = words.restarts.as_slice();
-    play_of_files(alloc, files, words.shown, restarts, named, console)
+    strict_play_of_files(
+        alloc,
+        files,
+        words.options,
+        words.shown,
+        restarts,
+        named,
+        console,
+    )
 }
 
 /// Writes the schedule that the words ask for.
@@ -108,7 +116,7 @@ fn carry_out<F: TextFiles + TellsCause, W: io::Write, E: io::Write>(
 }
 
 /// Does what the words of a command line ask for, the program's own name first among them, with these files: what `frame_of_file`,
-/// `play_of_files`, `schedule_of_files`, `check_files` or `tell_version` does. Where they ask for nothing it reads no file, standard error gets why or the
+/// `strict_play_of_files`, `schedule_of_files`, `check_files` or `tell_version` does. Where they ask for nothing it reads no file, standard error gets why or the
 /// help that is asked for, and the status is 2.
 pub fn run_line<F: TextFiles + TellsCause, W: io::Write, E: io::Write>(
     alloc: Global,

@@ -28,7 +28,7 @@ EndsAsAsked out err gives takes renames removes (Run asked) before after old new
 EndsAsAsked out err gives takes renames removes (Undo asked) before after old new result =
     UndoEndsOf out err gives takes renames (string_bytes asked.undo) asked before after old new result
 EndsAsAsked out err gives takes renames removes (Pair asked) before after old new result =
-    (after ≡ before) × RunEnds out err (PrintsPairOfFiles gives (words_of asked) asked.turns) old new result
+    (after ≡ before) × RunEnds out err (PrintsPairOfFiles gives (words_of asked) asked.options) old new result
 EndsAsAsked out err gives takes renames removes Version before after old new result =
     (after ≡ before) × RunEnds out err SaysVersion old new result
 

@@ -21,6 +21,7 @@ mod runs;
 mod scene;
 mod schedules;
 mod steps;
+mod strict;
 mod text;
 mod told_wrong;
 mod two_steps;

@@ -181,6 +181,8 @@ bmclab play --chart --frames a b c -> 2 err
   error: the argument '--frames' cannot be used with '--chart' /  / Usage: bmclab play [OPTIONS] <BOARD> <PLAN> <SCHEDULE> /  / For more information, try '--help'.
 bmclab play --chart --premises a b c -> 2 err
   error: the argument '--premises' cannot be used with '--chart' /  / Usage: bmclab play [OPTIONS] <BOARD> <PLAN> <SCHEDULE> /  / For more information, try '--help'.
+bmclab play --chart --list a b c -> 2 err
+  error: the argument '--list' cannot be used with '--chart' /  / Usage: bmclab play [OPTIONS] <BOARD> <PLAN> <SCHEDULE> /  / For more information, try '--help'.
 bmclab play --restart 7,3 a b c -> 2 err
   error: invalid value '7,3' for '--restart <PLACES>': decimal numbers from 1, each above the one before it, with a comma between two /  / Usage: bmclab play [OPTIONS] <BOARD> <PLAN> <SCHEDULE> /  / For more information, try '--help'.
 bmclab play --frames=yes a b c -> 2 err
@@ -263,12 +265,15 @@ bmclab play --help -> 2 err
         --frames            Prints each frame, too, as in frame 0 mgr ipmb 2010D02C002905A6
         --premises          Prints the first event at which a packet joined one that had waited too long, or premises kept
         --chart             Draws the play in place of its lines
+        --list              Prints each record that changed, too, as in sensor 5 upper critical: 95 (5Fh) -> 90 (5Ah)
+        --strict            Ends with a status of 10 to 13 where a plan halted, a request isn't settled, an undo was refused or records changed, and refuses a file with a key that nothing reads
         --restart <PLACES>  Ends the manager's process behind these events and makes it anew of its journal, as in --restart 3,7
     -h, --help              Print help /  / Examples:
     bmclab play sample.toml examples/clean/plan.toml examples/clean/schedule.txt
     bmclab play --frames sample.toml examples/clean/plan.toml examples/clean/schedule.txt
     bmclab play --premises sample.toml examples/clean/plan.toml examples/clean/schedule.txt
     bmclab play --chart sample.toml examples/clean/plan.toml examples/clean/schedule.txt
+    bmclab play --strict --list sample.toml examples/clean/plan.toml examples/clean/schedule.txt
     bmclab play --restart 4 sample.toml examples/set_unheard/plan.toml examples/set_unheard/schedule.txt
 bmclab version --help -> 2 err
   Prints the version /  / Usage: bmclab version /  / Options:
@@ -290,12 +295,15 @@ bmclab play -h a b c -> 2 err
         --frames            Prints each frame, too, as in frame 0 mgr ipmb 2010D02C002905A6
         --premises          Prints the first event at which a packet joined one that had waited too long, or premises kept
         --chart             Draws the play in place of its lines
+        --list              Prints each record that changed, too, as in sensor 5 upper critical: 95 (5Fh) -> 90 (5Ah)
+        --strict            Ends with a status of 10 to 13 where a plan halted, a request isn't settled, an undo was refused or records changed, and refuses a file with a key that nothing reads
         --restart <PLACES>  Ends the manager's process behind these events and makes it anew of its journal, as in --restart 3,7
     -h, --help              Print help /  / Examples:
     bmclab play sample.toml examples/clean/plan.toml examples/clean/schedule.txt
     bmclab play --frames sample.toml examples/clean/plan.toml examples/clean/schedule.txt
     bmclab play --premises sample.toml examples/clean/plan.toml examples/clean/schedule.txt
     bmclab play --chart sample.toml examples/clean/plan.toml examples/clean/schedule.txt
+    bmclab play --strict --list sample.toml examples/clean/plan.toml examples/clean/schedule.txt
     bmclab play --restart 4 sample.toml examples/set_unheard/plan.toml examples/set_unheard/schedule.txt
 ";
 
