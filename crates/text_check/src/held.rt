@@ -73,11 +73,21 @@ pub(crate) fn push_board(
     text.push_str("\n")
 }
 
+/// Adds the line of a plan of so many steps, with so many retries.
+pub fn push_steps(
+    text: &mut String,
+    name: &str,
+    steps: usize,
+    retries: u8,
+) -> Result<(), AllocError> {
+    push_sort(text, name, "plan", &[(steps, "step")])?;
+    writeln!(text, ", retries {retries}")
+}
+
 /// Adds the line of a plan that isn't used any more.
 pub(crate) fn push_plan(text: &mut String, name: &str, plan: Plan) -> Result<(), AllocError> {
     let steps = plan.steps.len();
     let retries = plan.retries.number();
     drop(plan);
-    push_sort(text, name, "plan", &[(steps, "step")])?;
-    writeln!(text, ", retries {retries}")
+    push_steps(text, name, steps, retries)
 }

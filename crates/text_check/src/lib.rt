@@ -14,7 +14,8 @@ mod text_form;
 mod texts;
 mod unfit;
 
+pub use held::push_steps;
 pub use outcome::{Outcome, worst};
 pub use text_form::{TextForm, form_or};
-pub use texts::{checked, refuse_readings, tell_readings};
+pub use texts::{checked, refuse_readings, tell_readings, told_board, told_plan};
 pub use unfit::tell_unfit;

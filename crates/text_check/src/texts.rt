@@ -35,8 +35,8 @@ fn read_outcome(is_told: bool) -> Outcome
     }
 }
 
-/// Tells of the keys of a board file.
-fn told_board(alloc: Global, sheet: &mut Sheet, source: Source<'_>) -> Result<bool, AllocError>
+/// Tells of the keys of a board file that are unknown or not used, a line each for the first ten, and whether there is one.
+pub fn told_board(alloc: Global, sheet: &mut Sheet, source: Source<'_>) -> Result<bool, AllocError>
     ensures { IfOk result (λ told. told ≡ tells is_told_board source.entry.file.now) }
 {
     match toml::table_from_str(alloc, source.file) {
@@ -46,8 +46,8 @@ fn told_board(alloc: Global, sheet: &mut Sheet, source: Source<'_>) -> Result<bo
     }
 }
 
-/// Tells of the keys of a plan.
-fn told_plan(alloc: Global, sheet: &mut Sheet, source: Source<'_>) -> Result<bool, AllocError>
+/// Tells of the keys of a plan that are unknown or not used, a line each for the first ten, and whether there is one.
+pub fn told_plan(alloc: Global, sheet: &mut Sheet, source: Source<'_>) -> Result<bool, AllocError>
     ensures { IfOk result (λ told. told ≡ tells is_told_plan source.entry.file.now) }
 {
     match toml::table_from_str(alloc, source.file) {
