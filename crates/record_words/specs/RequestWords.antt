@@ -1,25 +1,20 @@
 -- Requests that undo, read back in words.
-use Rattle.std.specs.Prelude.{◌≡◌, ◌≢◌, ℕ, ◌%◌, ◌==◌, ◌&&◌, Option, None, List, ◌++◌, if◌then◌else◌, codes}
+use Rattle.std.specs.Prelude.{◌≡◌, ◌≢◌, ℕ, ◌%◌, ◌==◌, ◌&&◌, None, List, ◌++◌, if◌then◌else◌, codes}
 use Rattle.std.specs.Fmt.{decimal}
 use Rattle.record_base.specs.Requests.{byte_at}
 use Rattle.record_base.specs.declared.message.Asked.{Asked}
 use Rattle.record_base.specs.declared.message.Asked.TheVariants.{Ipmi, Pldm}
 use Rattle.record_base.specs.declared.op.Op.{Op}
 use Rattle.record_kinds.specs.Series.{set_whole}
-use Rattle.text_journal.specs.JournalSteps.{head_in, step_named}
 use Rattle.record_words.specs.declared.parts.Way.TheVariants.{Back}
 use Rattle.record_words.specs.declared.request.UndoInWords.{UndoInWords}
 use Rattle.record_words.specs.declared.request.UndoInWords.TheVariants as undo
 use Rattle.record_words.specs.OpWords.{op_words, words_of}
 
--- a request's data
-abbrev pub body_of : Asked → List ℕ
-body_of (Ipmi from net_fn lun command body) = body
-body_of (Pldm from kind command body) = body
-
--- the operation that a request may carry out, by its command
-abbrev pub candidate : Asked → Option Op
-candidate asked = step_named (head_in asked) (body_of asked)
+-- the logical unit that a request goes to; one of PLDM goes to none
+abbrev pub unit_of : Asked → ℕ
+unit_of (Ipmi from net_fn lun command body) = lun
+unit_of (Pldm from kind command body) = 0
 
 -- that of a password names the user alone
 abbrev pub password_words : ℕ → List ℕ

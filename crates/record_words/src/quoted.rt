@@ -52,7 +52,8 @@ impl fmt::Display for Quoted<'_> {
 impl Quoted<'_> {
     /// Writes the bytes, each as it is or escaped.
     fn write_escaped<W: fmt::Write>(&self, f: &mut fmt::Formatter<W>) -> fmt::Result
-        ensures { DisplaysOnOk W.write_str_gives f.old result (Some (escaped self.now.0.now)) f.new }
+        ensures { DisplaysOnOk W.write_str_gives f.old result
+            (Some (escaped self.now.0.now)) f.new }
     {
         for byte in self.0 {
             let shown = Escaped(*byte);

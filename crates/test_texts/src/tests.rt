@@ -20,6 +20,7 @@ mod states;
 mod story;
 mod undo;
 mod users;
+mod worded;
 mod words;
 mod wrong;
 

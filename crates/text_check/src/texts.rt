@@ -1,7 +1,8 @@
 //! What is told of a text, by what it looks like.
-ghost use Rattle.std.specs.Prelude.{◌≡◌, IfOk, if◌then◌else◌};
+ghost use Rattle.std.specs.Prelude.{◌≡◌, IfOk, OnOk, if◌then◌else◌, string_bytes};
 ghost use Rattle.text_check.specs.Known.{is_told_board, is_told_plan};
 ghost use Rattle.text_check.specs.Outcomes.{tells, tells_board, IsBoardOutcome, IsPlanOutcome, IsScheduleOutcome, IsUndoOutcome, IsJournalOutcome, IsOutcomeBy};
+ghost use Rattle.text_check.specs.Worded.{EndsInWords};
 
 use crate::bad_line::{tell_journal_line, tell_readings_line, tell_schedule_line, tell_undo_line};
 use crate::held::{push_board, push_held, push_plan};
@@ -10,6 +11,7 @@ use crate::outcome::Outcome;
 use crate::refusals::{refuse_board, refuse_plan};
 use crate::text_form::TextForm;
 use crate::unfit::tell_unfit;
+use crate::worded::tell_words;
 use cfg_records::BoardFile;
 use file_faults::{Sheet, Source};
 use plan_file::{PlanFault, read_plan};
@@ -223,17 +225,21 @@ fn tell_mark(text: &mut String, source: Source<'_>, form: TextForm) -> Result<()
 /// Reads a file's text as one of this form, and adds what is told of the file: a line of what it holds or why it is refused; of one that is
 /// refused where its faults are, what stands there and what would be right; a line for each key that is unknown or not used; and of a board
 /// that is read one for each sensor data record that fits no sensor. Gives what came of it. Readings are refused: their reader stands above
-/// this crate, and `tell_readings` and `refuse_readings` tell of them.
+/// this crate, and `tell_readings` and `refuse_readings` tell of them. Behind all that stand the lines in words of a plan, an undo text or a
+/// journal that is read.
 pub fn checked(
     alloc: Global,
     sheet: &mut Sheet,
     source: Source<'_>,
     form: TextForm,
 ) -> Result<Outcome, AllocError>
-    ensures { IfOk result (IsOutcomeBy form source.entry.file.now) }
+    ensures outcome { IfOk result (IsOutcomeBy form source.entry.file.now) }
+    ensures words { OnOk result (EndsInWords form source.entry.name.now source.entry.file.now
+        (string_bytes sheet.new.text)) }
 {
     let outcome = checked_by(alloc, sheet, source, form)?;
     tell_mark(&mut sheet.text, source, form)?;
+    tell_words(alloc, &mut sheet.text, source, form)?;
     Ok(outcome)
 }
 

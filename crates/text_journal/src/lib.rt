@@ -12,4 +12,5 @@ mod writing;
 
 pub use laws::one_journal;
 pub use reading::{JournalTextFault, read_journal};
+pub use step::{RequestHead, step_in};
 pub use writing::write_journal;

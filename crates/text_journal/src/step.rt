@@ -22,10 +22,10 @@ use watch_boot::{GlobalEnablesLimits, PowerPolicyLimits, WatchdogLimits};
 
 /// What a request has in front of its data: its bus, the network function with the logical unit or the type, and the command.
 #[derive(Clone, Copy)]
-pub(crate) struct RequestHead {
-    pub(crate) bus: Bus,
-    pub(crate) first: u8,
-    pub(crate) command: u8,
+pub struct RequestHead {
+    pub bus: Bus,
+    pub first: u8,
+    pub command: u8,
 }
 
 /// The kinds of record that a step changes.
@@ -188,7 +188,7 @@ impl StepKind {
 }
 
 /// The step that the request of this head and these data carries out.
-pub(crate) fn step_in(head: RequestHead, body: &[u8]) -> Option<Op<'_>>
+pub fn step_in(head: RequestHead, body: &[u8]) -> Option<Op<'_>>
     ensures some { IfSome result (λ op.
         (head_of op ≡ head) × (kinds.set_data op ≡ body.now)) }
     ensures none { IfNone result ((op : AnyOp) → head_of op ≡ head

@@ -16,8 +16,8 @@ file check
 => file: empty\nFine
 \n \n \r\n# undo 1\n  # tid = 5\n => file: empty\nFine
 undo 1\nnext ipmb 4 smbus 0\n => file: undo text, 0 requests\nFine
-undo 1\nnext ipmb 4 smbus 0\nipmb 10260530000000005A6E\n => file: undo text, 1 request\nFine
-undo 2\nnext ipmb 4 smbus 0\nnames ipmb 2C 20 smbus 30 20 eid 08 0A\nipmb 10260530000000005A6E\n => file: undo text, 1 request\nFine
+undo 1\nnext ipmb 4 smbus 0\nipmb 10260530000000005A6E\n => file: undo text, 1 request\nfile: undo of step 0: sensor 5 upper critical <- 90 (5Ah); upper non-recoverable <- 110 (6Eh)\nFine
+undo 2\nnext ipmb 4 smbus 0\nnames ipmb 2C 20 smbus 30 20 eid 08 0A\nipmb 10260530000000005A6E\n => file: undo text, 1 request\nfile: undo of step 0: sensor 5 upper critical <- 90 (5Ah); upper non-recoverable <- 110 (6Eh)\nFine
 undo 2\nnext ipmb 4 smbus 0\nipmb 10260530000000005A6E\n => file: undo text refused, line 3\nfile:3: ipmb 10260530000000005A6E: names ipmb OWN PEER smbus OWN PEER eid OWN PEER: two hexadecimal digits each, of even numbers but for eid\nRefused
 undo 1\n | undo 1\r\n | undo 2\n | undo 1\nnext ipmb 64 smbus 0\n => holds 1 Refused
 # undo 1\nundo 1\n => file: undo text refused, line 1\nfile:1: # undo 1: undo 1 or undo 2 alone\nRefused
@@ -30,8 +30,8 @@ start\nquit => file: schedule refused, line 2\nfile:2: quit: no line has the wor
 tid 5 => file: schedule refused, line 1\nfile:1: tid 5: no line has the word tid, nearest is tick\nRefused
 device => file: schedule refused, line 1\nfile:1: device: no line has the word device\nRefused
 retries = 9 => file: plan, 0 steps, retries 9\nFine
-[[step]]\nkind = "power-policy"\npolicy = 2 => file: plan, 1 step, retries 3\nFine
-  [[step]]\r\n  kind = "power-policy"\r\n  policy = 2 => file: plan, 1 step, retries 3\nFine
+[[step]]\nkind = "power-policy"\npolicy = 2 => file: plan, 1 step, retries 3\nfile: step 0: power restore policy: always on\nFine
+  [[step]]\r\n  kind = "power-policy"\r\n  policy = 2 => file: plan, 1 step, retries 3\nfile: step 0: power restore policy: always on\nFine
 # a board\ntid = 5 | log = 1\n  tid = 5 | log = 1\n[device] => holds 1 file: board refused
 log = 1 | [devices] => holds 1 file: plan, 0 steps
 start\ntid = 5 => file: schedule refused, line 2\nfile:2: tid = 5: no line has the word tid, nearest is tick\nRefused
@@ -84,14 +84,14 @@ file check
 + sensor = 5
 + uc = 0x40
 at uc = 0x40
-ucc = 0x40 => file: plan, 1 step, retries 3\nfile:4: step 0 (thresholds): unknown key ucc, nearest is unc\nTold
-xc = 1 => file: plan, 1 step, retries 3\nfile:4: step 0 (thresholds): unknown key xc, nearest is lc\nTold
-nuc = 1 => file: plan, 1 step, retries 3\nfile:4: step 0 (thresholds): unknown key nuc, nearest is uc\nTold
-frobnicate = 1 => file: plan, 1 step, retries 3\nfile:4: step 0 (thresholds): unknown key frobnicate\nTold
-"a b" = 1 => file: plan, 1 step, retries 3\nfile:4: step 0 (thresholds): unknown key "a b"\nTold
-zz = 1\nknd = 1 => file: plan, 1 step, retries 3\nfile:5: step 0 (thresholds): unknown key knd, nearest is kind\nfile:4: step 0 (thresholds): unknown key zz, nearest is lc\nTold
-uc = 0x40\n[[step]]\nkind = "power-policy"\npolicy = 2\npolicies = 2 => file: plan, 2 steps, retries 3\nfile:8: step 1 (power-policy): unknown key policies\nTold
-uc = 0x40\n[[steps]]\nkind = "power-policy" => file: plan, 1 step, retries 3\nfile:5: top: unknown key steps, nearest is step\nTold
+ucc = 0x40 => file: plan, 1 step, retries 3\nfile:4: step 0 (thresholds): unknown key ucc, nearest is unc\nfile: step 0: sensor 5 thresholds: no change\nTold
+xc = 1 => file: plan, 1 step, retries 3\nfile:4: step 0 (thresholds): unknown key xc, nearest is lc\nfile: step 0: sensor 5 thresholds: no change\nTold
+nuc = 1 => file: plan, 1 step, retries 3\nfile:4: step 0 (thresholds): unknown key nuc, nearest is uc\nfile: step 0: sensor 5 thresholds: no change\nTold
+frobnicate = 1 => file: plan, 1 step, retries 3\nfile:4: step 0 (thresholds): unknown key frobnicate\nfile: step 0: sensor 5 thresholds: no change\nTold
+"a b" = 1 => file: plan, 1 step, retries 3\nfile:4: step 0 (thresholds): unknown key "a b"\nfile: step 0: sensor 5 thresholds: no change\nTold
+zz = 1\nknd = 1 => file: plan, 1 step, retries 3\nfile:5: step 0 (thresholds): unknown key knd, nearest is kind\nfile:4: step 0 (thresholds): unknown key zz, nearest is lc\nfile: step 0: sensor 5 thresholds: no change\nTold
+uc = 0x40\n[[step]]\nkind = "power-policy"\npolicy = 2\npolicies = 2 => file: plan, 2 steps, retries 3\nfile:8: step 1 (power-policy): unknown key policies\nfile: step 0: sensor 5 upper critical: 64 (40h)\nfile: step 1: power restore policy: always on\nTold
+uc = 0x40\n[[steps]]\nkind = "power-policy" => file: plan, 1 step, retries 3\nfile:5: top: unknown key steps, nearest is step\nfile: step 0: sensor 5 upper critical: 64 (40h)\nTold
 file check
 retires = 9 => file: plan, 0 steps, retries 3\nfile:1: top: unknown key retires, nearest is retries\nTold
 
@@ -127,10 +127,10 @@ file check
 + sensor = 9
 + messages = true
 + scanning = false
-select = "leave" => file: plan, 1 step, retries 3\nFine
-select = "leave"\nassert = [1] => file: plan, 1 step, retries 3\nfile:7: step 0 (event-enable): key assert not used\nTold
-select = "leave"\nassert = []\ndeassert = [] => file: plan, 1 step, retries 3\nfile:7: step 0 (event-enable): key assert not used\nfile:8: step 0 (event-enable): key deassert not used\nTold
-select = "enable"\nassert = [1]\ndeassert = [] => file: plan, 1 step, retries 3\nFine
+select = "leave" => file: plan, 1 step, retries 3\nfile: step 0: sensor 9 event messages: on; scanning: off\nFine
+select = "leave"\nassert = [1] => file: plan, 1 step, retries 3\nfile:7: step 0 (event-enable): key assert not used\nfile: step 0: sensor 9 event messages: on; scanning: off\nTold
+select = "leave"\nassert = []\ndeassert = [] => file: plan, 1 step, retries 3\nfile:7: step 0 (event-enable): key assert not used\nfile:8: step 0 (event-enable): key deassert not used\nfile: step 0: sensor 9 event messages: on; scanning: off\nTold
+select = "enable"\nassert = [1]\ndeassert = [] => file: plan, 1 step, retries 3\nfile: step 0: sensor 9 event messages: on; scanning: off; enable assertion events: 0002h\nFine
 "#;
 
 /// What is told of sensor data records. The sample board has the sensors 5 and 7.

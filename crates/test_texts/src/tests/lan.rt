@@ -195,8 +195,8 @@ with bare
 [[channel]]\nnumber = 2\nsessions = false\n[[lan]]\nchannel = 2\nip = [0, 0, 0, 0]\nsource = 0\nmask = [0, 0, 0, 0]\ngateway = [0, 0, 0, 0]\nvlan = [0, 0]\nvlam = 1 => holds 1 \nfile:30: lan 0: unknown key vlam, nearest is vlan\nTold
 [[lan]]\nchannel = 2 => file: board refused, Missing: table lan, item 0, field ip\nfile:20: lan 0: lacks ip: a list of 4 bytes\nRefused
 file check
-[[step]]\nkind = "lan-param"\nchannel = 1\nparam = 4\ndata = [1] => file: plan, 1 step, retries 3\nFine
-[[step]]\nkind = "lan-param"\nchannel = 1\nparam = 4\ndata = [1]\nparma = 4 => file: plan, 1 step, retries 3\nfile:6: step 0 (lan-param): unknown key parma, nearest is param\nTold
+[[step]]\nkind = "lan-param"\nchannel = 1\nparam = 4\ndata = [1] => file: plan, 1 step, retries 3\nfile: step 0: channel 1 IP address source: static\nFine
+[[step]]\nkind = "lan-param"\nchannel = 1\nparam = 4\ndata = [1]\nparma = 4 => file: plan, 1 step, retries 3\nfile:6: step 0 (lan-param): unknown key parma, nearest is param\nfile: step 0: channel 1 IP address source: static\nTold
 [[step]]\nkind = "lan-param"\nchannel = 1\nparam = 4\ndata = [5] => file: plan refused, Range: table step, item 0, field data\nfile:5: step 0 (lan-param): data = [5]: a list of one number from 0 to 4\nRefused
 "#;
 

@@ -1,8 +1,11 @@
-use Rattle.std.proofs.Common.{sym, ◌∙◌}
-use Rattle.text_journal.proofs.FirstLines.{refused}
-use Rattle.record_words.proofs.ReadBack.{no_other}
+use Rattle.undo_plans.specs.Requests.{meant}
+use Rattle.record_words.proofs.ReadBack.{none_done, some_done}
 use Rattle.record_words.proofs.request.undone_op.Goals as goal
 
-pub returns-then-not-carries-clause-none : goal.returns-then-not-carries-clause-none
-returns-then-not-carries-clause-none c =
-    no_other _ c.in-Some.op (sym c.candidate.ensures ∙ c.in-Some.is) (refused _ _ c.if-not-carries.true c.carries.ensures)
+pub returns-clause-some : goal.returns-clause-some
+returns-clause-some c =
+    some_done c.step_in.result c.args.request.now c.head_in.result c.body.result.now c.head_in.ensures.head c.body.ensures c.head_in.ensures.unit c.step_in.ensures.some
+
+pub returns-clause-none : goal.returns-clause-none
+returns-clause-none c =
+    none_done c.step_in.result (meant c.args.request.now) c.head_in.result c.body.result.now c.head_in.ensures.head c.body.ensures c.step_in.ensures.none
