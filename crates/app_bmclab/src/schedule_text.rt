@@ -80,7 +80,8 @@ pub fn schedule_run<N: io::Write, W: io::Write, E: io::Write>(
     notes: &mut N,
     console: &mut Console<W, E>,
 ) -> u8
-    ensures { RunEnds W.contents E.contents (PrintsPlay (WritesSchedule wanted) board.now plan.now [])
+    ensures { RunEnds W.contents E.contents
+        (PrintsPlay (WritesSchedule wanted) board.now plan.now [])
         console.old console.new result }
 {
     let undo = wanted.undo;
