@@ -66,7 +66,7 @@ def full_disk(program, folder, board, pages, wanted, names, is_run):
         expect("run", said, (*wanted[:2], f"file {disk}/undo.txt\n" if wanted[0] else ""))
         texts = texts_in(kept)
         expect("the files", sorted(texts), names)
-        (last,) = [text for name, text in texts.items() if not name.endswith(".next")]
+        (last,) = [text for name, text in texts.items() if not name.endswith((".next", ".lock"))]
         expect("a request of each step, to undo it or to carry it out", last.count("\nipmb "), STEPS)
         expect("the journal of a manager that did nothing", FRESH in last.split("\n"), not is_run)
         expect("the records that the run changed", changed(asker, before), STEPS if is_run else 0)
@@ -94,8 +94,8 @@ def tests(board):
     """Returns the tests of this file: the name, the function and its words."""
     syncs, renames = "fsync,fdatasync", "rename,renameat,renameat2"
     return [
-        ("a disk with room for two texts", full_disk, (board, 2, (0, "phase Done\n"), ["undo.txt"], True)),
-        ("a disk that gets full", full_disk, (board, 1, (3, "phase Fresh\n"), ["undo.txt.next", "undo.txt.part"], False)),
+        ("a disk with room for two texts", full_disk, (board, 2, (0, "phase Done\n"), ["undo.txt", "undo.txt.lock"], True)),
+        ("a disk that gets full", full_disk, (board, 1, (3, "phase Fresh\n"), ["undo.txt.lock", "undo.txt.next", "undo.txt.part"], False)),
         ("a disk that keeps nothing", failing_call, (board, syncs, 1, "")),
         ("a disk that keeps no name", failing_call, (board, syncs, 2, "")),
         ("a disk that keeps the first text alone", failing_call, (board, syncs, 3, "phase Fresh\n")),

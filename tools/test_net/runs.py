@@ -164,33 +164,23 @@ def killed(program, folder, board, place):
         server.ended()
 
 
-def unnamed(program, folder, board):
-    """A run whose undo text can't get its name, since that is a folder's: it says so behind the phase, and the file beside it has the text."""
-    steps = distinct_steps("unnamed", STEPS)
-    plan, undo = servers.write(f"{folder}/plan.toml", text_of(steps, 3)), f"{folder}/undo.txt"
-    os.mkdir(undo)
-    with Server(program, board, 400) as server:
-        expect("run", servers.call(program, "run", plan, *server.ports, TURNS, undo), (3, "phase Done\n", f"file {undo}\n"))
-        expect("the files", sorted(os.listdir(folder)), ["plan.toml", "undo.txt", "undo.txt.next", "undo.txt.part"])
-        expect("undo", servers.call(program, "undo", f"{undo}.part", *server.ports, TURNS), (0, "phase Undone\n", ""))
-        expect("serve", server.ended(), (0, f"served {3 * STEPS}\nrecords same\n", ""))
-
-
 def unmade(program, folder):
-    """A run that can't make the file of its journal says so, and sends nothing."""
+    """A run that can't make the file of its journal, or whose UNDO is a folder, says so, and sends nothing."""
     plan = servers.write(f"{folder}/plan.toml", text_of(distinct_steps("unmade", 1), 0))
     os.mkdir(f"{folder}/taken.part")
+    os.mkdir(f"{folder}/folder")
+    os.mkdir(f"{folder}/next.next")
     with socket.socket(socket.AF_INET, socket.SOCK_DGRAM) as nobody:
         nobody.bind((HOST, 0))
         nobody.settimeout(0)
         port = nobody.getsockname()[1]
-        for undo in [f"{folder}/none/undo.txt", f"{folder}/taken"]:
+        for undo in [f"{folder}/none/undo.txt", f"{folder}/taken", f"{folder}/folder", f"{folder}/next"]:
             expect(undo, servers.call(program, "run", "--wait", WAIT, plan, port, port, 3, undo), (3, "", f"file {undo}\n"))
             try:
                 raise Failed(f"{undo}: a request came: {nobody.recv(100).hex()}")
             except BlockingIOError:
                 pass
-    expect("the files", sorted(os.listdir(folder)), ["plan.toml", "taken.next", "taken.part"])
+    expect("the files", sorted(os.listdir(folder)), ["folder", "next.lock", "next.next", "plan.toml", "taken.lock", "taken.part"])
 
 
 def tests(board):
@@ -201,6 +191,5 @@ def tests(board):
         ("a run that waits first", waits_first, ()),
         ("an undo that waits", waits_as_told, ()),
         *((f"a run that is killed in step {place}", killed, (board, place)) for place in range(STEPS)),
-        ("a run whose undo text gets no name", unnamed, (board,)),
         ("a run that can't make its list", unmade, ()),
     ]

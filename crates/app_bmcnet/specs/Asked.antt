@@ -77,6 +77,7 @@ pub record AsksRun (rows : List Row) (asked : RunWords) : Type 0 where
   pub again : NamesOr 0 0 rows (codes "again") asked.again
   pub forget : NamesOption 1 rows (codes "forget") asked.forget
   pub greet : is_given (codes "greet") rows ≡ asked.greet
+  pub replace : is_given (codes "replace") rows ≡ asked.replace
 
 -- what was matched behind `undo` asks for this
 pub record AsksUndo (rows : List Row) (asked : UndoWords) : Type 0 where

@@ -17,9 +17,9 @@ serve_options =
     ∷ option_rule (codes "readings") ∷ flag_rule (codes "repeat-readings") ∷ flag_rule (codes "clock")
     ∷ flag_rule (codes "strict") ∷ flag_rule (codes "list") ∷ []
 
--- those of `run`: `[--wait MS] [--again N] [--forget N] [--greet]`
+-- those of `run`: `[--wait MS] [--again N] [--forget N] [--greet] [--replace]`
 abbrev pub run_options : List Rule
-run_options = option_rule (codes "wait") ∷ option_rule (codes "again") ∷ option_rule (codes "forget") ∷ flag_rule (codes "greet") ∷ []
+run_options = option_rule (codes "wait") ∷ option_rule (codes "again") ∷ option_rule (codes "forget") ∷ flag_rule (codes "greet") ∷ flag_rule (codes "replace") ∷ []
 
 -- those of `undo`: `[--wait MS] [--greet]`
 abbrev pub undo_options : List Rule

@@ -1,8 +1,10 @@
 //! The files of the host that are written, too.
 use app_base::{HostFiles, TextFiles, UnreadFile};
-use app_journal::{HoldFault, WriteFault, WritesFiles};
+use app_journal::{HoldFault, Place, PlaceFault, WriteFault, WritesFiles};
+use std::alloc::{Allocator, Global};
 use std::fs::{File, OpenFile, OpenOptions};
 use std::io::Write;
+use std::path::PathBuf;
 use std::rt::Files;
 use std::{fs, io};
 
@@ -75,6 +77,59 @@ fn lock_file<R: Files<File = File>>(rt: &R, path: &str) -> Result<File, HoldFaul
     }
 }
 
+/// Writes the text to the FIFO or the device of this path.
+fn write_plain<R: Files<File = File>>(rt: &R, path: &str, text: &str) -> io::Result<()> {
+    let mut how = OpenOptions::new();
+    how.write(true);
+    let mut file = how.open(rt, path)?;
+    file.write_all(text.as_bytes())
+}
+
+/// The most links that are followed one after another, as the system's own limit.
+const MOST_LINKS: usize = 40;
+
+/// The path where a link of this path leads to that one: that is beside it, unless it begins at the root.
+fn led_to<A: Allocator>(
+    alloc: Global,
+    path: &str,
+    link: &PathBuf<A>,
+) -> Result<String, PlaceFault> {
+    let Some(target) = link.to_str() else {
+        return Err(PlaceFault::NoPlace);
+    };
+    let path = match path.rsplit_once('/') {
+        Some((folder, _)) if !target.starts_with('/') => format!(in alloc; "{folder}/{target}"),
+        _ => String::from_str(alloc, target),
+    };
+    path.map_err(|_| PlaceFault::Memory)
+}
+
+/// The path where the links of this one lead.
+fn end_of_links<R: Files + AllocGlobal>(rt: &R, path: &str) -> Result<String, PlaceFault> {
+    let alloc = rt.alloc();
+    let mut at = String::from_str(alloc, path).map_err(|_| PlaceFault::Memory)?;
+    for _ in 0..MOST_LINKS {
+        match fs::read_link(rt, at.as_str()) {
+            Ok(link) => at = led_to(alloc, at.as_str(), &link)?,
+            Err(_) => return Ok(at),
+        }
+    }
+    Err(PlaceFault::NoPlace)
+}
+
+/// Where the links of this path lead.
+fn place_of<R: Files + AllocGlobal>(rt: &R, path: &str) -> Result<Place, PlaceFault> {
+    match fs::metadata(rt, path) {
+        Ok(is) if is.is_file() => Ok(Place::File(end_of_links(rt, path)?)),
+        Ok(is) if is.is_dir() => Err(PlaceFault::NoPlace),
+        Ok(_) => Ok(Place::Stream),
+        Err(why) if matches!(why.kind(), io::ErrorKind::NotFound) => {
+            Ok(Place::Free(end_of_links(rt, path)?))
+        }
+        Err(_) => Err(PlaceFault::NoPlace),
+    }
+}
+
 /// What came of writing, as a run tells it.
 fn written(answer: io::Result<()>) -> Result<(), WriteFault> {
     match answer {
@@ -87,6 +142,9 @@ impl<R: Files<File = File> + AllocGlobal> WritesFiles for NetFiles<'_, R> {
     // Nothing is promised of what the host keeps of a text.
     ghost takes = { λ old word text answer new. Unit {0} };
 
+    // Nor of what a FIFO or a device makes of it.
+    ghost pours = { λ old word text answer new. Unit {0} };
+
     // Nor of where a renaming leaves it.
     ghost renames = { λ old from to answer new. Unit {0} };
 
@@ -96,8 +154,15 @@ impl<R: Files<File = File> + AllocGlobal> WritesFiles for NetFiles<'_, R> {
     // Nor of who holds what.
     ghost holds = { λ old word answer new. Unit {0} };
 
+    // Nor of where links lead.
+    ghost leads = { λ files word answer. Unit {0} };
+
     fn write(&mut self, word: &str, text: &str) -> Result<(), WriteFault> {
         written(write_through(self.read.rt, word, text))
+    }
+
+    fn pour(&mut self, word: &str, text: &str) -> Result<(), WriteFault> {
+        written(write_plain(self.read.rt, word, text))
     }
 
     fn rename(&mut self, from: &str, to: &str) -> Result<(), WriteFault> {
@@ -114,5 +179,9 @@ impl<R: Files<File = File> + AllocGlobal> WritesFiles for NetFiles<'_, R> {
             Ok(()) => Ok(()),
             Err(_) => Err(HoldFault),
         }
+    }
+
+    fn place(&self, word: &str) -> Result<Place, PlaceFault> {
+        place_of(self.read.rt, word)
     }
 }

@@ -30,10 +30,10 @@ fn carry_out<
     progress: &mut Progress<P>,
     console: &mut Console<W, E>,
 ) -> u8
-    ensures ends { EndsAsAsked W.contents E.contents (F.gives files.old) F.takes F.renames F.removes
+    ensures ends { EndsAsAsked W.contents E.contents F.TextFiles F.WritesFiles
         words.now files.old files.new console.old console.new result }
-    ensures told { MayTellAsAsked P.contents (F.gives files.old) words.now
-        progress.old progress.new }
+    ensures told { MayTellAsAsked P.contents F.TextFiles F.WritesFiles words.now
+        files.old progress.old progress.new }
 {
     match words {
         Words::Serve(words) => serve(rt, alloc, &*files, words, console),
@@ -61,10 +61,10 @@ pub fn run_line<
     progress: &mut Progress<P>,
     console: &mut Console<W, E>,
 ) -> u8
-    ensures ends { LineEnds W.contents E.contents (F.gives files.old) F.takes F.renames F.removes
+    ensures ends { LineEnds W.contents E.contents F.TextFiles F.WritesFiles
         (map string_bytes words.now) files.old files.new console.old console.new result }
-    ensures told { LineTells P.contents (F.gives files.old) (map string_bytes words.now)
-        progress.old progress.new }
+    ensures told { LineTells P.contents F.TextFiles F.WritesFiles (map string_bytes words.now)
+        files.old progress.old progress.new }
 {
     match read(alloc, words) {
         Ok(asked) => carry_out(rt, alloc, files, &asked, progress, console),

@@ -115,17 +115,22 @@ const GREET_HELP: &str =
     "Greets the controller first on each bus that is used, so that what it kept of an earlier run doesn't matter, \
 as in --greet; where it doesn't answer, nothing is begun";
 
+const REPLACE_HELP: &str =
+    "Puts a journal aside, under a free name, that an earlier run left and that has something to take back, as in --replace";
+
 const RUN_EXAMPLES: &str = "Examples:
   bmcnet run examples/clean/plan.toml 9620 9621 1000 undo.txt
   bmcnet run --greet examples/clean/plan.toml 9620 9621 1000 undo.txt
   bmcnet run --wait 500 --again 3 examples/clean/plan.toml 9620 9621 1000 undo.txt
-  bmcnet run --forget 50 examples/clean/plan.toml 9620 9621 1000 undo.txt";
+  bmcnet run --forget 50 examples/clean/plan.toml 9620 9621 1000 undo.txt
+  bmcnet run --replace examples/clean/plan.toml 9620 9621 1000 undo.txt";
 
-const RUN_ARGUMENTS: [Argument<'static>; 9] = [
+const RUN_ARGUMENTS: [Argument<'static>; 10] = [
     Argument::Option("wait", "MS", WAIT_HELP),
     Argument::Option("again", "N", AGAIN_HELP),
     Argument::Option("forget", "N", FORGETTING_HELP),
     Argument::Flag("greet", GREET_HELP),
+    Argument::Flag("replace", REPLACE_HELP),
     Argument::Needed("PLAN", PLAN_HELP),
     Argument::Needed("P0", P0_HELP),
     Argument::Needed("P1", P1_HELP),
@@ -133,7 +138,7 @@ const RUN_ARGUMENTS: [Argument<'static>; 9] = [
     Argument::Needed("UNDO", UNDO_FILE_HELP),
 ];
 
-/// `run [--wait MS] [--again N] [--forget N] [--greet] PLAN P0 P1 TURNS UNDO`.
+/// `run [--wait MS] [--again N] [--forget N] [--greet] [--replace] PLAN P0 P1 TURNS UNDO`.
 fn run_command<'a>(alloc: Global) -> Result<Command<'a>, AllocError>
     ensures { IfOk result (IsCommand (app_named Task.Run)) }
 {

@@ -221,6 +221,7 @@ fn run_words(alloc: Global, matches: &ArgMatches) -> Result<RunWords, Refusal>
         again: number_or(alloc, matches, Task::Run, "again", "N", 0, 0)?,
         forget: number_given(alloc, matches, Task::Run, "forget", "N", 1)?,
         greet: has_flag(matches, "greet"),
+        replace: has_flag(matches, "replace"),
     })
 }
 

@@ -1,3 +1,5 @@
+pub mod ClaimingFacts
 pub mod KeepingFacts
 pub mod LookedAt
 pub mod RevivingFacts
+pub mod StandingFacts

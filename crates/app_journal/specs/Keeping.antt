@@ -1,5 +1,5 @@
 -- How the journal of a manager is kept in its file.
-use Rattle.std.specs.Prelude.{◌≡◌, ◌≢◌, ◌⊎◌, ℕ, List, [], ◌∷◌, Bool, true, false, not, Result, Ok, Err, IsSome, None, string_bytes}
+use Rattle.std.specs.Prelude.{◌≡◌, ◌≢◌, ◌⊎◌, ℕ, List, [], ◌∷◌, Bool, true, false, not, Result, Ok, Err, IsSome, None}
 use Rattle.undo_plans.specs.declared.names.Names.{Names}
 use Rattle.undo_journal.specs.declared.stage.KeptStage.{KeptStage}
 use Rattle.undo_journal.specs.declared.stage.KeptStage.TheVariants.{Open}
@@ -14,7 +14,7 @@ use Rattle.undo_core.specs.Shown.{Represents, words_of}
 use Rattle.bmc_ports.specs.Observing.{Look}
 use Rattle.app_journal.specs.declared.files.WriteFault.{WriteFault}
 use Rattle.app_journal.specs.declared.undo_files.UndoFiles.{UndoFiles}
-use Rattle.app_journal.specs.Beside.{Writings, Renamings, Change, PutsText}
+use Rattle.app_journal.specs.Beside.{Writings, Renamings, Change, PutsPart}
 
 -- a request is open at the stage
 abbrev pub has_open : KeptStage → Bool
@@ -33,7 +33,7 @@ may_unkept manager = not (has_open (kept_by manager).stage)
 module _ {Files : Type 0} (takes : Writings Files) (renames : Renamings Files) (beside : UndoFiles) where
   -- the journal's file gets the text
   abbrev pub PutsJournal : (text : List ℕ) → Change Files
-  PutsJournal text = PutsText takes renames (string_bytes beside.next) (string_bytes beside.part) text
+  PutsJournal text = PutsPart takes renames beside text
 
   -- ---- the text is put where the file has another
 

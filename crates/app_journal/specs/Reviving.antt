@@ -6,7 +6,9 @@ use Rattle.text_journal.specs.JournalText.{IsTextOf, IsFirstBad}
 use Rattle.model_lab.specs.Meaning.{lab_names}
 use Rattle.undo_core.specs.declared.manager.Manager.{Manager}
 use Rattle.undo_core.specs.Journals.{IsRevived, kept_by}
-use Rattle.undo_core.specs.Shown.{IsForOthers, IsRemade}
+use Rattle.model_lab.specs.ManagerSteps.{ManagerState, board_plans}
+use Rattle.undo_plans.specs.declared.undo_list.UndoList.{UndoList}
+use Rattle.undo_core.specs.Shown.{IsForOthers, IsListOf, IsRemade, Represents}
 use Rattle.app_journal.specs.declared.reviving.ReviveFault.{ReviveFault}
 use Rattle.app_journal.specs.declared.reviving.ReviveFault.TheVariants as fault
 
@@ -25,6 +27,10 @@ pub record IsMadeOf (text : List ℕ) (manager : Manager) : Type 0 where
   pub few : HasRetries (kept_by manager)
   pub own : IsForLab (kept_by manager)
   pub revived : IsRevived (kept_by manager) manager
+
+-- the list is the manager's: what undoes the steps that were done, the numbers of its next requests, and its names
+abbrev pub IsOwnList : Manager → UndoList → Type 0
+IsOwnList manager list = (state : ManagerState (board_plans lab_names)) → Represents lab_names manager state → IsListOf lab_names list state
 
 -- why none is made of a text: memory is refused, it is no journal, or it is the journal of a manager that can't be made again with the lab's names
 abbrev pub IsFault : ReviveFault → (text : List ℕ) → Type 0

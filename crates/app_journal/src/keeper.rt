@@ -15,7 +15,7 @@ use undo_journal::KeptStage;
 pub struct JournalKeeper<'a, F: WritesFiles> {
     pub alloc: Global,
     pub files: &'a mut F,
-    pub beside: &'a UndoFiles<'a>,
+    pub beside: &'a UndoFiles,
     /// The text that the journal's file has: the last one that was put.
     pub text: &'a mut String,
 }

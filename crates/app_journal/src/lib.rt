@@ -1,6 +1,7 @@
 //! The file of a journal: a manager's journal is put there before the manager's frames go out, and a manager is made again of it.
 #![tactic(auto)]
 
+mod claiming;
 mod files;
 mod keeper;
 mod laws;
@@ -8,7 +9,8 @@ mod reviving;
 mod standing;
 mod undo_files;
 
-pub use files::{HoldFault, WriteFault, WritesFiles};
+pub use claiming::{Claim, Taken, claim_files, hold_files};
+pub use files::{HoldFault, Place, PlaceFault, WriteFault, WritesFiles};
 pub use keeper::JournalKeeper;
 pub use laws::{journals_are_kept, kept_texts_revive};
 pub use reviving::{ReviveFault, revive_text};

@@ -1,11 +1,15 @@
 //! What a text says that there is to take back.
 ghost use Rattle.std.specs.Prelude.{◌≡◌, IfOk};
 ghost use Rattle.undo_journal.specs.Journals.{kept_in};
-ghost use Rattle.app_journal.specs.Standing.{IsListStanding, IsStanding, stands_with, standing_of};
+ghost use Rattle.undo_core.specs.Journals.{kept_by};
+ghost use Rattle.app_journal.specs.Standing.{IsFinishedAs, IsListStanding, IsSameAs, IsStanding};
+ghost use Rattle.app_journal.specs.Standing.{StandsBeside, is_over_at, stands_with, standing_of};
 
+use crate::reviving::{ReviveFault, revive_text};
 use std::alloc::{AllocError, Global};
 use text_journal::{JournalTextFault, read_journal};
-use text_undo::{UndoFault, read_undo};
+use text_undo::{UndoFault, read_undo, write_undo};
+use undo_core::Manager;
 use undo_journal::{Journal, KeptStage, KeptTask};
 
 /// What a file beside that of an undo text has.
@@ -64,5 +68,57 @@ pub fn standing_in(alloc: Global, text: &str) -> Result<Standing, AllocError>
         Ok(journal) => Ok(journal_standing(&journal)),
         Err(JournalTextFault::Memory) => Err(AllocError),
         Err(JournalTextFault::Line(_)) => list_standing(alloc, text),
+    }
+}
+
+/// Whether the plan ended or halted.
+fn is_over_at(stage: &KeptStage) -> bool
+    ensures { result ≡ is_over_at stage.now }
+{
+    matches!(stage, KeptStage::Done | KeptStage::Halted(_, _))
+}
+
+/// Whether that of a manager did.
+fn has_ended(manager: &Manager) -> bool
+    ensures { result ≡ is_over_at (kept_by manager.now).stage }
+{
+    is_over_at(&manager.journal().stage)
+}
+
+/// Whether both texts are the same.
+fn is_same(text: &str, other: &str) -> bool
+    ensures { IsSameAs text.now other.now result }
+{
+    if text == other {
+        return true;
+    }
+    false
+}
+
+/// Whether the text is that of the journal of a manager whose plan is over, and the undo text is that of its list.
+fn is_finished(alloc: Global, text: &str, undo: &str) -> Result<bool, AllocError>
+    ensures { IfOk result (IsFinishedAs text.now undo.now) }
+{
+    let manager = match revive_text(alloc, text) {
+        Ok(manager) => manager,
+        Err(ReviveFault::Memory) => return Err(AllocError),
+        Err(_) => return Ok(false),
+    };
+    if !has_ended(&manager) {
+        drop(manager);
+        return Ok(false);
+    }
+    let list = write_undo(alloc, manager.undo_list())?;
+    Ok(is_same(undo, list.as_str()))
+}
+
+/// What the text of a journal, or an undo text, says that there is to take back, beside this undo text: nothing where that has the list of a journal whose
+/// plan is over.
+pub(crate) fn standing_beside(alloc: Global, text: &str, undo: &str) -> Result<Standing, AllocError>
+    ensures { IfOk result (StandsBeside text.now undo.now) }
+{
+    match standing_in(alloc, text)? {
+        Standing::Something => Ok(stands_with(!is_finished(alloc, text, undo)?)),
+        other => Ok(other),
     }
 }

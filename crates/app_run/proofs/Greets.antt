@@ -4,7 +4,6 @@ use Rattle.std.proofs.Common.{◌≡◌, ◌∙◌, ℕ, List, true, false, Opti
 use Rattle.two_wire.specs.declared.Bus.{Bus}
 use Rattle.wire_links.specs.declared.link.Link.{Ghosts}
 use Rattle.undo_plans.specs.declared.names.Names.{Names}
-use Rattle.undo_plans.specs.declared.undo_list.UndoList.{UndoList}
 use Rattle.model_lab.specs.Meaning.{lab_names}
 use Rattle.undo_greeting.specs.declared.greeting.Greeting.{Greeting}
 use Rattle.undo_greeting.specs.declared.greeting.Stage.TheVariants.{AtStart}
@@ -19,13 +18,11 @@ use Rattle.app_run.specs.declared.greeting.Greetings.{Greetings}
 use Rattle.app_run.specs.declared.greeting.Unanswered.{Unanswered}
 use Rattle.app_run.specs.declared.running.Outcome.{Outcome}
 use Rattle.app_run.specs.declared.running.RunWords.{RunWords}
-use Rattle.app_run.specs.declared.undoing.Told.{Told}
 use Rattle.app_journal.specs.declared.undo_files.UndoFiles.{UndoFiles}
-use Rattle.app_journal.specs.Beside.{Removals, Renamings, Writings}
-use Rattle.app_run.specs.Driven.{DrivenState, resumed_from}
+use Rattle.app_journal.specs.declared.files.WritesFiles.{Ghosts as FileGhosts}
+use Rattle.app_run.specs.Driven.{DrivenState}
 use Rattle.app_run.specs.Greeted.{GreetedFirst, GreetsBus, unanswered_by}
 use Rattle.app_run.specs.Outcome.{GoesFrom, StaysGreeted}
-use Rattle.app_run.specs.Undo.{SaysUndone, StaysUndone, StaysUngreeted, UndoTells}
 
 -- ---- a bus
 
@@ -57,19 +54,11 @@ module _ {L : Type 0} (of : Ghosts L) (bus : Bus) (retries turns : ℕ) (link : 
 
 -- ---- a manager that did nothing
 
-module _ {Files : Type 0} (takes : Writings Files) (renames : Renamings Files) (removes : Removals Files) where
+module _ {Files : Type 0} (written : FileGhosts Files) where
   -- one that was to run a plan
   pub left_run : (greetings : Greetings) (beside : UndoFiles) (before : DrivenState) (words : RunWords) (had : List ℕ) (manager : Manager) (why : GreetFault) (outcome : Result Outcome ReportFault) (files : Files)
       → Represents lab_names manager before → GreetedFirst greetings words.turns (Err why) → StaysGreeted manager why outcome
-      → GoesFrom takes renames removes greetings beside before words had outcome files files
+      → GoesFrom written greetings beside before words had outcome files files
   left_run greetings beside before words had manager fault.NoLink outcome files shows greeted is = inr (inr (is, refl))
   left_run greetings beside before words had manager (fault.Unanswered why) outcome files shows greeted (phase, is, named) =
       inr (inl (record { phase = phase; why = why; is = is; unanswered = greeted; phase_is = named before shows; same = refl }))
-
--- one that was to go on from a list
-pub left_undo : (greetings : Greetings) (list : UndoList) (turns : ℕ) (manager : Manager) (why : GreetFault) (told : Result Told ReportFault) → Represents lab_names manager (resumed_from list)
-    → GreetedFirst greetings turns (Err why) → StaysUngreeted manager why told → UndoTells (SaysUndone greetings list turns) (StaysUndone greetings list turns) told
-left_undo greetings list turns manager fault.NoLink told shows greeted is =
-    subst (UndoTells (SaysUndone greetings list turns) (StaysUndone greetings list turns)) (sym is) (refl, refl)
-left_undo greetings list turns manager (fault.Unanswered why) told shows greeted (phase, is, named) =
-    subst (UndoTells (SaysUndone greetings list turns) (StaysUndone greetings list turns)) (sym is) (greeted, named (resumed_from list) shows)

@@ -1,9 +1,10 @@
+pub mod Asides
 pub mod Driving
 pub mod Tries
 pub mod Courses
 pub mod Keeping
+pub mod Listing
 pub mod Telling
 pub mod Ways
-pub mod Saying
 pub mod Used
 pub mod Greets

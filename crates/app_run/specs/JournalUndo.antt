@@ -1,5 +1,5 @@
 -- How the undo of a journal ends.
-use Rattle.std.specs.Prelude.{◌≡◌, ◌⊎◌, ℕ, List, [], ◌++◌, Option, Result, Ok, Err, codes}
+use Rattle.std.specs.Prelude.{◌≡◌, ◌⊎◌, ℕ, List, [], ◌++◌, Option, true, false, Result, Ok, Err, codes, string_bytes}
 use Rattle.text_lines.specs.Cuts.{ended}
 use Rattle.text_journal.specs.declared.reading.JournalTextFault.TheVariants as bad
 use Rattle.text_journal.specs.FaultNames.{fault_name}
@@ -12,7 +12,7 @@ use Rattle.app_base.specs.Ending.{Saying, RunEnds, SaysReport}
 use Rattle.app_journal.specs.declared.reviving.ReviveFault.{ReviveFault}
 use Rattle.app_journal.specs.declared.reviving.ReviveFault.TheVariants as fault
 use Rattle.app_journal.specs.declared.undo_files.UndoFiles.{UndoFiles}
-use Rattle.app_journal.specs.Beside.{IsOwn, Writings, Renamings}
+use Rattle.app_journal.specs.Beside.{IsOwn, IsStream, Writings, Renamings}
 use Rattle.app_journal.specs.Reviving.{IsFault, IsMadeOf}
 use Rattle.app_run.specs.declared.reverting.Reverted.{Reverted}
 use Rattle.app_run.specs.declared.reverting.Reverted.TheVariants.{Ended, Ungreeted}
@@ -45,6 +45,11 @@ abbrev pub SaysEnd : (word : List ℕ) → DriveEnd → Saying
 SaysEnd word (Ok phase) = SaysPhase phase
 SaysEnd word (Err kept) = SaysFile word
 
+-- the words are those beside a journal's own file, which is one of the files that are held
+abbrev pub IsOwnOf : (held beside : UndoFiles) → Type 0
+IsOwnOf held beside =
+    ((held.is_stream ≡ false) × IsOwn (string_bytes held.undo) beside) ⊎ ((held.is_stream ≡ true) × IsStream (string_bytes held.undo) beside)
+
 -- ---- how it ends
 
 module _ {Stdout Stderr : Type 0} (out : Stdout → Option (List ℕ)) (err : Stderr → Option (List ℕ)) where
@@ -56,18 +61,18 @@ module _ {Stdout Stderr : Type 0} (out : Stdout → Option (List ℕ)) (err : St
   EndsReverted word (Err why) old new result = RunEnds out err (SaysReport (Err why)) old new result
 
 module _ {Files Stdout Stderr : Type 0} (out : Stdout → Option (List ℕ)) (err : Stderr → Option (List ℕ)) (takes : Writings Files) (renames : Renamings Files) where
-  -- a manager takes back what it did, whose journal has the text, in the file of this word, and that is said
-  pub record EndsMade (manager : Manager) (word text : List ℕ) (words : UndoWords) (before after : Files) (old new : Console Stdout Stderr) (result : ℕ) : Type 0 where
+  -- a manager takes back what it did, whose journal has the text, in the file that is held, and that is said by the word of that
+  pub record EndsMade (manager : Manager) (held : UndoFiles) (text : List ℕ) (words : UndoWords) (before after : Files) (old new : Console Stdout Stderr) (result : ℕ) : Type 0 where
     pub beside : UndoFiles
-    pub own : IsOwn word beside
+    pub own : IsOwnOf held beside
     pub came : Result Reverted ReportFault
     pub reverts : RevertsText takes renames beside words manager came text before after
-    pub said : EndsReverted out err word came old new result
+    pub said : EndsReverted out err (string_bytes words.undo) came old new result
 
-  -- So ends the undo of the text of a journal in the file of this word. No manager is made of it, and that is said. Or memory was refused then. Or a manager is made,
+  -- So ends the undo of the text of a journal in a file that is held. No manager is made of it, and that is said. Or memory was refused then. Or a manager is made,
   -- takes back what it did, and keeps its journal in that file.
-  abbrev pub JournalEnds : (word text : List ℕ) → UndoWords → (before after : Files) → (old new : Console Stdout Stderr) → ℕ → Type 0
-  JournalEnds word text words before after old new result =
+  abbrev pub JournalEnds : (held : UndoFiles) → (text : List ℕ) → UndoWords → (before after : Files) → (old new : Console Stdout Stderr) → ℕ → Type 0
+  JournalEnds held text words before after old new result =
       ((why : ReviveFault) × IsFault why text × (after ≡ before) × RunEnds out err (SaysJournalFault why) old new result)
       ⊎ (((after ≡ before) × RunEnds out err PrintsNothing old new result)
-      ⊎ ((manager : Manager) × IsMadeOf text manager × EndsMade manager word text words before after old new result))
+      ⊎ ((manager : Manager) × IsMadeOf text manager × EndsMade manager held text words before after old new result))

@@ -30,3 +30,7 @@ others_line = ended (codes "undo OtherNames")
 -- what is said of a greeting that wasn't answered: `no answer on ipmb`, or `busy on smbus`
 abbrev pub unanswered_line : Unanswered → List ℕ
 unanswered_line why = ended (answer_word why.busy ++ (codes " on " ++ bus_name why.bus))
+
+-- what is said of a journal that was put aside: the word that names it now
+abbrev pub aside_line : (word : List ℕ) → List ℕ
+aside_line word = ended (codes "aside " ++ word)

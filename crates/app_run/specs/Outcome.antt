@@ -1,5 +1,5 @@
 -- What comes of a run of a plan, and what it leaves of the files.
-use Rattle.std.specs.Prelude.{◌≡◌, ◌⊎◌, ℕ, List, Bool, true, false, None, Some, Result, Ok, Err, string_bytes}
+use Rattle.std.specs.Prelude.{◌≡◌, ◌⊎◌, ℕ, List, Bool, true, false, None, Some, Result, Ok, Err}
 use Rattle.undo_plans.specs.declared.plan.Plan.{Plan}
 use Rattle.undo_plans.specs.declared.undo_list.UndoList.{UndoList}
 use Rattle.text_undo.specs.UndoText.{text_of}
@@ -13,8 +13,9 @@ use Rattle.app_base.specs.declared.ending.ReportFault.TheVariants.{Memory, Stopp
 use Rattle.app_journal.specs.declared.files.WriteFault.{WriteFault}
 use Rattle.app_journal.specs.declared.reviving.ReviveFault.{ReviveFault}
 use Rattle.app_journal.specs.declared.undo_files.UndoFiles.{UndoFiles}
-use Rattle.app_journal.specs.Beside.{Writings, Renamings, Removals, Change, InSequence, IsBeside, PutsText}
-use Rattle.app_journal.specs.Keeping.{IsJournalText, PutsJournal}
+use Rattle.app_journal.specs.declared.files.WritesFiles.{Ghosts}
+use Rattle.app_journal.specs.Beside.{Writings, Renamings, Change, GivesUndo, InSequence, PutsPart, RemovesPart}
+use Rattle.app_journal.specs.Keeping.{IsJournalText}
 use Rattle.app_run.specs.declared.greeting.GreetFault.{GreetFault}
 use Rattle.app_run.specs.declared.greeting.GreetFault.TheVariants as fault
 use Rattle.app_run.specs.declared.greeting.Greetings.{Greetings}
@@ -49,13 +50,13 @@ RunsBeside takes renames beside manager words (Ok ran) had old new =
 RunsBeside takes renames beside manager words (Err why) had old new =
     (before : DrivenState) → Represents lab_names manager before → NeverRevived takes renames beside before words why had old new
 
-module _ {Files : Type 0} (takes : Writings Files) (renames : Renamings Files) (removes : Removals Files) where
+module _ {Files : Type 0} (files : Ghosts Files) where
   -- The file of the undo text gets that of the manager's list, by its name alone, and then `.part` is removed, where the plan ended or halted, and these
   -- answer so. Else nothing is done.
   abbrev pub KeepsList : (over : Bool) → UndoFiles → Manager → Change Files
   KeepsList true beside manager old answer new =
       (list : UndoList) × HasList manager list
-      × InSequence (PutsText takes renames (string_bytes beside.next) beside.undo.now (text_of list)) (λ mid. removes mid (string_bytes beside.part)) old answer new
+      × InSequence (GivesUndo files beside (text_of list)) (RemovesPart files.removes beside) old answer new
   KeepsList false beside manager old answer new = (answer ≡ Ok tt) × (new ≡ old)
 
   -- So comes to an end what was begun with this text in `.part`: the manager ran, and its journal and its list are kept or not; or no link could be had;
@@ -63,14 +64,14 @@ module _ {Files : Type 0} (takes : Writings Files) (renames : Renamings Files) (
   abbrev pub ComesFrom : UndoFiles → DrivenState → RunWords → (had : List ℕ) → Result Outcome ReportFault → (old new : Files) → Type 0
   ComesFrom beside before words had (Ok (Ran phase answer)) old new =
       (manager : Manager) × (kept : Result (Unit {0}) WriteFault) × (last : Result (Unit {0}) WriteFault) × (mid : Files)
-      × RunsFrom takes renames beside before words manager phase kept had old mid × KeepsList (is_over phase) beside manager mid last new × (answer ≡ first_fault kept last)
+      × RunsFrom files.takes files.renames beside before words manager phase kept had old mid × KeepsList (is_over phase) beside manager mid last new × (answer ≡ first_fault kept last)
   ComesFrom beside before words had (Ok Unmade) old new = ⊥
   ComesFrom beside before words had (Ok (Ungreeted phase why)) old new = ⊥
   ComesFrom beside before words had (Err Stopped) old new = new ≡ old
   ComesFrom beside before words had (Err Memory) old new =
       ((manager : Manager) × (phase : Phase) × (kept : Result (Unit {0}) WriteFault) × (is_over phase ≡ true)
-      × RunsFrom takes renames beside before words manager phase kept had old new)
-      ⊎ ((why : ReviveFault) × NeverRevived takes renames beside before words why had old new)
+      × RunsFrom files.takes files.renames beside before words manager phase kept had old new)
+      ⊎ ((why : ReviveFault) × NeverRevived files.takes files.renames beside before words why had old new)
 
   -- A greeting wasn't answered, and the manager did nothing.
   pub record StaysAt (greetings : Greetings) (before : DrivenState) (words : RunWords) (outcome : Result Outcome ReportFault) (old new : Files) : Type 0 where
@@ -101,14 +102,13 @@ module _ {Files : Type 0} (takes : Writings Files) (renames : Renamings Files) (
   -- `.part` is made, with the journal of a manager that did nothing, and this is answered
   abbrev pub MakesPart : Plan → UndoFiles → (text : List ℕ) → Change Files
   MakesPart plan beside text old answer new =
-      (manager : Manager) × Represents lab_names manager (opened_with plan) × IsJournalText text manager × PutsJournal takes renames beside text old answer new
+      (manager : Manager) × Represents lab_names manager (opened_with plan) × IsJournalText text manager × PutsPart files.takes files.renames beside text old answer new
 
-  -- so a run of a plan comes to an end: `.part` is made first, and then it goes on; or that isn't made, and nothing else is done; or memory
-  -- was refused before, and nothing is done
-  abbrev pub RunEnd : Plan → RunWords → Result Outcome ReportFault → (old new : Files) → Type 0
-  RunEnd plan words outcome old new =
-      ((beside : UndoFiles) × (text : List ℕ) × (made : Files) × IsBeside (string_bytes words.undo) beside × MakesPart plan beside text old (Ok tt) made
+  -- So a run of a plan comes to an end, with these files: `.part` is made first, and then it goes on; or that isn't made, and nothing else is done; or memory
+  -- was refused before, and nothing is done.
+  abbrev pub RunEnd : Plan → UndoFiles → RunWords → Result Outcome ReportFault → (old new : Files) → Type 0
+  RunEnd plan beside words outcome old new =
+      ((text : List ℕ) × (made : Files) × MakesPart plan beside text old (Ok tt) made
       × GoesFrom (greetings_before_run words.greet plan) beside (opened_with plan) words text outcome made new)
-      ⊎ (((beside : UndoFiles) × (text : List ℕ) × (why : WriteFault) × IsBeside (string_bytes words.undo) beside × (outcome ≡ Ok Unmade)
-      × MakesPart plan beside text old (Err why) new)
+      ⊎ (((text : List ℕ) × (why : WriteFault) × (outcome ≡ Ok Unmade) × MakesPart plan beside text old (Err why) new)
       ⊎ ((outcome ≡ Err Memory) × (new ≡ old)))

@@ -10,7 +10,7 @@ use Rattle.undo_core.specs.Shown.{Represents}
 use Rattle.bmc_ports.specs.Driving.{Links}
 use Rattle.bmc_ports.specs.Observing.{Look}
 use Rattle.app_base.specs.declared.ending.ReportFault.{ReportFault}
-use Rattle.app_base.specs.declared.ending.ReportFault.TheVariants.{Stopped}
+use Rattle.app_base.specs.declared.ending.ReportFault.TheVariants.{Memory, Stopped}
 use Rattle.app_journal.specs.declared.undo_files.UndoFiles.{UndoFiles}
 use Rattle.app_journal.specs.Beside.{Writings, Renamings}
 use Rattle.app_journal.specs.Keeping.{KeepsLooks}
@@ -84,3 +84,7 @@ module _ {Files : Type 0} (takes : Writings Files) (renames : Renamings Files) (
   -- the same, whatever text the journal's file has then
   abbrev pub RevertsText : UndoWords → Manager → Result Reverted ReportFault → (had : List ℕ) → (old new : Files) → Type 0
   RevertsText words manager came had old new = (has : List ℕ) × Reverts words manager came had has old new
+
+  -- or memory was refused before, and nothing is done
+  abbrev pub MayRevert : UndoWords → Manager → Result Reverted ReportFault → (had : List ℕ) → (old new : Files) → Type 0
+  MayRevert words manager came had old new = RevertsText words manager came had old new ⊎ ((came ≡ Err Memory) × (new ≡ old))

@@ -1,11 +1,16 @@
 -- What a run and an undo tell on a terminal of how far they are.
-use Rattle.std.specs.Prelude.{◌≡◌, ◌⊎◌, ℕ, List, [], Option, Ok, length, map}
+use Rattle.std.specs.Prelude.{◌≡◌, ◌⊎◌, ℕ, List, [], ◌∷◌, Option, Some, Ok, length, map}
+use Rattle.record_base.specs.declared.op.Op.{Op}
+use Rattle.record_base.specs.declared.message.Asked.{Asked}
 use Rattle.undo_plans.specs.declared.plan.Plan.{Plan}
 use Rattle.undo_plans.specs.declared.undo_list.UndoList.{UndoList}
 use Rattle.plan_file.specs.declared.kind.Kind.{Kind}
 use Rattle.plan_file.specs.Kinds.{kind_of}
 use Rattle.plan_file.specs.PlanHolds.{ReadsPlan}
 use Rattle.text_undo.specs.UndoText.{IsTextOf}
+use Rattle.undo_journal.specs.Kept.{Kept}
+use Rattle.undo_core.specs.Journals.{kept_by}
+use Rattle.model_undo.specs.declared.call.Call.{Call}
 use Rattle.model_undo.specs.declared.call.Call.TheVariants.{Start, Undo, Again}
 use Rattle.model_undo.specs.Machine.{phase_of}
 use Rattle.model_lab.specs.Meaning.{lab_names}
@@ -17,6 +22,11 @@ use Rattle.bmc_ports.specs.Observing.{Look, SeesAll, permit_at}
 use Rattle.wire_links.specs.declared.udp_link.UdpLink.{UdpLink}
 use Rattle.wire_links.specs.contracts.udp_link.UdpLinkLink.TheImpl as udp
 use Rattle.app_journal.specs.Reviving.{IsMadeOf}
+use Rattle.app_journal.specs.declared.files.WritesFiles.{Ghosts}
+use Rattle.app_journal.specs.declared.undo_files.UndoFiles.{UndoFiles}
+use Rattle.app_journal.specs.Claiming.{HoldsFiles}
+use Rattle.app_base.specs.declared.files.TextFiles as texts
+use Rattle.std.specs.declared.alloc.AllocError.{AllocError}
 use Rattle.app_base.specs.Files.{Readings}
 use Rattle.app_run.specs.declared.progress.Snapshot.{Snapshot}
 use Rattle.app_run.specs.declared.progress.Progress.{Progress}
@@ -37,6 +47,14 @@ pub record IsSettling (looks : List Look) : Type 0 where
   pub way : (state : DrivenState) → Represents lab_names revived state
       → (last : Manager) × (end : DriveEnd) × (links : BothLinks UdpLink UdpLink) × (left : BothLinks UdpLink UdpLink)
       × CallWay udp.ghosts udp.ghosts lab_names Again state looks last links left (permit_at end)
+
+-- how many steps are told of a manager of this journal: those of its plan, or the requests of its list where it goes on from one
+abbrev pub steps_among : List Op → List Asked → ℕ
+steps_among [] members = length members
+steps_among (op ∷ plan) members = length (op ∷ plan)
+
+abbrev pub steps_of : Kept → ℕ
+steps_of kept = steps_among kept.plan kept.members
 
 module _ {Writer : Type 0} (out : Writer → Option (List ℕ)) where
   -- a look at a manager, whose moment may be told
@@ -93,6 +111,26 @@ module _ {Writer : Type 0} (out : Writer → Option (List ℕ)) where
 
   -- ---- an undo
 
+  -- A manager was called so, and the moment of each of these looks may be told. Whatever machine it showed, it went its way over links of its own, with these looks.
+  pub record LooksOnRecall (kinds : List Kind) (steps : ℕ) (call : Call) (manager reached : Manager) (old new : Progress Writer) : Type 0 where
+    pub end : DriveEnd
+    pub counts : Links
+    pub looks : List Look
+    pub way : (before : DrivenState) → Represents lab_names manager before → OwnWay call before looks reached end counts
+    pub tells : TellsLooks kinds steps looks old new
+
+  -- or nothing is told
+  abbrev pub MayLookOn : List Kind → (steps : ℕ) → Call → Manager → (old new : Progress Writer) → Type 0
+  MayLookOn kinds steps call manager old new = (new ≡ old) ⊎ ((reached : Manager) × LooksOnRecall kinds steps call manager reached old new)
+
+  -- and then the line is ended
+  abbrev pub TellsResumed : List Kind → (steps : ℕ) → Manager → (old new : Progress Writer) → Type 0
+  TellsResumed kinds steps manager old new = (mid : Progress Writer) × MayLookOn kinds steps Undo manager old mid × EndsLine out mid new
+
+  -- or nothing is told
+  abbrev pub MayTellResumed : List Kind → (steps : ℕ) → Manager → (old new : Progress Writer) → Type 0
+  MayTellResumed kinds steps manager old new = (new ≡ old) ⊎ TellsResumed kinds steps manager old new
+
   -- a manager that goes on from the list was told to undo, went its way over links of its own, and the moment of each look of that may be told
   pub record LooksOnUndo (list : UndoList) (old new : Progress Writer) : Type 0 where
     pub last : Manager
@@ -102,21 +140,42 @@ module _ {Writer : Type 0} (out : Writer → Option (List ℕ)) where
     pub way : OwnWay Undo (resumed_from list) looks last end counts
     pub tells : TellsLooks [] (length list.requests.members) looks old new
 
-  -- and then the line is ended
+  -- that may be told, and then the line is ended
   abbrev pub TellsUndo : UndoList → (old new : Progress Writer) → Type 0
-  TellsUndo list old new = (mid : Progress Writer) × LooksOnUndo list old mid × EndsLine out mid new
-
-  -- the same, or nothing is told
-  abbrev pub MayTellUndo : UndoList → (old new : Progress Writer) → Type 0
-  MayTellUndo list old new = (new ≡ old) ⊎ TellsUndo list old new
+  TellsUndo list old new = (mid : Progress Writer) × ((mid ≡ old) ⊎ LooksOnUndo list old mid) × EndsLine out mid new
 
   -- the same of a list that has no other names; of one that has some nothing is told
   abbrev pub TellsOfNames : UndoList → (old new : Progress Writer) → Type 0
   TellsOfNames list old new = (new ≡ old) ⊎ ((¬ AreOthers lab_names list.names) × TellsUndo list old new)
 
-  -- so an undo of an undo text tells, and of the file of one
+  -- of a manager that was made of a journal the settling is told, and then the undo
+  abbrev pub LooksOnRevert : List Kind → (steps : ℕ) → Manager → (old new : Progress Writer) → Type 0
+  LooksOnRevert kinds steps manager old new =
+      (new ≡ old)
+      ⊎ ((settled : Manager) × (mid : Progress Writer) × LooksOnRecall kinds steps Again manager settled old mid × MayLookOn kinds steps Undo settled mid new)
+
+  -- and then the line is ended
+  abbrev pub TellsRevert : List Kind → (steps : ℕ) → Manager → (old new : Progress Writer) → Type 0
+  TellsRevert kinds steps manager old new = (mid : Progress Writer) × LooksOnRevert kinds steps manager old mid × EndsLine out mid new
+
+  -- by the kinds of its plan's steps; or nothing is told
+  abbrev pub MayTellRevert : Manager → (old new : Progress Writer) → Type 0
+  MayTellRevert manager old new = (new ≡ old) ⊎ TellsRevert (map kind_of (kept_by manager).plan) (steps_of (kept_by manager)) manager old new
+
+  -- so an undo of a journal tells
+  abbrev pub TellsJournal : (text : List ℕ) → (old new : Progress Writer) → Type 0
+  TellsJournal text old new = (new ≡ old) ⊎ ((manager : Manager) × IsMadeOf text manager × MayTellRevert manager old new)
+
+  -- so one of an undo text, and of the file of either
   abbrev pub TellsUndoText : (text : List ℕ) → (old new : Progress Writer) → Type 0
-  TellsUndoText text old new = (new ≡ old) ⊎ ((list : UndoList) × IsTextOf text list × TellsOfNames list old new)
+  TellsUndoText text old new =
+      (new ≡ old) ⊎ (((list : UndoList) × IsTextOf text list × TellsOfNames list old new) ⊎ ((manager : Manager) × IsMadeOf text manager × MayTellRevert manager old new))
 
   abbrev pub TellsUndoFile : Readings → (named : List ℕ) → (old new : Progress Writer) → Type 0
   TellsUndoFile gives named old new = (new ≡ old) ⊎ ((text : List ℕ) × gives named (Ok text) × TellsUndoText text old new)
+
+  -- so one of a word tells, whose file is held first
+  abbrev pub TellsUndoOf : {Files : Type 0} → texts.Ghosts Files → Ghosts Files → (word : List ℕ) → (before : Files) → (old new : Progress Writer) → Type 0
+  TellsUndoOf {Files} read files word before old new =
+      (new ≡ old)
+      ⊎ ((held : UndoFiles) × (mid : Files) × HoldsFiles {Refused = AllocError} files word (Ok (Some held)) before mid × TellsUndoFile (read.gives mid) word old new)

@@ -1,114 +1,144 @@
--- What a run of `bmcnet undo` says.
-use Rattle.std.specs.Prelude.{◌≡◌, ◌⊎◌, ℕ, List, [], None, Some, Option, Result, Ok, Err, string_bytes}
+-- How a run of `bmcnet undo` ends.
+use Rattle.std.specs.Prelude.{◌≡◌, ◌⊎◌, ℕ, List, length, Bool, false, Some, None, Option, Result, Ok, Err, string_bytes}
+use Rattle.std.specs.declared.alloc.AllocError.{AllocError}
 use Rattle.undo_plans.specs.declared.undo_list.UndoList.{UndoList}
-use Rattle.text_undo.specs.declared.text.UndoFault.TheVariants.{Line}
+use Rattle.text_undo.specs.declared.text.UndoFault.{UndoFault}
+use Rattle.text_undo.specs.declared.text.UndoFault.TheVariants as fault
 use Rattle.text_undo.specs.UndoText.{IsTextOf, IsFirstBad}
-use Rattle.model_undo.specs.declared.phase.Phase.{Phase}
+use Rattle.model_undo.specs.declared.phase.Phase.TheVariants.{Undone}
 use Rattle.model_lab.specs.Meaning.{lab_names}
-use Rattle.undo_core.specs.declared.manager.Manager.{Manager}
 use Rattle.undo_core.specs.Shown.{AreOthers, Represents}
 use Rattle.app_base.specs.declared.console.Console.{Console}
-use Rattle.app_base.specs.declared.console.Stream.TheVariants.{Output, Error}
-use Rattle.app_base.specs.declared.status.Status.TheVariants.{Success, RefusedFile, Stopped}
-use Rattle.app_base.specs.declared.files.UnreadFile.{UnreadFile}
-use Rattle.app_base.specs.declared.report.Report.{Report}
+use Rattle.app_base.specs.declared.console.Stream.TheVariants.{Error}
+use Rattle.app_base.specs.declared.status.Status.TheVariants.{RefusedFile}
+use Rattle.app_base.specs.declared.files.TextFiles as texts
 use Rattle.app_base.specs.declared.ending.ReportFault.{ReportFault}
-use Rattle.app_base.specs.declared.ending.ReportFault.TheVariants as untold
-use Rattle.app_base.specs.Ending.{Saying, RunEnds}
-use Rattle.app_base.specs.Files.{Readings, PrintsRefusal}
-use Rattle.app_run.specs.declared.greeting.GreetFault.{GreetFault}
-use Rattle.app_run.specs.declared.greeting.GreetFault.TheVariants as fault
-use Rattle.app_run.specs.declared.greeting.Greetings.{Greetings}
-use Rattle.app_run.specs.declared.greeting.Unanswered.{Unanswered}
-use Rattle.app_run.specs.declared.undoing.Told.{Told}
-use Rattle.app_run.specs.declared.undoing.Told.TheVariants.{Says, Ungreeted}
+use Rattle.app_base.specs.declared.ending.ReportFault.TheVariants.{Memory}
+use Rattle.app_base.specs.Ending.{Saying, RunEnds, SaysReport}
+use Rattle.app_journal.specs.declared.files.WriteFault.{WriteFault}
+use Rattle.app_journal.specs.declared.files.WritesFiles.{Ghosts}
+use Rattle.app_journal.specs.declared.standing.Standing.{Standing}
+use Rattle.app_journal.specs.declared.standing.Standing.TheVariants.{Nothing}
+use Rattle.app_journal.specs.declared.undo_files.UndoFiles.{UndoFiles}
+use Rattle.app_journal.specs.Beside.{Writings, Renamings, Removals, Change, PutsPart, RemovesPart}
+use Rattle.app_journal.specs.Claiming.{HoldsFiles, StandsAt, may_go}
+use Rattle.app_journal.specs.Keeping.{IsJournalText}
+use Rattle.app_run.specs.declared.reverting.Reverted.{Reverted}
+use Rattle.app_run.specs.declared.reverting.Reverted.TheVariants.{Ended}
+use Rattle.app_run.specs.declared.undoing.ListEnd.{ListEnd}
+use Rattle.app_run.specs.declared.undoing.ListEnd.TheVariants as end
+use Rattle.app_run.specs.declared.undoing.Resumed.{Resumed}
 use Rattle.app_run.specs.declared.undoing.UndoWords.{UndoWords}
-use Rattle.app_run.specs.Driven.{DrivenState, UndoRun, resumed_from}
-use Rattle.app_run.specs.Ends.{EndsUngreeted}
-use Rattle.app_run.specs.Greeted.{AreGreeted, greetings_before_undo}
-use Rattle.app_journal.specs.Beside.{Writings, Renamings}
-use Rattle.app_run.specs.JournalUndo.{IsJournal, JournalEnds}
-use Rattle.app_run.specs.Lines.{phase_line, undo_line, others_line}
+use Rattle.app_run.specs.Driven.{resumed_from}
+use Rattle.app_run.specs.Ends.{PrintsNothing, SaysFile}
+use Rattle.app_run.specs.Greeted.{greetings_before_undo}
+use Rattle.app_run.specs.JournalUndo.{IsJournal, JournalEnds, EndsReverted}
+use Rattle.app_run.specs.Lines.{undo_line, others_line}
 use Rattle.app_run.specs.Outcome.{IsPhaseAt}
+use Rattle.app_run.specs.Reverting.{Undoes}
+use Rattle.app_run.specs.Run.{EndsUnkept, SaysUnread}
+
+-- ---- what becomes of a list
+
+-- a manager that goes on from the list, and what is known of it
+pub record IsResumed (list : UndoList) (greet : Bool) (resumed : Resumed) : Type 0 where
+  pub shown : Represents lab_names resumed.manager (resumed_from list)
+  pub phase : IsPhaseAt (resumed_from list) resumed.phase
+  pub steps : resumed.steps ≡ length list.requests.members
+  pub greetings : resumed.greetings ≡ greetings_before_undo greet list
+
+-- it took back what its list says, as far as it came, and its journal, of which the file had this text, was kept there
+abbrev pub UndoesFrom : {Files : Type 0} → Writings Files → Renamings Files → UndoFiles → Resumed → (turns : ℕ) → Result Reverted ReportFault → (had : List ℕ) → (old new : Files) → Type 0
+UndoesFrom takes renames beside resumed turns came had old new =
+    (has : List ℕ) × Undoes takes renames beside resumed.greetings turns resumed.manager resumed.phase came had has old new
+
+-- the journal's file is removed where all was taken back, and else nothing is done
+abbrev pub RemovesUndone : {Files : Type 0} → Removals Files → UndoFiles → Reverted → Change Files
+RemovesUndone removes beside (Ended (Ok Undone)) = RemovesPart removes beside
+RemovesUndone removes beside came = λ old answer new. (answer ≡ Ok tt) × (new ≡ old)
+
+module _ {Files : Type 0} (files : Ghosts Files) where
+  -- the journal's file is given the journal of a manager that goes on from a list
+  abbrev pub MakesJournal : UndoFiles → Resumed → (text : List ℕ) → Change Files
+  MakesJournal beside resumed text old answer new =
+      IsJournalText text resumed.manager × PutsPart files.takes files.renames beside text old answer new
+
+  -- That is made first. Where it can't be made, nothing is sent. Then the manager takes back what its list says, and the file is removed where all was taken back.
+  -- Where no link can be had the file stays. Where memory is refused before, nothing is done.
+  abbrev pub MadeEnds : UndoFiles → Resumed → (turns : ℕ) → Result ListEnd ReportFault → (old new : Files) → Type 0
+  MadeEnds beside resumed turns (Ok end.OtherNames) old new = ⊥
+  MadeEnds beside resumed turns (Ok end.Barred) old new = (text : List ℕ) × (why : WriteFault) × MakesJournal beside resumed text old (Err why) new
+  MadeEnds beside resumed turns (Ok (end.Reverted came gone)) old new =
+      (text : List ℕ) × (made : Files) × (mid : Files) × MakesJournal beside resumed text old (Ok tt) made
+      × UndoesFrom files.takes files.renames beside resumed turns (Ok came) text made mid × RemovesUndone files.removes beside came mid gone new
+  MadeEnds beside resumed turns (Err why) old new =
+      ((why ≡ Memory) × (new ≡ old))
+      ⊎ ((text : List ℕ) × (made : Files) × MakesJournal beside resumed text old (Ok tt) made
+      × UndoesFrom files.takes files.renames beside resumed turns (Err why) text made new)
+
+module _ {Files : Type 0} (read : texts.Ghosts Files) (files : Ghosts Files) (held : UndoFiles) (text : List ℕ) where
+  -- Where the journal's file has something to take back that this undo text hasn't, or no journal, nothing is done.
+  abbrev pub UnbarredEnds : Resumed → (turns : ℕ) → Result ListEnd ReportFault → (old new : Files) → Type 0
+  UnbarredEnds resumed turns came old new =
+      (StandsAt (read.gives old) (files.leads old) held text Nothing × MadeEnds files held resumed turns came old new)
+      ⊎ (((standing : Standing) × StandsAt (read.gives old) (files.leads old) held text standing × (may_go standing ≡ false) × (came ≡ Ok end.Barred) × (new ≡ old))
+      ⊎ ((came ≡ Err Memory) × (new ≡ old)))
+
+  -- a list that has other names is refused; a manager goes on from another
+  abbrev pub ListEnds : UndoList → UndoWords → Result ListEnd ReportFault → (old new : Files) → Type 0
+  ListEnds list words came old new =
+      ((resumed : Resumed) × (¬ AreOthers lab_names list.names) × IsResumed list words.greet resumed × UnbarredEnds resumed words.turns came old new)
+      ⊎ ((AreOthers lab_names list.names × (came ≡ Ok end.OtherNames) × (new ≡ old))
+      ⊎ ((came ≡ Err Memory) × (new ≡ old)))
 
 -- ---- what is said
 
--- What is said of a manager that goes on from a list, once each of these greetings was answered: on standard output in which phase it is then.
--- Or nothing, where a link can't be had.
-abbrev pub SaysUndone : Greetings → UndoList → (turns : ℕ) → Saying
-SaysUndone greetings list turns Output said status =
-    AreGreeted greetings turns None × (manager : Manager) × (phase : Phase) × UndoRun list turns manager phase × (said ≡ phase_line phase) × (status ≡ Success)
-SaysUndone greetings list turns Error said status = (said ≡ []) × (status ≡ Stopped)
+-- standard error says that a list has other names
+abbrev pub SaysOthers : Saying
+SaysOthers stream said status = (stream ≡ Error) × (said ≡ others_line) × (status ≡ RefusedFile)
 
--- what is said of a list: on standard error that it has other names, or what is said of a manager that goes on from it
-abbrev pub SaysOfNames : UndoList → UndoWords → Saying
-SaysOfNames list words stream said status =
-    (AreOthers lab_names list.names × (stream ≡ Error) × (said ≡ others_line) × (status ≡ RefusedFile))
-    ⊎ ((¬ AreOthers lab_names list.names) × SaysUndone (greetings_before_undo words.greet list) list words.turns stream said status)
+-- or which line of an undo text is its first bad one
+abbrev pub SaysLine : UndoFault → Saying
+SaysLine fault.Memory stream said status = ⊥
+SaysLine (fault.Line line) stream said status = (stream ≡ Error) × (said ≡ undo_line (fault.Line line)) × (status ≡ RefusedFile)
 
--- what is said of an undo text: what is said of its list, or on standard error its first bad line
-abbrev pub PrintsUndo : (undo : List ℕ) → UndoWords → Saying
-PrintsUndo text words stream said status =
-    ((list : UndoList) × IsTextOf text list × SaysOfNames list words stream said status)
-    ⊎ ((line : ℕ) × IsFirstBad text line × (stream ≡ Error) × (said ≡ undo_line (Line line)) × (status ≡ RefusedFile))
+-- a text isn't read as an undo text for this
+abbrev pub IsFault : UndoFault → (text : List ℕ) → Type 0
+IsFault fault.Memory text = Unit {0}
+IsFault (fault.Line line) text = IsFirstBad text line
 
--- ---- where a greeting isn't answered
-
--- this one wasn't answered, and in this phase a manager is that did nothing
-abbrev pub Staying : Type 1
-Staying = Phase → Unanswered → Type 0
-
--- a manager that was to go on from the list
-abbrev pub StaysUndone : Greetings → UndoList → (turns : ℕ) → Staying
-StaysUndone greetings list turns phase why = AreGreeted greetings turns (Some why) × IsPhaseAt (resumed_from list) phase
-
--- one of a list that has no other names
-abbrev pub StaysOfNames : UndoList → UndoWords → Staying
-StaysOfNames list words phase why = (¬ AreOthers lab_names list.names) × StaysUndone (greetings_before_undo words.greet list) list words.turns phase why
-
--- one of an undo text
-abbrev pub StaysOfText : (undo : List ℕ) → UndoWords → Staying
-StaysOfText text words phase why = (list : UndoList) × IsTextOf text list × StaysOfNames list words phase why
-
--- a greeting failed so, and the manager did nothing
-abbrev pub StaysUngreeted : Manager → GreetFault → Result Told ReportFault → Type 0
-StaysUngreeted manager fault.NoLink told = told ≡ Err untold.Stopped
-StaysUngreeted manager (fault.Unanswered why) told =
-    (phase : Phase) × (told ≡ Ok (Ungreeted phase why)) × ((before : DrivenState) → Represents lab_names manager before → IsPhaseAt before phase)
+-- So an undo of a list ends that came to this: it says the phase, and behind it the file whose journal isn't removed, or which greeting wasn't answered; or that the
+-- list has other names; or the file that is barred or doesn't take the journal; or nothing, where a link can't be had.
+abbrev pub EndsListed : {Stdout Stderr : Type 0} → (out : Stdout → Option (List ℕ)) → (err : Stderr → Option (List ℕ)) → (word : List ℕ) → Result ListEnd ReportFault → (old new : Console Stdout Stderr) → ℕ → Type 0
+EndsListed out err word (Ok end.OtherNames) old new result = RunEnds out err SaysOthers old new result
+EndsListed out err word (Ok end.Barred) old new result = RunEnds out err (SaysFile word) old new result
+EndsListed out err word (Ok (end.Reverted came (Ok gone))) old new result = EndsReverted out err word (Ok came) old new result
+EndsListed out err word (Ok (end.Reverted came (Err why))) old new result =
+    RunEnds out err PrintsNothing old new result ⊎ EndsUnkept out err Undone word old new result
+EndsListed out err word (Err why) old new result = RunEnds out err (SaysReport (Err why)) old new result
 
 -- ---- how it ends
 
--- what came of an undo may be said, or may have come
-abbrev pub UndoTells : Saying → Staying → Result Told ReportFault → Type 0
-UndoTells says stays (Ok (Says report)) = says report.stream (string_bytes report.text) report.status
-UndoTells says stays (Ok (Ungreeted phase why)) = stays phase why
-UndoTells says stays (Err untold.Memory) = Unit {0}
-UndoTells says stays (Err untold.Stopped) = says Error [] Stopped
+module _ {Files Stdout Stderr : Type 0} (out : Stdout → Option (List ℕ)) (err : Stderr → Option (List ℕ)) (read : texts.Ghosts Files) (files : Ghosts Files) where
+  -- an undo of the text of a file that is held: of a journal, or of an undo text
+  abbrev pub TextEnds : (held : UndoFiles) → (text : List ℕ) → UndoWords → (before after : Files) → (old new : Console Stdout Stderr) → ℕ → Type 0
+  TextEnds held text words before after old new result =
+      (IsJournal text × JournalEnds out err files.takes files.renames held text words before after old new result)
+      ⊎ ((¬ IsJournal text)
+      × (((list : UndoList) × (came : Result ListEnd ReportFault) × IsTextOf text list × ListEnds read files held text list words came before after
+      × EndsListed out err (string_bytes words.undo) came old new result)
+      ⊎ ((why : UndoFault) × IsFault why text × (after ≡ before) × RunEnds out err (SaysLine why) old new result)))
 
--- what came of an undo of which the report says all
-abbrev pub told_by : Result Report ReportFault → Result Told ReportFault
-told_by (Ok report) = Ok (Says report)
-told_by (Err why) = Err why
+  -- one of a file that is held: its text is undone, or it can't be read
+  abbrev pub UndoEndsIn : (held : UndoFiles) → UndoWords → (before after : Files) → (old new : Console Stdout Stderr) → ℕ → Type 0
+  UndoEndsIn held words before after old new result =
+      ((text : List ℕ) × read.gives before (string_bytes words.undo) (Ok text) × TextEnds held text words before after old new result)
+      ⊎ ((after ≡ before) × RunEnds out err (SaysUnread (read.gives before) (string_bytes words.undo)) old new result)
 
--- it is said; or a greeting wasn't answered, and standard output has the phase and standard error that
-abbrev pub UndoEnds : {Stdout Stderr : Type 0} → (out : Stdout → Option (List ℕ)) → (err : Stderr → Option (List ℕ)) → Saying → Staying → (old new : Console Stdout Stderr) → ℕ → Type 0
-UndoEnds out err says stays old new result =
-    RunEnds out err says old new result ⊎ ((phase : Phase) × (why : Unanswered) × stays phase why × EndsUngreeted out err phase why old new result)
-
--- what is said of a file that isn't read
-abbrev pub SaysUnread : Readings → (word : List ℕ) → Saying
-SaysUnread gives word stream said status = (why : UnreadFile) × gives word (Err why) × PrintsRefusal why word stream said status
-
--- so the undo of a text ends, in the file of this word: of a journal, or of an undo text, which writes no file
-abbrev pub TextEnds : {Files Stdout Stderr : Type 0} → (out : Stdout → Option (List ℕ)) → (err : Stderr → Option (List ℕ)) → Writings Files → Renamings Files → (word text : List ℕ) → UndoWords
-    → (before after : Files) → (old new : Console Stdout Stderr) → ℕ → Type 0
-TextEnds out err takes renames word text words before after old new result =
-    (IsJournal text × JournalEnds out err takes renames word text words before after old new result)
-    ⊎ ((¬ IsJournal text) × (after ≡ before) × UndoEnds out err (PrintsUndo text words) (StaysOfText text words) old new result)
-
--- so an undo of the file of this word ends
-abbrev pub UndoEndsOf : {Files Stdout Stderr : Type 0} → (out : Stdout → Option (List ℕ)) → (err : Stderr → Option (List ℕ)) → Readings → Writings Files → Renamings Files → (word : List ℕ) → UndoWords
-    → (before after : Files) → (old new : Console Stdout Stderr) → ℕ → Type 0
-UndoEndsOf out err gives takes renames word words before after old new result =
-    ((text : List ℕ) × gives word (Ok text) × TextEnds out err takes renames word text words before after old new result)
-    ⊎ ((after ≡ before) × RunEnds out err (SaysUnread gives word) old new result)
+  -- So an undo of the file of the word ends: it is held first. Where it can't be held, standard error names it, and nothing is done.
+  abbrev pub UndoEndsOf : UndoWords → (before after : Files) → (old new : Console Stdout Stderr) → ℕ → Type 0
+  UndoEndsOf words before after old new result =
+      ((held : UndoFiles) × (mid : Files) × HoldsFiles {Refused = AllocError} files (string_bytes words.undo) (Ok (Some held)) before mid
+      × UndoEndsIn held words mid after old new result)
+      ⊎ ((HoldsFiles {Refused = AllocError} files (string_bytes words.undo) (Ok None) before after × RunEnds out err (SaysFile (string_bytes words.undo)) old new result)
+      ⊎ ((refused : AllocError) × HoldsFiles files (string_bytes words.undo) (Err refused) before after × RunEnds out err PrintsNothing old new result))

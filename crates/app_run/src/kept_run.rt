@@ -255,7 +255,7 @@ pub(crate) fn keep<F: WritesFiles>(
     beside: &UndoFiles,
     ran: &Ran,
 ) -> Result<Result<(), WriteFault>, AllocError>
-    ensures kept { IfOk result (λ answer. KeepsList F.takes F.renames F.removes
+    ensures kept { IfOk result (λ answer. KeepsList F.WritesFiles
         (is_over ran.now.phase) beside.now ran.now.manager files.old answer files.new) }
     ensures memory { OnErr result ((is_over ran.now.phase ≡ true) × (files.new ≡ files.old)) }
 {

@@ -1,10 +1,11 @@
 //! `bmcnet undo` of a journal: its open request is settled, and what its manager did is taken back, while the journal's file keeps the journal.
-ghost use Rattle.std.specs.Prelude.{◌≡◌, ◌↔◌, true, Ok, IfErr, IfOk, OnErr, string_bytes};
+ghost use Rattle.std.specs.Prelude.{◌≡◌, ◌↔◌, true, Ok, IfErr, IfOk, OnErr, OnOk, string_bytes};
 ghost use Rattle.app_base.specs.declared.console.Stream.TheVariants.{Error};
 ghost use Rattle.app_base.specs.declared.status.Status.TheVariants.{RefusedFile};
 ghost use Rattle.app_base.specs.Ending.{ReportTells};
 ghost use Rattle.app_journal.specs.declared.reviving.ReviveFault.{ReviveFault as AnyFault};
-ghost use Rattle.app_journal.specs.Beside.{IsOwn};
+ghost use Rattle.undo_journal.specs.Journals.{kept_of as kept_of_view};
+ghost use Rattle.model_undo.specs.declared.call.Call.TheVariants.{Undo};
 ghost use Rattle.app_base.specs.declared.ending.ReportFault.TheVariants.{Stopped as HasStopped};
 ghost use Rattle.model_lab.specs.Meaning.{lab_names};
 ghost use Rattle.undo_core.specs.Shown.{CallStep, Represents};
@@ -14,14 +15,17 @@ ghost use Rattle.bmc_ports.specs.Driving.{both};
 ghost use Rattle.bmc_ports.specs.Observing.{permit_at};
 ghost use Rattle.app_run.specs.Course.{RunCourse};
 ghost use Rattle.app_run.specs.Driven.{DrivenState, GoesAgain, is_over as over_in};
-ghost use Rattle.app_run.specs.Reverting.{GoesOn, Reverts, RevertsText, RunsKept, Undoes};
+ghost use Rattle.app_run.specs.Reverting.{GoesOn, MayRevert, Reverts, RevertsText, RunsKept, Undoes};
 ghost use Rattle.app_run.specs.Reverting.{call_for, left_ungreeted};
-ghost use Rattle.app_run.specs.JournalUndo.{EndsReverted, IsJournal, JournalEnds};
+ghost use Rattle.app_run.specs.JournalUndo.{EndsReverted, IsJournal, IsOwnOf, JournalEnds};
+ghost use Rattle.app_run.specs.Told.{LooksOnRecall, LooksOnRevert, MayLookOn, MayTellRevert, TellsJournal, TellsRevert, steps_of};
 ghost use Rattle.app_run.specs.JournalUndo.{SaysEnd, SaysJournalFault, journal_line};
 
 use crate::greeting::{GreetFault, Greetings, Unanswered, greet_first};
 use crate::lines::{names_refusal, phase_report, tell_ungreeted};
 use crate::links::{BusLinks, open_ends};
+use crate::observer::{ProgressWriter, RunWatch};
+use crate::progress::{PlanOutline, Progress, kinds_of};
 use crate::undoing::UndoWords;
 use app_base::{Console, Report, ReportFault, Status, Stream, end_run};
 use app_journal::{JournalKeeper, ReviveFault, UndoFiles, WritesFiles, revive_text};
@@ -32,6 +36,7 @@ use std::net::Net;
 use text_journal::JournalTextFault;
 use text_lines::behind;
 use undo_core::{Manager, Phase, Sent, WrongPhase};
+use undo_journal::JournalView;
 use wire_links::Link;
 
 /// What the manager of a journal is called for.
@@ -45,7 +50,7 @@ pub(crate) enum Recall {
 
 /// What came of a manager that was made of a journal.
 #[derive(Clone, Copy)]
-pub(crate) enum Reverted {
+pub enum Reverted {
     /// It came to this end.
     Ended(DriveEnd),
     /// Its request was settled in this phase. This greeting wasn't answered, and the manager did nothing else.
@@ -87,54 +92,78 @@ fn recall_watched<A: Link, B: Link, T: Observer>(
     }
 }
 
-/// The same over these links, while its journal is kept.
-fn recall_over<F: WritesFiles>(
+/// The same over these links, while its journal is kept and the line of its progress is written.
+fn recall_over<F: WritesFiles, P: io::Write>(
     manager: &mut Manager,
     recall: Recall,
     ends: BusLinks,
     turns: u32,
-    keeper: &mut JournalKeeper<F>,
+    watch: &mut RunWatch<F, P>,
 ) -> DriveEnd
     requires ipmb { ends.ipmb.counts ≡ none_counted }
     requires smbus { ends.smbus.counts ≡ none_counted }
-    ensures runs { RunsKept F.takes F.renames keeper.old.beside.now (call_for recall) turns
-        manager.old manager.new result
-        (string_bytes keeper.old.text.now) (string_bytes keeper.new.text.now)
-        keeper.old.files.now keeper.new.files.now }
-    ensures same_words { keeper.new.beside ≡ keeper.old.beside }
-    ensures same_files { keeper.new.files.ghost_name ≡ keeper.old.files.ghost_name }
+    ensures runs { RunsKept F.takes F.renames watch.old.keeper.now.beside.now (call_for recall)
+        turns manager.old manager.new result (string_bytes watch.old.keeper.now.text.now)
+        (string_bytes watch.new.keeper.now.text.now)
+        watch.old.keeper.now.files.now watch.new.keeper.now.files.now }
+    ensures told { LooksOnRecall P.contents watch.old.teller.now.course.kinds.now
+        watch.old.teller.now.course.steps
+        (call_for recall) manager.old manager.new
+        watch.old.teller.now.progress.now watch.new.teller.now.progress.now }
+    ensures same_words { watch.new.keeper.now.beside ≡ watch.old.keeper.now.beside }
+    ensures same_course { watch.new.teller.now.course ≡ watch.old.teller.now.course }
+    ensures same_files { watch.new.keeper.now.files.ghost_name
+        ≡ watch.old.keeper.now.files.ghost_name }
+    ensures same_line { watch.new.teller.now.progress.ghost_name
+        ≡ watch.old.teller.now.progress.ghost_name }
+    ensures same_keeper { watch.new.keeper.ghost_name ≡ watch.old.keeper.ghost_name }
+    ensures same_teller { watch.new.teller.ghost_name ≡ watch.old.teller.ghost_name }
 {
     let BusLinks {
         mut ipmb,
         mut smbus,
     } = ends;
-    recall_watched(manager, recall, &mut ipmb, &mut smbus, turns, keeper)
+    recall_watched(manager, recall, &mut ipmb, &mut smbus, turns, watch)
 }
 
 /// The same over links of its own to the ports that the words name. Where one can't be had, nothing is done.
-fn recall_on<F: WritesFiles, R: Net>(
+fn recall_on<F: WritesFiles, P: io::Write, R: Net>(
     rt: &R,
     manager: &mut Manager,
     recall: Recall,
     words: &UndoWords,
-    keeper: &mut JournalKeeper<F>,
+    watch: &mut RunWatch<F, P>,
 ) -> Result<DriveEnd, ReportFault>
-    ensures runs { IfOk result (λ end. RunsKept F.takes F.renames keeper.old.beside.now
-        (call_for recall) words.now.turns manager.old manager.new end
-        (string_bytes keeper.old.text.now) (string_bytes keeper.new.text.now)
-        keeper.old.files.now keeper.new.files.now) }
+    ensures runs { IfOk result (λ end. RunsKept F.takes F.renames
+        watch.old.keeper.now.beside.now (call_for recall) words.now.turns manager.old manager.new end
+        (string_bytes watch.old.keeper.now.text.now)
+        (string_bytes watch.new.keeper.now.text.now)
+        watch.old.keeper.now.files.now watch.new.keeper.now.files.now) }
     ensures stopped { IfErr result (λ why. why ≡ HasStopped) }
-    ensures same_text { OnErr result
-        (string_bytes keeper.new.text.now ≡ string_bytes keeper.old.text.now) }
-    ensures same { OnErr result (keeper.new.files.now ≡ keeper.old.files.now) }
-    ensures same_words { keeper.new.beside ≡ keeper.old.beside }
-    ensures same_files { keeper.new.files.ghost_name ≡ keeper.old.files.ghost_name }
+    ensures same_text { OnErr result (string_bytes watch.new.keeper.now.text.now
+        ≡ string_bytes watch.old.keeper.now.text.now) }
+    ensures same { OnErr result
+        (watch.new.keeper.now.files.now ≡ watch.old.keeper.now.files.now) }
+    ensures told { OnOk result (LooksOnRecall P.contents watch.old.teller.now.course.kinds.now
+        watch.old.teller.now.course.steps
+        (call_for recall) manager.old manager.new
+        watch.old.teller.now.progress.now watch.new.teller.now.progress.now) }
+    ensures untold { OnErr result
+        (watch.new.teller.now.progress.now ≡ watch.old.teller.now.progress.now) }
+    ensures same_words { watch.new.keeper.now.beside ≡ watch.old.keeper.now.beside }
+    ensures same_course { watch.new.teller.now.course ≡ watch.old.teller.now.course }
+    ensures same_files { watch.new.keeper.now.files.ghost_name
+        ≡ watch.old.keeper.now.files.ghost_name }
+    ensures same_line { watch.new.teller.now.progress.ghost_name
+        ≡ watch.old.teller.now.progress.ghost_name }
+    ensures same_keeper { watch.new.keeper.ghost_name ≡ watch.old.keeper.ghost_name }
+    ensures same_teller { watch.new.teller.ghost_name ≡ watch.old.teller.ghost_name }
 {
     let ends = open_ends(rt, words.ipmb_port, words.smbus_port, words.wait_ms);
     let Some(ends) = ends else {
         return Err(ReportFault::Stopped);
     };
-    Ok(recall_over(manager, recall, ends, words.turns, keeper))
+    Ok(recall_over(manager, recall, ends, words.turns, watch))
 }
 
 /// What comes of a greeting that failed, before a manager in this phase was told to undo.
@@ -148,18 +177,30 @@ fn unfit_to_undo(phase: Phase, fault: GreetFault) -> Result<Reverted, ReportFaul
 }
 
 /// Greets the controller, and has a manager take back what it did, whose plan is over in this phase.
-fn undo_over<F: WritesFiles, R: Net>(
+pub(crate) fn undo_over<F: WritesFiles, P: io::Write, R: Net>(
     rt: &R,
     manager: &mut Manager,
     phase: Phase,
     words: &UndoWords,
     greetings: &Greetings,
-    keeper: &mut JournalKeeper<F>,
+    watch: &mut RunWatch<F, P>,
 ) -> Result<Reverted, ReportFault>
-    ensures undoes { Undoes F.takes F.renames keeper.old.beside.now greetings.now words.now.turns
-        manager.old phase result (string_bytes keeper.old.text.now) (string_bytes keeper.new.text.now)
-        keeper.old.files.now keeper.new.files.now }
-    ensures same_files { keeper.new.files.ghost_name ≡ keeper.old.files.ghost_name }
+    ensures undoes { Undoes F.takes F.renames watch.old.keeper.now.beside.now greetings.now
+        words.now.turns manager.old phase result
+        (string_bytes watch.old.keeper.now.text.now)
+        (string_bytes watch.new.keeper.now.text.now)
+        watch.old.keeper.now.files.now watch.new.keeper.now.files.now }
+    ensures told { MayLookOn P.contents watch.old.teller.now.course.kinds.now
+        watch.old.teller.now.course.steps Undo manager.old
+        watch.old.teller.now.progress.now watch.new.teller.now.progress.now }
+    ensures same_words { watch.new.keeper.now.beside ≡ watch.old.keeper.now.beside }
+    ensures same_course { watch.new.teller.now.course ≡ watch.old.teller.now.course }
+    ensures same_files { watch.new.keeper.now.files.ghost_name
+        ≡ watch.old.keeper.now.files.ghost_name }
+    ensures same_line { watch.new.teller.now.progress.ghost_name
+        ≡ watch.old.teller.now.progress.ghost_name }
+    ensures same_keeper { watch.new.keeper.ghost_name ≡ watch.old.keeper.ghost_name }
+    ensures same_teller { watch.new.teller.ghost_name ≡ watch.old.teller.ghost_name }
 {
     let greeted = greet_first(
         rt,
@@ -170,7 +211,7 @@ fn undo_over<F: WritesFiles, R: Net>(
         words.turns,
     );
     match greeted {
-        Ok(()) => match recall_on(rt, manager, Recall::Undo, words, keeper) {
+        Ok(()) => match recall_on(rt, manager, Recall::Undo, words, watch) {
             Ok(end) => Ok(Reverted::Ended(end)),
             Err(why) => Err(why),
         },
@@ -193,83 +234,142 @@ fn ended_in(phase: Phase) -> Result<Reverted, ReportFault>
 }
 
 /// Goes on with a manager whose open request was settled, and that is in this phase.
-fn go_on_in<F: WritesFiles, R: Net>(
+fn go_on_in<F: WritesFiles, P: io::Write, R: Net>(
     rt: &R,
     manager: &mut Manager,
     phase: Phase,
     words: &UndoWords,
-    keeper: &mut JournalKeeper<F>,
+    watch: &mut RunWatch<F, P>,
 ) -> Result<Reverted, ReportFault>
-    ensures goes { GoesOn F.takes F.renames keeper.old.beside.now words.now manager.old (Ok phase)
-        result (string_bytes keeper.old.text.now) (string_bytes keeper.new.text.now)
-        keeper.old.files.now keeper.new.files.now }
-    ensures same_files { keeper.new.files.ghost_name ≡ keeper.old.files.ghost_name }
+    ensures goes { GoesOn F.takes F.renames watch.old.keeper.now.beside.now words.now manager.old
+        (Ok phase) result (string_bytes watch.old.keeper.now.text.now)
+        (string_bytes watch.new.keeper.now.text.now)
+        watch.old.keeper.now.files.now watch.new.keeper.now.files.now }
+    ensures told { MayLookOn P.contents watch.old.teller.now.course.kinds.now
+        watch.old.teller.now.course.steps Undo manager.old
+        watch.old.teller.now.progress.now watch.new.teller.now.progress.now }
+    ensures same_words { watch.new.keeper.now.beside ≡ watch.old.keeper.now.beside }
+    ensures same_course { watch.new.teller.now.course ≡ watch.old.teller.now.course }
+    ensures same_files { watch.new.keeper.now.files.ghost_name
+        ≡ watch.old.keeper.now.files.ghost_name }
+    ensures same_line { watch.new.teller.now.progress.ghost_name
+        ≡ watch.old.teller.now.progress.ghost_name }
+    ensures same_keeper { watch.new.keeper.ghost_name ≡ watch.old.keeper.ghost_name }
+    ensures same_teller { watch.new.teller.ghost_name ≡ watch.old.teller.ghost_name }
 {
     if !is_over(&phase) {
         return ended_in(phase);
     }
     let greetings = Greetings::before_undo(words.greet, manager.undo_list());
-    undo_over(rt, manager, phase, words, &greetings, keeper)
+    undo_over(rt, manager, phase, words, &greetings, watch)
 }
 
 /// Goes on with a manager whose open request was settled to this end.
-fn go_on<F: WritesFiles, R: Net>(
+fn go_on<F: WritesFiles, P: io::Write, R: Net>(
     rt: &R,
     manager: &mut Manager,
     end: DriveEnd,
     words: &UndoWords,
-    keeper: &mut JournalKeeper<F>,
+    watch: &mut RunWatch<F, P>,
 ) -> Result<Reverted, ReportFault>
-    ensures goes { GoesOn F.takes F.renames keeper.old.beside.now words.now manager.old end result
-        (string_bytes keeper.old.text.now) (string_bytes keeper.new.text.now)
-        keeper.old.files.now keeper.new.files.now }
-    ensures same_files { keeper.new.files.ghost_name ≡ keeper.old.files.ghost_name }
+    ensures goes { GoesOn F.takes F.renames watch.old.keeper.now.beside.now words.now manager.old
+        end result (string_bytes watch.old.keeper.now.text.now)
+        (string_bytes watch.new.keeper.now.text.now)
+        watch.old.keeper.now.files.now watch.new.keeper.now.files.now }
+    ensures told { MayLookOn P.contents watch.old.teller.now.course.kinds.now
+        watch.old.teller.now.course.steps Undo manager.old
+        watch.old.teller.now.progress.now watch.new.teller.now.progress.now }
+    ensures same_words { watch.new.keeper.now.beside ≡ watch.old.keeper.now.beside }
+    ensures same_course { watch.new.teller.now.course ≡ watch.old.teller.now.course }
+    ensures same_files { watch.new.keeper.now.files.ghost_name
+        ≡ watch.old.keeper.now.files.ghost_name }
+    ensures same_line { watch.new.teller.now.progress.ghost_name
+        ≡ watch.old.teller.now.progress.ghost_name }
+    ensures same_keeper { watch.new.keeper.ghost_name ≡ watch.old.keeper.ghost_name }
+    ensures same_teller { watch.new.teller.ghost_name ≡ watch.old.teller.ghost_name }
 {
     match end {
-        Ok(phase) => go_on_in(rt, manager, phase, words, keeper),
+        Ok(phase) => go_on_in(rt, manager, phase, words, watch),
         Err(kept) => Ok(Reverted::Ended(Err(kept))),
     }
 }
 
-/// Settles the open request of a manager that was made of a journal, and has it take back what it did. Meanwhile its journal is kept.
-fn revert<F: WritesFiles, R: Net>(
+/// Settles the open request of a manager that was made of a journal, and has it take back what it did. Meanwhile its journal is kept, and the line of its
+/// progress is written.
+fn revert<F: WritesFiles, P: io::Write, R: Net>(
     rt: &R,
     mut manager: Manager,
     words: &UndoWords,
-    keeper: &mut JournalKeeper<F>,
+    watch: &mut RunWatch<F, P>,
 ) -> Result<Reverted, ReportFault>
-    ensures reverts { Reverts F.takes F.renames keeper.old.beside.now words.now manager result
-        (string_bytes keeper.old.text.now) (string_bytes keeper.new.text.now)
-        keeper.old.files.now keeper.new.files.now }
-    ensures same_files { keeper.new.files.ghost_name ≡ keeper.old.files.ghost_name }
+    ensures reverts { Reverts F.takes F.renames watch.old.keeper.now.beside.now words.now manager
+        result (string_bytes watch.old.keeper.now.text.now)
+        (string_bytes watch.new.keeper.now.text.now)
+        watch.old.keeper.now.files.now watch.new.keeper.now.files.now }
+    ensures told { LooksOnRevert P.contents watch.old.teller.now.course.kinds.now
+        watch.old.teller.now.course.steps manager
+        watch.old.teller.now.progress.now watch.new.teller.now.progress.now }
+    ensures same_words { watch.new.keeper.now.beside ≡ watch.old.keeper.now.beside }
+    ensures same_course { watch.new.teller.now.course ≡ watch.old.teller.now.course }
+    ensures same_files { watch.new.keeper.now.files.ghost_name
+        ≡ watch.old.keeper.now.files.ghost_name }
+    ensures same_line { watch.new.teller.now.progress.ghost_name
+        ≡ watch.old.teller.now.progress.ghost_name }
+    ensures same_keeper { watch.new.keeper.ghost_name ≡ watch.old.keeper.ghost_name }
+    ensures same_teller { watch.new.teller.ghost_name ≡ watch.old.teller.ghost_name }
 {
-    match recall_on(rt, &mut manager, Recall::Settle, words, keeper) {
-        Ok(end) => go_on(rt, &mut manager, end, words, keeper),
+    match recall_on(rt, &mut manager, Recall::Settle, words, watch) {
+        Ok(end) => go_on(rt, &mut manager, end, words, watch),
         Err(why) => Err(why),
     }
 }
 
-/// The same, while the journal of this text is kept in the file that these words are beside.
-fn revert_text<F: WritesFiles, R: Net>(
+/// The same, while these look at it.
+fn revert_seen<F: WritesFiles, P: io::Write, R: Net>(
+    rt: &R,
+    manager: Manager,
+    words: &UndoWords,
+    keeper: &mut JournalKeeper<F>,
+    teller: &mut ProgressWriter<P>,
+) -> Result<Reverted, ReportFault>
+    ensures reverts { Reverts F.takes F.renames keeper.old.beside.now words.now manager result
+        (string_bytes keeper.old.text.now) (string_bytes keeper.new.text.now)
+        keeper.old.files.now keeper.new.files.now }
+    ensures told { LooksOnRevert P.contents teller.old.course.kinds.now teller.old.course.steps
+        manager teller.old.progress.now teller.new.progress.now }
+    ensures same_files { keeper.new.files.ghost_name ≡ keeper.old.files.ghost_name }
+    ensures same_line { teller.new.progress.ghost_name ≡ teller.old.progress.ghost_name }
+{
+    let mut watch = RunWatch { keeper, teller };
+    revert(rt, manager, words, &mut watch)
+}
+
+/// The same, while the journal of this text is kept in the file that these words are beside, and the teller's line is ended.
+fn revert_text<F: WritesFiles, P: io::Write, R: Net>(
     rt: &R,
     alloc: Global,
     files: &mut F,
     manager: Manager,
-    beside: &UndoFiles,
-    text: String,
+    kept: Kept,
     words: &UndoWords,
+    teller: &mut ProgressWriter<P>,
 ) -> Result<Reverted, ReportFault>
-    ensures { RevertsText F.takes F.renames beside.now words.now manager result
-        (string_bytes text) files.old files.new }
+    ensures reverts { RevertsText F.takes F.renames kept.beside words.now manager result
+        (string_bytes kept.text) files.old files.new }
+    ensures told { TellsRevert P.contents teller.old.course.kinds.now teller.old.course.steps
+        manager teller.old.progress.now teller.new.progress.now }
+    ensures same_line { teller.new.progress.ghost_name ≡ teller.old.progress.ghost_name }
 {
-    let mut text = text;
+    let Kept { beside, mut text } = kept;
     let mut keeper = JournalKeeper {
         alloc,
         files,
-        beside: &*beside,
+        beside: &beside,
         text: &mut text,
     };
-    revert(rt, manager, words, &mut keeper)
+    let came = revert_seen(rt, manager, words, &mut keeper, teller);
+    teller.end();
+    came
 }
 
 // ---- what is said
@@ -342,8 +442,8 @@ fn end_report(alloc: Global, word: &str, end: DriveEnd) -> Result<Report, Report
     }
 }
 
-/// Says what came of a manager that was made of the journal in the file of this word.
-fn say_reverted<W: io::Write, E: io::Write>(
+/// Says what came of a manager whose journal is kept for the file of this word.
+pub(crate) fn say_reverted<W: io::Write, E: io::Write>(
     alloc: Global,
     word: &str,
     reverted: Result<Reverted, ReportFault>,
@@ -360,41 +460,99 @@ fn say_reverted<W: io::Write, E: io::Write>(
 
 /// What a journal's undo keeps: the words beside its file, and its text.
 #[derive(Drop)]
-struct Kept<'a> {
-    beside: UndoFiles<'a>,
+struct Kept {
+    beside: UndoFiles,
     text: String,
 }
 
-/// That of the journal of this text in the file of this word.
-fn kept_of<'a>(alloc: Global, word: &'a str, text: &str) -> Result<Kept<'a>, AllocError>
-    ensures beside { IfOk result (λ kept. IsOwn word.entry.now kept.beside) }
+/// The words beside a journal's own file, which is one of these.
+fn own_files(alloc: Global, held: &UndoFiles) -> Result<UndoFiles, AllocError>
+    ensures { IfOk result (IsOwnOf held.now) }
+{
+    let word = held.undo.as_str();
+    if held.is_stream {
+        return UndoFiles::of_stream(alloc, word);
+    }
+    UndoFiles::of_journal(alloc, word)
+}
+
+/// That of the journal of this text in a file that is held.
+fn kept_of(alloc: Global, held: &UndoFiles, text: &str) -> Result<Kept, AllocError>
+    ensures beside { IfOk result (λ kept. IsOwnOf held.now kept.beside) }
     ensures text { IfOk result (λ kept. string_bytes kept.text ≡ text.now) }
 {
-    let beside = UndoFiles::of_journal(alloc, word)?;
+    let beside = own_files(alloc, held)?;
     let text = String::from_str(alloc, text)?;
     Ok(Kept { beside, text })
 }
 
-/// Has what the journal of this text says taken back, while the file of this word keeps it, and says what came of it.
-pub(crate) fn undo_journal<F: WritesFiles, W: io::Write, E: io::Write, R: Net>(
+/// How many steps are told of a manager that was made of a journal.
+fn steps_of(journal: &JournalView) -> usize
+    ensures { result ≡ steps_of (kept_of_view journal.now) }
+{
+    let steps = journal.steps.len();
+    if steps == 0 {
+        journal.requests.len()
+    } else {
+        steps
+    }
+}
+
+/// Has what the journal of this manager says taken back, while the line of its progress is written.
+fn revert_told<F: WritesFiles, P: io::Write, R: Net>(
     rt: &R,
     alloc: Global,
     files: &mut F,
-    word: &str,
+    manager: Manager,
+    kept: Kept,
+    words: &UndoWords,
+    progress: &mut Progress<P>,
+) -> Result<Reverted, ReportFault>
+    ensures reverts { MayRevert F.takes F.renames kept.beside words.now manager result
+        (string_bytes kept.text) files.old files.new }
+    ensures told { MayTellRevert P.contents manager progress.old progress.new }
+{
+    let journal = manager.journal();
+    let steps = steps_of(&journal);
+    let Ok(kinds) = kinds_of(alloc, journal.steps) else {
+        drop(manager);
+        return Err(ReportFault::Memory);
+    };
+    let course = PlanOutline {
+        steps,
+        kinds: kinds.as_slice(),
+    };
+    let mut teller = ProgressWriter {
+        alloc,
+        progress,
+        course,
+    };
+    revert_text(rt, alloc, files, manager, kept, words, &mut teller)
+}
+
+/// Has what the journal of this text says taken back, while the file that is held keeps it, and says what came of it, by this word of the file.
+pub(crate) fn undo_journal<F: WritesFiles, W: io::Write, E: io::Write, P: io::Write, R: Net>(
+    rt: &R,
+    alloc: Global,
+    files: &mut F,
+    held: &UndoFiles,
     text: &str,
     words: &UndoWords,
+    progress: &mut Progress<P>,
     console: &mut Console<W, E>,
 ) -> u8
-    ensures { JournalEnds W.contents E.contents F.takes F.renames word.now text.now words.now
+    ensures ends { JournalEnds W.contents E.contents F.takes F.renames held.now text.now words.now
         files.old files.new console.old console.new result }
+    ensures told { TellsJournal P.contents text.now progress.old progress.new }
 {
+    let word = words.undo.as_str();
     let manager = match revive_text(alloc, text) {
         Ok(manager) => manager,
         Err(why) => return end_run(&journal_refusal(alloc, why), console),
     };
-    match kept_of(alloc, word, text) {
-        Ok(Kept { beside, text }) => {
-            let reverted = revert_text(rt, alloc, files, manager, &beside, text, words);
+    match kept_of(alloc, held, text) {
+        Ok(kept) => {
+            let reverted = revert_told(rt, alloc, files, manager, kept, words, progress);
             say_reverted(alloc, word, reverted, console)
         }
         Err(AllocError) => end_run(&Err(ReportFault::Memory), console),

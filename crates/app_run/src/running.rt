@@ -4,6 +4,8 @@ ghost use Rattle.plan_file.specs.Kinds.{kind_of};
 ghost use Rattle.plan_file.specs.PlanHolds.{ReadsPlan};
 ghost use Rattle.model_lab.specs.Meaning.{lab_names};
 ghost use Rattle.undo_core.specs.Shown.{Represents};
+ghost use Rattle.app_base.specs.declared.console.Stream.TheVariants.{Error};
+ghost use Rattle.app_base.specs.declared.status.Status.TheVariants.{Success};
 ghost use Rattle.app_base.specs.Ending.{RunEnds, ReportTells};
 ghost use Rattle.app_run.specs.declared.running.Outcome.TheVariants.{Ran as HasRun};
 ghost use Rattle.app_run.specs.Driven.{opened_with};
@@ -11,7 +13,8 @@ ghost use Rattle.app_run.specs.Ends.{PrintsNothing, SaysFile, SaysPhase};
 ghost use Rattle.app_run.specs.Greeted.{greetings_before_run};
 ghost use Rattle.app_run.specs.Outcome.{RunEnd, ComesBeside, ComesGreeted, StaysGreeted, first_fault};
 ghost use Rattle.app_run.specs.Told.{MayTellWay, TellsFile, TellsPlan, TellsText};
-ghost use Rattle.app_run.specs.Run.{EndsBy, EndsUnkept, RunEndsOf, RunEndsOn, RunEndsOver, SaysFault};
+ghost use Rattle.app_run.specs.Lines.{aside_line};
+ghost use Rattle.app_run.specs.Run.{AsideIsTold, EndsBy, EndsUnkept, RunEndsOf, RunEndsOn, RunEndsOver, RunEndsWith, SaysFault};
 
 use crate::driven::open_manager;
 use crate::greeting::{GreetFault, Greetings, Unanswered, greet_first};
@@ -20,8 +23,8 @@ use crate::lines::{phase_report, plan_refusal, tell_both, tell_ungreeted};
 use crate::links::{open_ends, sit_out};
 use crate::progress::{Progress, kinds_of};
 use app_base::files::refuse;
-use app_base::{Console, Report, ReportFault, TextFiles, end_run, text_of};
-use app_journal::{UndoFiles, WriteFault, WritesFiles};
+use app_base::{Console, Ending, Report, ReportFault, Status, Stream, TextFiles, end_run, text_of};
+use app_journal::{Claim, Taken, UndoFiles, WriteFault, WritesFiles, claim_files};
 use plan_file::{PlanFault, read_plan};
 use std::alloc::{AllocError, Global};
 use std::io;
@@ -51,6 +54,8 @@ pub struct RunWords {
     pub forget: Option<u32>,
     /// Whether the buses that are used are greeted before the run begins.
     pub greet: bool,
+    /// Whether a journal that has something to take back is put aside.
+    pub replace: bool,
 }
 
 /// What came of a run.
@@ -100,7 +105,7 @@ fn run_made<F: WritesFiles, P: io::Write, R: Net>(
     words: &RunWords,
     progress: &mut Progress<P>,
 ) -> Result<Outcome, ReportFault>
-    ensures comes { ComesBeside F.takes F.renames F.removes beside.now ready.manager words.now
+    ensures comes { ComesBeside F.WritesFiles beside.now ready.manager words.now
         (string_bytes text) result files.old files.new }
     ensures told { MayTellWay P.contents ready.kinds.items ready.manager progress.old progress.new }
 {
@@ -150,7 +155,7 @@ fn run_greeted<F: WritesFiles, P: io::Write, R: Net>(
     words: &RunWords,
     progress: &mut Progress<P>,
 ) -> Result<Outcome, ReportFault>
-    ensures comes { ComesGreeted F.takes F.renames F.removes ready.greetings beside.now
+    ensures comes { ComesGreeted F.WritesFiles ready.greetings beside.now
         ready.manager words.now (string_bytes text) result files.old files.new }
     ensures told { MayTellWay P.contents ready.kinds.items ready.manager progress.old progress.new }
 {
@@ -205,15 +210,13 @@ fn carry_out<F: WritesFiles, P: io::Write, R: Net>(
     alloc: Global,
     files: &mut F,
     plan: Plan,
+    beside: &UndoFiles,
     words: &RunWords,
     progress: &mut Progress<P>,
 ) -> Result<Outcome, ReportFault>
-    ensures comes { RunEnd F.takes F.renames F.removes plan words.now result files.old files.new }
+    ensures comes { RunEnd F.WritesFiles plan beside.now words.now result files.old files.new }
     ensures told { TellsPlan P.contents plan progress.old progress.new }
 {
-    let Ok(beside) = UndoFiles::of(alloc, words.undo.as_str()) else {
-        return Err(ReportFault::Memory);
-    };
     let Ok(ready) = make_ready(alloc, plan, words.greet) else {
         return Err(ReportFault::Memory);
     };
@@ -221,7 +224,7 @@ fn carry_out<F: WritesFiles, P: io::Write, R: Net>(
         return Err(ReportFault::Memory);
     };
     match beside.put(files, text.as_str()) {
-        Ok(()) => run_greeted(rt, alloc, files, &beside, text, ready, words, progress),
+        Ok(()) => run_greeted(rt, alloc, files, beside, text, ready, words, progress),
         Err(WriteFault) => {
             drop(ready);
             Ok(Outcome::Unmade)
@@ -231,7 +234,7 @@ fn carry_out<F: WritesFiles, P: io::Write, R: Net>(
 
 /// Says in which phase the manager is, and that its list couldn't be written to the file of this word. Both lines are made before one is
 /// written.
-fn tell_unkept<W: io::Write, E: io::Write>(
+pub(crate) fn tell_unkept<W: io::Write, E: io::Write>(
     alloc: Global,
     phase: Phase,
     word: &str,
@@ -256,7 +259,7 @@ fn reached(alloc: Global, phase: Phase) -> Result<Report, ReportFault>
 }
 
 /// What is said of a file that can't be made, by the word that names the one beside it.
-fn unmade(alloc: Global, word: &str) -> Result<Report, ReportFault>
+pub(crate) fn unmade(alloc: Global, word: &str) -> Result<Report, ReportFault>
     ensures { ReportTells (SaysFile word.now) result }
 {
     Ok(Report::of_file(alloc, word)?)
@@ -295,8 +298,65 @@ fn say<W: io::Write, E: io::Write>(
     }
 }
 
-/// Runs the plan, keeps the manager's list, and says what came of both.
-fn run_over<F: WritesFiles, W: io::Write, E: io::Write, P: io::Write, R: Net>(
+/// What is said of a journal that was put aside: the word that names it now.
+fn aside_report(alloc: Global, name: &str) -> Result<Report, AllocError>
+    ensures stream { IfOk result (λ report. report.stream ≡ Error) }
+    ensures text { IfOk result (λ report. string_bytes report.text ≡ aside_line name.now) }
+    ensures status { IfOk result (λ report. report.status ≡ Success) }
+{
+    let mut text = String::new(alloc);
+    writeln!(text, "aside {name}")?;
+    Ok(Report {
+        stream: Stream::Error,
+        text,
+        status: Status::Success,
+    })
+}
+
+/// Says what was put aside, if something was, and gives the status.
+fn tell_aside<W: io::Write, E: io::Write>(
+    alloc: Global,
+    aside: &Option<String>,
+    console: &mut Console<W, E>,
+) -> Status
+    ensures { AsideIsTold W.contents E.contents aside.now console.old console.new result }
+{
+    match aside {
+        None => Status::Success,
+        Some(name) => Ending::of(&aside_report(alloc, name.as_str())).write(console),
+    }
+}
+
+/// Runs the plan once its files are claimed, keeps the manager's list, and says what came of both.
+fn run_claimed<F: WritesFiles, W: io::Write, E: io::Write, P: io::Write, R: Net>(
+    rt: &R,
+    alloc: Global,
+    files: &mut F,
+    plan: Plan,
+    taken: &Taken,
+    words: &RunWords,
+    progress: &mut Progress<P>,
+    console: &mut Console<W, E>,
+) -> u8
+    ensures ends { RunEndsWith W.contents E.contents F.WritesFiles plan taken.now words.now
+        files.old files.new console.old console.new result }
+    ensures told { TellsPlan P.contents plan progress.old progress.new }
+{
+    match tell_aside(alloc, &taken.aside, console) {
+        Status::Success => {}
+        status => {
+            drop(plan);
+            return u8::from(status);
+        }
+    }
+    match carry_out(rt, alloc, files, plan, &taken.beside, words, progress) {
+        Ok(outcome) => say(alloc, words.undo.as_str(), outcome, console),
+        Err(why) => end_run(&Err(why), console),
+    }
+}
+
+/// Claims the files of the undo text, runs the plan, keeps the manager's list, and says what came of both.
+fn run_over<F: TextFiles + WritesFiles, W: io::Write, E: io::Write, P: io::Write, R: Net>(
     rt: &R,
     alloc: Global,
     files: &mut F,
@@ -305,13 +365,23 @@ fn run_over<F: WritesFiles, W: io::Write, E: io::Write, P: io::Write, R: Net>(
     progress: &mut Progress<P>,
     console: &mut Console<W, E>,
 ) -> u8
-    ensures ends { RunEndsOver W.contents E.contents F.takes F.renames F.removes plan words.now
+    ensures ends { RunEndsOver W.contents E.contents F.TextFiles F.WritesFiles plan words.now
         files.old files.new console.old console.new result }
     ensures told { TellsPlan P.contents plan progress.old progress.new }
 {
-    match carry_out(rt, alloc, files, plan, words, progress) {
-        Ok(outcome) => say(alloc, words.undo.as_str(), outcome, console),
-        Err(why) => end_run(&Err(why), console),
+    let word = words.undo.as_str();
+    match claim_files(alloc, files, word, words.replace) {
+        Ok(Claim::Taken(taken)) => {
+            run_claimed(rt, alloc, files, plan, &taken, words, progress, console)
+        }
+        Ok(Claim::Refused) => {
+            drop(plan);
+            end_run(&unmade(alloc, word), console)
+        }
+        Err(AllocError) => {
+            drop(plan);
+            end_run(&Err(ReportFault::Memory), console)
+        }
     }
 }
 
@@ -323,7 +393,7 @@ fn refusal(alloc: Global, why: PlanFault) -> Result<Report, ReportFault>
 }
 
 /// Runs the plan of this text.
-fn run_text<F: WritesFiles, W: io::Write, E: io::Write, P: io::Write, R: Net>(
+fn run_text<F: TextFiles + WritesFiles, W: io::Write, E: io::Write, P: io::Write, R: Net>(
     rt: &R,
     alloc: Global,
     files: &mut F,
@@ -332,7 +402,7 @@ fn run_text<F: WritesFiles, W: io::Write, E: io::Write, P: io::Write, R: Net>(
     progress: &mut Progress<P>,
     console: &mut Console<W, E>,
 ) -> u8
-    ensures ends { RunEndsOn W.contents E.contents F.takes F.renames F.removes text.now words.now
+    ensures ends { RunEndsOn W.contents E.contents F.TextFiles F.WritesFiles text.now words.now
         files.old files.new console.old console.new result }
     ensures told { TellsText P.contents text.now progress.old progress.new }
 {
@@ -353,7 +423,7 @@ fn run_file<F: TextFiles + WritesFiles, W: io::Write, E: io::Write, P: io::Write
     progress: &mut Progress<P>,
     console: &mut Console<W, E>,
 ) -> u8
-    ensures ends { RunEndsOf W.contents E.contents (F.gives files.old) F.takes F.renames F.removes
+    ensures ends { RunEndsOf W.contents E.contents F.TextFiles F.WritesFiles
         word.now words.now files.old files.new console.old console.new result }
     ensures told { TellsFile P.contents (F.gives files.old) word.now progress.old progress.new }
 {
@@ -364,7 +434,12 @@ fn run_file<F: TextFiles + WritesFiles, W: io::Write, E: io::Write, P: io::Write
 }
 
 /// Runs the plan of the file that the words name, on the controller at their two ports, and writes to standard output in which phase the
-/// manager is then. Before a link is had, a file beside that of the word UNDO is made, `.part`. It has the manager's journal whenever frames go out, by a
+/// manager is then. Before anything is done with the file of the word UNDO, and before a link is had, it is held, where the word's links lead, so that one process
+/// at a time uses it. Where it can't be held, or the file beside it, `.part`, has something to take back that it hasn't itself, or is no journal, nothing is
+/// done. Where the words ask for it, such a `.part` is put aside, and standard error has `aside` and its new name. Of a FIFO or a device nothing is held, and no
+/// file lies beside it: it gets the list, and there is no journal.
+///
+/// Else `.part` is made. It has the manager's journal whenever frames go out, by a
 /// writing of `.next` and a renaming wherever that has changed. Where the journal can't be kept, the frames don't go out: a manager is made again of the
 /// last text that was put, and is called to try again, for as many turns. Where the plan ended or halted, UNDO gets the list, by `.next` as well, and
 /// then `.part` is removed. The phase is said behind that, so that no failed output costs the list. Where the line of its progress is written, that tells of each step and is ended before
@@ -375,7 +450,7 @@ fn run_file<F: TextFiles + WritesFiles, W: io::Write, E: io::Write, P: io::Write
 /// `no answer on` or `busy on` and the bus behind it, and the status is 0.
 ///
 /// It gives the status: 0, or 3 with `file` or `plan` and the fault on standard error where the plan's file can't be read or holds no plan,
-/// also 3 with `file` and the word UNDO on standard error where `.part` can't be made, and behind the phase on standard output where the journal
+/// also 3 with `file` and the word UNDO on standard error where the file can't be claimed, or `.part` can't be made, and behind the phase on standard output where the journal
 /// or the undo text can't be kept, or `.part` can't be removed, 4 and no line where a link can't be had, 5 with `memory` on standard error where memory was refused,
 /// and 6 where a write to either stream failed.
 pub fn run<F: TextFiles + WritesFiles, W: io::Write, E: io::Write, P: io::Write, R: Net>(
@@ -386,7 +461,7 @@ pub fn run<F: TextFiles + WritesFiles, W: io::Write, E: io::Write, P: io::Write,
     progress: &mut Progress<P>,
     console: &mut Console<W, E>,
 ) -> u8
-    ensures ends { RunEndsOf W.contents E.contents (F.gives files.old) F.takes F.renames F.removes
+    ensures ends { RunEndsOf W.contents E.contents F.TextFiles F.WritesFiles
         (string_bytes words.now.plan) words.now files.old files.new console.old console.new result }
     ensures told { TellsFile P.contents (F.gives files.old) (string_bytes words.now.plan)
         progress.old progress.new }

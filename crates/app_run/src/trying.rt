@@ -1,6 +1,6 @@
 //! A manager that is driven while something looks at it, and called again where it is unsettled.
 ghost use Rattle.std.specs.Prelude.{◌≡◌};
-ghost use Rattle.model_undo.specs.declared.call.Call.TheVariants.{Start, Undo, Again};
+ghost use Rattle.model_undo.specs.declared.call.Call.TheVariants.{Start, Again};
 ghost use Rattle.model_lab.specs.Meaning.{lab_names as the_names};
 ghost use Rattle.undo_core.specs.Shown.{Represents};
 ghost use Rattle.bmc_ports.specs.Conversation.{frames_given, links};
@@ -117,28 +117,6 @@ pub fn try_plan<A: Link, B: Link, T: Observer>(
 {
     match manager.start() {
         Ok(first) => drive_again(manager, first, ipmb, smbus, turns, agains, watch),
-        Err(WrongPhase) => Ok(manager.phase()),
-    }
-}
-
-/// Begins a manager's undo, and drives it as `undo_plan` does. The watch looks at it as at a plan.
-pub(crate) fn undo_watched<A: Link, B: Link, T: Observer>(
-    manager: &mut Manager,
-    ipmb: &mut A,
-    smbus: &mut B,
-    turns: u32,
-    watch: &mut T,
-) -> DriveEnd
-    ensures goes { (before : DrivenState) → Represents the_names manager.old before
-        → GoesAgain 0 Undo turns before manager.new result
-        (both (A.counts_of ipmb.old) (B.counts_of smbus.old))
-        (both (A.counts_of ipmb.new) (B.counts_of smbus.new)) }
-    ensures seen { RunCourse T.sees A.Link B.Link Undo manager.old manager.new
-        (links ipmb.old smbus.old) (links ipmb.new smbus.new) (permit_at result)
-        watch.old watch.new }
-{
-    match manager.undo() {
-        Ok(first) => drive_observed(manager, first, ipmb, smbus, turns, watch),
         Err(WrongPhase) => Ok(manager.phase()),
     }
 }

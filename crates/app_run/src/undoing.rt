@@ -1,32 +1,31 @@
 //! `bmcnet undo`: what a plan did to a controller is taken back over UDP.
-ghost use Rattle.std.specs.Prelude.{◌≡◌, [], false, IfOk, None, length, string_bytes};
-ghost use Rattle.undo_plans.specs.declared.undo_list.UndoList.{UndoList as AnyList};
+ghost use Rattle.std.specs.Prelude.{◌≡◌, ◌↔◌, [], false, IfOk, Ok, Err, string_bytes};
+ghost use Rattle.model_undo.specs.declared.call.Call.TheVariants.{Undo};
 ghost use Rattle.model_lab.specs.Meaning.{lab_names};
-ghost use Rattle.undo_core.specs.Shown.{Represents};
-ghost use Rattle.wire_links.specs.Counted.{none_counted};
+ghost use Rattle.undo_core.specs.Shown.{AreOthers};
 ghost use Rattle.app_base.specs.Ending.{ReportTells};
-ghost use Rattle.app_run.specs.declared.greeting.Greetings.{Greetings as AnyGreetings};
-ghost use Rattle.app_run.specs.Driven.{UndoRun, resumed_from};
-ghost use Rattle.app_run.specs.Greeted.{AreGreeted};
-ghost use Rattle.app_run.specs.Told.{MayTellUndo, TellsOfNames, TellsUndo, TellsUndoFile, TellsUndoText};
-ghost use Rattle.app_run.specs.Undo.{PrintsUndo, SaysOfNames, SaysUndone, StaysOfNames, StaysOfText};
-ghost use Rattle.app_run.specs.Undo.{StaysUndone, StaysUngreeted, TextEnds, UndoEnds, UndoEndsOf, UndoTells, told_by};
+ghost use Rattle.app_journal.specs.Keeping.{IsJournalText};
+ghost use Rattle.app_run.specs.declared.undoing.ListEnd.TheVariants.{Reverted as HasReverted};
+ghost use Rattle.app_run.specs.Reverting.{Undoes};
+ghost use Rattle.app_run.specs.Told.{MayLookOn, MayTellResumed, TellsOfNames, TellsResumed, TellsUndoFile};
+ghost use Rattle.app_run.specs.Told.{TellsUndoOf, TellsUndoText};
+ghost use Rattle.app_run.specs.Undo.{EndsListed, IsResumed, ListEnds, MadeEnds, RemovesUndone, SaysLine};
+ghost use Rattle.app_run.specs.Undo.{SaysOthers, TextEnds, UnbarredEnds, UndoEndsIn, UndoEndsOf, UndoesFrom};
 
 use crate::driven::{RemakeFault, resume_manager};
-use crate::greeting::{GreetFault, Greetings, Unanswered, greet_first};
-use crate::lines::{names_refusal, phase_report, tell_ungreeted, undo_refusal};
-use crate::links::{BusLinks, open_ends};
-use crate::observer::ProgressWriter;
+use crate::greeting::Greetings;
+use crate::lines::{names_refusal, undo_refusal};
+use crate::observer::{ProgressWriter, RunWatch};
 use crate::progress::{PlanOutline, Progress};
-use crate::reverting::{is_journal, undo_journal};
-use crate::trying::undo_watched;
+use crate::reverting::{Reverted, is_journal, say_reverted, undo_journal, undo_over};
+use crate::running::{tell_unkept, unmade};
 use app_base::files::refuse;
 use app_base::{Console, Report, ReportFault, TextFiles, end_run, text_of};
-use app_journal::WritesFiles;
-use bmc_ports::KeptBack;
-use std::alloc::Global;
+use app_journal::{JournalKeeper, Standing, UndoFiles, WriteFault, WritesFiles, hold_files};
+use std::alloc::{AllocError, Global};
 use std::io;
 use std::net::Net;
+use text_journal::write_journal;
 use text_undo::{UndoFault, read_undo};
 use undo_core::{Manager, Phase};
 use undo_plans::UndoList;
@@ -48,277 +47,345 @@ pub struct UndoWords {
     pub greet: bool,
 }
 
-/// What came of an undo.
-#[derive(Drop)]
-enum Told {
-    /// This is said of it.
-    Says(Report),
-    /// This greeting wasn't answered, and the manager, in this phase, did nothing.
-    Ungreeted(Phase, Unanswered),
+/// What came of the undo of a list.
+#[derive(Clone, Copy)]
+pub enum ListEnd {
+    /// The list has names that aren't the lab's.
+    OtherNames,
+    /// The file of the journal has something to take back that the list hasn't, or can't be made.
+    Barred,
+    /// The manager came to this, and where it took all back, the file of its journal was removed so.
+    Reverted(Reverted, Result<(), WriteFault>),
 }
 
-/// A manager that undid its list as far as it came, and its phase.
+/// A manager that goes on from a list of so many requests, in its phase, and the greetings before it is called.
 #[derive(Drop)]
-struct Undone {
+struct Resumed {
     manager: Manager,
     phase: Phase,
+    steps: usize,
+    greetings: Greetings,
 }
 
-/// Has a manager undo its list over these links, while a teller looks at it, whose line is ended then.
-fn undo_seen<P: io::Write>(
-    manager: &mut Manager,
-    ends: BusLinks,
-    turns: u32,
+// ---- the undo of a list
+
+/// Has a manager take back what its list says, while these look at it.
+fn undo_seen<F: WritesFiles, P: io::Write, R: Net>(
+    rt: &R,
+    resumed: Resumed,
+    words: &UndoWords,
+    keeper: &mut JournalKeeper<F>,
     teller: &mut ProgressWriter<P>,
-) -> Phase
-    requires ipmb { ends.ipmb.counts ≡ none_counted }
-    requires smbus { ends.smbus.counts ≡ none_counted }
-    ensures undoes { (list : AnyList) → Represents lab_names manager.old (resumed_from list)
-        → UndoRun list turns manager.new result }
-    ensures told { (list : AnyList) → teller.old.course.kinds.now ≡ []
-        → teller.old.course.steps ≡ length list.requests.members
-        → Represents lab_names manager.old (resumed_from list)
-        → TellsUndo P.contents list teller.old.progress.now teller.new.progress.now }
+) -> Result<Reverted, ReportFault>
+    ensures undoes { Undoes F.takes F.renames keeper.old.beside.now resumed.greetings
+        words.now.turns resumed.manager resumed.phase result
+        (string_bytes keeper.old.text.now) (string_bytes keeper.new.text.now)
+        keeper.old.files.now keeper.new.files.now }
+    ensures told { MayLookOn P.contents teller.old.course.kinds.now teller.old.course.steps Undo
+        resumed.manager teller.old.progress.now teller.new.progress.now }
+    ensures same_files { keeper.new.files.ghost_name ≡ keeper.old.files.ghost_name }
     ensures same_line { teller.new.progress.ghost_name ≡ teller.old.progress.ghost_name }
 {
-    let BusLinks {
-        mut ipmb,
-        mut smbus,
-    } = ends;
-    let end = undo_watched(manager, &mut ipmb, &mut smbus, turns, teller);
-    teller.end();
-    match end {
-        Ok(phase) => phase,
-        Err(KeptBack) => unreachable!(),
-    }
+    let Resumed {
+        mut manager,
+        phase,
+        steps: _,
+        greetings,
+    } = resumed;
+    let mut watch = RunWatch { keeper, teller };
+    undo_over(rt, &mut manager, phase, words, &greetings, &mut watch)
 }
 
-/// Has a manager undo its list over these links, while the line of its progress is written.
-fn undo_told<P: io::Write>(
+/// The same, while its journal of this text is kept in the file beside, and the teller's line is ended.
+fn undo_kept<F: WritesFiles, P: io::Write, R: Net>(
+    rt: &R,
     alloc: Global,
-    manager: &mut Manager,
-    steps: usize,
-    ends: BusLinks,
-    turns: u32,
-    progress: &mut Progress<P>,
-) -> Phase
-    requires ipmb { ends.ipmb.counts ≡ none_counted }
-    requires smbus { ends.smbus.counts ≡ none_counted }
-    ensures undoes { (list : AnyList) → Represents lab_names manager.old (resumed_from list)
-        → UndoRun list turns manager.new result }
-    ensures told { (list : AnyList) → length list.requests.members ≡ steps
-        → Represents lab_names manager.old (resumed_from list)
-        → MayTellUndo P.contents list progress.old progress.new }
+    files: &mut F,
+    beside: &UndoFiles,
+    text: String,
+    resumed: Resumed,
+    words: &UndoWords,
+    teller: &mut ProgressWriter<P>,
+) -> Result<Reverted, ReportFault>
+    ensures undoes { UndoesFrom F.takes F.renames beside.now resumed words.now.turns result
+        (string_bytes text) files.old files.new }
+    ensures told { TellsResumed P.contents teller.old.course.kinds.now teller.old.course.steps
+        resumed.manager teller.old.progress.now teller.new.progress.now }
+    ensures same_line { teller.new.progress.ghost_name ≡ teller.old.progress.ghost_name }
 {
-    let course = PlanOutline { steps, kinds: &[] };
+    let mut text = text;
+    let mut keeper = JournalKeeper {
+        alloc,
+        files,
+        beside: &*beside,
+        text: &mut text,
+    };
+    let came = undo_seen(rt, resumed, words, &mut keeper, teller);
+    teller.end();
+    came
+}
+
+/// The same, while the line of its progress is written.
+fn undo_told<F: WritesFiles, P: io::Write, R: Net>(
+    rt: &R,
+    alloc: Global,
+    files: &mut F,
+    beside: &UndoFiles,
+    text: String,
+    resumed: Resumed,
+    words: &UndoWords,
+    progress: &mut Progress<P>,
+) -> Result<Reverted, ReportFault>
+    ensures undoes { UndoesFrom F.takes F.renames beside.now resumed words.now.turns result
+        (string_bytes text) files.old files.new }
+    ensures told { TellsResumed P.contents [] resumed.steps resumed.manager
+        progress.old progress.new }
+{
+    let course = PlanOutline {
+        steps: resumed.steps,
+        kinds: &[],
+    };
     let mut teller = ProgressWriter {
         alloc,
         progress,
         course,
     };
-    undo_seen(manager, ends, turns, &mut teller)
+    undo_kept(rt, alloc, files, beside, text, resumed, words, &mut teller)
 }
 
-/// Has a manager undo its list of so many requests over links to the ports that the words name.
-fn undo_on<P: io::Write, R: Net>(
+/// Removes the file of the journal of a manager that took all back. Else it does nothing.
+fn remove_undone<F: WritesFiles>(
+    files: &mut F,
+    beside: &UndoFiles,
+    came: &Reverted,
+) -> Result<(), WriteFault>
+    ensures { RemovesUndone F.removes beside.now came.now files.old result files.new }
+{
+    match came {
+        Reverted::Ended(Ok(Phase::Undone)) => beside.remove_part(files),
+        _ => Ok(()),
+    }
+}
+
+/// What came of the undo of a list whose manager came to this, and the file of its journal was removed so.
+fn listed(came: Reverted, gone: Result<(), WriteFault>) -> Result<ListEnd, ReportFault>
+    ensures { result ≡ Ok (HasReverted came gone) }
+{
+    Ok(ListEnd::Reverted(came, gone))
+}
+
+/// The text of a manager's journal.
+fn journal_text(alloc: Global, manager: &Manager) -> Result<String, AllocError>
+    ensures { IfOk result (λ text. IsJournalText (string_bytes text) manager.now) }
+{
+    write_journal(alloc, &manager.journal())
+}
+
+/// Makes the file of the journal, with that of a manager that goes on from a list. Then it takes that back, and where it took all back, the file is removed.
+fn undo_made<F: WritesFiles, P: io::Write, R: Net>(
     rt: &R,
     alloc: Global,
-    mut manager: Manager,
-    steps: usize,
+    files: &mut F,
+    beside: &UndoFiles,
+    resumed: Resumed,
     words: &UndoWords,
     progress: &mut Progress<P>,
-) -> Result<Undone, ReportFault>
-    ensures undoes { (list : AnyList) → Represents lab_names manager (resumed_from list)
-        → IfOk result (λ undone. UndoRun list words.now.turns undone.manager undone.phase) }
-    ensures told { (list : AnyList) → length list.requests.members ≡ steps
-        → Represents lab_names manager (resumed_from list)
-        → MayTellUndo P.contents list progress.old progress.new }
+) -> Result<ListEnd, ReportFault>
+    ensures ends { MadeEnds F.WritesFiles beside.now resumed words.now.turns result
+        files.old files.new }
+    ensures told { MayTellResumed P.contents [] resumed.steps resumed.manager
+        progress.old progress.new }
 {
-    let ends = open_ends(rt, words.ipmb_port, words.smbus_port, words.wait_ms);
-    let Some(ends) = ends else {
-        return Err(ReportFault::Stopped);
+    let Ok(text) = journal_text(alloc, &resumed.manager) else {
+        drop(resumed);
+        return Err(ReportFault::Memory);
     };
-    let phase = undo_told(alloc, &mut manager, steps, ends, words.turns, progress);
-    Ok(Undone { manager, phase })
-}
-
-/// What is said of a manager that goes on from a list of so many requests, once the controller was
-/// greeted.
-fn undone_report<P: io::Write, R: Net>(
-    rt: &R,
-    alloc: Global,
-    manager: Manager,
-    steps: usize,
-    words: &UndoWords,
-    progress: &mut Progress<P>,
-) -> Result<Report, ReportFault>
-    ensures says { (list : AnyList) (greetings : AnyGreetings)
-        → Represents lab_names manager (resumed_from list)
-        → AreGreeted greetings words.now.turns None
-        → ReportTells (SaysUndone greetings list words.now.turns) result }
-    ensures told { (list : AnyList) → length list.requests.members ≡ steps
-        → Represents lab_names manager (resumed_from list)
-        → MayTellUndo P.contents list progress.old progress.new }
-{
-    let undone = undo_on(rt, alloc, manager, steps, words, progress)?;
-    let phase = undone.phase;
-    drop(undone);
-    Ok(phase_report(alloc, phase)?)
-}
-
-/// What came of an undo of which the report says all.
-fn said(report: Result<Report, ReportFault>) -> Result<Told, ReportFault>
-    ensures { result ≡ told_by report }
-{
-    match report {
-        Ok(report) => Ok(Told::Says(report)),
+    if let Err(WriteFault) = beside.put(files, text.as_str()) {
+        drop(resumed);
+        return Ok(ListEnd::Barred);
+    }
+    match undo_told(rt, alloc, files, beside, text, resumed, words, progress) {
+        Ok(came) => {
+            let gone = remove_undone(files, beside, &came);
+            listed(came, gone)
+        }
         Err(why) => Err(why),
     }
 }
 
-/// What comes of a manager of which a greeting failed. It did nothing.
-fn leave_ungreeted(manager: Manager, fault: GreetFault) -> Result<Told, ReportFault>
-    ensures { StaysUngreeted manager fault result }
+/// A manager that goes on from a list, and what is known of it.
+fn resume(alloc: Global, list: UndoList, greet: bool) -> Result<Resumed, RemakeFault>
+    ensures resumed { IfOk result (IsResumed list greet) }
+    ensures others { (result ≡ Err RemakeFault.OtherNames) ↔ AreOthers lab_names list.names }
 {
-    let phase = manager.phase();
-    drop(manager);
-    match fault {
-        GreetFault::NoLink => Err(ReportFault::Stopped),
-        GreetFault::Unanswered(why) => Ok(Told::Ungreeted(phase, why)),
+    let steps = list.requests.len();
+    let greetings = Greetings::before_undo(greet, &list);
+    match resume_manager(alloc, list) {
+        Ok(manager) => Ok(Resumed {
+            phase: manager.phase(),
+            manager,
+            steps,
+            greetings,
+        }),
+        Err(why) => Err(why),
     }
 }
 
-/// Greets the controller, and has a manager go on from a list of so many requests, where each
-/// greeting was answered.
-fn undo_greeted<P: io::Write, R: Net>(
+/// Undoes a list, whose text this is, unless the file of the journal has something to take back that the list hasn't.
+fn undo_unbarred<F: TextFiles + WritesFiles, P: io::Write, R: Net>(
     rt: &R,
     alloc: Global,
-    manager: Manager,
-    steps: usize,
-    greetings: &Greetings,
+    files: &mut F,
+    held: &UndoFiles,
+    text: &str,
+    resumed: Resumed,
     words: &UndoWords,
     progress: &mut Progress<P>,
-) -> Result<Told, ReportFault>
-    ensures says { (list : AnyList) → Represents lab_names manager (resumed_from list)
-        → UndoTells (SaysUndone greetings.now list words.now.turns)
-        (StaysUndone greetings.now list words.now.turns) result }
-    ensures told { (list : AnyList) → length list.requests.members ≡ steps
-        → Represents lab_names manager (resumed_from list)
-        → MayTellUndo P.contents list progress.old progress.new }
+) -> Result<ListEnd, ReportFault>
+    ensures ends { UnbarredEnds F.TextFiles F.WritesFiles held.now text.now resumed
+        words.now.turns result files.old files.new }
+    ensures told { MayTellResumed P.contents [] resumed.steps resumed.manager
+        progress.old progress.new }
 {
-    let greeted = greet_first(
-        rt,
-        greetings,
-        words.ipmb_port,
-        words.smbus_port,
-        words.wait_ms,
-        words.turns,
-    );
-    match greeted {
-        Ok(()) => said(undone_report(rt, alloc, manager, steps, words, progress)),
-        Err(fault) => leave_ungreeted(manager, fault),
+    let standing = match held.standing(alloc, &*files, text) {
+        Ok(standing) => standing,
+        Err(AllocError) => {
+            drop(resumed);
+            return Err(ReportFault::Memory);
+        }
+    };
+    match standing {
+        Standing::Nothing => undo_made(rt, alloc, files, held, resumed, words, progress),
+        _ => {
+            drop(resumed);
+            Ok(ListEnd::Barred)
+        }
     }
 }
 
-/// What comes of a list that is undone, or that has other names.
-fn list_told<P: io::Write, R: Net>(
+/// Undoes a list, whose text this is, in a file that is held.
+fn undo_list<F: TextFiles + WritesFiles, P: io::Write, R: Net>(
     rt: &R,
     alloc: Global,
+    files: &mut F,
+    held: &UndoFiles,
+    text: &str,
     list: UndoList,
     words: &UndoWords,
     progress: &mut Progress<P>,
-) -> Result<Told, ReportFault>
-    ensures says { UndoTells (SaysOfNames list words.now) (StaysOfNames list words.now) result }
+) -> Result<ListEnd, ReportFault>
+    ensures ends { ListEnds F.TextFiles F.WritesFiles held.now text.now list words.now result
+        files.old files.new }
     ensures told { TellsOfNames P.contents list progress.old progress.new }
 {
-    let steps = list.requests.len();
-    let greetings = Greetings::before_undo(words.greet, &list);
-    match resume_manager(alloc, list) {
-        Ok(manager) => undo_greeted(rt, alloc, manager, steps, &greetings, words, progress),
-        Err(RemakeFault::OtherNames) => Ok(Told::Says(names_refusal(alloc)?)),
+    match resume(alloc, list, words.greet) {
+        Ok(resumed) => undo_unbarred(rt, alloc, files, held, text, resumed, words, progress),
+        Err(RemakeFault::OtherNames) => Ok(ListEnd::OtherNames),
         Err(RemakeFault::Memory) => Err(ReportFault::Memory),
     }
 }
 
-/// What comes of an undo text.
-fn text_told<P: io::Write, R: Net>(
-    rt: &R,
-    alloc: Global,
-    text: &str,
-    words: &UndoWords,
-    progress: &mut Progress<P>,
-) -> Result<Told, ReportFault>
-    ensures says { UndoTells (PrintsUndo text.now words.now) (StaysOfText text.now words.now) result }
-    ensures told { TellsUndoText P.contents text.now progress.old progress.new }
+// ---- what is said
+
+/// What is said of a list that has other names.
+fn others_report(alloc: Global) -> Result<Report, ReportFault>
+    ensures { ReportTells SaysOthers result }
 {
-    match read_undo(alloc, text) {
-        Ok(list) => list_told(rt, alloc, list, words, progress),
-        Err(UndoFault::Memory) => Err(ReportFault::Memory),
-        Err(why) => Ok(Told::Says(undo_refusal(alloc, why)?)),
+    Ok(names_refusal(alloc)?)
+}
+
+/// Says what came of a manager that goes on from a list, and of the file of its journal.
+fn say_undone<W: io::Write, E: io::Write>(
+    alloc: Global,
+    word: &str,
+    came: Reverted,
+    gone: Result<(), WriteFault>,
+    console: &mut Console<W, E>,
+) -> u8
+    ensures { EndsListed W.contents E.contents word.now (Ok (HasReverted came gone))
+        console.old console.new result }
+{
+    match gone {
+        Ok(()) => say_reverted(alloc, word, Ok(came), console),
+        Err(WriteFault) => tell_unkept(alloc, Phase::Undone, word, console),
     }
 }
 
-/// Undoes the list of this text, and says what came of it.
-fn undo_list<W: io::Write, E: io::Write, P: io::Write, R: Net>(
-    rt: &R,
+/// Says what came of the undo of a list in the file of this word.
+fn say_listed<W: io::Write, E: io::Write>(
     alloc: Global,
-    text: &str,
-    words: &UndoWords,
-    progress: &mut Progress<P>,
+    word: &str,
+    end: Result<ListEnd, ReportFault>,
     console: &mut Console<W, E>,
 ) -> u8
-    ensures ends { UndoEnds W.contents E.contents (PrintsUndo text.now words.now)
-        (StaysOfText text.now words.now) console.old console.new result }
-    ensures told { TellsUndoText P.contents text.now progress.old progress.new }
+    ensures { EndsListed W.contents E.contents word.now end console.old console.new result }
 {
-    match text_told(rt, alloc, text, words, progress) {
-        Ok(Told::Says(report)) => end_run(&Ok(report), console),
-        Ok(Told::Ungreeted(phase, why)) => tell_ungreeted(alloc, phase, why, console),
+    match end {
+        Ok(ListEnd::Reverted(came, gone)) => say_undone(alloc, word, came, gone, console),
+        Ok(ListEnd::OtherNames) => end_run(&others_report(alloc), console),
+        Ok(ListEnd::Barred) => end_run(&unmade(alloc, word), console),
         Err(why) => end_run(&Err(why), console),
     }
 }
 
-/// Undoes what this text says, in the file of this word: a journal, or an undo text. It says what came of it.
-fn undo_text<F: WritesFiles, W: io::Write, E: io::Write, P: io::Write, R: Net>(
+/// What is said of a text that is no undo text.
+fn line_report(alloc: Global, why: UndoFault) -> Result<Report, ReportFault>
+    ensures { ReportTells (SaysLine why) result }
+{
+    match why {
+        UndoFault::Memory => Err(ReportFault::Memory),
+        UndoFault::Line(_) => Ok(undo_refusal(alloc, why)?),
+    }
+}
+
+/// Undoes what this text says, in a file that is held: a journal, or an undo text. It says what came of it.
+fn undo_text<F: TextFiles + WritesFiles, W: io::Write, E: io::Write, P: io::Write, R: Net>(
     rt: &R,
     alloc: Global,
     files: &mut F,
-    word: &str,
+    held: &UndoFiles,
     text: &str,
     words: &UndoWords,
     progress: &mut Progress<P>,
     console: &mut Console<W, E>,
 ) -> u8
-    ensures ends { TextEnds W.contents E.contents F.takes F.renames word.now text.now words.now
-        files.old files.new console.old console.new result }
+    ensures ends { TextEnds W.contents E.contents F.TextFiles F.WritesFiles held.now text.now
+        words.now files.old files.new console.old console.new result }
     ensures told { TellsUndoText P.contents text.now progress.old progress.new }
 {
     if is_journal(text) {
-        return undo_journal(rt, alloc, files, word, text, words, console);
+        return undo_journal(rt, alloc, files, held, text, words, progress, console);
     }
-    undo_list(rt, alloc, text, words, progress, console)
+    match read_undo(alloc, text) {
+        Ok(list) => {
+            let end = undo_list(rt, alloc, files, held, text, list, words, progress);
+            say_listed(alloc, words.undo.as_str(), end, console)
+        }
+        Err(why) => end_run(&line_report(alloc, why), console),
+    }
 }
 
-/// Undoes what the file says that this word names, and says what came of it.
-fn undo_file<F: TextFiles + WritesFiles, W: io::Write, E: io::Write, P: io::Write, R: Net>(
+/// Undoes what the file says that is held, and that the words name, and says what came of it.
+fn undo_held<F: TextFiles + WritesFiles, W: io::Write, E: io::Write, P: io::Write, R: Net>(
     rt: &R,
     alloc: Global,
     files: &mut F,
-    word: &str,
+    held: &UndoFiles,
     words: &UndoWords,
     progress: &mut Progress<P>,
     console: &mut Console<W, E>,
 ) -> u8
-    ensures ends { UndoEndsOf W.contents E.contents (F.gives files.old) F.takes F.renames
-        word.now words.now files.old files.new console.old console.new result }
-    ensures told { TellsUndoFile P.contents (F.gives files.old) word.now progress.old progress.new }
+    ensures ends { UndoEndsIn W.contents E.contents F.TextFiles F.WritesFiles held.now words.now
+        files.old files.new console.old console.new result }
+    ensures told { TellsUndoFile P.contents (F.gives files.old) (string_bytes words.now.undo)
+        progress.old progress.new }
 {
-    match text_of(&*files, word) {
+    match text_of(&*files, words.undo.as_str()) {
         Ok(text) => undo_text(
             rt,
             alloc,
             files,
-            word,
+            held,
             text.as_str(),
             words,
             progress,
@@ -331,14 +398,21 @@ fn undo_file<F: TextFiles + WritesFiles, W: io::Write, E: io::Write, P: io::Writ
 /// Undoes the list of the file that the words name, on the controller at their two ports, and writes to standard output in which phase the
 /// manager is then. It sends a request again up to three times. Where the words ask for it, each bus on which requests of the list go is greeted
 /// before, as `run` does for the list's next numbers. Where the line of its progress is written, that tells of each step and is ended
-/// before the phase is said. It gives the status: 0, or 3 with `file` or `undo` and the fault on standard error where the file can't be read or
-/// is no undo text, or `undo OtherNames` where its list has names that aren't the lab's, 4 and no line where a link can't be had, 5 with `memory` on standard error where memory was refused, and 6 where a write
-/// of these failed.
+/// before the phase is said.
+///
+/// Before anything else is done the file is held, where the word's links lead, so that one process at a time uses it: `run` holds the same one, and the undo of
+/// the journal beside it does. Then the file beside it, `.part`, is made with the journal of the manager that goes on from the list. It has the manager's journal
+/// whenever frames go out, as that of a run has. Once all was taken back it is removed; behind any other end it stays. The file itself is never changed. Where
+/// `.part` has something to take back that isn't the list, or is no journal, nothing is sent. Of a FIFO or a device nothing is held, and there is no journal.
+///
+/// It gives the status: 0, or 3 with `file` or `undo` and the fault on standard error where the file can't be held or read, or
+/// is no undo text, or where `.part` is in the way or can't be made, or doesn't take the journal while a request is open; `undo OtherNames` where its list has
+/// names that aren't the lab's; 3 with the phase and `file` behind it where `.part` can't be removed; 4 and no line where a link can't be had, 5 with `memory` on
+/// standard error where memory was refused, and 6 where a write of these failed.
 ///
 /// Of a journal, the open request is settled first, if one is open: it is sent again, for as many turns. Where the plan is over then, it is greeted, where the
-/// words ask for it, and taken back. Before frames go out, the file gets the journal by its name alone. Where it doesn't, while a request is open, nothing is sent
-/// any more, and standard error has `file` and the word, with the status 3. A journal with a bad line is refused with 3 and `journal` and the line. No line
-/// of progress is written.
+/// words ask for it, and taken back. Before frames go out, the journal's own file gets the journal by its name alone. Where it doesn't, while a request is open, nothing is sent
+/// any more, and standard error has `file` and the word, with the status 3. A journal with a bad line is refused with 3 and `journal` and the line.
 pub fn undo<F: TextFiles + WritesFiles, W: io::Write, E: io::Write, P: io::Write, R: Net>(
     rt: &R,
     alloc: Global,
@@ -347,13 +421,16 @@ pub fn undo<F: TextFiles + WritesFiles, W: io::Write, E: io::Write, P: io::Write
     progress: &mut Progress<P>,
     console: &mut Console<W, E>,
 ) -> u8
-    ensures ends { UndoEndsOf W.contents E.contents (F.gives files.old) F.takes F.renames
-        (string_bytes words.now.undo) words.now files.old files.new
-        console.old console.new result }
-    ensures told { TellsUndoFile P.contents (F.gives files.old) (string_bytes words.now.undo)
-        progress.old progress.new }
+    ensures ends { UndoEndsOf W.contents E.contents F.TextFiles F.WritesFiles words.now
+        files.old files.new console.old console.new result }
+    ensures told { TellsUndoOf P.contents F.TextFiles F.WritesFiles (string_bytes words.now.undo)
+        files.old progress.old progress.new }
     ensures untold { progress.old.on ≡ false → progress.new ≡ progress.old }
 {
-    let list = words.undo.as_str();
-    undo_file(rt, alloc, files, list, words, progress, console)
+    let word = words.undo.as_str();
+    match hold_files(alloc, files, word) {
+        Ok(Some(held)) => undo_held(rt, alloc, files, &held, words, progress, console),
+        Ok(None) => end_run(&unmade(alloc, word), console),
+        Err(AllocError) => end_run(&Err(ReportFault::Memory), console),
+    }
 }

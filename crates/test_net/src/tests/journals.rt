@@ -3,8 +3,8 @@ use super::driven::{TURNS, manager_on, sample_records};
 use super::shared::expect_equal;
 use super::wired::Wired;
 use app_journal::{
-    HoldFault, JournalKeeper, ReviveFault, Standing, UndoFiles, WriteFault, WritesFiles,
-    revive_text, standing_in,
+    HoldFault, JournalKeeper, Place, PlaceFault, ReviveFault, Standing, UndoFiles, WriteFault,
+    WritesFiles, revive_text, standing_in,
 };
 use bmc_ports::{DriveEnd, KeptBack, Observer, drive_observed};
 use cfg_records::{Key, StartValue, changed_count};
@@ -57,6 +57,10 @@ impl WritesFiles for PartFile {
     // It states nothing of what it takes.
     ghost takes = { λ old word text answer new. Unit {0} };
 
+    ghost pours = { λ old word text answer new. Unit {0} };
+
+    ghost leads = { λ files word answer. Unit {0} };
+
     ghost renames = { λ old from to answer new. Unit {0} };
 
     ghost removes = { λ old word answer new. Unit {0} };
@@ -67,6 +71,10 @@ impl WritesFiles for PartFile {
         self.change()?;
         self.next = self.copy(text)?;
         Ok(())
+    }
+
+    fn pour(&mut self, _word: &str, _text: &str) -> Result<(), WriteFault> {
+        self.change()
     }
 
     fn rename(&mut self, _from: &str, _to: &str) -> Result<(), WriteFault> {
@@ -81,6 +89,10 @@ impl WritesFiles for PartFile {
 
     fn hold(&mut self, _word: &str) -> Result<(), HoldFault> {
         Ok(())
+    }
+
+    fn place(&self, _word: &str) -> Result<Place, PlaceFault> {
+        Ok(Place::Stream)
     }
 }
 

@@ -1,4 +1,5 @@
 //! What `bmcnet` writes and how it ends.
+mod claims;
 mod files;
 mod pairs;
 mod refusals;

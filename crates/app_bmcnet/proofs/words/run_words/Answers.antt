@@ -57,4 +57,5 @@ returns-clause-asked c = record {
   again = c.in_ok-number_or.ensures.number;
   forget = c.in_ok-number_given.ensures.number;
   greet = sym (c.has_flag.ensures ∙ ap says_yes (one_text-rows (found_of c.args.matches.now) (codes "greet")));
+  replace = sym (c.has_flag-2.ensures ∙ ap says_yes (one_text-rows (found_of c.args.matches.now) (codes "replace")));
 }

@@ -5,7 +5,9 @@ use Rattle.model_lab.specs.Meaning.{lab_names}
 use Rattle.app_journal.proofs.LookedAt.{keeps_looks, stays_same}
 use Rattle.app_run.specs.Driven.{GoesAgain}
 use Rattle.app_run.specs.Reverting.{call_for}
+use Rattle.app_run.specs.Told.{LooksOn}
 use Rattle.app_run.proofs.Driving.{fresh}
+use Rattle.app_run.proofs.Ways.{seen_as}
 use Rattle.app_run.proofs.reverting.recall_over.Goals as goal
 
 pub returns-clause-runs : goal.returns-clause-runs
@@ -23,16 +25,54 @@ returns-clause-runs g c before shows =
         counted = refl;
         way = seen.course lab_names before shows;
       };
-      kept = keeps_looks g.F.WritesFiles.takes g.F.WritesFiles.renames (λ k. k.beside.now) (λ k. string_bytes k.text.now) (λ k. k.files.now) _
-          (λ old m allowed new see. record { keeps = see.0; same = ap (λ b. b.now) see.1 }) seen.looks c.args.keeper.now c.recall_watched.new.watch seen.seen;
+      kept = keeps_looks g.F.WritesFiles.takes g.F.WritesFiles.renames (λ watch. watch.keeper.now.beside.now) (λ watch. string_bytes watch.keeper.now.text.now) (λ watch. watch.keeper.now.files.now) _
+          (λ old m allowed new saw. record { keeps = saw.0; same = ap (λ beside. beside.now) saw.1 }) seen.looks c.args.watch.now c.recall_watched.new.watch seen.seen;
+    }
+
+pub returns-clause-told : goal.returns-clause-told
+returns-clause-told g c =
+    let seen = c.recall_watched.ensures.seen in
+    record {
+      end = c.recall_watched.result;
+      counts = both c.recall_watched.new.ipmb.counts c.recall_watched.new.smbus.counts;
+      looks = seen.looks;
+      way = λ before shows. record {
+        links = links c.args.ends.ipmb c.args.ends.smbus;
+        left = links c.recall_watched.new.ipmb c.recall_watched.new.smbus;
+        fresh = fresh _ _ c.requires.ipmb c.requires.smbus;
+        counted = refl;
+        way = seen.course lab_names before shows;
+      };
+      tells = seen_as _ (λ watch. watch.teller.now.course) (λ watch. watch.teller.now.progress.now) (λ course. LooksOn g.P.Write.contents course.kinds.now course.steps)
+          (λ old m allowed new saw. (saw.2, saw.3)) seen.looks c.args.watch.now c.recall_watched.new.watch seen.seen;
     }
 
 pub returns-clause-same_words : goal.returns-clause-same_words
 returns-clause-same_words g c =
     let seen = c.recall_watched.ensures.seen in
-    stays_same _ (λ k. k.beside) (λ old m allowed new see. see.1) seen.looks c.args.keeper.now c.recall_watched.new.watch seen.seen
+    stays_same _ (λ watch. watch.keeper.now.beside) (λ old m allowed new saw. saw.1) seen.looks c.args.watch.now c.recall_watched.new.watch seen.seen
+
+pub returns-clause-same_course : goal.returns-clause-same_course
+returns-clause-same_course g c =
+    let seen = c.recall_watched.ensures.seen in
+    stays_same _ (λ watch. watch.teller.now.course) (λ old m allowed new saw. saw.3) seen.looks c.args.watch.now c.recall_watched.new.watch seen.seen
 
 pub returns-clause-same_files : goal.returns-clause-same_files
 returns-clause-same_files g c =
     let seen = c.recall_watched.ensures.seen in
-    stays_same _ (λ k. k.files.ghost_name) (λ old m allowed new see. see.2) seen.looks c.args.keeper.now c.recall_watched.new.watch seen.seen
+    stays_same _ (λ watch. watch.keeper.now.files.ghost_name) (λ old m allowed new saw. saw.4) seen.looks c.args.watch.now c.recall_watched.new.watch seen.seen
+
+pub returns-clause-same_line : goal.returns-clause-same_line
+returns-clause-same_line g c =
+    let seen = c.recall_watched.ensures.seen in
+    stays_same _ (λ watch. watch.teller.now.progress.ghost_name) (λ old m allowed new saw. saw.5) seen.looks c.args.watch.now c.recall_watched.new.watch seen.seen
+
+pub returns-clause-same_keeper : goal.returns-clause-same_keeper
+returns-clause-same_keeper g c =
+    let seen = c.recall_watched.ensures.seen in
+    stays_same _ (λ watch. watch.keeper.ghost_name) (λ old m allowed new saw. saw.6) seen.looks c.args.watch.now c.recall_watched.new.watch seen.seen
+
+pub returns-clause-same_teller : goal.returns-clause-same_teller
+returns-clause-same_teller g c =
+    let seen = c.recall_watched.ensures.seen in
+    stays_same _ (λ watch. watch.teller.ghost_name) (λ old m allowed new saw. saw.7) seen.looks c.args.watch.now c.recall_watched.new.watch seen.seen

@@ -1,6 +1,8 @@
-use Rattle.std.proofs.Common.{ap, inl, string_bytes, subst}
+use Rattle.std.proofs.Common.{ap, inl, inr, string_bytes, subst}
+use Rattle.model_undo.specs.declared.call.Call.TheVariants.{Undo}
 use Rattle.app_journal.specs.declared.undo_files.UndoFiles.{UndoFiles}
 use Rattle.app_run.specs.Reverting.{GoesOn}
+use Rattle.app_run.specs.Told.{MayLookOn}
 use Rattle.app_run.proofs.reverting.revert.Goals as goal
 
 pub returns-in-Ok-clause-reverts : goal.returns-in-Ok-clause-reverts
@@ -8,10 +10,20 @@ returns-in-Ok-clause-reverts g c =
     inl (
       c.recall_on.new.manager,
       c.in-Ok.end,
-      string_bytes c.recall_on.new.keeper.text.now,
-      c.recall_on.new.keeper.files.now,
+      string_bytes c.recall_on.new.watch.keeper.now.text.now,
+      c.recall_on.new.watch.keeper.now.files.now,
       c.in-Ok.ensures.runs,
       subst (λ (beside : UndoFiles). GoesOn g.F.WritesFiles.takes g.F.WritesFiles.renames beside c.args.words.now c.recall_on.new.manager c.in-Ok.end c.go_on.result
-          (string_bytes c.recall_on.new.keeper.text.now) (string_bytes c.go_on.new.keeper.text.now) c.recall_on.new.keeper.files.now c.go_on.new.keeper.files.now)
-          (ap (λ b. b.now) c.in-Ok.ensures.same_words) c.go_on.ensures.goes,
+          (string_bytes c.recall_on.new.watch.keeper.now.text.now) (string_bytes c.go_on.new.watch.keeper.now.text.now) c.recall_on.new.watch.keeper.now.files.now
+          c.go_on.new.watch.keeper.now.files.now) (ap (λ b. b.now) c.in-Ok.ensures.same_words) c.go_on.ensures.goes,
+    )
+
+pub returns-in-Ok-clause-told : goal.returns-in-Ok-clause-told
+returns-in-Ok-clause-told g c =
+    inr (
+      c.recall_on.new.manager,
+      c.recall_on.new.watch.teller.now.progress.now,
+      c.in-Ok.ensures.told,
+      subst (λ course. MayLookOn g.P.Write.contents course.kinds.now course.steps Undo c.recall_on.new.manager c.recall_on.new.watch.teller.now.progress.now
+          c.go_on.new.watch.teller.now.progress.now) c.in-Ok.ensures.same_course c.go_on.ensures.told,
     )

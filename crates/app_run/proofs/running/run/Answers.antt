@@ -6,7 +6,7 @@ use Rattle.app_run.proofs.running.run.Goals as goal
 
 pub returns-clause-ends : goal.returns-clause-ends
 returns-clause-ends g c =
-    subst (λ (named : List ℕ). RunEndsOf g.W.Write.contents g.E.Write.contents (g.F.TextFiles.gives c.args.files.now) g.F.WritesFiles.takes g.F.WritesFiles.renames g.F.WritesFiles.removes named c.args.words.now
+    subst (λ (named : List ℕ). RunEndsOf g.W.Write.contents g.E.Write.contents g.F.TextFiles g.F.WritesFiles named c.args.words.now
     c.args.files.now c.run_file.new.files c.args.console.now c.run_file.new.console c.run_file.result) c.as_str-plan.ensures.value c.run_file.ensures.ends
 
 pub returns-clause-told : goal.returns-clause-told

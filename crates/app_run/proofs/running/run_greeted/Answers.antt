@@ -7,5 +7,5 @@ returns-in-Ok-clause-comes g c before shows = inl (c.in-Ok.ensures, c.run_made.e
 
 pub returns-in-Err-clause-comes : goal.returns-in-Err-clause-comes
 returns-in-Err-clause-comes g c before shows =
-    left_run g.F.WritesFiles.takes g.F.WritesFiles.renames g.F.WritesFiles.removes c.args.ready.greetings c.args.beside.now before c.args.words.now (string_bytes c.args.text) c.args.ready.manager
+    left_run g.F.WritesFiles c.args.ready.greetings c.args.beside.now before c.args.words.now (string_bytes c.args.text) c.args.ready.manager
     c.in-Err.fault c.leave_ungreeted.result c.args.files.now shows c.in-Err.ensures c.leave_ungreeted.ensures

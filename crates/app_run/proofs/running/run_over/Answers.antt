@@ -1,14 +1,43 @@
-use Rattle.std.proofs.Common.{List, ℕ, Ok, Err, subst}
-use Rattle.app_run.specs.Run.{EndsBy}
+use Rattle.std.specs.Prelude.{Result}
+use Rattle.std.proofs.Common.{◌∙◌, ℕ, List, Ok, Err, ap, inl, inr, subst}
+use Rattle.std.specs.declared.alloc.AllocError.{AllocError}
+use Rattle.app_base.specs.EndingLaws.{run_reports}
+use Rattle.app_base.specs.Ending.{RunEnds}
+use Rattle.app_journal.specs.declared.claiming.Claim.{Claim}
+use Rattle.app_journal.specs.declared.claiming.Claim.TheVariants.{Taken, Refused}
+use Rattle.app_journal.specs.Claiming.{Claims}
+use Rattle.app_run.specs.Ends.{PrintsNothing, SaysFile}
+use Rattle.app_run.proofs.Telling.{says_memory}
 use Rattle.app_run.proofs.running.run_over.Goals as goal
 
-pub returns-in-Ok-clause-ends : goal.returns-in-Ok-clause-ends
-returns-in-Ok-clause-ends g c = (
-  Ok c.in-Ok.outcome,
-  c.in-Ok.ensures.comes,
-  subst (λ (word : List ℕ). EndsBy g.W.Write.contents g.E.Write.contents word (Ok c.in-Ok.outcome) c.args.console.now c.say.new.console c.say.result)
-      c.as_str.ensures.value c.say.ensures,
-)
+pub returns-in-Ok-Taken-clause-ends : goal.returns-in-Ok-Taken-clause-ends
+returns-in-Ok-Taken-clause-ends g c =
+    inl (
+      c.in-Ok-Taken.taken,
+      c.claim_files.new.files,
+      subst (λ (word : List ℕ). Claims g.F.TextFiles g.F.WritesFiles word c.args.words.now.replace (Ok (Taken c.in-Ok-Taken.taken)) c.args.files.now c.claim_files.new.files)
+          c.as_str-word.ensures.value
+          (subst (λ (came : Result Claim AllocError). Claims g.F.TextFiles g.F.WritesFiles c.as_str-word.result.now c.args.words.now.replace came c.args.files.now c.claim_files.new.files)
+          (c.in-Ok-Taken.is ∙ ap (λ (claim : Claim). Ok claim) c.in-Ok-Taken.field-0-is) c.claim_files.ensures),
+      c.run_claimed.ensures.ends,
+    )
+
+pub returns-in-Ok-Refused-clause-ends : goal.returns-in-Ok-Refused-clause-ends
+returns-in-Ok-Refused-clause-ends g c =
+    inr (inl (
+      subst (λ (word : List ℕ). Claims g.F.TextFiles g.F.WritesFiles word c.args.words.now.replace (Ok Refused) c.args.files.now c.claim_files.new.files) c.as_str-word.ensures.value
+          (subst (λ (came : Result Claim AllocError). Claims g.F.TextFiles g.F.WritesFiles c.as_str-word.result.now c.args.words.now.replace came c.args.files.now c.claim_files.new.files)
+          (c.in-Ok-Refused.is ∙ ap (λ (claim : Claim). Ok claim) c.in-Ok-Refused.field-0-is) c.claim_files.ensures),
+      subst (λ (word : List ℕ). RunEnds g.W.Write.contents g.E.Write.contents (SaysFile word) c.args.console.now c.end_run.new.console c.end_run.result) c.as_str-word.ensures.value
+          (run_reports g.W.Write.contents g.E.Write.contents (SaysFile c.as_str-word.result.now) c.unmade.result c.args.console.now c.end_run.new.console c.end_run.result
+          c.unmade.ensures c.end_run.ensures),
+    ))
 
 pub returns-in-Err-clause-ends : goal.returns-in-Err-clause-ends
-returns-in-Err-clause-ends g c = (Err c.in-Err.why, c.in-Err.ensures.comes, c.end_run.ensures)
+returns-in-Err-clause-ends g c =
+    inr (inr (
+      c.in-Err.field-0,
+      subst (λ (word : List ℕ). Claims g.F.TextFiles g.F.WritesFiles word c.args.words.now.replace (Err c.in-Err.field-0) c.args.files.now c.claim_files.new.files)
+          c.as_str-word.ensures.value c.in-Err.ensures,
+      says_memory g.W.Write.contents g.E.Write.contents PrintsNothing c.args.console.now c.end_run-in-Err.new.console c.end_run-in-Err.result c.end_run-in-Err.ensures,
+    ))

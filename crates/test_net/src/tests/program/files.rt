@@ -1,6 +1,6 @@
 //! Files in memory.
 use app_base::{TextFiles, UnreadFile};
-use app_journal::{HoldFault, WriteFault, WritesFiles};
+use app_journal::{HoldFault, Place, PlaceFault, WriteFault, WritesFiles};
 use std::alloc::{AllocError, Global};
 
 /// Files that hold these texts, each by its word, and take others, unless they are locked.
@@ -14,6 +14,12 @@ pub(crate) struct FakeFiles<'a> {
     written: Vec<(String, String)>,
     /// Each text that a file of this word got, by its name alone.
     pub renamed: Vec<(String, String)>,
+    /// The words of the files that are held.
+    pub held: Vec<String>,
+    /// Another process holds all of them.
+    pub is_held: bool,
+    /// Each word leads to a FIFO.
+    pub has_stream: bool,
 }
 
 impl<'a> FakeFiles<'a> {
@@ -24,6 +30,9 @@ impl<'a> FakeFiles<'a> {
             changes_left: usize::MAX,
             written: Vec::new(alloc),
             renamed: Vec::new(alloc),
+            held: Vec::new(alloc),
+            is_held: false,
+            has_stream: false,
         }
     }
 
@@ -35,6 +44,11 @@ impl<'a> FakeFiles<'a> {
             }
         }
         None
+    }
+
+    /// Has the file of this word have this text, as another process left it.
+    pub fn put(&mut self, word: &str, text: &str) -> Result<(), AllocError> {
+        self.keep(word, text)
     }
 
     /// How many files were written and are there.
@@ -82,6 +96,9 @@ impl TextFiles for FakeFiles<'_> {
     ghost gives = { λ files word given. Unit {0} };
 
     fn text(&self, word: &str) -> Result<String, UnreadFile> {
+        if let Some(text) = self.text_at(word) {
+            return String::from_str(self.alloc, text).map_err(|_| UnreadFile::Memory);
+        }
         for (name, text) in self.texts {
             if *name == word {
                 return String::from_str(self.alloc, text).map_err(|_| UnreadFile::Memory);
@@ -95,6 +112,10 @@ impl WritesFiles for FakeFiles<'_> {
     // Nor of what they take.
     ghost takes = { λ before word text answer after. Unit {0} };
 
+    ghost pours = { λ before word text answer after. Unit {0} };
+
+    ghost leads = { λ files word answer. Unit {0} };
+
     ghost renames = { λ before from to answer after. Unit {0} };
 
     ghost removes = { λ before word answer after. Unit {0} };
@@ -104,6 +125,10 @@ impl WritesFiles for FakeFiles<'_> {
     fn write(&mut self, word: &str, text: &str) -> Result<(), WriteFault> {
         self.change()?;
         self.keep(word, text).map_err(|_| WriteFault)
+    }
+
+    fn pour(&mut self, word: &str, text: &str) -> Result<(), WriteFault> {
+        self.write(word, text)
     }
 
     fn rename(&mut self, from: &str, to: &str) -> Result<(), WriteFault> {
@@ -123,7 +148,23 @@ impl WritesFiles for FakeFiles<'_> {
         }
     }
 
-    fn hold(&mut self, _word: &str) -> Result<(), HoldFault> {
-        Ok(())
+    fn hold(&mut self, word: &str) -> Result<(), HoldFault> {
+        if self.is_held {
+            return Err(HoldFault);
+        }
+        self.held
+            .push(String::from_str(self.alloc, word).map_err(|_| HoldFault)?)
+            .map_err(|_| HoldFault)
+    }
+
+    fn place(&self, word: &str) -> Result<Place, PlaceFault> {
+        if self.has_stream {
+            return Ok(Place::Stream);
+        }
+        let path = String::from_str(self.alloc, word).map_err(|_| PlaceFault::Memory)?;
+        match self.text(word) {
+            Ok(_) => Ok(Place::File(path)),
+            Err(_) => Ok(Place::Free(path)),
+        }
     }
 }

@@ -48,6 +48,7 @@ fn run_words(alloc: Global, plan: &str) -> Result<RunWords, AllocError> {
         again: 0,
         forget: None,
         greet: false,
+        replace: false,
     })
 }
 
@@ -147,7 +148,8 @@ fn a_plan_is_refused_before_it_is_run(rt: HostRuntime) {
     expect_refused_plan(&rt, rt.alloc(), &texts, b"plan 0 OutsidePlan Password\n");
 }
 
-/// An undo of the file `list.txt`, over files of these texts, which greets or doesn't, ends so, and its line tells nothing.
+/// An undo of the file `list.txt`, over files of these texts, which greets or doesn't, ends so, and its line tells nothing. So many files
+/// are written then.
 fn expect_undo(
     rt: &(impl Abort + Net),
     alloc: Global,
@@ -155,13 +157,14 @@ fn expect_undo(
     greet: bool,
     texts: &[(&str, &str)],
     end: End,
+    written: usize,
 ) {
     let words = undo_words(alloc, "list.txt", greet).expect(rt, "memory");
     let mut files = FakeFiles::new(alloc, texts);
     let mut paper = new_paper(alloc);
     let mut line = new_line(alloc, is_terminal);
     let status = undo(rt, alloc, &mut files, &words, &mut line, &mut paper);
-    assert_eq!(rt; files.count(), 0);
+    assert_eq!(rt; files.count(), written);
     drop(files);
     drop(words);
     expect_line(rt, line, &[]);
@@ -177,6 +180,7 @@ fn the_first_bad_line_of_an_undo_text_is_told(rt: HostRuntime) {
         false,
         &[],
         refused(b"file list.txt\n"),
+        0,
     );
     let texts = [("list.txt", "undo 1\nnext ipmb 4 smbus 0\nusb 10\n")];
     expect_undo(
@@ -186,6 +190,7 @@ fn the_first_bad_line_of_an_undo_text_is_told(rt: HostRuntime) {
         false,
         &texts,
         refused(b"undo Line 3\n"),
+        0,
     );
 }
 
@@ -199,6 +204,7 @@ fn an_undo_text_with_other_names_is_refused(rt: HostRuntime) {
         false,
         &texts,
         refused(b"undo OtherNames\n"),
+        0,
     );
 }
 
@@ -306,6 +312,7 @@ fn nobody_answers_a_manager_without_turns(rt: HostRuntime) {
         false,
         &[("list.txt", UNDO)],
         undoing,
+        1,
     );
 }
 
@@ -334,7 +341,15 @@ fn nobody_answers_a_greeting(rt: HostRuntime) {
         out: b"phase Halted 1 Stop\n",
         err: b"no answer on ipmb\n",
     };
-    expect_undo(&rt, rt.alloc(), true, true, &[("list.txt", UNDO)], halted);
+    expect_undo(
+        &rt,
+        rt.alloc(),
+        true,
+        true,
+        &[("list.txt", UNDO)],
+        halted,
+        1,
+    );
 }
 
 /// A run of a plan without steps, of whose files so many changes are made, ends so, and leaves these texts.

@@ -6,7 +6,7 @@ use std::alloc::Global;
 use std::net::Net;
 use std::process::Abort;
 
-/// The undo of the file `out.txt.part` of this text, with so many turns, ends so, and its line tells nothing. So many files are written then.
+/// The undo of the file `out.txt.part` of this text, with so many turns, ends so, whose line is no terminal's. So many files are written then.
 fn expect_reverted(
     rt: &(impl Abort + Net),
     alloc: Global,
@@ -26,7 +26,7 @@ fn expect_reverted(
     let texts = [("out.txt.part", text)];
     let mut files = FakeFiles::new(alloc, &texts);
     let mut paper = new_paper(alloc);
-    let mut line = new_line(alloc, true);
+    let mut line = new_line(alloc, false);
     let status = undo(rt, alloc, &mut files, &words, &mut line, &mut paper);
     assert_eq!(rt; files.count(), written);
     drop(files);

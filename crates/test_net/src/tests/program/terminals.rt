@@ -19,6 +19,7 @@ fn run_words(alloc: Global, plan: &str, turns: u32) -> Result<RunWords, AllocErr
         again: 0,
         forget: None,
         greet: false,
+        replace: false,
     })
 }
 
