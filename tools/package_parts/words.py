@@ -12,7 +12,10 @@ BRIDGED = {"--listen": None}
 WORDS = {
     "bmclab": {
         "frame": ({"--bus": ("ipmb", "smbus"), "--board": BOARD}, [("HEX", None)]),
-        "play": ({"--frames": FLAG, "--premises": FLAG, "--chart": FLAG, "--explain": FLAG, "--restart": None}, [("BOARD", BOARD), ("PLAN", PLAN), ("SCHEDULE", SCHEDULE)]),
+        "play": (
+            {"--frames": FLAG, "--premises": FLAG, "--chart": FLAG, "--explain": FLAG, "--list": FLAG, "--strict": FLAG, "--restart": None},
+            [("BOARD", BOARD), ("PLAN", PLAN), ("SCHEDULE", SCHEDULE)],
+        ),
         "schedule": (
             {"--lose": None, "--repeat": None, "--delay": None, "--others": None, "--seed": None, "--undo": FLAG},
             [("BOARD", BOARD), ("PLAN", PLAN)],
@@ -35,7 +38,7 @@ WORDS = {
             },
             [("BOARD", BOARD), ("P0", None), ("P1", None), ("TURNS", None)],
         ),
-        "run": ({"--wait": None, "--again": None, "--forget": None, "--greet": FLAG}, [("PLAN", PLAN), ("P0", None), ("P1", None), ("TURNS", None), ("UNDO", UNDO)]),
+        "run": ({"--wait": None, "--again": None, "--forget": None, "--greet": FLAG, "--replace": FLAG}, [("PLAN", PLAN), ("P0", None), ("P1", None), ("TURNS", None), ("UNDO", UNDO)]),
         "undo": ({"--wait": None, "--greet": FLAG}, [("UNDO", UNDO), ("P0", None), ("P1", None), ("TURNS", None)]),
         "pair": ({}, [("BOARD", BOARD), ("PLAN", PLAN), ("TURNS", None)]),
         "version": ({}, []),

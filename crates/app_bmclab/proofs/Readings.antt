@@ -44,12 +44,12 @@ frame_asked rows bus digits named given asked asks =
     )
 
 -- the same flags ask for the same to be shown
-pub shown_alike : (f frames p premises c chart : Bool) → f ≡ frames → p ≡ premises → c ≡ chart → shown_of f p c ≡ shown_of frames premises chart
-shown_alike f frames p premises c chart one two three = λ i. shown_of (one i) (two i) (three i)
+pub shown_alike : (f frames p premises l list c chart : Bool) → f ≡ frames → p ≡ premises → l ≡ list → c ≡ chart → shown_of f p l c ≡ shown_of frames premises list chart
+shown_alike f frames p premises l list c chart one two three four = λ i. shown_of (one i) (two i) (three i) (four i)
 
 -- flags that give no way of showing give none
-pub shown_refuses : (frames premises chart : Bool) → shown_of frames premises chart ≡ None → (shown : Shown) → shown_of frames premises chart ≡ Some shown → ⊥
-shown_refuses frames premises chart none shown is =
+pub shown_refuses : (frames premises list chart : Bool) → shown_of frames premises list chart ≡ None → (shown : Shown) → shown_of frames premises list chart ≡ Some shown → ⊥
+shown_refuses frames premises list chart none shown is =
     let bad : None ≡ Some shown = sym none ∙ is in
     cc
 

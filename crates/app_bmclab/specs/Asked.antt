@@ -14,13 +14,14 @@ use Rattle.app_bmclab.specs.Looked.{AsksCheck}
 use Rattle.app_bmclab.specs.Line.{program}
 use Rattle.app_bmclab.specs.Places.{NamesPlaces}
 
--- how a play is shown where the flags `--frames`, `--premises` and `--chart` are given or not: a chart has no lines of frames, and none of
--- the premise on packets
-abbrev pub shown_of : (frames premises chart : Bool) → Option Shown
-shown_of frames premises false = Some (Lines frames premises)
-shown_of false false true = Some Chart
-shown_of true premises true = None
-shown_of false true true = None
+-- how a play is shown where the flags `--frames`, `--premises`, `--list` and `--chart` are given or not: a chart has no lines of frames, none of
+-- the premise on packets, and none of records
+abbrev pub shown_of : (frames premises list chart : Bool) → Option Shown
+shown_of frames premises list false = Some (Lines frames premises)
+shown_of false false false true = Some Chart
+shown_of true premises list true = None
+shown_of false true list true = None
+shown_of false false true true = None
 
 -- what was matched behind `frame` asks for this
 pub record AsksFrame (rows : List Row) (asked : FrameWords) : Type 0 where
@@ -31,7 +32,9 @@ pub record AsksFrame (rows : List Row) (asked : FrameWords) : Type 0 where
 
 -- what was matched behind `play` asks for this
 pub record AsksPlay (rows : List Row) (asked : PlayWords) : Type 0 where
-  pub shown : shown_of (is_given (codes "frames") rows) (is_given (codes "premises") rows) (is_given (codes "chart") rows) ≡ Some asked.shown
+  pub shown : shown_of (is_given (codes "frames") rows) (is_given (codes "premises") rows) (is_given (codes "list") rows) (is_given (codes "chart") rows) ≡ Some asked.shown
+  pub strict : is_given (codes "strict") rows ≡ asked.options.strict
+  pub list : is_given (codes "list") rows ≡ asked.options.list
   pub explain : asked.explain ≡ is_given (codes "explain") rows
   pub restarts : NamesPlaces (first_of (codes "restart") rows) asked.restarts.items
   pub board : first_of (codes "BOARD") rows ≡ Some (string_bytes asked.board)

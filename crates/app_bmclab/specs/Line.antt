@@ -8,10 +8,11 @@ use Rattle.app_base.specs.Version.{version_app}
 abbrev pub frame_app : App
 frame_app = fold with_rule (new_app (codes "frame")) (option_rule (codes "bus") ∷ option_rule (codes "board") ∷ needed_rule (codes "HEX") ∷ [])
 
--- `play [[--frames] [--premises] | --chart] [--explain] [--restart PLACES] BOARD PLAN SCHEDULE`
+-- `play [[--frames] [--premises] [--list] | --chart] [--explain] [--strict] [--restart PLACES] BOARD PLAN SCHEDULE`
 abbrev pub play_app : App
 play_app = fold with_rule (new_app (codes "play"))
-    (flag_rule (codes "frames") ∷ flag_rule (codes "premises") ∷ flag_rule (codes "chart") ∷ flag_rule (codes "explain") ∷ option_rule (codes "restart")
+    (flag_rule (codes "frames") ∷ flag_rule (codes "premises") ∷ flag_rule (codes "chart") ∷ flag_rule (codes "explain") ∷ flag_rule (codes "list") ∷ flag_rule (codes "strict")
+    ∷ option_rule (codes "restart")
     ∷ needed_rule (codes "BOARD") ∷ needed_rule (codes "PLAN") ∷ needed_rule (codes "SCHEDULE") ∷ [])
 
 -- `schedule [--lose N] [--repeat N] [--delay N] [--others N] [--seed S] [--undo] BOARD PLAN`

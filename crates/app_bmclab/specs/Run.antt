@@ -7,7 +7,7 @@ use Rattle.app_base.specs.Ending.{Saying}
 use Rattle.app_base.specs.Files.{Readings}
 use Rattle.app_base.specs.Version.{SaysVersion}
 use Rattle.bmc_lab.specs.Files.{SaysOfFile}
-use Rattle.app_play.specs.Files.{PrintsPlayOfFiles}
+use Rattle.app_play.specs.Strict.{PrintsAskedOfFiles}
 use Rattle.app_bmclab.specs.ScheduledFiles.{PrintsScheduleOfFiles as SaysOfScheduled}
 use Rattle.app_bmclab.specs.declared.words.Words.{Words}
 use Rattle.app_bmclab.specs.declared.words.Words.TheVariants.{Frame, Play, Schedule, Check, Version}
@@ -18,7 +18,7 @@ use Rattle.app_bmclab.specs.Checks.{SaysOfChecks}
 -- the two of the schedule that is made, of the files that it checks, or of the version
 abbrev pub SaysOfWords : Readings → Words → Saying
 SaysOfWords gives (Frame asked) = SaysOfFile gives (option_map string_bytes asked.board) asked.frame.bus asked.frame.bytes.items
-SaysOfWords gives (Play asked) = PrintsPlayOfFiles gives asked.shown asked.restarts.items (string_bytes asked.board ∷ string_bytes asked.plan ∷ string_bytes asked.schedule ∷ [])
+SaysOfWords gives (Play asked) = PrintsAskedOfFiles gives asked.options asked.shown asked.restarts.items (string_bytes asked.board ∷ string_bytes asked.plan ∷ string_bytes asked.schedule ∷ [])
 SaysOfWords gives (Schedule asked) = SaysOfScheduled gives asked.wanted (string_bytes asked.board ∷ string_bytes asked.plan ∷ [])
 SaysOfWords gives (Check asked) = SaysOfChecks gives asked.form (map string_bytes asked.files.items)
 SaysOfWords gives Version = SaysVersion

@@ -1,12 +1,14 @@
 //! Plays and schedules that are explained.
-ghost use Rattle.std.specs.Prelude.{IfOk, IfErr, string_bytes};
 ghost use Rattle.app_base.specs.Ending.{RunEnds};
-ghost use Rattle.app_base.specs.Files.{FirstUnread};
-ghost use Rattle.app_play.specs.Files.{words_of, ArePlayTexts, PrintsPlayOfFiles};
+ghost use Rattle.app_play.specs.Files.{words_of};
+ghost use Rattle.app_play.specs.Strict.{PrintsAskedOfFiles};
 
 use app_base::files::refuse;
-use app_base::{Console, Ending, ReadFault, Status, TextFiles, text_of};
-use app_play::{Inputs, PlayFiles, Shown, is_memory, play_of_files, read_inputs, show};
+use app_base::{Console, Ending, Status, TextFiles};
+use app_play::{
+    Inputs, PlayFiles, PlayOptions, PlayTexts, Shown, is_memory, play_of_files, read_inputs,
+    show_asked, texts_of,
+};
 use play_words::{explanation, schedule_note};
 use std::alloc::{AllocError, Global};
 use std::io;
@@ -19,6 +21,13 @@ pub(crate) fn write_notes<N: io::Write>(notes: &mut N, text: &str) {
     }
 }
 
+/// Writes what explains a play that ended with this status. Nothing explains one of which a file was refused.
+fn write_explanation<N: io::Write>(notes: &mut N, status: u8, lines: &str) {
+    if status != u8::from(Status::RefusedFile) {
+        write_notes(notes, lines);
+    }
+}
+
 /// Whether one of the places is behind the last of so many events.
 fn has_place_behind(places: &[usize], events: usize) -> bool {
     places.iter().any(|place| *place > events)
@@ -26,14 +35,9 @@ fn has_place_behind(places: &[usize], events: usize) -> bool {
 
 /// The lines that explain the play that these texts tell, whose manager is made again behind the events of these places. Where a text is refused there are
 /// none, and so it is where one of the places is behind the last event.
-fn explained(
-    alloc: Global,
-    places: &[usize],
-    board: &str,
-    plan: &str,
-    schedule: &str,
-) -> Result<String, AllocError> {
-    match read_inputs(alloc, board, plan, schedule) {
+fn explained(alloc: Global, places: &[usize], texts: PlayTexts<'_>) -> Result<String, AllocError> {
+    let schedule = texts.schedule;
+    match read_inputs(alloc, texts.board.text, texts.plan.text, schedule) {
         Ok(Inputs { file, plan, events }) => {
             let events = events.as_slice();
             if has_place_behind(places, events.len()) {
@@ -65,36 +69,13 @@ pub(crate) fn note_of_schedule(
     }
 }
 
-/// The texts of a play.
-#[derive(Drop)]
-struct Texts {
-    board: String,
-    plan: String,
-    schedule: String,
-}
-
-/// The texts of the files, or the first that isn't read.
-fn texts_of<'a, F: TextFiles>(files: &F, words: PlayFiles<'a>) -> Result<Texts, ReadFault<'a>>
-    ensures texts { IfOk result (λ texts. ArePlayTexts (F.gives files.now) (words_of words.entry)
-        (string_bytes texts.board) (string_bytes texts.plan) (string_bytes texts.schedule)) }
-    ensures unread { IfErr result (λ unread. FirstUnread (F.gives files.now)
-        (words_of words.entry) unread.word.now unread.why) }
-{
-    let board = text_of(files, words.board)?;
-    let plan = text_of(files, words.plan)?;
-    let schedule = text_of(files, words.schedule)?;
-    Ok(Texts {
-        board,
-        plan,
-        schedule,
-    })
-}
-
-/// Plays what `play_of_files` does. Where the play is to be explained, the notes get what explains it, behind what is written to the console.
+/// Plays what `play_of_files` does. Where the play is to be explained, the notes get what explains it, behind what is written to the console; but nothing
+/// where a file is refused.
 pub fn explained_play_of_files<F: TextFiles, N: io::Write, W: io::Write, E: io::Write>(
     alloc: Global,
     files: &F,
     explain: bool,
+    options: PlayOptions,
     shown: Shown,
     places: &[usize],
     words: PlayFiles,
@@ -102,23 +83,21 @@ pub fn explained_play_of_files<F: TextFiles, N: io::Write, W: io::Write, E: io::
     console: &mut Console<W, E>,
 ) -> u8
     ensures { RunEnds W.contents E.contents
-        (PrintsPlayOfFiles (F.gives files.now) shown places.now (words_of words.entry))
+        (PrintsAskedOfFiles (F.gives files.now) options shown places.now (words_of words.entry))
         console.old console.new result }
 {
     if !explain {
-        return play_of_files(alloc, files, shown, places, words, console);
+        return play_of_files(alloc, files, options, shown, places, words, console);
     }
-    let texts = match texts_of(files, words) {
-        Ok(texts) => texts,
+    let read = match texts_of(files, words) {
+        Ok(read) => read,
         Err(unread) => return refuse(alloc, &unread, console),
     };
-    let board = texts.board.as_str();
-    let plan = texts.plan.as_str();
-    let schedule = texts.schedule.as_str();
-    let Ok(lines) = explained(alloc, places, board, plan, schedule) else {
+    let texts = read.named(words);
+    let Ok(lines) = explained(alloc, places, texts) else {
         return u8::from(Ending::without_report(Status::Memory).write(console));
     };
-    let status = show(alloc, shown, places, board, plan, schedule, console);
-    write_notes(notes, lines.as_str());
+    let status = show_asked(alloc, options, shown, places, texts, console);
+    write_explanation(notes, status, lines.as_str());
     status
 }

@@ -59,6 +59,7 @@ fn play<F: TextFiles, N: io::Write, W: io::Write, E: io::Write>(
         alloc,
         files,
         words.explain,
+        words.options,
         words.shown,
         restarts,
         named,

@@ -14,7 +14,7 @@ use app_base::{
     Argument, Refusal, Status, given, has_flag, lacking, named, new_command, new_program,
     refusal_by, refusal_of, version_command, with_command,
 };
-use app_play::Shown;
+use app_play::{PlayOptions, Shown};
 use bmc_lab::{AskedFrame, asked_frame};
 use clap::error::ErrorKind;
 use clap::{ArgMatches, Command};
@@ -46,6 +46,7 @@ pub struct PlayWords {
     pub shown: Shown,
     /// Whether it is explained.
     pub explain: bool,
+    pub options: PlayOptions,
     /// The places of the events behind which the manager's process ends, which rise from 1.
     pub restarts: Vec<usize>,
     /// The word of the board file.
@@ -108,26 +109,36 @@ const SCHEDULE_HELP: &str = "The schedule: what comes when, as examples/clean/sc
 const RESTART_HELP: &str =
     "Ends the manager's process behind these events and makes it anew of its journal, as in --restart 3,7";
 
+const STRICT_HELP: &str =
+    "Ends with a status of 10 to 13 where a plan halted, a request isn't settled, an undo was refused or records changed, \
+and refuses a file with a key that nothing reads";
+
+const LIST_HELP: &str =
+    "Prints each record that changed, too, as in sensor 5 upper critical: 95 (5Fh) -> 90 (5Ah)";
+
 const PLAY_EXAMPLES: &str = "Examples:
   bmclab play sample.toml examples/clean/plan.toml examples/clean/schedule.txt
   bmclab play --frames sample.toml examples/clean/plan.toml examples/clean/schedule.txt
   bmclab play --premises sample.toml examples/clean/plan.toml examples/clean/schedule.txt
   bmclab play --chart sample.toml examples/clean/plan.toml examples/clean/schedule.txt
   bmclab play --explain sample.toml examples/refused/plan.toml examples/refused/schedule.txt
+  bmclab play --strict --list sample.toml examples/clean/plan.toml examples/clean/schedule.txt
   bmclab play --restart 4 sample.toml examples/set_unheard/plan.toml examples/set_unheard/schedule.txt";
 
-const PLAY_ARGUMENTS: [Argument<'static>; 8] = [
+const PLAY_ARGUMENTS: [Argument<'static>; 10] = [
     Argument::Flag("frames", FRAMES_HELP),
     Argument::Flag("premises", PREMISES_HELP),
     Argument::Flag("chart", "Draws the play in place of its lines"),
     Argument::Flag("explain", EXPLAIN_HELP),
+    Argument::Flag("list", LIST_HELP),
+    Argument::Flag("strict", STRICT_HELP),
     Argument::Option("restart", "PLACES", RESTART_HELP),
     Argument::Needed("BOARD", "The board file, as sample.toml"),
     Argument::Needed("PLAN", "The plan, as examples/clean/plan.toml"),
     Argument::Needed("SCHEDULE", SCHEDULE_HELP),
 ];
 
-/// `play [[--frames] [--premises] | --chart] [--explain] [--restart PLACES] BOARD PLAN SCHEDULE`.
+/// `play [[--frames] [--premises] [--list] | --chart] [--explain] [--strict] [--restart PLACES] BOARD PLAN SCHEDULE`.
 fn play_command<'a>(alloc: Global) -> Result<Command<'a>, AllocError>
     ensures { IfOk result (IsCommand play_app) }
 {
@@ -203,25 +214,25 @@ fn frame_words(alloc: Global, matches: &ArgMatches) -> Result<FrameWords, Refusa
     }
 }
 
-/// How a play is shown with these flags. A chart has no lines of frames, and none of the premise on packets.
-fn shown(frames: bool, premises: bool, chart: bool) -> Option<Shown>
-    ensures { result ≡ shown_of frames premises chart }
+/// How a play is shown with these flags. A chart has no lines of frames, none of the premise on packets, and none of records.
+fn shown(frames: bool, premises: bool, list: bool, chart: bool) -> Option<Shown>
+    ensures { result ≡ shown_of frames premises list chart }
 {
-    match (frames, premises, chart) {
-        (frames, premises, false) => Some(Shown::Lines { frames, premises }),
-        (false, false, true) => Some(Shown::Chart),
+    match (frames, premises, list, chart) {
+        (frames, premises, _, false) => Some(Shown::Lines { frames, premises }),
+        (false, false, false, true) => Some(Shown::Chart),
         _ => None,
     }
 }
 
-/// The refusal of flags that don't go with `--chart`: `--frames`, or else `--premises`.
-fn shown_refusal(alloc: Global, frames: bool) -> Refusal {
+/// The refusal of flags that don't go with `--chart`: `--frames`, or else `--premises`, or else `--list`.
+fn shown_refusal(alloc: Global, frames: bool, premises: bool) -> Refusal {
     let command = play_command(alloc);
     let kind = ErrorKind::ArgumentConflict;
-    let message = if frames {
-        "the argument '--frames' cannot be used with '--chart'"
-    } else {
-        "the argument '--premises' cannot be used with '--chart'"
+    let message = match (frames, premises) {
+        (true, _) => "the argument '--frames' cannot be used with '--chart'",
+        (false, true) => "the argument '--premises' cannot be used with '--chart'",
+        (false, false) => "the argument '--list' cannot be used with '--chart'",
     };
     refusal_by(alloc, command, "bmclab play", kind, message)
 }
@@ -266,14 +277,19 @@ fn play_words(alloc: Global, matches: &ArgMatches) -> Result<PlayWords, Refusal>
     let frames = has_flag(matches, "frames");
     let premises = has_flag(matches, "premises");
     let chart = has_flag(matches, "chart");
-    let Some(shown) = shown(frames, premises, chart) else {
-        return Err(shown_refusal(alloc, frames));
+    let list = has_flag(matches, "list");
+    let Some(shown) = shown(frames, premises, list, chart) else {
+        return Err(shown_refusal(alloc, frames, premises));
     };
     let explain = has_flag(matches, "explain");
     let restarts = restarts(alloc, matches)?;
     Ok(PlayWords {
         shown,
         explain,
+        options: PlayOptions {
+            strict: has_flag(matches, "strict"),
+            list,
+        },
         restarts,
         board: named(alloc, matches, "BOARD")?,
         plan: named(alloc, matches, "PLAN")?,

@@ -15,3 +15,4 @@ pub mod Told
 pub mod Widths
 pub mod RestartRows
 pub mod RestartedRuns
+pub mod Strictly

@@ -10,6 +10,7 @@ use Rattle.std.specs.Prelude.{codes, length}
 use Rattle.std.specs.Fmt.{decimal}
 use Rattle.app_play.specs.declared.account.Account.{Account}
 use Rattle.app_play.specs.Lines.{said, undo_lines, shown, premised, ending, start_lines, lines_of, text_of}
+use Rattle.app_play.specs.Strict.{listed_text}
 
 module _ (told : Account) (frames premises : Bool) where
   abbrev last : List (List ℕ)
@@ -32,3 +33,19 @@ module _ (told : Account) (frames premises : Bool) where
       ∙ ap (λ (l : List ℕ). flat_map ended (start_lines told) ++ l) (sym (flat_map-append ended (shown frames told.frames.now) last))
       ∙ sym (flat_map-append ended (start_lines told) rest)
       ∙ ap (flat_map ended) lines_are
+
+  -- and with lines behind that of the records
+  pub listed_so : (lines : List (List ℕ)) (start listed mid all : List ℕ) → start ≡ flat_map ended (start_lines told) → listed ≡ start ++ flat_map ended lines
+      → mid ≡ listed ++ flat_map ended (shown frames told.frames.now) → all ≡ mid ++ flat_map ended last → all ≡ listed_text lines frames premises told
+  listed_so lines start listed mid all first second third fourth =
+      let begun = flat_map ended (start_lines told) in
+      let told_lines = flat_map ended lines in
+      let framed = flat_map ended (shown frames told.frames.now) in
+      let end = flat_map ended last in
+      fourth
+      ∙ ap (λ (l : List ℕ). l ++ end) (third ∙ ap (λ (l : List ℕ). l ++ framed) (second ∙ ap (λ (l : List ℕ). l ++ told_lines) first))
+      ∙ append_assoc (begun ++ told_lines) framed end
+      ∙ append_assoc begun told_lines (framed ++ end)
+      ∙ ap (λ (l : List ℕ). begun ++ (told_lines ++ l)) (sym (flat_map-append ended (shown frames told.frames.now) last))
+      ∙ ap (λ (l : List ℕ). begun ++ l) (sym (flat_map-append ended lines rest))
+      ∙ sym (flat_map-append ended (start_lines told) (lines ++ rest))

@@ -4,8 +4,6 @@ use Rattle.app_base.specs.declared.files.UnreadFile.{UnreadFile}
 use Rattle.app_base.specs.Ending.{Saying}
 use Rattle.app_base.specs.Files.{Readings, FilesGive, FirstUnread, PrintsRefusal}
 use Rattle.app_play.specs.declared.files.PlayFiles.{PlayFiles}
-use Rattle.app_play.specs.declared.run.Shown.{Shown}
-use Rattle.app_play.specs.Restarted.{PrintsBy}
 
 -- the words, in their order
 abbrev pub words_of : PlayFiles → List (List ℕ)
@@ -20,7 +18,3 @@ abbrev pub PrintsOfFiles : Readings → ((board plan schedule : List ℕ) → Sa
 PrintsOfFiles gives prints words stream text status =
     ((board : List ℕ) × (plan : List ℕ) × (schedule : List ℕ) × ArePlayTexts gives words board plan schedule × prints board plan schedule stream text status)
     ⊎ ((word : List ℕ) × (why : UnreadFile) × FirstUnread gives words word why × PrintsRefusal why word stream text status)
-
--- so it is of a play that is shown so, whose manager is made again behind the events of these places
-abbrev pub PrintsPlayOfFiles : Readings → Shown → (places : List ℕ) → (words : List (List ℕ)) → Saying
-PrintsPlayOfFiles gives shown places words = PrintsOfFiles gives (PrintsBy shown places) words

@@ -11,3 +11,4 @@ pub mod Inputs
 pub mod Lines
 pub mod Restarted
 pub mod Run
+pub mod Strict

@@ -1,8 +1,9 @@
 //! What a play tells.
-ghost use Rattle.std.specs.Prelude.{◌≡◌, ◌++◌, IfOk, OnOk, string_bytes};
+ghost use Rattle.std.specs.Prelude.{◌≡◌, ◌++◌, ℕ, List, IfOk, OnOk, string_bytes};
 ghost use Rattle.std.specs.List.{flat_map};
 ghost use Rattle.text_lines.specs.Cuts.{ended};
 ghost use Rattle.app_play.specs.Lines.{ending, premised, start_lines, text_of};
+ghost use Rattle.app_play.specs.Strict.{listed_text};
 
 use crate::lines::{push_frames, push_premise, push_stopped};
 use lab_play::Stopped;
@@ -39,6 +40,28 @@ impl Account<'_> {
     {
         let mut text = String::new(alloc);
         self.push_start(alloc, &mut text)?;
+        if frames {
+            push_frames(alloc, &mut text, self.frames)?;
+        }
+        self.push_end(&mut text, premises)?;
+        Ok(text)
+    }
+
+    /// The lines of the account, with the lines of this text behind that of the records.
+    pub(crate) fn listed_text(
+        &self,
+        alloc: Global,
+        list: &str,
+        frames: bool,
+        premises: bool,
+    ) -> Result<String, AllocError>
+        ensures { (lines : List (List ℕ)) → list.now ≡ flat_map ended lines
+            → IfOk result (λ text. string_bytes text
+            ≡ listed_text lines frames premises self.now) }
+    {
+        let mut text = String::new(alloc);
+        self.push_start(alloc, &mut text)?;
+        text.push_str(list)?;
         if frames {
             push_frames(alloc, &mut text, self.frames)?;
         }

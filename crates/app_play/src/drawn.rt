@@ -40,7 +40,11 @@ fn noted<'a>(
 }
 
 /// The chart with these notes, and the line of the event that wasn't taken.
-fn drawing(alloc: Global, notes: &[Note], stopped: Option<Stopped>) -> Result<Report, AllocError>
+pub(crate) fn drawing(
+    alloc: Global,
+    notes: &[Note],
+    stopped: Option<Stopped>,
+) -> Result<Report, AllocError>
     ensures stream { IfOk result (λ report. report.stream ≡ Output) }
     ensures text { IfOk result (λ report. string_bytes report.text ≡ drawing notes.now stopped) }
     ensures status { IfOk result (λ report. report.status ≡ status_of stopped) }

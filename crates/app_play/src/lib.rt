@@ -17,10 +17,12 @@ mod report;
 mod restart_rows;
 mod restarted;
 pub mod run;
+mod strict;
 
 pub use account::Account;
-pub use files::{PlayFiles, play_of_files};
+pub use files::{PlayFiles, ReadTexts, play_of_files, texts_of};
 pub use inputs::{InputFault, Inputs, read_inputs};
 pub use lab_play::Stopped;
 pub use lines::push_stopped;
 pub use run::{Shown, chart_run, is_memory, play_run, refusal_report, show};
+pub use strict::{PlayOptions, PlayTexts, show_asked};

@@ -20,7 +20,7 @@ use text_schedule::Event;
 use undo_plans::Plan;
 
 /// The first of the places that is behind the last of the events.
-fn first_behind(places: &[usize], events: &[Event]) -> Option<usize>
+pub(crate) fn first_behind(places: &[usize], events: &[Event]) -> Option<usize>
     ensures { result ≡ behind_last places.now events.now }
 {
     let many = events.len();
@@ -28,7 +28,7 @@ fn first_behind(places: &[usize], events: &[Event]) -> Option<usize>
 }
 
 /// What is said of a place that is behind the last event.
-fn place_refusal(alloc: Global, place: usize) -> Result<Report, AllocError>
+pub(crate) fn place_refusal(alloc: Global, place: usize) -> Result<Report, AllocError>
     ensures stream { IfOk result (λ report. report.stream ≡ Error) }
     ensures text { IfOk result (λ report. string_bytes report.text ≡ place_line place) }
     ensures status { IfOk result (λ report. report.status ≡ RefusedWords) }
@@ -93,7 +93,7 @@ fn noted_restarts<'a>(
 }
 
 /// The chart with these notes, and the line of the event that wasn't taken.
-fn drawing(
+pub(crate) fn drawing(
     alloc: Global,
     notes: &[Note],
     places: &[usize],

@@ -12,8 +12,9 @@ returns-in_default-clause-refused c =
     let frames = c.has_flag-frames.ensures ∙ ap says_yes (one_text-rows (found_of c.args.matches.now) (codes "frames")) in
     let premises = c.has_flag-premises.ensures ∙ ap says_yes (one_text-rows (found_of c.args.matches.now) (codes "premises")) in
     let chart = c.has_flag-chart.ensures ∙ ap says_yes (one_text-rows (found_of c.args.matches.now) (codes "chart")) in
-    let flags = shown_alike _ _ _ _ _ _ frames premises chart in
-    refuses_none _ c.shown_refusal.result (λ asked asks. shown_refuses c.has_flag-frames.result c.has_flag-premises.result c.has_flag-chart.result (sym c.shown.ensures ∙ c.in_default.is) asked.shown (flags ∙ asks.shown))
+    let list = c.has_flag-list.ensures ∙ ap says_yes (one_text-rows (found_of c.args.matches.now) (codes "list")) in
+    let flags = shown_alike _ _ _ _ _ _ _ _ frames premises list chart in
+    refuses_none _ c.shown_refusal.result (λ asked asks. shown_refuses c.has_flag-frames.result c.has_flag-premises.result c.has_flag-list.result c.has_flag-chart.result (sym c.shown.ensures ∙ c.in_default.is) asked.shown (flags ∙ asks.shown))
 
 pub returns-in_err-restarts-clause-refused : goal.returns-in_err-restarts-clause-refused
 returns-in_err-restarts-clause-refused c =
@@ -40,10 +41,13 @@ returns-clause-asked c =
     let frames = c.has_flag-frames.ensures ∙ ap says_yes (one_text-rows (found_of c.args.matches.now) (codes "frames")) in
     let premises = c.has_flag-premises.ensures ∙ ap says_yes (one_text-rows (found_of c.args.matches.now) (codes "premises")) in
     let chart = c.has_flag-chart.ensures ∙ ap says_yes (one_text-rows (found_of c.args.matches.now) (codes "chart")) in
-    let flags = shown_alike _ _ _ _ _ _ frames premises chart in
+    let list = c.has_flag-list.ensures ∙ ap says_yes (one_text-rows (found_of c.args.matches.now) (codes "list")) in
+    let flags = shown_alike _ _ _ _ _ _ _ _ frames premises list chart in
     record {
       shown = sym flags ∙ (sym c.shown.ensures ∙ c.in-Some.is);
       explain = c.has_flag-explain.ensures ∙ ap says_yes (one_text-rows (found_of c.args.matches.now) (codes "explain"));
+      strict = sym (c.has_flag.ensures ∙ ap says_yes (one_text-rows (found_of c.args.matches.now) (codes "strict")));
+      list = sym list;
       restarts = c.in_ok-restarts.ensures.named;
       board = first_by_rows (found_of c.args.matches.now) (codes "BOARD") _ c.in_ok-named.ensures.word;
       plan = first_by_rows (found_of c.args.matches.now) (codes "PLAN") _ c.in_ok-named-2.ensures.word;
