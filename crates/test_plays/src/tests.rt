@@ -1,4 +1,4 @@
-//! What runs write and how they end, and a manager against the frames of a controller: stories by theme, and calls one by one.
+//! What runs write and how they end: stories by theme, and calls one by one.
 mod ages;
 mod asked;
 mod calls;
@@ -7,21 +7,19 @@ mod drawn;
 mod explained;
 mod faults;
 mod frames;
-mod greeting;
 mod host_files;
 mod lines;
 mod long_texts;
-mod manager;
 mod paper;
 mod parts_text;
 mod player;
 mod plays;
-mod ports;
 mod random;
 mod runs;
 mod scene;
 mod schedules;
 mod steps;
+mod strict;
 mod text;
 mod told_wrong;
 mod two_steps;

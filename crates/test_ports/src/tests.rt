@@ -8,6 +8,7 @@ mod ipmb;
 mod smbus;
 mod told_wrong;
 mod window;
+mod worked;
 
 use bmc_core::{Disposition, Out};
 use std::alloc::Global;

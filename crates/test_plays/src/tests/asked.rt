@@ -4,7 +4,7 @@ use super::text::parted;
 use app_base::{Refusal, Status};
 use app_bmclab::words::read;
 use app_bmclab::{Links, ScheduleWords, Words};
-use app_play::Shown;
+use app_play::{PlayOptions, Shown};
 use bmc_lab::{AskedFrame, asked_frame};
 use std::alloc::{AllocError, Global};
 
@@ -26,6 +26,16 @@ fn shown_name(shown: Shown) -> &'static str {
             (false, true) => "premises",
             (true, true) => "frames and premises",
         },
+    }
+}
+
+/// What a play is asked for beside that.
+fn options_name(options: PlayOptions) -> &'static str {
+    match (options.strict, options.list) {
+        (false, false) => "",
+        (true, false) => " strict",
+        (false, true) => " listed",
+        (true, true) => " strict and listed",
     }
 }
 
@@ -97,8 +107,9 @@ fn push_words(
             let (board, plan) = (words.board.as_str(), words.plan.as_str());
             let shown = shown_name(words.shown);
             let explain = if words.explain { " explained" } else { "" };
+            let options = options_name(words.options);
             let schedule = words.schedule.as_str();
-            write!(text, "{shown}{explain} {board} {plan} {schedule}")?;
+            write!(text, "{shown}{explain}{options} {board} {plan} {schedule}")?;
             push_restarts(text, words.restarts.as_slice())
         }
         Ok(Words::Schedule(words)) => push_schedule(text, words),

@@ -181,6 +181,8 @@ bmclab play --chart --frames a b c -> 2 err
   error: the argument '--frames' cannot be used with '--chart' /  / Usage: bmclab play [OPTIONS] <BOARD> <PLAN> <SCHEDULE> /  / For more information, try '--help'.
 bmclab play --chart --premises a b c -> 2 err
   error: the argument '--premises' cannot be used with '--chart' /  / Usage: bmclab play [OPTIONS] <BOARD> <PLAN> <SCHEDULE> /  / For more information, try '--help'.
+bmclab play --chart --list a b c -> 2 err
+  error: the argument '--list' cannot be used with '--chart' /  / Usage: bmclab play [OPTIONS] <BOARD> <PLAN> <SCHEDULE> /  / For more information, try '--help'.
 bmclab play --restart 7,3 a b c -> 2 err
   error: invalid value '7,3' for '--restart <PLACES>': decimal numbers from 1, each above the one before it, with a comma between two /  / Usage: bmclab play [OPTIONS] <BOARD> <PLAN> <SCHEDULE> /  / For more information, try '--help'.
 bmclab play --frames=yes a b c -> 2 err
@@ -264,6 +266,8 @@ bmclab play --help -> 2 err
         --premises          Prints the first event at which a packet joined one that had waited too long, or premises kept
         --chart             Draws the play in place of its lines
         --explain           Says on standard error where the plan halts and why, and in which line of the schedule
+        --list              Prints each record that changed, too, as in sensor 5 upper critical: 95 (5Fh) -> 90 (5Ah)
+        --strict            Ends with a status of 10 to 13 where a plan halted, a request isn't settled, an undo was refused or records changed, and refuses a file with a key that nothing reads
         --restart <PLACES>  Ends the manager's process behind these events and makes it anew of its journal, as in --restart 3,7
     -h, --help              Print help /  / Examples:
     bmclab play sample.toml examples/clean/plan.toml examples/clean/schedule.txt
@@ -271,6 +275,7 @@ bmclab play --help -> 2 err
     bmclab play --premises sample.toml examples/clean/plan.toml examples/clean/schedule.txt
     bmclab play --chart sample.toml examples/clean/plan.toml examples/clean/schedule.txt
     bmclab play --explain sample.toml examples/refused/plan.toml examples/refused/schedule.txt
+    bmclab play --strict --list sample.toml examples/clean/plan.toml examples/clean/schedule.txt
     bmclab play --restart 4 sample.toml examples/set_unheard/plan.toml examples/set_unheard/schedule.txt
 bmclab version --help -> 2 err
   Prints the version /  / Usage: bmclab version /  / Options:
@@ -293,6 +298,8 @@ bmclab play -h a b c -> 2 err
         --premises          Prints the first event at which a packet joined one that had waited too long, or premises kept
         --chart             Draws the play in place of its lines
         --explain           Says on standard error where the plan halts and why, and in which line of the schedule
+        --list              Prints each record that changed, too, as in sensor 5 upper critical: 95 (5Fh) -> 90 (5Ah)
+        --strict            Ends with a status of 10 to 13 where a plan halted, a request isn't settled, an undo was refused or records changed, and refuses a file with a key that nothing reads
         --restart <PLACES>  Ends the manager's process behind these events and makes it anew of its journal, as in --restart 3,7
     -h, --help              Print help /  / Examples:
     bmclab play sample.toml examples/clean/plan.toml examples/clean/schedule.txt
@@ -300,6 +307,7 @@ bmclab play -h a b c -> 2 err
     bmclab play --premises sample.toml examples/clean/plan.toml examples/clean/schedule.txt
     bmclab play --chart sample.toml examples/clean/plan.toml examples/clean/schedule.txt
     bmclab play --explain sample.toml examples/refused/plan.toml examples/refused/schedule.txt
+    bmclab play --strict --list sample.toml examples/clean/plan.toml examples/clean/schedule.txt
     bmclab play --restart 4 sample.toml examples/set_unheard/plan.toml examples/set_unheard/schedule.txt
 ";
 
@@ -331,6 +339,10 @@ asks bmclab play --chart sample.toml plan.toml schedule.txt -> chart sample.toml
 asks bmclab play sample.toml plan.toml schedule.txt --chart -> chart sample.toml plan.toml schedule.txt
 asks bmclab play --restart 3 sample.toml plan.toml schedule.txt -> lines sample.toml plan.toml schedule.txt restart 3
 asks bmclab play --chart --restart 1,2,10 sample.toml plan.toml schedule.txt -> chart sample.toml plan.toml schedule.txt restart 1 2 10
+asks bmclab play --strict sample.toml plan.toml schedule.txt -> lines strict sample.toml plan.toml schedule.txt
+asks bmclab play --list --frames sample.toml plan.toml schedule.txt -> frames listed sample.toml plan.toml schedule.txt
+asks bmclab play --list --strict --explain sample.toml plan.toml schedule.txt -> lines explained strict and listed sample.toml plan.toml schedule.txt
+asks bmclab play --chart --strict sample.toml plan.toml schedule.txt -> chart strict sample.toml plan.toml schedule.txt
 asks bmclab play sample.toml plan.toml schedule.txt --restart=3,7 -> lines sample.toml plan.toml schedule.txt restart 3 7
 
 story a check names its files in their order
@@ -378,6 +390,8 @@ asks bmclab play --chart --frames sample.toml plan.toml schedule.txt -> refused
 asks bmclab play --frames sample.toml plan.toml schedule.txt --chart -> refused
 asks bmclab play --chart --premises sample.toml plan.toml schedule.txt -> refused
 asks bmclab play --chart --frames --premises sample.toml plan.toml schedule.txt -> refused
+asks bmclab play --chart --list sample.toml plan.toml schedule.txt -> refused
+asks bmclab play --strict --strict sample.toml plan.toml schedule.txt -> refused
 asks bmclab play --chart --chart sample.toml plan.toml schedule.txt -> refused
 asks bmclab play --chart sample.toml plan.toml -> refused
 asks bmclab play --restart 0 sample.toml plan.toml schedule.txt -> refused

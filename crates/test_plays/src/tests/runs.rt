@@ -8,7 +8,7 @@ use app_bmclab::{
     Chances, Links, Percent, ScheduleFiles, ScheduleOptions, run_line, schedule_of_files,
     schedule_run,
 };
-use app_play::{PlayFiles, Shown, chart_run, play_of_files, play_run, show};
+use app_play::{PlayFiles, PlayOptions, Shown, chart_run, play_of_files, play_run, show};
 use bmc_lab::{frame_of_file, frame_run};
 use std::alloc::{AllocError, Global};
 use story_lines::NoOutcome;
@@ -87,7 +87,12 @@ fn call(alloc: Global, scene: &Scene, name: &str, paper: &mut Paper) -> Result<u
                 plan,
                 schedule,
             };
-            Ok(play_of_files(alloc, scene, Shown::Chart, &[], files, paper))
+            let options = PlayOptions {
+                strict: false,
+                list: false,
+            };
+            let shown = Shown::Chart;
+            Ok(play_of_files(alloc, scene, options, shown, &[], files, paper))
         }
         "schedule_of_files" => {
             let files = ScheduleFiles { board, plan };

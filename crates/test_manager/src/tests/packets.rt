@@ -1,7 +1,7 @@
 //! A manager whose requests go over SMBus. It goes on from a list of such requests.
+use super::expect_equal;
 use super::player::expect_told;
 use super::scene::{list, names, other_names};
-use crate::tests::expect_equal;
 use std::alloc::Global;
 use std::process::Abort;
 use two_wire::Bus;

@@ -1,15 +1,5 @@
 //! Worked frames to the two ports of a board, one after the other.
-use super::expect_equal;
-use std::alloc::Global;
-use std::process::Abort;
-use stories::play;
-
-/// Each line of the stories comes as it is told.
-fn expect_played(rt: &impl Abort, alloc: Global, stories: &str) {
-    let told = play(alloc, stories).expect(rt, "memory");
-    expect_equal(rt, told.as_str(), "");
-    drop(told);
-}
+use super::expect_told;
 
 /// Frames on IPMB.
 const IPMB: &str = "story Get Device ID is answered
@@ -185,7 +175,7 @@ pldm 02 31 040002E903 -> 02
 
 #[test]
 fn frames_come_to_the_ports_of_a_board(rt: HostRuntime) {
-    expect_played(&rt, rt.alloc(), IPMB);
-    expect_played(&rt, rt.alloc(), SMBUS);
-    expect_played(&rt, rt.alloc(), EFFECTERS);
+    expect_told(&rt, rt.alloc(), IPMB);
+    expect_told(&rt, rt.alloc(), SMBUS);
+    expect_told(&rt, rt.alloc(), EFFECTERS);
 }

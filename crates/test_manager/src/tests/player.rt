@@ -1,6 +1,6 @@
 //! What stories and tests have in common: what is appended, and that all comes as told.
+use super::expect_equal;
 use super::scene::Managed;
-use crate::tests::expect_equal;
 use std::alloc::Global;
 use std::fmt::Debug;
 use std::process::Abort;

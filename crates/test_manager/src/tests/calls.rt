@@ -1,7 +1,7 @@
 //! Each call in each phase, and what phases are called.
+use super::expect_equal;
 use super::player::expect_told;
 use super::scene::{names, plan};
-use crate::tests::expect_equal;
 use std::alloc::Global;
 use std::process::Abort;
 use two_wire::{Bus, Code};

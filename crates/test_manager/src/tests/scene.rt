@@ -1,6 +1,5 @@
 //! A manager, and the lines of what comes to it.
 use super::player::{push_fault, push_phase};
-use crate::tests::text::parted;
 use record_base::{Asked, Op, SetBiosAttribute, SetThresholds};
 use std::alloc::{AllocError, Global};
 use story_lines::{NoOutcome, NoScene, Scene};
@@ -8,6 +7,11 @@ use text_undo::read_undo;
 use two_wire::{Address, Below, Bus, Retries};
 use undo_core::{Manager, Sent, WrongPhase};
 use undo_plans::{Names, NextNumbers, Plan, Requests, Steps, UndoList, UndoRequest};
+
+/// The first word, and the words behind it.
+fn parted(words: &str) -> (&str, &str) {
+    words.split_once(' ').unwrap_or((words, ""))
+}
 
 pub fn names() -> Names {
     Names {

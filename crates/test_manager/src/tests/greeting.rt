@@ -1,4 +1,5 @@
 //! A greeting against the frames of a controller.
+use std::process::Abort;
 use two_wire::{Address, Below, Bus, Frame};
 use undo_greeting::{Greeting, WrongPhase};
 use undo_plans::Names;
@@ -59,6 +60,11 @@ fn greeting(bus: Bus, next: u8) -> Greeting {
     Greeting::new(names(), bus, next, Below::new(1))
 }
 
+/// It holds.
+fn expect(rt: &impl Abort, holds: bool) {
+    assert!(rt; holds);
+}
+
 /// The frame is sent.
 fn is_sent(sent: Result<Option<Frame>, WrongPhase>, frame: &[u8]) -> bool {
     match sent {
@@ -72,26 +78,26 @@ fn is_sent(sent: Result<Option<Frame>, WrongPhase>, frame: &[u8]) -> bool {
 #[test]
 fn ipmb_is_greeted_twice(rt: HostRuntime) {
     let mut hello = greeting(Bus::Ipmb, 0);
-    assert!(rt; hello.open_bus().is_none());
-    assert!(rt; is_sent(hello.start(), IPMB_31.as_slice()));
-    assert!(rt; hello.on_frame(Bus::Ipmb, &BUSY_31).is_none());
-    assert!(rt; hello.on_frame(Bus::Ipmb, &REFUSED_63).is_none());
-    assert!(rt; hello.on_frame(Bus::Smbus, &REFUSED_31).is_none());
+    expect(&rt, hello.open_bus().is_none());
+    expect(&rt, is_sent(hello.start(), IPMB_31.as_slice()));
+    expect(&rt, hello.on_frame(Bus::Ipmb, &BUSY_31).is_none());
+    expect(&rt, hello.on_frame(Bus::Ipmb, &REFUSED_63).is_none());
+    expect(&rt, hello.on_frame(Bus::Smbus, &REFUSED_31).is_none());
     let second = hello.on_frame(Bus::Ipmb, &REFUSED_31);
-    assert!(rt; is_sent(Ok(second), IPMB_63.as_slice()));
-    assert!(rt; hello.open_bus() == Some(Bus::Ipmb));
-    assert!(rt; !hello.is_answered());
-    assert!(rt; hello.on_frame(Bus::Ipmb, &REFUSED_63).is_none());
-    assert!(rt; hello.is_answered());
-    assert!(rt; hello.open_bus().is_none());
+    expect(&rt, is_sent(Ok(second), IPMB_63.as_slice()));
+    expect(&rt, hello.open_bus() == Some(Bus::Ipmb));
+    expect(&rt, !hello.is_answered());
+    expect(&rt, hello.on_frame(Bus::Ipmb, &REFUSED_63).is_none());
+    expect(&rt, hello.is_answered());
+    expect(&rt, hello.open_bus().is_none());
 }
 
 /// A manager whose requests go on with number 40 greets with 7 first.
 #[test]
 fn greeting_goes_by_the_next_number(rt: HostRuntime) {
     let mut hello = greeting(Bus::Ipmb, 40);
-    assert!(rt; is_sent(hello.start(), IPMB_7.as_slice()));
-    assert!(rt; hello.start().is_err());
+    expect(&rt, is_sent(hello.start(), IPMB_7.as_slice()));
+    expect(&rt, hello.start().is_err());
 }
 
 /// A request is sent again as often as it may be, and then once more where it is heeded again.
@@ -99,17 +105,17 @@ fn greeting_goes_by_the_next_number(rt: HostRuntime) {
 #[test]
 fn smbus_is_greeted_again_after_a_silence(rt: HostRuntime) {
     let mut hello = greeting(Bus::Smbus, 0);
-    assert!(rt; hello.quiet().is_err());
-    assert!(rt; is_sent(hello.start(), SMBUS_15.as_slice()));
-    assert!(rt; hello.again().is_err());
-    assert!(rt; hello.on_frame(Bus::Smbus, &BUSY_15).is_none());
-    assert!(rt; is_sent(hello.quiet(), SMBUS_15.as_slice()));
-    assert!(rt; matches!(hello.quiet(), Ok(None)));
-    assert!(rt; hello.on_frame(Bus::Smbus, &REFUSED_15).is_none());
-    assert!(rt; hello.open_bus() == Some(Bus::Smbus));
-    assert!(rt; hello.quiet().is_err());
-    assert!(rt; is_sent(hello.again(), SMBUS_15.as_slice()));
+    expect(&rt, hello.quiet().is_err());
+    expect(&rt, is_sent(hello.start(), SMBUS_15.as_slice()));
+    expect(&rt, hello.again().is_err());
+    expect(&rt, hello.on_frame(Bus::Smbus, &BUSY_15).is_none());
+    expect(&rt, is_sent(hello.quiet(), SMBUS_15.as_slice()));
+    expect(&rt, matches!(hello.quiet(), Ok(None)));
+    expect(&rt, hello.on_frame(Bus::Smbus, &REFUSED_15).is_none());
+    expect(&rt, hello.open_bus() == Some(Bus::Smbus));
+    expect(&rt, hello.quiet().is_err());
+    expect(&rt, is_sent(hello.again(), SMBUS_15.as_slice()));
     let second = hello.on_frame(Bus::Smbus, &REFUSED_15);
-    assert!(rt; is_sent(Ok(second), SMBUS_24.as_slice()));
-    assert!(rt; !hello.is_answered());
+    expect(&rt, is_sent(Ok(second), SMBUS_24.as_slice()));
+    expect(&rt, !hello.is_answered());
 }

@@ -1,0 +1,6 @@
+//! Tests of the manager and of its greeting, by frames from outside. They stand apart from the crates that they test, each of which would be proved once
+//! more with tests of its own.
+#![tactic(auto)]
+
+#[cfg(test)]
+mod tests;

@@ -1,0 +1,17 @@
+//! A manager, and a greeting, against the frames of a controller.
+mod calls;
+mod greeting;
+mod packets;
+mod parts;
+mod player;
+mod replies;
+mod scene;
+mod wrong;
+
+use std::fmt::Debug;
+use std::process::Abort;
+
+/// The value is the one that is wanted.
+fn expect_equal<T: Copy + Debug + PartialEq>(rt: &impl Abort, value: T, wanted: T) {
+    assert_eq!(rt; value, wanted);
+}

@@ -1,8 +1,0 @@
-//! A manager against the frames of a controller.
-mod calls;
-mod packets;
-mod parts;
-mod player;
-mod replies;
-mod scene;
-mod wrong;
