@@ -17,7 +17,7 @@ pub struct AskedFrame {
 }
 
 /// The bus that the word names.
-fn bus_of(word: Option<&str>) -> Result<Bus, Status>
+pub fn bus_named(word: Option<&str>) -> Result<Bus, Status>
     ensures bus { (bus : AnyBus) → (result ≡ Ok bus) ↔ MeansBus (option_copied word.entry) bus }
     ensures refused { IfErr result (λ status. status ≡ Status.RefusedWords) }
 {
@@ -36,7 +36,7 @@ pub fn asked_frame(alloc: Global, word: Option<&str>, digits: &str) -> Result<As
     ensures faults { IfErr result
         (λ status. (status ≡ Status.RefusedWords) ⊎ (status ≡ Status.Memory)) }
 {
-    let bus = bus_of(word)?;
+    let bus = bus_named(word)?;
     match hex::decode(alloc, digits) {
         Ok(bytes) if bytes.is_empty() => Err(Status::RefusedWords),
         Ok(bytes) => Ok(AskedFrame { bus, bytes }),

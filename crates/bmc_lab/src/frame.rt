@@ -27,7 +27,7 @@ pub fn controller_place() -> At
 }
 
 /// The board of the file's text, or the sample board where no file is given.
-fn board_or_sample(alloc: Global, board: Option<&str>) -> Result<BoardFile, FileFault>
+pub fn board_or_sample(alloc: Global, board: Option<&str>) -> Result<BoardFile, FileFault>
     ensures file { IfOk result (IsBoardOf (option_copied board.entry)) }
     ensures fault { IfErr result
         (λ why. (why ≡ FileFault.Memory) ⊎ IsFaultOf (option_copied board.entry) why) }

@@ -6,7 +6,7 @@ pub mod files;
 pub mod frame;
 pub mod report;
 
-pub use asked::{AskedFrame, asked_frame};
+pub use asked::{AskedFrame, asked_frame, bus_named};
 pub use files::frame_of_file;
-pub use frame::{controller_place, frame_run};
+pub use frame::{board_or_sample, controller_place, frame_run};
 pub use report::port_report;

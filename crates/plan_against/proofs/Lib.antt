@@ -1,3 +1,4 @@
 mod Parts
 mod Answering
 mod Turns
+mod FindingLines

@@ -18,7 +18,7 @@ met_more setup [] (found ∷ findings) at mid after op finding met meets = absur
 met_more setup (first ∷ ops) [] at mid after op finding met meets = absurd met
 
 -- the step of a place, behind those before it
-one_at : (steps : List Op) (place : ℕ) → place < length steps → (op : Op) × (slice_get steps place ≡ Some op) × (take (suc place) steps ≡ take place steps ++ op ∷ [])
+pub one_at : (steps : List Op) (place : ℕ) → place < length steps → (op : Op) × (slice_get steps place ≡ Some op) × (take (suc place) steps ≡ take place steps ++ op ∷ [])
 one_at [] place within = absurd (omega (arith, within))
 one_at (op ∷ steps) zero within = (op, refl, refl)
 one_at (op ∷ steps) (suc place) within =

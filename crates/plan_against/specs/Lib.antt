@@ -1,2 +1,3 @@
 pub mod Answers
 pub mod Tries
+pub mod FindingWords

@@ -3,8 +3,10 @@
 
 mod finding;
 mod getting;
+mod lines;
 mod setting;
 mod steps;
 
 pub use finding::Finding;
+pub use lines::push_findings;
 pub use steps::try_steps;

@@ -56,7 +56,9 @@ fn try_step(
 /// Tries each of the steps on a fresh board of this file, in their order, and on what those before it leave: what each meets there. A step that isn't
 /// carried out is passed over.
 pub fn try_steps(alloc: Global, file: BoardFile, steps: &Steps) -> Result<Vec<Finding>, AllocError>
-    ensures { IfOk result (λ findings. MeetsInTurn file steps.now (opened file) findings.items) }
+    ensures met { IfOk result
+        (λ findings. MeetsInTurn file steps.now (opened file) findings.items) }
+    ensures each { IfOk result (λ findings. length findings.items ≡ length steps.now) }
 {
     let mut board = Board::of_file(alloc, file)?;
     let mut findings = Vec::new(alloc);

@@ -1,0 +1,5 @@
+mod Found
+mod Hearing
+mod Carried
+mod Spelling
+mod Telling
