@@ -11,7 +11,8 @@ BRIDGED = {"--listen": None}
 # several times has three dots behind it.
 WORDS = {
     "bmclab": {
-        "frame": ({"--bus": ("ipmb", "smbus"), "--board": BOARD}, [("HEX", None)]),
+        "frame": ({"--explain": FLAG, "--bus": ("ipmb", "smbus"), "--board": BOARD}, [("HEX", None)]),
+        "ask": ({"--bus": ("ipmb", "smbus"), "--board": BOARD}, [("BYTE...", None)]),
         "play": (
             {"--frames": FLAG, "--premises": FLAG, "--chart": FLAG, "--explain": FLAG, "--list": FLAG, "--strict": FLAG, "--restart": None},
             [("BOARD", BOARD), ("PLAN", PLAN), ("SCHEDULE", SCHEDULE)],
@@ -20,7 +21,7 @@ WORDS = {
             {"--lose": None, "--repeat": None, "--delay": None, "--others": None, "--seed": None, "--undo": FLAG},
             [("BOARD", BOARD), ("PLAN", PLAN)],
         ),
-        "check": ({"--as": ("board", "plan", "undo", "journal", "readings", "schedule")}, [("FILE...", FILE)]),
+        "check": ({"--as": ("board", "plan", "undo", "journal", "readings", "schedule"), "--against": BOARD}, [("FILE...", FILE)]),
         "version": ({}, []),
     },
     "bmcnet": {

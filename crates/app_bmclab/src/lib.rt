@@ -2,6 +2,8 @@
 //! does, over files and writers of any kind: it reads a board file and a plan, and writes a schedule of the plan on that board.
 #![tactic(auto)]
 
+mod against;
+pub mod ask_words;
 pub mod check;
 pub mod check_words;
 mod explained;
@@ -14,8 +16,10 @@ pub mod schedule_text;
 pub mod schedule_words;
 pub mod words;
 
+pub use against::check_against;
+pub use ask_words::AskWords;
 pub use check::{Cause, TellsCause, check_files};
-pub use check_words::CheckWords;
+pub use check_words::{CheckWay, CheckWords};
 pub use explained::explained_play_of_files;
 pub use file::ToldFiles;
 pub use lab_schedule::{Chances, Links, Percent, ScheduleOptions};
