@@ -40,7 +40,7 @@ WORDS = {
         ),
         "run": ({"--wait": None, "--again": None, "--forget": None, "--greet": FLAG, "--replace": FLAG}, [("PLAN", PLAN), ("P0", None), ("P1", None), ("TURNS", None), ("UNDO", UNDO)]),
         "undo": ({"--wait": None, "--greet": FLAG}, [("UNDO", UNDO), ("P0", None), ("P1", None), ("TURNS", None)]),
-        "pair": ({}, [("BOARD", BOARD), ("PLAN", PLAN), ("TURNS", None)]),
+        "pair": ({"--strict": FLAG, "--list": FLAG}, [("BOARD", BOARD), ("PLAN", PLAN), ("TURNS", None)]),
         "version": ({}, []),
     },
     "lan-bridge": {
