@@ -1,0 +1,4 @@
+mod Out
+mod Untold
+mod Plans
+mod Gets
