@@ -11,10 +11,12 @@ use Rattle.app_base.proofs.Readings.{alike, apart}
 use Rattle.app_serve.specs.declared.run.ServeWords.{ServeWords}
 use Rattle.app_run.specs.declared.running.RunWords.{RunWords}
 use Rattle.app_run.specs.declared.undoing.UndoWords.{UndoWords}
+use Rattle.app_apply.specs.declared.applying.ApplyWords.{ApplyWords}
+use Rattle.app_apply.specs.declared.reverting.RevertWords.{RevertWords}
 use Rattle.app_bmcnet.specs.declared.pairing.PairWords.{PairWords}
 use Rattle.app_bmcnet.specs.declared.words.Words.{Words}
-use Rattle.app_bmcnet.specs.declared.words.Words.TheVariants.{Serve, Run, Undo, Pair, Version}
-use Rattle.app_bmcnet.specs.Asked.{AsksBy, AsksServe, AsksRun, AsksUndo, AsksPair}
+use Rattle.app_bmcnet.specs.declared.words.Words.TheVariants.{Serve, Run, Undo, Pair, Apply, Revert, Version}
+use Rattle.app_bmcnet.specs.Asked.{AsksBy, AsksServe, AsksRun, AsksUndo, AsksPair, AsksApply, AsksRevert}
 
 -- what asks for anything behind `serve` asks for a serving
 pub serve_behind : (met : Option (Text × List Row)) (rows : List Row) → met ≡ Some (codes "serve", rows) → (asked : Words) → AsksBy met asked
@@ -23,6 +25,8 @@ serve_behind met rows is (Serve words) asks = (words, subst (λ (r : List Row). 
 serve_behind met rows is (Run words) asks = absurd (apart met (codes "serve") (codes "run") rows asks.0 refl is asks.1)
 serve_behind met rows is (Undo words) asks = absurd (apart met (codes "serve") (codes "undo") rows asks.0 refl is asks.1)
 serve_behind met rows is (Pair words) asks = absurd (apart met (codes "serve") (codes "pair") rows asks.0 refl is asks.1)
+serve_behind met rows is (Apply words) asks = absurd (apart met (codes "serve") (codes "apply") rows asks.0 refl is asks.1)
+serve_behind met rows is (Revert words) asks = absurd (apart met (codes "serve") (codes "revert") rows asks.0 refl is asks.1)
 serve_behind met rows is Version asks = absurd (apart met (codes "serve") (codes "version") rows asks.0 refl is asks.1)
 
 -- what asks for anything behind `run` asks for a run
@@ -32,6 +36,8 @@ run_behind met rows is (Run words) asks = (words, subst (λ (r : List Row). Asks
 run_behind met rows is (Serve words) asks = absurd (apart met (codes "run") (codes "serve") rows asks.0 refl is asks.1)
 run_behind met rows is (Undo words) asks = absurd (apart met (codes "run") (codes "undo") rows asks.0 refl is asks.1)
 run_behind met rows is (Pair words) asks = absurd (apart met (codes "run") (codes "pair") rows asks.0 refl is asks.1)
+run_behind met rows is (Apply words) asks = absurd (apart met (codes "run") (codes "apply") rows asks.0 refl is asks.1)
+run_behind met rows is (Revert words) asks = absurd (apart met (codes "run") (codes "revert") rows asks.0 refl is asks.1)
 run_behind met rows is Version asks = absurd (apart met (codes "run") (codes "version") rows asks.0 refl is asks.1)
 
 -- what asks for anything behind `undo` asks for an undo
@@ -41,6 +47,8 @@ undo_behind met rows is (Undo words) asks = (words, subst (λ (r : List Row). As
 undo_behind met rows is (Serve words) asks = absurd (apart met (codes "undo") (codes "serve") rows asks.0 refl is asks.1)
 undo_behind met rows is (Run words) asks = absurd (apart met (codes "undo") (codes "run") rows asks.0 refl is asks.1)
 undo_behind met rows is (Pair words) asks = absurd (apart met (codes "undo") (codes "pair") rows asks.0 refl is asks.1)
+undo_behind met rows is (Apply words) asks = absurd (apart met (codes "undo") (codes "apply") rows asks.0 refl is asks.1)
+undo_behind met rows is (Revert words) asks = absurd (apart met (codes "undo") (codes "revert") rows asks.0 refl is asks.1)
 undo_behind met rows is Version asks = absurd (apart met (codes "undo") (codes "version") rows asks.0 refl is asks.1)
 
 -- what asks for anything behind `pair` asks for a pair
@@ -50,7 +58,31 @@ pair_behind met rows is (Pair words) asks = (words, subst (λ (r : List Row). As
 pair_behind met rows is (Serve words) asks = absurd (apart met (codes "pair") (codes "serve") rows asks.0 refl is asks.1)
 pair_behind met rows is (Run words) asks = absurd (apart met (codes "pair") (codes "run") rows asks.0 refl is asks.1)
 pair_behind met rows is (Undo words) asks = absurd (apart met (codes "pair") (codes "undo") rows asks.0 refl is asks.1)
+pair_behind met rows is (Apply words) asks = absurd (apart met (codes "pair") (codes "apply") rows asks.0 refl is asks.1)
+pair_behind met rows is (Revert words) asks = absurd (apart met (codes "pair") (codes "revert") rows asks.0 refl is asks.1)
 pair_behind met rows is Version asks = absurd (apart met (codes "pair") (codes "version") rows asks.0 refl is asks.1)
+
+-- what asks for anything behind `apply` asks for a plan to be applied
+pub apply_behind : (met : Option (Text × List Row)) (rows : List Row) → met ≡ Some (codes "apply", rows) → (asked : Words) → AsksBy met asked
+    → (words : ApplyWords) × AsksApply rows words
+apply_behind met rows is (Apply words) asks = (words, subst (λ (r : List Row). AsksApply r words) (alike met (codes "apply") asks.0 rows asks.1 is) asks.2)
+apply_behind met rows is (Serve words) asks = absurd (apart met (codes "apply") (codes "serve") rows asks.0 refl is asks.1)
+apply_behind met rows is (Run words) asks = absurd (apart met (codes "apply") (codes "run") rows asks.0 refl is asks.1)
+apply_behind met rows is (Undo words) asks = absurd (apart met (codes "apply") (codes "undo") rows asks.0 refl is asks.1)
+apply_behind met rows is (Pair words) asks = absurd (apart met (codes "apply") (codes "pair") rows asks.0 refl is asks.1)
+apply_behind met rows is (Revert words) asks = absurd (apart met (codes "apply") (codes "revert") rows asks.0 refl is asks.1)
+apply_behind met rows is Version asks = absurd (apart met (codes "apply") (codes "version") rows asks.0 refl is asks.1)
+
+-- what asks for anything behind `revert` asks for a plan to be taken back
+pub revert_behind : (met : Option (Text × List Row)) (rows : List Row) → met ≡ Some (codes "revert", rows) → (asked : Words) → AsksBy met asked
+    → (words : RevertWords) × AsksRevert rows words
+revert_behind met rows is (Revert words) asks = (words, subst (λ (r : List Row). AsksRevert r words) (alike met (codes "revert") asks.0 rows asks.1 is) asks.2)
+revert_behind met rows is (Serve words) asks = absurd (apart met (codes "revert") (codes "serve") rows asks.0 refl is asks.1)
+revert_behind met rows is (Run words) asks = absurd (apart met (codes "revert") (codes "run") rows asks.0 refl is asks.1)
+revert_behind met rows is (Undo words) asks = absurd (apart met (codes "revert") (codes "undo") rows asks.0 refl is asks.1)
+revert_behind met rows is (Pair words) asks = absurd (apart met (codes "revert") (codes "pair") rows asks.0 refl is asks.1)
+revert_behind met rows is (Apply words) asks = absurd (apart met (codes "revert") (codes "apply") rows asks.0 refl is asks.1)
+revert_behind met rows is Version asks = absurd (apart met (codes "revert") (codes "version") rows asks.0 refl is asks.1)
 
 -- a subcommand that wasn't met under this name has it nowhere
 pub unnamed : (m : ArgMatches) (name : Text) → (subcommand_name_of m ≡ Some name → false ≡ true) → (rows : List Row) → subcommand_rows_of m ≡ Some (name, rows) → ⊥
@@ -63,9 +95,12 @@ unnamed m name none rows is = false≢true (none (go (out-ArgMatches m).subcomma
 -- where none of the subcommands was met, nothing is asked for
 pub none_behind : (m : ArgMatches) → (subcommand_name_of m ≡ Some (codes "serve") → false ≡ true) → (subcommand_name_of m ≡ Some (codes "run") → false ≡ true)
     → (subcommand_name_of m ≡ Some (codes "undo") → false ≡ true) → (subcommand_name_of m ≡ Some (codes "pair") → false ≡ true)
+    → (subcommand_name_of m ≡ Some (codes "apply") → false ≡ true) → (subcommand_name_of m ≡ Some (codes "revert") → false ≡ true)
     → (subcommand_name_of m ≡ Some (codes "version") → false ≡ true) → (asked : Words) → AsksBy (subcommand_rows_of m) asked → ⊥
-none_behind m serve run undo pair version (Serve words) asks = unnamed m (codes "serve") serve asks.0 asks.1
-none_behind m serve run undo pair version (Run words) asks = unnamed m (codes "run") run asks.0 asks.1
-none_behind m serve run undo pair version (Undo words) asks = unnamed m (codes "undo") undo asks.0 asks.1
-none_behind m serve run undo pair version (Pair words) asks = unnamed m (codes "pair") pair asks.0 asks.1
-none_behind m serve run undo pair version Version asks = unnamed m (codes "version") version asks.0 asks.1
+none_behind m serve run undo pair apply revert version (Serve words) asks = unnamed m (codes "serve") serve asks.0 asks.1
+none_behind m serve run undo pair apply revert version (Run words) asks = unnamed m (codes "run") run asks.0 asks.1
+none_behind m serve run undo pair apply revert version (Undo words) asks = unnamed m (codes "undo") undo asks.0 asks.1
+none_behind m serve run undo pair apply revert version (Pair words) asks = unnamed m (codes "pair") pair asks.0 asks.1
+none_behind m serve run undo pair apply revert version (Apply words) asks = unnamed m (codes "apply") apply asks.0 asks.1
+none_behind m serve run undo pair apply revert version (Revert words) asks = unnamed m (codes "revert") revert asks.0 asks.1
+none_behind m serve run undo pair apply revert version Version asks = unnamed m (codes "version") version asks.0 asks.1

@@ -1,11 +1,11 @@
 //! What the program can do, and its command line.
 ghost use Rattle.std.specs.Prelude.{◌≡◌, IfOk};
-ghost use Rattle.clap.specs.Words.{app_of};
+ghost use Rattle.clap.specs.Words.{App, app_of};
 ghost use Rattle.app_base.specs.Line.{IsCommand};
-ghost use Rattle.app_bmcnet.specs.Line.{app_named, program};
+ghost use Rattle.app_bmcnet.specs.Line.{app_named, program, with_smbus_port};
 
 use app_base::{Argument, new_command, new_program, version_command, with_command};
-use clap::Command;
+use clap::{Arg, Command};
 use std::alloc::{AllocError, Global};
 
 /// What `bmcnet` can do.
@@ -15,6 +15,10 @@ pub enum Task {
     Run,
     Undo,
     Pair,
+    Apply,
+    Revert,
+    Preview,
+    Show,
 }
 
 const BOARD_HELP: &str = "The board file, as sample.toml";
@@ -189,6 +193,162 @@ fn pair_command<'a>(alloc: Global) -> Result<Command<'a>, AllocError>
     new_command(alloc, "pair", PAIR_ABOUT, PAIR_EXAMPLES, &PAIR_ARGUMENTS)
 }
 
+const APPLY_ABOUT: &str =
+    "Changes a controller by a plan, and keeps in a file at each moment what takes that back";
+
+const FILE_HELP: &str =
+    "The file that gets what takes the plan back, as in --undo fans.undo; else the plan's name with .undo for .toml";
+
+const FILE_REPLACE_HELP: &str =
+    "Puts that file aside, under a free name, where it has something to take back, as in --replace";
+
+const REACH_AGAIN_HELP: &str =
+    "How often to begin anew with a request that no retry brought a reply to, as in --again 3; \
+0 where none is given: a decimal number from 0 to 4294967295";
+
+const P1_MAYBE_HELP: &str =
+    "The UDP port of SMBus on 127.0.0.1, as 9621, where requests go on SMBus: a decimal number up to 65535";
+
+/// The command with a last word that may be left out: the port of SMBus.
+fn with_smbus_port<'a>(alloc: Global, command: Command<'a>) -> Result<Command<'a>, AllocError>
+    ensures { (app : App) → IsCommand app command
+        → IfOk result (IsCommand (with_smbus_port app)) }
+{
+    command.arg(Arg::new(alloc, "P1").help(P1_MAYBE_HELP))
+}
+
+const APPLY_EXAMPLES: &str = "Examples:
+  bmcnet apply examples/clean/plan.toml 9620 9621
+  bmcnet apply --undo fans.undo examples/clean/plan.toml 9620 9621
+  bmcnet apply --wait 500 --again 3 examples/clean/plan.toml 9620 9621";
+
+const ONLY_CHANGES_HELP: &str =
+    "Looks first, and leaves out each step that would change nothing, as in --only-changes";
+
+const ALL_OR_NONE_HELP: &str =
+    "Takes back at once what was done where the plan halts, as in --all-or-none";
+
+const APPLY_ARGUMENTS: [Argument<'static>; 8] = [
+    Argument::Option("undo", "FILE", FILE_HELP),
+    Argument::Flag("replace", FILE_REPLACE_HELP),
+    Argument::Flag("only-changes", ONLY_CHANGES_HELP),
+    Argument::Flag("all-or-none", ALL_OR_NONE_HELP),
+    Argument::Option("wait", "MS", WAIT_HELP),
+    Argument::Option("again", "N", REACH_AGAIN_HELP),
+    Argument::Needed("PLAN", PLAN_HELP),
+    Argument::Needed("P0", P0_HELP),
+];
+
+/// `apply [--undo FILE] [--replace] [--only-changes] [--all-or-none] [--wait MS] [--again N] PLAN P0 [P1]`.
+fn apply_command<'a>(alloc: Global) -> Result<Command<'a>, AllocError>
+    ensures { IfOk result (IsCommand (app_named Task.Apply)) }
+{
+    let command = new_command(
+        alloc,
+        "apply",
+        APPLY_ABOUT,
+        APPLY_EXAMPLES,
+        &APPLY_ARGUMENTS,
+    )?;
+    with_smbus_port(alloc, command)
+}
+
+const REVERT_ABOUT: &str = "Takes back on a controller what a file says, to which a plan was applied";
+
+const REVERT_FILE_HELP: &str =
+    "The file that apply kept, as fans.undo: a journal or an undo text. Meanwhile it is the journal of the way back";
+
+const REVERT_EXAMPLES: &str = "Examples:
+  bmcnet revert examples/clean/plan.undo 9620 9621
+  bmcnet revert --wait 500 --again 3 fans.undo 9620";
+
+const REVERT_PREVIEW_HELP: &str =
+    "Says in words what would be taken back, and sends nothing, as in --preview";
+
+const REVERT_ARGUMENTS: [Argument<'static>; 5] = [
+    Argument::Flag("preview", REVERT_PREVIEW_HELP),
+    Argument::Option("wait", "MS", WAIT_HELP),
+    Argument::Option("again", "N", REACH_AGAIN_HELP),
+    Argument::Needed("FILE", REVERT_FILE_HELP),
+    Argument::Needed("P0", P0_HELP),
+];
+
+/// `revert [--preview] [--wait MS] [--again N] FILE P0 [P1]`.
+fn revert_command<'a>(alloc: Global) -> Result<Command<'a>, AllocError>
+    ensures { IfOk result (IsCommand (app_named Task.Revert)) }
+{
+    let command = new_command(
+        alloc,
+        "revert",
+        REVERT_ABOUT,
+        REVERT_EXAMPLES,
+        &REVERT_ARGUMENTS,
+    )?;
+    with_smbus_port(alloc, command)
+}
+
+const PREVIEW_ABOUT: &str =
+    "Tells what a plan would make of a controller, step by step, by Gets alone: it sets nothing";
+
+const JSON_HELP: &str = "Writes an object of JSON a step, in place of a line, as in --json";
+
+const PREVIEW_EXAMPLES: &str = "Examples:
+  bmcnet preview examples/clean/plan.toml 9620 9621
+  bmcnet preview --json examples/clean/plan.toml 9620";
+
+const PREVIEW_ARGUMENTS: [Argument<'static>; 5] = [
+    Argument::Option("wait", "MS", WAIT_HELP),
+    Argument::Option("again", "N", REACH_AGAIN_HELP),
+    Argument::Flag("json", JSON_HELP),
+    Argument::Needed("PLAN", PLAN_HELP),
+    Argument::Needed("P0", P0_HELP),
+];
+
+/// `preview [--wait MS] [--again N] [--json] PLAN P0 [P1]`.
+fn preview_command<'a>(alloc: Global) -> Result<Command<'a>, AllocError>
+    ensures { IfOk result (IsCommand (app_named Task.Preview)) }
+{
+    let command = new_command(
+        alloc,
+        "preview",
+        PREVIEW_ABOUT,
+        PREVIEW_EXAMPLES,
+        &PREVIEW_ARGUMENTS,
+    )?;
+    with_smbus_port(alloc, command)
+}
+
+const SHOW_ABOUT: &str =
+    "Writes what a controller is set to, as plans that set it to that, by Gets alone: it sets nothing";
+
+const EFFECTERS_HELP: &str =
+    "The ids of the effecters that are read, which no table tells, as in --effecters 261,262: decimal numbers up to 65535";
+
+const OUT_HELP: &str =
+    "The name of the files that get the plans, as in --out backup for backup.toml; else standard output gets them";
+
+const SHOW_EXAMPLES: &str = "Examples:
+  bmcnet show 9620 9621
+  bmcnet show --effecters 261,262 --out backup 9620 9621
+  bmcnet show --json 9620";
+
+const SHOW_ARGUMENTS: [Argument<'static>; 6] = [
+    Argument::Option("wait", "MS", WAIT_HELP),
+    Argument::Option("again", "N", REACH_AGAIN_HELP),
+    Argument::Flag("json", JSON_HELP),
+    Argument::Option("effecters", "LIST", EFFECTERS_HELP),
+    Argument::Option("out", "NAME", OUT_HELP),
+    Argument::Needed("P0", P0_HELP),
+];
+
+/// `show [--wait MS] [--again N] [--json] [--effecters LIST] [--out NAME] P0 [P1]`.
+fn show_command<'a>(alloc: Global) -> Result<Command<'a>, AllocError>
+    ensures { IfOk result (IsCommand (app_named Task.Show)) }
+{
+    let command = new_command(alloc, "show", SHOW_ABOUT, SHOW_EXAMPLES, &SHOW_ARGUMENTS)?;
+    with_smbus_port(alloc, command)
+}
+
 impl Task {
     /// The command that does it.
     pub fn command<'a>(self, alloc: Global) -> Result<Command<'a>, AllocError>
@@ -199,6 +359,10 @@ impl Task {
             Task::Run => run_command(alloc),
             Task::Undo => undo_command(alloc),
             Task::Pair => pair_command(alloc),
+            Task::Apply => apply_command(alloc),
+            Task::Revert => revert_command(alloc),
+            Task::Preview => preview_command(alloc),
+            Task::Show => show_command(alloc),
         }
     }
 
@@ -209,6 +373,10 @@ impl Task {
             Task::Run => "bmcnet run",
             Task::Undo => "bmcnet undo",
             Task::Pair => "bmcnet pair",
+            Task::Apply => "bmcnet apply",
+            Task::Revert => "bmcnet revert",
+            Task::Preview => "bmcnet preview",
+            Task::Show => "bmcnet show",
         }
     }
 }
@@ -223,7 +391,11 @@ const EXAMPLES: &str = "Examples:
   bmcnet serve --periods sample.toml 9620 9621 1000
   bmcnet run examples/clean/plan.toml 9620 9621 1000 undo.txt
   bmcnet undo undo.txt 9620 9621 1000
-  bmcnet pair sample.toml examples/reply_lost/plan.toml 20";
+  bmcnet pair sample.toml examples/reply_lost/plan.toml 20
+  bmcnet apply examples/clean/plan.toml 9620 9621
+  bmcnet revert examples/clean/plan.undo 9620 9621
+  bmcnet preview examples/clean/plan.toml 9620 9621
+  bmcnet show 9620 9621";
 
 /// `bmcnet`, and what it can do.
 pub fn command<'a>(alloc: Global) -> Result<Command<'a>, AllocError>
@@ -234,5 +406,9 @@ pub fn command<'a>(alloc: Global) -> Result<Command<'a>, AllocError>
     let program = with_command(program, run_command(alloc))?;
     let program = with_command(program, undo_command(alloc))?;
     let program = with_command(program, pair_command(alloc))?;
+    let program = with_command(program, apply_command(alloc))?;
+    let program = with_command(program, revert_command(alloc))?;
+    let program = with_command(program, preview_command(alloc))?;
+    let program = with_command(program, show_command(alloc))?;
     with_command(program, version_command(alloc, VERSION_EXAMPLES))
 }

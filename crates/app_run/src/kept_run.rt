@@ -23,7 +23,7 @@ use wire_links::UdpLink;
 
 /// A manager of a plan, the kinds of the plan's steps, and the greetings before it is called.
 #[derive(Drop)]
-pub(crate) struct Ready {
+pub struct Ready {
     pub manager: Manager,
     pub kinds: Vec<Kind>,
     pub greetings: Greetings,

@@ -178,7 +178,7 @@ fn run_greeted<F: WritesFiles, P: io::Write, R: Net>(
 }
 
 /// A manager of this plan, that is ready to begin, and whether the controller is greeted before.
-fn make_ready(alloc: Global, plan: Plan, greet: bool) -> Result<Ready, AllocError>
+pub fn make_ready(alloc: Global, plan: Plan, greet: bool) -> Result<Ready, AllocError>
     ensures manager { IfOk result (λ ready. Represents lab_names ready.manager (opened_with plan)) }
     ensures kinds { IfOk result (λ ready. ready.kinds.items ≡ map kind_of plan.steps) }
     ensures greetings { IfOk result (λ ready. ready.greetings ≡ greetings_before_run greet plan) }
