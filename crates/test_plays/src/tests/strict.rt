@@ -2,6 +2,7 @@
 use super::{expect_equal, expect_told};
 use app_base::Status;
 use app_strict::{end_status, halts, records_status, strict_status};
+use std::process::Abort;
 use two_wire::Code;
 use undo_core::{Phase, Why};
 
@@ -161,23 +162,30 @@ fn files_with_keys_that_nothing_reads_are_refused(rt: HostRuntime) {
     expect_told(&rt, rt.alloc(), REFUSED);
 }
 
+/// A plan that halted.
+fn halted() -> Phase {
+    Phase::Halted(2, Why::Stop)
+}
+
+/// An undo that was refused.
+fn refused(rt: &impl Abort) -> Phase {
+    Phase::UndoRefused(1, Code::new(0xCC).expect(rt, "a code"))
+}
+
 #[test]
 fn each_phase_has_a_status(rt: HostRuntime) {
-    let code = Code::new(0xCC).expect(&rt, "a code");
-    let refused = Phase::UndoRefused(1, code);
-    let halted = Phase::Halted(2, Why::Stop);
     expect_equal(&rt, strict_status(Phase::Done), Status::Success);
     expect_equal(&rt, strict_status(Phase::Undone), Status::Success);
-    expect_equal(&rt, strict_status(halted), Status::Halted);
+    expect_equal(&rt, strict_status(halted()), Status::Halted);
     expect_equal(&rt, strict_status(Phase::Unsettled(0)), Status::Unsettled);
     expect_equal(&rt, strict_status(Phase::Undoing(3)), Status::Unsettled);
     expect_equal(&rt, strict_status(Phase::Fresh), Status::Unsettled);
-    expect_equal(&rt, strict_status(refused), Status::UndoRefused);
-    expect_equal(&rt, halts(halted), true);
+    expect_equal(&rt, strict_status(refused(&rt)), Status::UndoRefused);
+    expect_equal(&rt, halts(halted()), true);
     expect_equal(&rt, halts(Phase::Undone), false);
     expect_equal(&rt, records_status(0), Status::Success);
     expect_equal(&rt, records_status(2), Status::RecordsChanged);
-    expect_equal(&rt, end_status(refused, false, 1), Status::UndoRefused);
+    expect_equal(&rt, end_status(refused(&rt), false, 1), Status::UndoRefused);
     expect_equal(
         &rt,
         end_status(Phase::Undone, true, 1),
