@@ -1,6 +1,6 @@
 -- What is so of a journal that is kept.
-use Rattle.std.proofs.Common.{◌≡◌, ◌∙◌, ℕ, List, Bool, true, false, None, Ok, Err, inl, inr, refl, sym, subst}
-use Rattle.std.specs.Prelude.{not, IsSome}
+use Rattle.std.proofs.Common.{◌≡◌, ◌∙◌, ℕ, List, Bool, true, false, None, Ok, Err, inl, inr, refl, string_bytes, sym, subst}
+use Rattle.std.specs.Prelude.{not, IfOk, IsSome, Result}
 use Rattle.record_base.specs.declared.op.Op.{Op}
 use Rattle.undo_plans.specs.Requests.{RequestList}
 use Rattle.undo_plans.specs.declared.names.Names.{Names}
@@ -16,6 +16,7 @@ use Rattle.undo_core.specs.Journals.{kept_by}
 use Rattle.undo_core.specs.Placed.{IsPlaced}
 use Rattle.undo_core.specs.Shown.{IsStage, words_of}
 use Rattle.undo_core.specs.Stages.{kept_stage}
+use Rattle.app_journal.specs.declared.keeper.JournalTexts.{JournalTexts}
 use Rattle.app_journal.specs.declared.undo_files.UndoFiles.{UndoFiles}
 use Rattle.app_journal.specs.Beside.{Writings, Renamings}
 use Rattle.app_journal.specs.Keeping.{AllowedIsKept, ClosedIsSilent, OpenSetIsTakenBack, HasJournal, IsJournalText, KeepsJournal, PutsJournal, PutsWhereOther, has_open, may_unkept}
@@ -77,3 +78,10 @@ closed_at names plan requests replies _ _ is closed = absurd is
 
 pub closed_is_silent : ClosedIsSilent
 closed_is_silent manager names state shows closed = closed_at names manager.steps manager.undo.requests manager.replies manager.stage state.machine.stage shows.stage closed
+
+-- ---- the text that is put first
+
+pub texts_of : {E : Type 0} (manager : Manager) (text : List ℕ) (came : Result JournalTexts E) → IsJournalText text manager → IfOk came (λ texts. string_bytes texts.last ≡ text)
+    → IfOk came (λ texts. IsJournalText (string_bytes texts.last) manager)
+texts_of manager text (Ok texts) is same = subst (λ (t : List ℕ). IsJournalText t manager) (sym same) is
+texts_of manager text (Err why) is same = tt

@@ -11,7 +11,7 @@ mod undo_files;
 
 pub use claiming::{Claim, Taken, claim_files, hold_files};
 pub use files::{HoldFault, Place, PlaceFault, WriteFault, WritesFiles};
-pub use keeper::JournalKeeper;
+pub use keeper::{JournalKeeper, JournalTexts};
 pub use laws::{journals_are_kept, kept_texts_revive};
 pub use reviving::{ReviveFault, revive_text};
 pub use standing::{Standing, standing_in};

@@ -2,9 +2,12 @@ pub mod Asides
 pub mod Driving
 pub mod Tries
 pub mod Courses
+pub mod Starts
 pub mod Keeping
 pub mod Listing
 pub mod Telling
 pub mod Ways
+pub mod Going
+pub mod Readied
 pub mod Used
 pub mod Greets

@@ -1,19 +1,11 @@
 -- What comes of the undo of a list.
-use Rattle.std.specs.Prelude.{IfOk, String}
-use Rattle.std.specs.declared.alloc.Global.{Global}
-use Rattle.std.proofs.Common.{◌≡◌, ◌∙◌, ap, string_bytes, ◌↔◌, ◌⊎◌, ℕ, List, false, Result, Ok, Err, inl, inr, refl, subst, sym}
+use Rattle.std.proofs.Common.{◌≡◌, ◌↔◌, ◌⊎◌, ℕ, List, false, Result, Ok, Err, inl, inr, refl, subst, sym}
 use Rattle.text_undo.specs.declared.text.UndoFault.{UndoFault}
 use Rattle.text_undo.specs.declared.text.UndoFault.TheVariants as fault
 use Rattle.text_undo.specs.UndoText.{IsFirstBad}
 use Rattle.undo_plans.specs.declared.undo_list.UndoList.{UndoList}
 use Rattle.model_lab.specs.Meaning.{lab_names}
 use Rattle.undo_core.specs.Shown.{AreOthers}
-use Rattle.undo_journal.specs.Kept.{Kept}
-use Rattle.undo_core.specs.declared.manager.Manager.{Manager}
-use Rattle.undo_core.specs.Journals.{kept_by}
-use Rattle.text_journal.specs.JournalText.{IsTextOf}
-use Rattle.text_journal.specs.Written.{text_of}
-use Rattle.app_journal.specs.Keeping.{IsJournalText}
 use Rattle.app_journal.specs.declared.standing.Standing.{Standing}
 use Rattle.app_journal.specs.declared.standing.Standing.TheVariants.{Nothing, Something, NoJournal}
 use Rattle.app_journal.specs.Claiming.{may_go}
@@ -39,9 +31,3 @@ pub fault_of : (why : UndoFault) (text : List ℕ) → (why ≡ fault.Memory) �
 fault_of fault.Memory text told = tt
 fault_of (fault.Line line) text (inl is) = cc is
 fault_of (fault.Line line) text (inr (n, is, bad)) = let same : line ≡ n = cc in subst (IsFirstBad text) (sym same) bad
-
--- a text that is written of a manager's journal is that of its journal
-pub is_journal_text : {E : Type 0} (manager : Manager) (kept : Kept) (came : Result (String Global) E) → kept ≡ kept_by manager
-    → IfOk came (λ text. string_bytes text ≡ text_of kept) → IfOk came (λ text. IsTextOf (string_bytes text) kept) → IfOk came (λ text. IsJournalText (string_bytes text) manager)
-is_journal_text manager kept (Ok text) is written stands = record { written = written ∙ ap text_of is; stands = subst (IsTextOf (string_bytes text)) is stands }
-is_journal_text manager kept (Err why) is written stands = tt

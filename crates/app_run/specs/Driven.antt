@@ -8,7 +8,7 @@ use Rattle.model_undo.specs.Machine.{phase_of}
 use Rattle.model_lab.specs.Meaning.{lab_names}
 use Rattle.model_lab.specs.ManagerSteps.{ManagerState, ManagerStepResult, board_plans, called}
 use Rattle.model_undo.specs.declared.call.Call.{Call}
-use Rattle.model_undo.specs.declared.call.Call.TheVariants.{Undo, Again}
+use Rattle.model_undo.specs.declared.call.Call.TheVariants.{Again}
 use Rattle.undo_core.specs.declared.manager.Manager.{Manager}
 use Rattle.undo_core.specs.Shown.{words_of, Represents, opened_with as opened_of, resumed_from as resumed_of, IsListOf as IsOwnList}
 use Rattle.wire_links.specs.Counted.{none_counted}
@@ -106,11 +106,6 @@ GoesAgain agains call turns before = RunFrom (DrivesAgain agains turns) (called 
 -- likewise, in this phase, and it was never called again
 abbrev pub CallRun : Call → (turns : ℕ) → DrivenState → Manager → Phase → (counted counts : Links) → Type 0
 CallRun call turns before manager phase = GoesAgain 0 call turns before manager (Ok phase)
-
--- a manager went on from the list over links of its own, for at most so many turns, and undid it as far as it came
-pub record UndoRun (list : UndoList) (turns : ℕ) (manager : Manager) (phase : Phase) : Type 0 where
-  pub counts : Links
-  pub goes : CallRun Undo turns (resumed_from list) manager phase fresh_links counts
 
 -- the list is the manager's: what undoes the steps that were done, the numbers of its next requests, and its names
 abbrev pub IsListOf : UndoList → DrivenState → Type 0

@@ -8,6 +8,7 @@ pub mod Lines
 pub mod Ends
 pub mod Outcome
 pub mod Run
+pub mod Prepared
 pub mod Reverting
 pub mod JournalUndo
 pub mod Undo

@@ -59,6 +59,13 @@ module _ {Files : Type 0} (files : Ghosts Files) where
       × InSequence (GivesUndo files beside (text_of list)) (RemovesPart files.removes beside) old answer new
   KeepsList false beside manager old answer new = (answer ≡ Ok tt) × (new ≡ old)
 
+  -- The manager ran so, and its list is kept or not; or memory for the text of that is refused; or no manager could be made of the last text of its journal.
+  abbrev pub KeepsRan : UndoFiles → Result AllRan ReviveFault → Result Outcome ReportFault → (old new : Files) → Type 0
+  KeepsRan beside (Ok ran) outcome old new =
+      ((last : Result (Unit {0}) WriteFault) × (outcome ≡ Ok (Ran ran.phase (first_fault ran.kept last))) × KeepsList (is_over ran.phase) beside ran.manager old last new)
+      ⊎ ((outcome ≡ Err Memory) × (is_over ran.phase ≡ true) × (new ≡ old))
+  KeepsRan beside (Err why) outcome old new = (outcome ≡ Err Memory) × (new ≡ old)
+
   -- So comes to an end what was begun with this text in `.part`: the manager ran, and its journal and its list are kept or not; or no link could be had;
   -- or memory for the text of its last list was refused, or no manager could be made of the last text of its journal.
   abbrev pub ComesFrom : UndoFiles → DrivenState → RunWords → (had : List ℕ) → Result Outcome ReportFault → (old new : Files) → Type 0

@@ -87,13 +87,6 @@ module _ {Writer : Type 0} (out : Writer → Option (List ℕ)) where
   abbrev pub TellsWay : List Kind → (steps : ℕ) → (before : DrivenState) → (old new : Progress Writer) → Type 0
   TellsWay kinds steps before old new = (mid : Progress Writer) × LooksOnRun kinds steps before old mid × EndsLine out mid new
 
-  -- the same, whatever machine the manager showed before
-  abbrev pub LooksBeside : List Kind → (steps : ℕ) → (manager : Manager) → (old new : Progress Writer) → Type 0
-  LooksBeside kinds steps manager old new = (before : DrivenState) → Represents lab_names manager before → LooksOnRun kinds steps before old new
-
-  abbrev pub TellsBeside : List Kind → (steps : ℕ) → (manager : Manager) → (old new : Progress Writer) → Type 0
-  TellsBeside kinds steps manager old new = (before : DrivenState) → Represents lab_names manager before → TellsWay kinds steps before old new
-
   -- the same, whatever machine the manager showed before; or nothing is told
   abbrev pub MayTellWay : List Kind → (manager : Manager) → (old new : Progress Writer) → Type 0
   MayTellWay kinds manager old new = (before : DrivenState) → Represents lab_names manager before → (new ≡ old) ⊎ TellsWay kinds (length kinds) before old new

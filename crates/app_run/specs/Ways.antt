@@ -53,6 +53,11 @@ module _ {Files : Type 0} (takes : Writings Files) (renames : Renamings Files) (
   abbrev pub SettlesText : (turns : ℕ) → Manager → Phase → (links : BothLinks UdpLink UdpLink) → (had : List ℕ) → (old new : Files) → Type 0
   SettlesText turns manager phase links had old new = (revived : Manager) × IsMadeOf had revived × Settles revived turns manager phase links had old new
 
+  -- it did, and its journal isn't kept
+  abbrev pub SettlesUnkept : (turns : ℕ) → Manager → Phase → Result (Unit {0}) WriteFault → (links : BothLinks UdpLink UdpLink) → (had : List ℕ) → (old new : Files) → Type 0
+  SettlesUnkept turns manager phase (Ok kept) links had old new = ⊥
+  SettlesUnkept turns manager phase (Err why) links had old new = SettlesText turns manager phase links had old new
+
   -- The journal of a manager on its way couldn't be kept, so its frames were kept back. The manager that is made of the last text that `.part` was given
   -- settled what that has open.
   pub record RunsUnkept (before : DrivenState) (words : RunWords) (manager : Manager) (phase : Phase) (had : List ℕ) (old new : Files) : Type 0 where

@@ -1,8 +1,7 @@
 //! The greetings before a manager is called.
 ghost use Rattle.std.specs.Prelude.{◌≡◌, ◌&&◌, None, Some, is_none, if◌then◌else◌};
-ghost use Rattle.wire_links.specs.Counted.{none_counted};
 ghost use Rattle.bmc_ports.specs.Conversation.{links};
-ghost use Rattle.app_run.specs.Greeted.{GreetedFirst, GreetsBoth, GreetsBus, GreetsOver};
+ghost use Rattle.app_run.specs.Greeted.{GreetedFirst, GreetsBoth, GreetsBus};
 ghost use Rattle.app_run.specs.Greeted.{answer_word, greetings_before_run, greetings_before_undo};
 ghost use Rattle.app_run.specs.Greeted.{unanswered_by};
 
@@ -152,19 +151,6 @@ pub(crate) fn greet_both<A: Link, B: Link>(
     }
 }
 
-/// Greets so over these links.
-fn greet_over(greetings: &Greetings, ends: BusLinks, turns: u32) -> Option<Unanswered>
-    requires ipmb { ends.ipmb.counts ≡ none_counted }
-    requires smbus { ends.smbus.counts ≡ none_counted }
-    ensures { GreetsOver greetings.now turns result }
-{
-    let BusLinks {
-        mut ipmb,
-        mut smbus,
-    } = ends;
-    greet_both(greetings, &mut ipmb, &mut smbus, turns)
-}
-
 /// Greets so over links of its own to these ports, which wait so many milliseconds for a frame.
 /// Where no bus is to be greeted, it opens none.
 pub(crate) fn greet_first<R: Net>(
@@ -183,7 +169,11 @@ pub(crate) fn greet_first<R: Net>(
     let Some(ends) = open_ends(rt, ipmb_port, smbus_port, wait_ms) else {
         return Err(GreetFault::NoLink);
     };
-    match greet_over(greetings, ends, turns) {
+    let BusLinks {
+        mut ipmb,
+        mut smbus,
+    } = ends;
+    match greet_both(greetings, &mut ipmb, &mut smbus, turns) {
         None => Ok(()),
         Some(unanswered) => Err(GreetFault::Unanswered(unanswered)),
     }

@@ -9,6 +9,7 @@ mod kept_run;
 mod lines;
 mod links;
 mod observer;
+mod preparing;
 pub mod progress;
 mod reverting;
 pub mod running;

@@ -48,28 +48,39 @@ impl<P: io::Write> Observer for ProgressWriter<'_, P> {
 
 /// Looks at a manager that runs its plan: its journal is kept, and then the line of its progress is written, whether frames go out or not.
 #[derive(Drop)]
-pub(crate) struct RunWatch<'a, 'b, 'c, F: WritesFiles, P: io::Write> {
-    pub keeper: &'a mut JournalKeeper<'b, F>,
-    pub teller: &'a mut ProgressWriter<'c, P>,
+pub(crate) struct RunWatch<'a, 'b, F: WritesFiles, P: io::Write> {
+    pub keeper: JournalKeeper<'a, F>,
+    pub teller: ProgressWriter<'b, P>,
 }
 
-impl<F: WritesFiles, P: io::Write> Observer for RunWatch<'_, '_, '_, F, P> {
+impl<F: WritesFiles, P: io::Write> RunWatch<'_, '_, F, P> {
+    /// Ends the line of the progress, where one was written.
+    pub fn end(&mut self)
+        ensures kept { self.new.keeper ≡ self.old.keeper }
+        ensures ends { EndsLine P.contents self.old.teller.progress.now
+            self.new.teller.progress.now }
+        ensures same_line { self.new.teller.progress.ghost_name
+            ≡ self.old.teller.progress.ghost_name }
+    {
+        self.teller.end();
+    }
+}
+
+impl<F: WritesFiles, P: io::Write> Observer for RunWatch<'_, '_, F, P> {
     ghost use Rattle.std.specs.Prelude.{◌≡◌, string_bytes};
     ghost use Rattle.app_journal.specs.Keeping.{KeepsJournal};
     ghost use Rattle.app_run.specs.Told.{LooksOn};
 
     ghost sees = { λ old manager allowed new. KeepsJournal F.takes F.renames
-        old.keeper.now.beside.now manager allowed
-        (string_bytes old.keeper.now.text.now) (string_bytes new.keeper.now.text.now)
-        old.keeper.now.files.now new.keeper.now.files.now
-        × (new.keeper.now.beside ≡ old.keeper.now.beside)
-        × LooksOn P.contents old.teller.now.course.kinds.now old.teller.now.course.steps
-        old.teller.now.progress.now manager new.teller.now.progress.now
-        × (new.teller.now.course ≡ old.teller.now.course)
-        × (new.keeper.now.files.ghost_name ≡ old.keeper.now.files.ghost_name)
-        × (new.teller.now.progress.ghost_name ≡ old.teller.now.progress.ghost_name)
-        × (new.keeper.ghost_name ≡ old.keeper.ghost_name)
-        × (new.teller.ghost_name ≡ old.teller.ghost_name) };
+        old.keeper.beside.now manager allowed
+        (string_bytes old.keeper.texts.now.last) (string_bytes new.keeper.texts.now.last)
+        old.keeper.files.now new.keeper.files.now
+        × (new.keeper.beside ≡ old.keeper.beside)
+        × LooksOn P.contents old.teller.course.kinds.now old.teller.course.steps
+        old.teller.progress.now manager new.teller.progress.now
+        × (new.teller.course ≡ old.teller.course)
+        × (new.keeper.files.ghost_name ≡ old.keeper.files.ghost_name)
+        × (new.teller.progress.ghost_name ≡ old.teller.progress.ghost_name) };
 
     fn look(&mut self, manager: &Manager) -> bool {
         let allowed = self.keeper.look(manager);

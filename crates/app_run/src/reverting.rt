@@ -15,10 +15,10 @@ ghost use Rattle.bmc_ports.specs.Driving.{both};
 ghost use Rattle.bmc_ports.specs.Observing.{permit_at};
 ghost use Rattle.app_run.specs.Course.{RunCourse};
 ghost use Rattle.app_run.specs.Driven.{DrivenState, GoesAgain, is_over as over_in};
-ghost use Rattle.app_run.specs.Reverting.{GoesOn, MayRevert, Reverts, RevertsText, RunsKept, Undoes};
+ghost use Rattle.app_run.specs.Reverting.{GoesOn, MayRevert, Reverts, RunsKept, Undoes};
 ghost use Rattle.app_run.specs.Reverting.{call_for, left_ungreeted};
 ghost use Rattle.app_run.specs.JournalUndo.{EndsReverted, IsJournal, IsOwnOf, JournalEnds};
-ghost use Rattle.app_run.specs.Told.{LooksOnRecall, LooksOnRevert, MayLookOn, MayTellRevert, TellsJournal, TellsRevert, steps_of};
+ghost use Rattle.app_run.specs.Told.{LooksOnRecall, LooksOnRevert, MayLookOn, MayTellRevert, TellsJournal, steps_of};
 ghost use Rattle.app_run.specs.JournalUndo.{SaysEnd, SaysJournalFault, journal_line};
 
 use crate::greeting::{GreetFault, Greetings, Unanswered, greet_first};
@@ -28,7 +28,7 @@ use crate::observer::{ProgressWriter, RunWatch};
 use crate::progress::{PlanOutline, Progress, kinds_of};
 use crate::undoing::UndoWords;
 use app_base::{Console, Report, ReportFault, Status, Stream, end_run};
-use app_journal::{JournalKeeper, ReviveFault, UndoFiles, WritesFiles, revive_text};
+use app_journal::{JournalKeeper, JournalTexts, ReviveFault, UndoFiles, WritesFiles, revive_text};
 use bmc_ports::{DriveEnd, KeptBack, Observer, drive_observed};
 use std::alloc::{AllocError, Global};
 use std::io;
@@ -102,22 +102,20 @@ fn recall_over<F: WritesFiles, P: io::Write>(
 ) -> DriveEnd
     requires ipmb { ends.ipmb.counts ≡ none_counted }
     requires smbus { ends.smbus.counts ≡ none_counted }
-    ensures runs { RunsKept F.takes F.renames watch.old.keeper.now.beside.now (call_for recall)
-        turns manager.old manager.new result (string_bytes watch.old.keeper.now.text.now)
-        (string_bytes watch.new.keeper.now.text.now)
-        watch.old.keeper.now.files.now watch.new.keeper.now.files.now }
-    ensures told { LooksOnRecall P.contents watch.old.teller.now.course.kinds.now
-        watch.old.teller.now.course.steps
+    ensures runs { RunsKept F.takes F.renames watch.old.keeper.beside.now (call_for recall)
+        turns manager.old manager.new result (string_bytes watch.old.keeper.texts.now.last)
+        (string_bytes watch.new.keeper.texts.now.last)
+        watch.old.keeper.files.now watch.new.keeper.files.now }
+    ensures told { LooksOnRecall P.contents watch.old.teller.course.kinds.now
+        watch.old.teller.course.steps
         (call_for recall) manager.old manager.new
-        watch.old.teller.now.progress.now watch.new.teller.now.progress.now }
-    ensures same_words { watch.new.keeper.now.beside ≡ watch.old.keeper.now.beside }
-    ensures same_course { watch.new.teller.now.course ≡ watch.old.teller.now.course }
-    ensures same_files { watch.new.keeper.now.files.ghost_name
-        ≡ watch.old.keeper.now.files.ghost_name }
-    ensures same_line { watch.new.teller.now.progress.ghost_name
-        ≡ watch.old.teller.now.progress.ghost_name }
-    ensures same_keeper { watch.new.keeper.ghost_name ≡ watch.old.keeper.ghost_name }
-    ensures same_teller { watch.new.teller.ghost_name ≡ watch.old.teller.ghost_name }
+        watch.old.teller.progress.now watch.new.teller.progress.now }
+    ensures same_words { watch.new.keeper.beside ≡ watch.old.keeper.beside }
+    ensures same_course { watch.new.teller.course ≡ watch.old.teller.course }
+    ensures same_files { watch.new.keeper.files.ghost_name
+        ≡ watch.old.keeper.files.ghost_name }
+    ensures same_line { watch.new.teller.progress.ghost_name
+        ≡ watch.old.teller.progress.ghost_name }
 {
     let BusLinks {
         mut ipmb,
@@ -135,29 +133,28 @@ fn recall_on<F: WritesFiles, P: io::Write, R: Net>(
     watch: &mut RunWatch<F, P>,
 ) -> Result<DriveEnd, ReportFault>
     ensures runs { IfOk result (λ end. RunsKept F.takes F.renames
-        watch.old.keeper.now.beside.now (call_for recall) words.now.turns manager.old manager.new end
-        (string_bytes watch.old.keeper.now.text.now)
-        (string_bytes watch.new.keeper.now.text.now)
-        watch.old.keeper.now.files.now watch.new.keeper.now.files.now) }
+        watch.old.keeper.beside.now (call_for recall) words.now.turns
+        manager.old manager.new end
+        (string_bytes watch.old.keeper.texts.now.last)
+        (string_bytes watch.new.keeper.texts.now.last)
+        watch.old.keeper.files.now watch.new.keeper.files.now) }
     ensures stopped { IfErr result (λ why. why ≡ HasStopped) }
-    ensures same_text { OnErr result (string_bytes watch.new.keeper.now.text.now
-        ≡ string_bytes watch.old.keeper.now.text.now) }
+    ensures same_text { OnErr result (string_bytes watch.new.keeper.texts.now.last
+        ≡ string_bytes watch.old.keeper.texts.now.last) }
     ensures same { OnErr result
-        (watch.new.keeper.now.files.now ≡ watch.old.keeper.now.files.now) }
-    ensures told { OnOk result (LooksOnRecall P.contents watch.old.teller.now.course.kinds.now
-        watch.old.teller.now.course.steps
+        (watch.new.keeper.files.now ≡ watch.old.keeper.files.now) }
+    ensures told { OnOk result (LooksOnRecall P.contents watch.old.teller.course.kinds.now
+        watch.old.teller.course.steps
         (call_for recall) manager.old manager.new
-        watch.old.teller.now.progress.now watch.new.teller.now.progress.now) }
+        watch.old.teller.progress.now watch.new.teller.progress.now) }
     ensures untold { OnErr result
-        (watch.new.teller.now.progress.now ≡ watch.old.teller.now.progress.now) }
-    ensures same_words { watch.new.keeper.now.beside ≡ watch.old.keeper.now.beside }
-    ensures same_course { watch.new.teller.now.course ≡ watch.old.teller.now.course }
-    ensures same_files { watch.new.keeper.now.files.ghost_name
-        ≡ watch.old.keeper.now.files.ghost_name }
-    ensures same_line { watch.new.teller.now.progress.ghost_name
-        ≡ watch.old.teller.now.progress.ghost_name }
-    ensures same_keeper { watch.new.keeper.ghost_name ≡ watch.old.keeper.ghost_name }
-    ensures same_teller { watch.new.teller.ghost_name ≡ watch.old.teller.ghost_name }
+        (watch.new.teller.progress.now ≡ watch.old.teller.progress.now) }
+    ensures same_words { watch.new.keeper.beside ≡ watch.old.keeper.beside }
+    ensures same_course { watch.new.teller.course ≡ watch.old.teller.course }
+    ensures same_files { watch.new.keeper.files.ghost_name
+        ≡ watch.old.keeper.files.ghost_name }
+    ensures same_line { watch.new.teller.progress.ghost_name
+        ≡ watch.old.teller.progress.ghost_name }
 {
     let ends = open_ends(rt, words.ipmb_port, words.smbus_port, words.wait_ms);
     let Some(ends) = ends else {
@@ -185,22 +182,20 @@ pub(crate) fn undo_over<F: WritesFiles, P: io::Write, R: Net>(
     greetings: &Greetings,
     watch: &mut RunWatch<F, P>,
 ) -> Result<Reverted, ReportFault>
-    ensures undoes { Undoes F.takes F.renames watch.old.keeper.now.beside.now greetings.now
+    ensures undoes { Undoes F.takes F.renames watch.old.keeper.beside.now greetings.now
         words.now.turns manager.old phase result
-        (string_bytes watch.old.keeper.now.text.now)
-        (string_bytes watch.new.keeper.now.text.now)
-        watch.old.keeper.now.files.now watch.new.keeper.now.files.now }
-    ensures told { MayLookOn P.contents watch.old.teller.now.course.kinds.now
-        watch.old.teller.now.course.steps Undo manager.old
-        watch.old.teller.now.progress.now watch.new.teller.now.progress.now }
-    ensures same_words { watch.new.keeper.now.beside ≡ watch.old.keeper.now.beside }
-    ensures same_course { watch.new.teller.now.course ≡ watch.old.teller.now.course }
-    ensures same_files { watch.new.keeper.now.files.ghost_name
-        ≡ watch.old.keeper.now.files.ghost_name }
-    ensures same_line { watch.new.teller.now.progress.ghost_name
-        ≡ watch.old.teller.now.progress.ghost_name }
-    ensures same_keeper { watch.new.keeper.ghost_name ≡ watch.old.keeper.ghost_name }
-    ensures same_teller { watch.new.teller.ghost_name ≡ watch.old.teller.ghost_name }
+        (string_bytes watch.old.keeper.texts.now.last)
+        (string_bytes watch.new.keeper.texts.now.last)
+        watch.old.keeper.files.now watch.new.keeper.files.now }
+    ensures told { MayLookOn P.contents watch.old.teller.course.kinds.now
+        watch.old.teller.course.steps Undo manager.old
+        watch.old.teller.progress.now watch.new.teller.progress.now }
+    ensures same_words { watch.new.keeper.beside ≡ watch.old.keeper.beside }
+    ensures same_course { watch.new.teller.course ≡ watch.old.teller.course }
+    ensures same_files { watch.new.keeper.files.ghost_name
+        ≡ watch.old.keeper.files.ghost_name }
+    ensures same_line { watch.new.teller.progress.ghost_name
+        ≡ watch.old.teller.progress.ghost_name }
 {
     let greeted = greet_first(
         rt,
@@ -241,21 +236,19 @@ fn go_on_in<F: WritesFiles, P: io::Write, R: Net>(
     words: &UndoWords,
     watch: &mut RunWatch<F, P>,
 ) -> Result<Reverted, ReportFault>
-    ensures goes { GoesOn F.takes F.renames watch.old.keeper.now.beside.now words.now manager.old
-        (Ok phase) result (string_bytes watch.old.keeper.now.text.now)
-        (string_bytes watch.new.keeper.now.text.now)
-        watch.old.keeper.now.files.now watch.new.keeper.now.files.now }
-    ensures told { MayLookOn P.contents watch.old.teller.now.course.kinds.now
-        watch.old.teller.now.course.steps Undo manager.old
-        watch.old.teller.now.progress.now watch.new.teller.now.progress.now }
-    ensures same_words { watch.new.keeper.now.beside ≡ watch.old.keeper.now.beside }
-    ensures same_course { watch.new.teller.now.course ≡ watch.old.teller.now.course }
-    ensures same_files { watch.new.keeper.now.files.ghost_name
-        ≡ watch.old.keeper.now.files.ghost_name }
-    ensures same_line { watch.new.teller.now.progress.ghost_name
-        ≡ watch.old.teller.now.progress.ghost_name }
-    ensures same_keeper { watch.new.keeper.ghost_name ≡ watch.old.keeper.ghost_name }
-    ensures same_teller { watch.new.teller.ghost_name ≡ watch.old.teller.ghost_name }
+    ensures goes { GoesOn F.takes F.renames watch.old.keeper.beside.now words.now manager.old
+        (Ok phase) result (string_bytes watch.old.keeper.texts.now.last)
+        (string_bytes watch.new.keeper.texts.now.last)
+        watch.old.keeper.files.now watch.new.keeper.files.now }
+    ensures told { MayLookOn P.contents watch.old.teller.course.kinds.now
+        watch.old.teller.course.steps Undo manager.old
+        watch.old.teller.progress.now watch.new.teller.progress.now }
+    ensures same_words { watch.new.keeper.beside ≡ watch.old.keeper.beside }
+    ensures same_course { watch.new.teller.course ≡ watch.old.teller.course }
+    ensures same_files { watch.new.keeper.files.ghost_name
+        ≡ watch.old.keeper.files.ghost_name }
+    ensures same_line { watch.new.teller.progress.ghost_name
+        ≡ watch.old.teller.progress.ghost_name }
 {
     if !is_over(&phase) {
         return ended_in(phase);
@@ -272,21 +265,19 @@ fn go_on<F: WritesFiles, P: io::Write, R: Net>(
     words: &UndoWords,
     watch: &mut RunWatch<F, P>,
 ) -> Result<Reverted, ReportFault>
-    ensures goes { GoesOn F.takes F.renames watch.old.keeper.now.beside.now words.now manager.old
-        end result (string_bytes watch.old.keeper.now.text.now)
-        (string_bytes watch.new.keeper.now.text.now)
-        watch.old.keeper.now.files.now watch.new.keeper.now.files.now }
-    ensures told { MayLookOn P.contents watch.old.teller.now.course.kinds.now
-        watch.old.teller.now.course.steps Undo manager.old
-        watch.old.teller.now.progress.now watch.new.teller.now.progress.now }
-    ensures same_words { watch.new.keeper.now.beside ≡ watch.old.keeper.now.beside }
-    ensures same_course { watch.new.teller.now.course ≡ watch.old.teller.now.course }
-    ensures same_files { watch.new.keeper.now.files.ghost_name
-        ≡ watch.old.keeper.now.files.ghost_name }
-    ensures same_line { watch.new.teller.now.progress.ghost_name
-        ≡ watch.old.teller.now.progress.ghost_name }
-    ensures same_keeper { watch.new.keeper.ghost_name ≡ watch.old.keeper.ghost_name }
-    ensures same_teller { watch.new.teller.ghost_name ≡ watch.old.teller.ghost_name }
+    ensures goes { GoesOn F.takes F.renames watch.old.keeper.beside.now words.now manager.old
+        end result (string_bytes watch.old.keeper.texts.now.last)
+        (string_bytes watch.new.keeper.texts.now.last)
+        watch.old.keeper.files.now watch.new.keeper.files.now }
+    ensures told { MayLookOn P.contents watch.old.teller.course.kinds.now
+        watch.old.teller.course.steps Undo manager.old
+        watch.old.teller.progress.now watch.new.teller.progress.now }
+    ensures same_words { watch.new.keeper.beside ≡ watch.old.keeper.beside }
+    ensures same_course { watch.new.teller.course ≡ watch.old.teller.course }
+    ensures same_files { watch.new.keeper.files.ghost_name
+        ≡ watch.old.keeper.files.ghost_name }
+    ensures same_line { watch.new.teller.progress.ghost_name
+        ≡ watch.old.teller.progress.ghost_name }
 {
     match end {
         Ok(phase) => go_on_in(rt, manager, phase, words, watch),
@@ -294,82 +285,32 @@ fn go_on<F: WritesFiles, P: io::Write, R: Net>(
     }
 }
 
-/// Settles the open request of a manager that was made of a journal, and has it take back what it did. Meanwhile its journal is kept, and the line of its
-/// progress is written.
+/// Settles the open request of a manager that was made of a journal, and has it take back what it did. Meanwhile its journal is kept, and the line of
+/// its progress is written.
 fn revert<F: WritesFiles, P: io::Write, R: Net>(
     rt: &R,
     mut manager: Manager,
     words: &UndoWords,
     watch: &mut RunWatch<F, P>,
 ) -> Result<Reverted, ReportFault>
-    ensures reverts { Reverts F.takes F.renames watch.old.keeper.now.beside.now words.now manager
-        result (string_bytes watch.old.keeper.now.text.now)
-        (string_bytes watch.new.keeper.now.text.now)
-        watch.old.keeper.now.files.now watch.new.keeper.now.files.now }
-    ensures told { LooksOnRevert P.contents watch.old.teller.now.course.kinds.now
-        watch.old.teller.now.course.steps manager
-        watch.old.teller.now.progress.now watch.new.teller.now.progress.now }
-    ensures same_words { watch.new.keeper.now.beside ≡ watch.old.keeper.now.beside }
-    ensures same_course { watch.new.teller.now.course ≡ watch.old.teller.now.course }
-    ensures same_files { watch.new.keeper.now.files.ghost_name
-        ≡ watch.old.keeper.now.files.ghost_name }
-    ensures same_line { watch.new.teller.now.progress.ghost_name
-        ≡ watch.old.teller.now.progress.ghost_name }
-    ensures same_keeper { watch.new.keeper.ghost_name ≡ watch.old.keeper.ghost_name }
-    ensures same_teller { watch.new.teller.ghost_name ≡ watch.old.teller.ghost_name }
+    ensures reverts { Reverts F.takes F.renames watch.old.keeper.beside.now words.now manager
+        result (string_bytes watch.old.keeper.texts.now.last)
+        (string_bytes watch.new.keeper.texts.now.last)
+        watch.old.keeper.files.now watch.new.keeper.files.now }
+    ensures told { LooksOnRevert P.contents watch.old.teller.course.kinds.now
+        watch.old.teller.course.steps manager
+        watch.old.teller.progress.now watch.new.teller.progress.now }
+    ensures same_words { watch.new.keeper.beside ≡ watch.old.keeper.beside }
+    ensures same_course { watch.new.teller.course ≡ watch.old.teller.course }
+    ensures same_files { watch.new.keeper.files.ghost_name
+        ≡ watch.old.keeper.files.ghost_name }
+    ensures same_line { watch.new.teller.progress.ghost_name
+        ≡ watch.old.teller.progress.ghost_name }
 {
     match recall_on(rt, &mut manager, Recall::Settle, words, watch) {
         Ok(end) => go_on(rt, &mut manager, end, words, watch),
         Err(why) => Err(why),
     }
-}
-
-/// The same, while these look at it.
-fn revert_seen<F: WritesFiles, P: io::Write, R: Net>(
-    rt: &R,
-    manager: Manager,
-    words: &UndoWords,
-    keeper: &mut JournalKeeper<F>,
-    teller: &mut ProgressWriter<P>,
-) -> Result<Reverted, ReportFault>
-    ensures reverts { Reverts F.takes F.renames keeper.old.beside.now words.now manager result
-        (string_bytes keeper.old.text.now) (string_bytes keeper.new.text.now)
-        keeper.old.files.now keeper.new.files.now }
-    ensures told { LooksOnRevert P.contents teller.old.course.kinds.now teller.old.course.steps
-        manager teller.old.progress.now teller.new.progress.now }
-    ensures same_files { keeper.new.files.ghost_name ≡ keeper.old.files.ghost_name }
-    ensures same_line { teller.new.progress.ghost_name ≡ teller.old.progress.ghost_name }
-{
-    let mut watch = RunWatch { keeper, teller };
-    revert(rt, manager, words, &mut watch)
-}
-
-/// The same, while the journal of this text is kept in the file that these words are beside, and the teller's line is ended.
-fn revert_text<F: WritesFiles, P: io::Write, R: Net>(
-    rt: &R,
-    alloc: Global,
-    files: &mut F,
-    manager: Manager,
-    kept: Kept,
-    words: &UndoWords,
-    teller: &mut ProgressWriter<P>,
-) -> Result<Reverted, ReportFault>
-    ensures reverts { RevertsText F.takes F.renames kept.beside words.now manager result
-        (string_bytes kept.text) files.old files.new }
-    ensures told { TellsRevert P.contents teller.old.course.kinds.now teller.old.course.steps
-        manager teller.old.progress.now teller.new.progress.now }
-    ensures same_line { teller.new.progress.ghost_name ≡ teller.old.progress.ghost_name }
-{
-    let Kept { beside, mut text } = kept;
-    let mut keeper = JournalKeeper {
-        alloc,
-        files,
-        beside: &beside,
-        text: &mut text,
-    };
-    let came = revert_seen(rt, manager, words, &mut keeper, teller);
-    teller.end();
-    came
 }
 
 // ---- what is said
@@ -458,11 +399,11 @@ pub(crate) fn say_reverted<W: io::Write, E: io::Write>(
     }
 }
 
-/// What a journal's undo keeps: the words beside its file, and its text.
+/// What a journal's undo keeps: the words beside its file, and its texts.
 #[derive(Drop)]
 struct Kept {
     beside: UndoFiles,
-    text: String,
+    texts: JournalTexts,
 }
 
 /// The words beside a journal's own file, which is one of these.
@@ -476,14 +417,19 @@ fn own_files(alloc: Global, held: &UndoFiles) -> Result<UndoFiles, AllocError>
     UndoFiles::of_journal(alloc, word)
 }
 
-/// That of the journal of this text in a file that is held.
-fn kept_of(alloc: Global, held: &UndoFiles, text: &str) -> Result<Kept, AllocError>
+/// That of the journal of this text, and of this manager, in a file that is held.
+fn kept_of(
+    alloc: Global,
+    held: &UndoFiles,
+    text: &str,
+    manager: &Manager,
+) -> Result<Kept, AllocError>
     ensures beside { IfOk result (λ kept. IsOwnOf held.now kept.beside) }
-    ensures text { IfOk result (λ kept. string_bytes kept.text ≡ text.now) }
+    ensures text { IfOk result (λ kept. string_bytes kept.texts.last ≡ text.now) }
 {
     let beside = own_files(alloc, held)?;
-    let text = String::from_str(alloc, text)?;
-    Ok(Kept { beside, text })
+    let texts = JournalTexts::of_file(alloc, text, manager)?;
+    Ok(Kept { beside, texts })
 }
 
 /// How many steps are told of a manager that was made of a journal.
@@ -498,7 +444,8 @@ fn steps_of(journal: &JournalView) -> usize
     }
 }
 
-/// Has what the journal of this manager says taken back, while the line of its progress is written.
+/// Has what the journal of this manager says taken back, while the file that these words are beside keeps it, and the line of its progress is
+/// written.
 fn revert_told<F: WritesFiles, P: io::Write, R: Net>(
     rt: &R,
     alloc: Global,
@@ -509,9 +456,10 @@ fn revert_told<F: WritesFiles, P: io::Write, R: Net>(
     progress: &mut Progress<P>,
 ) -> Result<Reverted, ReportFault>
     ensures reverts { MayRevert F.takes F.renames kept.beside words.now manager result
-        (string_bytes kept.text) files.old files.new }
+        (string_bytes kept.texts.last) files.old files.new }
     ensures told { MayTellRevert P.contents manager progress.old progress.new }
 {
+    let Kept { beside, mut texts } = kept;
     let journal = manager.journal();
     let steps = steps_of(&journal);
     let Ok(kinds) = kinds_of(alloc, journal.steps) else {
@@ -522,12 +470,21 @@ fn revert_told<F: WritesFiles, P: io::Write, R: Net>(
         steps,
         kinds: kinds.as_slice(),
     };
-    let mut teller = ProgressWriter {
-        alloc,
-        progress,
-        course,
+    let mut watch = RunWatch {
+        keeper: JournalKeeper {
+            files,
+            beside: &beside,
+            texts: &mut texts,
+        },
+        teller: ProgressWriter {
+            alloc,
+            progress,
+            course,
+        },
     };
-    revert_text(rt, alloc, files, manager, kept, words, &mut teller)
+    let came = revert(rt, manager, words, &mut watch);
+    watch.end();
+    came
 }
 
 /// Has what the journal of this text says taken back, while the file that is held keeps it, and says what came of it, by this word of the file.
@@ -550,11 +507,14 @@ pub(crate) fn undo_journal<F: WritesFiles, W: io::Write, E: io::Write, P: io::Wr
         Ok(manager) => manager,
         Err(why) => return end_run(&journal_refusal(alloc, why), console),
     };
-    match kept_of(alloc, held, text) {
+    match kept_of(alloc, held, text, &manager) {
         Ok(kept) => {
             let reverted = revert_told(rt, alloc, files, manager, kept, words, progress);
             say_reverted(alloc, word, reverted, console)
         }
-        Err(AllocError) => end_run(&Err(ReportFault::Memory), console),
+        Err(AllocError) => {
+            drop(manager);
+            end_run(&Err(ReportFault::Memory), console)
+        }
     }
 }

@@ -6,8 +6,8 @@ ghost use Rattle.undo_core.specs.Shown.{Represents};
 ghost use Rattle.bmc_ports.specs.Conversation.{frames_given, links};
 ghost use Rattle.bmc_ports.specs.Driving.{both};
 ghost use Rattle.bmc_ports.specs.Observing.{Observed, permit_at, permit_for};
-ghost use Rattle.app_run.specs.Driven.{DrivenState, DrivesAgain, GoesAgain, is_unsettled};
-ghost use Rattle.app_run.specs.Course.{RunCourse, SeenTries};
+ghost use Rattle.app_run.specs.Driven.{DrivenState, GoesAgain, is_unsettled};
+ghost use Rattle.app_run.specs.Course.{RunCourse};
 ghost use Rattle.app_run.specs.Stops.{StopsAfter};
 
 use bmc_ports::{DriveEnd, KeptBack, Observer, drive_observed};
@@ -61,41 +61,6 @@ fn drive_heeded<A: Link, B: Link, T: Observer>(
     }
 }
 
-/// Drives a manager likewise, and calls it again wherever that leaves it unsettled, up to so many times. Then it is driven as `drive_observed`
-/// does.
-fn drive_again<A: Link, B: Link, T: Observer>(
-    manager: &mut Manager,
-    first: Option<Sent>,
-    ipmb: &mut A,
-    smbus: &mut B,
-    turns: u32,
-    agains: u32,
-    watch: &mut T,
-) -> DriveEnd
-    ensures drives { (s : DrivenState) → Represents the_names manager.old s
-        → DrivesAgain agains turns s manager.new result
-        (both (A.counts_of ipmb.old) (B.counts_of smbus.old))
-        (both (A.counts_of ipmb.new) (B.counts_of smbus.new)) }
-    ensures seen { SeenTries T.sees A.Link B.Link manager.old manager.new first
-        (links ipmb.old smbus.old) (links ipmb.new smbus.new) (permit_at result)
-        watch.old watch.new }
-{
-    let mut sent = first;
-    let mut left = turns;
-    for _ in 0..agains {
-        left = match drive_heeded(manager, sent, ipmb, smbus, left, watch) {
-            Ok(Some(rest)) => rest,
-            Ok(None) => return Ok(manager.phase()),
-            Err(kept) => return Err(kept),
-        };
-        let Ok(again) = manager.again() else {
-            return Ok(manager.phase());
-        };
-        sent = again;
-    }
-    drive_observed(manager, sent, ipmb, smbus, left, watch)
-}
-
 /// Begins a manager's plan, and drives it as `run_plan` does. Where a turn leaves it unsettled and others are left, it is called again, up to so
 /// many times. The watch looks at it behind each call that gave something to send, and behind each turn, before what the manager gave goes out.
 /// Where a look doesn't allow that, nothing is sent or called behind it.
@@ -115,10 +80,23 @@ pub fn try_plan<A: Link, B: Link, T: Observer>(
         (links ipmb.old smbus.old) (links ipmb.new smbus.new) (permit_at result)
         watch.old watch.new }
 {
-    match manager.start() {
-        Ok(first) => drive_again(manager, first, ipmb, smbus, turns, agains, watch),
-        Err(WrongPhase) => Ok(manager.phase()),
+    let mut sent = match manager.start() {
+        Ok(first) => first,
+        Err(WrongPhase) => return Ok(manager.phase()),
+    };
+    let mut left = turns;
+    for _ in 0..agains {
+        left = match drive_heeded(manager, sent, ipmb, smbus, left, watch) {
+            Ok(Some(rest)) => rest,
+            Ok(None) => return Ok(manager.phase()),
+            Err(kept) => return Err(kept),
+        };
+        let Ok(again) = manager.again() else {
+            return Ok(manager.phase());
+        };
+        sent = again;
     }
+    drive_observed(manager, sent, ipmb, smbus, left, watch)
 }
 
 /// Calls an unsettled manager again, and drives it likewise.

@@ -1,13 +1,10 @@
 //! `bmcnet undo`: what a plan did to a controller is taken back over UDP.
 ghost use Rattle.std.specs.Prelude.{◌≡◌, ◌↔◌, [], false, IfOk, Ok, Err, string_bytes};
-ghost use Rattle.model_undo.specs.declared.call.Call.TheVariants.{Undo};
 ghost use Rattle.model_lab.specs.Meaning.{lab_names};
 ghost use Rattle.undo_core.specs.Shown.{AreOthers};
 ghost use Rattle.app_base.specs.Ending.{ReportTells};
-ghost use Rattle.app_journal.specs.Keeping.{IsJournalText};
 ghost use Rattle.app_run.specs.declared.undoing.ListEnd.TheVariants.{Reverted as HasReverted};
-ghost use Rattle.app_run.specs.Reverting.{Undoes};
-ghost use Rattle.app_run.specs.Told.{MayLookOn, MayTellResumed, TellsOfNames, TellsResumed, TellsUndoFile};
+ghost use Rattle.app_run.specs.Told.{MayTellResumed, TellsOfNames, TellsResumed, TellsUndoFile};
 ghost use Rattle.app_run.specs.Told.{TellsUndoOf, TellsUndoText};
 ghost use Rattle.app_run.specs.Undo.{EndsListed, IsResumed, ListEnds, MadeEnds, RemovesUndone, SaysLine};
 ghost use Rattle.app_run.specs.Undo.{SaysOthers, TextEnds, UnbarredEnds, UndoEndsIn, UndoEndsOf, UndoesFrom};
@@ -21,11 +18,12 @@ use crate::reverting::{Reverted, is_journal, say_reverted, undo_journal, undo_ov
 use crate::running::{tell_unkept, unmade};
 use app_base::files::refuse;
 use app_base::{Console, Report, ReportFault, TextFiles, end_run, text_of};
-use app_journal::{JournalKeeper, Standing, UndoFiles, WriteFault, WritesFiles, hold_files};
+use app_journal::{
+    JournalKeeper, JournalTexts, Standing, UndoFiles, WriteFault, WritesFiles, hold_files,
+};
 use std::alloc::{AllocError, Global};
 use std::io;
 use std::net::Net;
-use text_journal::write_journal;
 use text_undo::{UndoFault, read_undo};
 use undo_core::{Manager, Phase};
 use undo_plans::UndoList;
@@ -69,88 +67,46 @@ struct Resumed {
 
 // ---- the undo of a list
 
-/// Has a manager take back what its list says, while these look at it.
-fn undo_seen<F: WritesFiles, P: io::Write, R: Net>(
-    rt: &R,
-    resumed: Resumed,
-    words: &UndoWords,
-    keeper: &mut JournalKeeper<F>,
-    teller: &mut ProgressWriter<P>,
-) -> Result<Reverted, ReportFault>
-    ensures undoes { Undoes F.takes F.renames keeper.old.beside.now resumed.greetings
-        words.now.turns resumed.manager resumed.phase result
-        (string_bytes keeper.old.text.now) (string_bytes keeper.new.text.now)
-        keeper.old.files.now keeper.new.files.now }
-    ensures told { MayLookOn P.contents teller.old.course.kinds.now teller.old.course.steps Undo
-        resumed.manager teller.old.progress.now teller.new.progress.now }
-    ensures same_files { keeper.new.files.ghost_name ≡ keeper.old.files.ghost_name }
-    ensures same_line { teller.new.progress.ghost_name ≡ teller.old.progress.ghost_name }
-{
-    let Resumed {
-        mut manager,
-        phase,
-        steps: _,
-        greetings,
-    } = resumed;
-    let mut watch = RunWatch { keeper, teller };
-    undo_over(rt, &mut manager, phase, words, &greetings, &mut watch)
-}
-
-/// The same, while its journal of this text is kept in the file beside, and the teller's line is ended.
-fn undo_kept<F: WritesFiles, P: io::Write, R: Net>(
-    rt: &R,
-    alloc: Global,
-    files: &mut F,
-    beside: &UndoFiles,
-    text: String,
-    resumed: Resumed,
-    words: &UndoWords,
-    teller: &mut ProgressWriter<P>,
-) -> Result<Reverted, ReportFault>
-    ensures undoes { UndoesFrom F.takes F.renames beside.now resumed words.now.turns result
-        (string_bytes text) files.old files.new }
-    ensures told { TellsResumed P.contents teller.old.course.kinds.now teller.old.course.steps
-        resumed.manager teller.old.progress.now teller.new.progress.now }
-    ensures same_line { teller.new.progress.ghost_name ≡ teller.old.progress.ghost_name }
-{
-    let mut text = text;
-    let mut keeper = JournalKeeper {
-        alloc,
-        files,
-        beside: &*beside,
-        text: &mut text,
-    };
-    let came = undo_seen(rt, resumed, words, &mut keeper, teller);
-    teller.end();
-    came
-}
-
-/// The same, while the line of its progress is written.
+/// Has a manager take back what its list says, while its journal, whose texts these are, is kept in the file beside, and the line of its progress is
+/// written.
 fn undo_told<F: WritesFiles, P: io::Write, R: Net>(
     rt: &R,
     alloc: Global,
     files: &mut F,
     beside: &UndoFiles,
-    text: String,
+    texts: JournalTexts,
     resumed: Resumed,
     words: &UndoWords,
     progress: &mut Progress<P>,
 ) -> Result<Reverted, ReportFault>
     ensures undoes { UndoesFrom F.takes F.renames beside.now resumed words.now.turns result
-        (string_bytes text) files.old files.new }
+        (string_bytes texts.last) files.old files.new }
     ensures told { TellsResumed P.contents [] resumed.steps resumed.manager
         progress.old progress.new }
 {
-    let course = PlanOutline {
-        steps: resumed.steps,
-        kinds: &[],
+    let mut texts = texts;
+    let Resumed {
+        mut manager,
+        phase,
+        steps,
+        greetings,
+    } = resumed;
+    let course = PlanOutline { steps, kinds: &[] };
+    let mut watch = RunWatch {
+        keeper: JournalKeeper {
+            files,
+            beside: &*beside,
+            texts: &mut texts,
+        },
+        teller: ProgressWriter {
+            alloc,
+            progress,
+            course,
+        },
     };
-    let mut teller = ProgressWriter {
-        alloc,
-        progress,
-        course,
-    };
-    undo_kept(rt, alloc, files, beside, text, resumed, words, &mut teller)
+    let came = undo_over(rt, &mut manager, phase, words, &greetings, &mut watch);
+    watch.end();
+    came
 }
 
 /// Removes the file of the journal of a manager that took all back. Else it does nothing.
@@ -174,14 +130,8 @@ fn listed(came: Reverted, gone: Result<(), WriteFault>) -> Result<ListEnd, Repor
     Ok(ListEnd::Reverted(came, gone))
 }
 
-/// The text of a manager's journal.
-fn journal_text(alloc: Global, manager: &Manager) -> Result<String, AllocError>
-    ensures { IfOk result (λ text. IsJournalText (string_bytes text) manager.now) }
-{
-    write_journal(alloc, &manager.journal())
-}
-
-/// Makes the file of the journal, with that of a manager that goes on from a list. Then it takes that back, and where it took all back, the file is removed.
+/// Makes the file of the journal, with that of a manager that goes on from a list. Then it takes that back, and where it took all back, the file is
+/// removed.
 fn undo_made<F: WritesFiles, P: io::Write, R: Net>(
     rt: &R,
     alloc: Global,
@@ -196,15 +146,15 @@ fn undo_made<F: WritesFiles, P: io::Write, R: Net>(
     ensures told { MayTellResumed P.contents [] resumed.steps resumed.manager
         progress.old progress.new }
 {
-    let Ok(text) = journal_text(alloc, &resumed.manager) else {
+    let Ok(texts) = JournalTexts::of(alloc, &resumed.manager) else {
         drop(resumed);
         return Err(ReportFault::Memory);
     };
-    if let Err(WriteFault) = beside.put(files, text.as_str()) {
+    if let Err(WriteFault) = beside.put(files, texts.last.as_str()) {
         drop(resumed);
         return Ok(ListEnd::Barred);
     }
-    match undo_told(rt, alloc, files, beside, text, resumed, words, progress) {
+    match undo_told(rt, alloc, files, beside, texts, resumed, words, progress) {
         Ok(came) => {
             let gone = remove_undone(files, beside, &came);
             listed(came, gone)
@@ -400,19 +350,21 @@ fn undo_held<F: TextFiles + WritesFiles, W: io::Write, E: io::Write, P: io::Writ
 /// before, as `run` does for the list's next numbers. Where the line of its progress is written, that tells of each step and is ended
 /// before the phase is said.
 ///
-/// Before anything else is done the file is held, where the word's links lead, so that one process at a time uses it: `run` holds the same one, and the undo of
-/// the journal beside it does. Then the file beside it, `.part`, is made with the journal of the manager that goes on from the list. It has the manager's journal
-/// whenever frames go out, as that of a run has. Once all was taken back it is removed; behind any other end it stays. The file itself is never changed. Where
-/// `.part` has something to take back that isn't the list, or is no journal, nothing is sent. Of a FIFO or a device nothing is held, and there is no journal.
+/// Before anything else is done the file is held, where the word's links lead, so that one process at a time uses it: `run` holds the same one, and
+/// the undo of the journal beside it does. Then the file beside it, `.part`, is made with the journal of the manager that goes on from the list. It
+/// has the manager's journal whenever frames go out, as that of a run has. Once all was taken back it is removed; behind any other end it stays. The
+/// file itself is never changed. Where `.part` has something to take back that isn't the list, or is no journal, nothing is sent. Of a FIFO or a
+/// device nothing is held, and there is no journal.
 ///
-/// It gives the status: 0, or 3 with `file` or `undo` and the fault on standard error where the file can't be held or read, or
-/// is no undo text, or where `.part` is in the way or can't be made, or doesn't take the journal while a request is open; `undo OtherNames` where its list has
-/// names that aren't the lab's; 3 with the phase and `file` behind it where `.part` can't be removed; 4 and no line where a link can't be had, 5 with `memory` on
-/// standard error where memory was refused, and 6 where a write of these failed.
+/// It gives the status: 0, or 3 with `file` or `undo` and the fault on standard error where the file can't be held or read, or is no undo text, or
+/// where `.part` is in the way or can't be made, or doesn't take the journal while a request is open; `undo OtherNames` where its list has names that
+/// aren't the lab's; 3 with the phase and `file` behind it where `.part` can't be removed; 4 and no line where a link can't be had, 5 with `memory`
+/// on standard error where memory was refused, and 6 where a write of these failed.
 ///
-/// Of a journal, the open request is settled first, if one is open: it is sent again, for as many turns. Where the plan is over then, it is greeted, where the
-/// words ask for it, and taken back. Before frames go out, the journal's own file gets the journal by its name alone. Where it doesn't, while a request is open, nothing is sent
-/// any more, and standard error has `file` and the word, with the status 3. A journal with a bad line is refused with 3 and `journal` and the line.
+/// Of a journal, the open request is settled first, if one is open: it is sent again, for as many turns. Where the plan is over then, it is greeted,
+/// where the words ask for it, and taken back. Before frames go out, the journal's own file gets the journal by its name alone. Where it doesn't,
+/// while a request is open, nothing is sent any more, and standard error has `file` and the word, with the status 3. A journal with a bad line is
+/// refused with 3 and `journal` and the line.
 pub fn undo<F: TextFiles + WritesFiles, W: io::Write, E: io::Write, P: io::Write, R: Net>(
     rt: &R,
     alloc: Global,

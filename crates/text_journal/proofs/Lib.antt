@@ -5,6 +5,7 @@ pub mod JournalLaws
 pub mod Drafts
 pub mod FirstLines
 pub mod Steering
+pub mod WrittenDigits
 pub mod WrittenBytes
 pub mod WrittenLines
 pub mod WrittenJournals

@@ -6,10 +6,12 @@ mod laws;
 mod line;
 mod reading;
 mod request;
+mod room;
 mod stage;
 mod step;
 mod writing;
 
 pub use laws::one_journal;
 pub use reading::{JournalTextFault, read_journal};
-pub use writing::write_journal;
+pub use room::journal_growth;
+pub use writing::{write_journal, write_journal_into};

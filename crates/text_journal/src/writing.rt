@@ -2,6 +2,7 @@
 ghost use Rattle.std.specs.Prelude.{◌≡◌, ◌++◌, ◌∷◌, ◌<◌, ◌≤◌, ◌^◌, length, IfOk, OnOk, string_bytes, codes};
 ghost use Rattle.std.specs.Option.{option_map};
 ghost use Rattle.std.specs.List.{AllByRecursion, flat_map};
+ghost use Rattle.hex.specs.Hex.{encode_upper};
 ghost use Rattle.text_lines.specs.Cuts.{ended};
 ghost use Rattle.text_undo.specs.UndoText.{name_of};
 ghost use Rattle.undo_plans.specs.Requests.{meant};
@@ -21,19 +22,31 @@ use two_wire::Bus;
 use undo_journal::{Counts, JournalView, KeptStage};
 use undo_plans::{Names, Requests, Steps, UndoRequest};
 
+/// Adds these bytes in upper-case hexadecimal, two digits for each.
+fn push_digits(text: &mut String, bytes: &[u8]) -> Result<(), AllocError>
+    ensures { OnOk result (string_bytes text.new
+        ≡ string_bytes text.old ++ encode_upper bytes.now) }
+{
+    for place in 0..bytes.len() {
+        let byte = bytes[place];
+        write!(text, "{byte:02X}")?;
+    }
+    Ok(())
+}
+
 /// Adds a line of these words and these bytes.
-fn push_bytes(alloc: Global, text: &mut String, words: &str, bytes: &[u8]) -> Result<(), AllocError>
+fn push_bytes(text: &mut String, words: &str, bytes: &[u8]) -> Result<(), AllocError>
     ensures text { OnOk result (string_bytes text.new
         ≡ string_bytes text.old ++ ended (bytes_line words.now bytes.now)) }
     ensures line { IsBytesLine words.now (bytes_line words.now bytes.now) bytes.now }
 {
-    let digits = hex::encode_upper(alloc, bytes)?;
-    writeln!(text, "{words}{digits}")
+    text.push_str(words)?;
+    push_digits(text, bytes)?;
+    text.push_str("\n")
 }
 
 /// Adds a line of the bus's name, these two bytes, and others behind them.
 fn push_headed(
-    alloc: Global,
     text: &mut String,
     bus: Bus,
     first: u8,
@@ -45,37 +58,26 @@ fn push_headed(
     ensures line { IsBytesLine (name_of bus)
         (bytes_line (name_of bus) (first ∷ command ∷ body.now)) (first ∷ command ∷ body.now) }
 {
-    let words = bus_words(bus);
-    let front = hex::encode_upper(alloc, [first, command])?;
-    let digits = hex::encode_upper(alloc, body)?;
-    writeln!(text, "{words}{front}{digits}")
+    text.push_str(bus_words(bus))?;
+    push_digits(text, &[first, command])?;
+    push_digits(text, body)?;
+    text.push_str("\n")
 }
 
 /// Adds the line of a step.
 #[tactic(auto, using(crate::proofs::WrittenBytes::step_spelt))]
-fn push_step(alloc: Global, text: &mut String, op: &Op<'_>) -> Result<(), AllocError>
+fn push_step(text: &mut String, op: &Op<'_>) -> Result<(), AllocError>
     ensures text { OnOk result (string_bytes text.new
         ≡ string_bytes text.old ++ ended (step_line op.now)) }
     ensures line { IsStepLine (step_line op.now) op.now }
 {
     let head = RequestHead::of(op);
     let whole = Limits::set_data(op);
-    push_headed(
-        alloc,
-        text,
-        head.bus,
-        head.first,
-        head.command,
-        whole.as_slice(),
-    )
+    push_headed(text, head.bus, head.first, head.command, whole.as_slice())
 }
 
 /// Adds the line of a request that undoes a step.
-fn push_request(
-    alloc: Global,
-    text: &mut String,
-    request: &UndoRequest<'_>,
-) -> Result<(), AllocError>
+fn push_request(text: &mut String, request: &UndoRequest<'_>) -> Result<(), AllocError>
     ensures text { OnOk result (string_bytes text.new
         ≡ string_bytes text.old ++ ended (request_line (meant request.now))) }
     ensures line { IsRequestLine (request_line (meant request.now)) (meant request.now) }
@@ -90,12 +92,11 @@ fn push_request(
             let function = net_fn.number();
             let unit = lun.number();
             let first = function * 4 + unit;
-            push_headed(alloc, text, Bus::Ipmb, first, *command, body.as_slice())
+            push_headed(text, Bus::Ipmb, first, *command, body.as_slice())
         }
         UndoRequest::Pldm(request) => {
             let kind = request.kind.number();
             push_headed(
-                alloc,
                 text,
                 Bus::Smbus,
                 kind,
@@ -107,12 +108,7 @@ fn push_request(
 }
 
 /// Adds a line of these words and these names.
-fn push_names(
-    alloc: Global,
-    text: &mut String,
-    words: &str,
-    names: &Names,
-) -> Result<(), AllocError>
+fn push_names(text: &mut String, words: &str, names: &Names) -> Result<(), AllocError>
     ensures text { OnOk result (string_bytes text.new
         ≡ string_bytes text.old ++ ended (bytes_line words.now (names_bytes names.now))) }
     ensures line { IsNamesLine words.now (bytes_line words.now (names_bytes names.now)) names.now }
@@ -125,23 +121,23 @@ fn push_names(
         names.own_eid,
         names.peer_eid,
     ];
-    push_bytes(alloc, text, words, &bytes)
+    push_bytes(text, words, &bytes)
 }
 
 /// Adds the line of the names in the list.
-fn push_listed(alloc: Global, text: &mut String, listed: &Option<Names>) -> Result<(), AllocError>
+fn push_listed(text: &mut String, listed: &Option<Names>) -> Result<(), AllocError>
     ensures text { OnOk result (string_bytes text.new
         ≡ string_bytes text.old ++ ended (listed_line listed.now)) }
     ensures line { IsListed listed.now }
 {
     match listed {
         None => text.push_str("unlisted\n"),
-        Some(names) => push_names(alloc, text, "listed ", names),
+        Some(names) => push_names(text, "listed ", names),
     }
 }
 
 /// Adds the lines of the steps.
-fn push_steps(alloc: Global, text: &mut String, steps: &Steps) -> Result<(), AllocError>
+fn push_steps(text: &mut String, steps: &Steps) -> Result<(), AllocError>
     ensures text { OnOk result (string_bytes text.new
         ≡ string_bytes text.old ++ flat_map ended (step_lines steps.now)) }
     ensures lines { OnOk result (AllByRecursion (λ op. IsStepLine (step_line op) op) steps.now) }
@@ -152,14 +148,14 @@ fn push_steps(alloc: Global, text: &mut String, steps: &Steps) -> Result<(), All
     let mut place = 0;
     while place < count {
         let op = steps.get(place).unwrap();
-        push_step(alloc, text, &op)?;
+        push_step(text, &op)?;
         place += 1;
     }
     Ok(())
 }
 
 /// Adds the lines of the requests that undo.
-fn push_undo(alloc: Global, text: &mut String, requests: &Requests) -> Result<(), AllocError>
+fn push_undo(text: &mut String, requests: &Requests) -> Result<(), AllocError>
     ensures text { OnOk result (string_bytes text.new
         ≡ string_bytes text.old ++ flat_map ended (undo_lines requests.now.members)) }
     ensures lines { OnOk result (AllByRecursion (λ asked. IsRequestLine (request_line asked) asked)
@@ -171,18 +167,14 @@ fn push_undo(alloc: Global, text: &mut String, requests: &Requests) -> Result<()
     let mut place = 0;
     while place < count {
         let request = requests.get(place).unwrap();
-        push_request(alloc, text, &request)?;
+        push_request(text, &request)?;
         place += 1;
     }
     Ok(())
 }
 
 /// Adds the line that counts the requests that wait, and that of the one that does.
-fn push_waiting(
-    alloc: Global,
-    text: &mut String,
-    waiting: &Option<UndoRequest<'_>>,
-) -> Result<(), AllocError>
+fn push_waiting(text: &mut String, waiting: &Option<UndoRequest<'_>>) -> Result<(), AllocError>
     ensures text { OnOk result (string_bytes text.new ≡ string_bytes text.old
         ++ flat_map ended (waiting_lines (option_map meant waiting.now))) }
     ensures line { OnOk result (IsWaitingLine (option_map meant waiting.now)) }
@@ -191,7 +183,7 @@ fn push_waiting(
         None => text.push_str("waiting 0\n"),
         Some(request) => {
             text.push_str("waiting 1\n")?;
-            push_request(alloc, text, request)
+            push_request(text, request)
         }
     }
 }
@@ -209,7 +201,7 @@ fn push_stage(text: &mut String, stage: &KeptStage) -> Result<(), AllocError>
 }
 
 /// Adds the line of the replies.
-fn push_replies(alloc: Global, text: &mut String, replies: &[u8]) -> Result<(), AllocError>
+fn push_replies(text: &mut String, replies: &[u8]) -> Result<(), AllocError>
     ensures text { OnOk result (string_bytes text.new
         ≡ string_bytes text.old ++ ended (replies_line replies.now)) }
     ensures line { IsBytesLine (codes "replies ")
@@ -218,23 +210,23 @@ fn push_replies(alloc: Global, text: &mut String, replies: &[u8]) -> Result<(), 
     if replies.is_empty() {
         return text.push_str("no replies\n");
     }
-    push_bytes(alloc, text, "replies ", replies)
+    push_bytes(text, "replies ", replies)
 }
 
 /// Adds the lines in front of the steps.
-fn push_head(alloc: Global, text: &mut String, journal: &JournalView<'_>) -> Result<(), AllocError>
+fn push_head(text: &mut String, journal: &JournalView<'_>) -> Result<(), AllocError>
     ensures text { OnOk result (string_bytes text.new
         ≡ string_bytes text.old ++ flat_map ended (head_lines (kept_of journal.now))) }
     ensures lines { OnOk result (HasHead (kept_of journal.now)) }
 {
     let retries = journal.retries;
     writeln!(text, "journal 1\nretries {retries}")?;
-    push_names(alloc, text, "names ", journal.names)?;
-    push_listed(alloc, text, journal.listed)
+    push_names(text, "names ", journal.names)?;
+    push_listed(text, journal.listed)
 }
 
 /// Adds the lines behind the lists.
-fn push_state(alloc: Global, text: &mut String, journal: &JournalView<'_>) -> Result<(), AllocError>
+fn push_state(text: &mut String, journal: &JournalView<'_>) -> Result<(), AllocError>
     ensures text { OnOk result (string_bytes text.new
         ≡ string_bytes text.old ++ flat_map ended (state_lines (kept_of journal.now))) }
     ensures lines { OnOk result (HasState (kept_of journal.now)) }
@@ -243,19 +235,30 @@ fn push_state(alloc: Global, text: &mut String, journal: &JournalView<'_>) -> Re
     let told = if journal.stopped { "stop" } else { "go" };
     let Counts { ipmb, smbus } = journal.counts;
     writeln!(text, "{told}\ncounts {ipmb} {smbus}")?;
-    push_replies(alloc, text, journal.replies)
+    push_replies(text, journal.replies)
 }
 
-/// The text of the journal: what `read_journal` reads as a journal that says the same.
+/// Writes the text of the journal in the place of what the string says: what `read_journal` reads as a journal that says the same. The string
+/// keeps its room, and takes memory only where the text is longer than that.
+pub fn write_journal_into(text: &mut String, journal: &JournalView<'_>) -> Result<(), AllocError>
+    ensures text { OnOk result (string_bytes text.new ≡ text_of (kept_of journal.now)) }
+    ensures stands { OnOk result (IsTextOf (string_bytes text.new) (kept_of journal.now)) }
+{
+    text.clear();
+    push_head(text, journal)?;
+    push_steps(text, journal.steps)?;
+    push_undo(text, journal.requests)?;
+    push_waiting(text, &journal.waiting())?;
+    push_state(text, journal)?;
+    Ok(())
+}
+
+/// The text of the journal, in a string of its own.
 pub fn write_journal(alloc: Global, journal: &JournalView<'_>) -> Result<String, AllocError>
     ensures text { IfOk result (λ text. string_bytes text ≡ text_of (kept_of journal.now)) }
     ensures stands { IfOk result (λ text. IsTextOf (string_bytes text) (kept_of journal.now)) }
 {
     let mut text = String::new(alloc);
-    push_head(alloc, &mut text, journal)?;
-    push_steps(alloc, &mut text, journal.steps)?;
-    push_undo(alloc, &mut text, journal.requests)?;
-    push_waiting(alloc, &mut text, &journal.waiting())?;
-    push_state(alloc, &mut text, journal)?;
+    write_journal_into(&mut text, journal)?;
     Ok(text)
 }

@@ -3,8 +3,8 @@ use super::driven::{TURNS, manager_on, sample_records};
 use super::shared::expect_equal;
 use super::wired::Wired;
 use app_journal::{
-    HoldFault, JournalKeeper, Place, PlaceFault, ReviveFault, Standing, UndoFiles, WriteFault,
-    WritesFiles, revive_text, standing_in,
+    HoldFault, JournalKeeper, JournalTexts, Place, PlaceFault, ReviveFault, Standing, UndoFiles,
+    WriteFault, WritesFiles, revive_text, standing_in,
 };
 use bmc_ports::{DriveEnd, KeptBack, Observer, drive_observed};
 use cfg_records::{Key, StartValue, changed_count};
@@ -125,7 +125,7 @@ fn changed_on(bench: &Bench) -> usize {
 
 /// The file has the text that the keeper knows.
 fn expect_same_text(rt: &impl Abort, keeper: &JournalKeeper<PartFile>) {
-    assert_eq!(rt; keeper.files.part.as_str(), keeper.text.as_str());
+    assert_eq!(rt; keeper.files.part.as_str(), keeper.texts.last.as_str());
 }
 
 /// The manager is made again of the journal that was put last, settles its request and takes back what it did: no record is changed then.
@@ -136,7 +136,7 @@ fn expect_taken_back(
     keeper: &mut JournalKeeper<PartFile>,
 ) {
     expect_same_text(rt, keeper);
-    let mut manager = revive_text(alloc, keeper.text.as_str())
+    let mut manager = revive_text(alloc, keeper.texts.last.as_str())
         .ok()
         .expect(rt, "a journal");
     keeper.files.changes_left = usize::MAX;
@@ -155,7 +155,7 @@ fn expect_taken_back(
     expect_equal(rt, "phase", undone, Some(Phase::Undone));
     expect_equal(rt, "records that changed", changed_on(bench), 0);
     expect_same_text(rt, keeper);
-    let standing = standing_in(alloc, keeper.text.as_str()).expect(rt, "memory");
+    let standing = standing_in(alloc, keeper.texts.last.as_str()).expect(rt, "memory");
     expect_equal(rt, "what stands", standing, Standing::Nothing);
     drop(manager);
 }
@@ -165,9 +165,10 @@ fn is_run(
     rt: &impl Abort,
     alloc: Global,
     bench: &mut Bench,
+    manager: Manager,
     keeper: &mut JournalKeeper<PartFile>,
 ) -> bool {
-    let mut manager = manager_on(rt, alloc, bench.bus);
+    let mut manager = manager;
     expect_equal(rt, "whether it may begin", keeper.look(&manager), true);
     let sent = manager.start().ok().expect(rt, "a plan to be run");
     let end = drive_kept(bench, &mut manager, sent, keeper);
@@ -192,12 +193,15 @@ fn runs_with(rt: &impl Abort, alloc: Global, bus: Bus, changes: usize) -> bool {
     let mut other = MemLink::new(alloc, &[]).ok().expect(rt, "memory");
     let mut file = PartFile::new(alloc, changes);
     let beside = UndoFiles::of(alloc, "undo.txt").expect(rt, "memory");
-    let mut text = String::new(alloc);
+    let manager = manager_on(rt, alloc, bus);
+    let mut texts = JournalTexts::of(alloc, &manager).expect(rt, "memory");
+    let room = texts.last.capacity();
+    // The file has no text yet.
+    texts.last.clear();
     let mut keeper = JournalKeeper {
-        alloc,
         files: &mut file,
         beside: &beside,
-        text: &mut text,
+        texts: &mut texts,
     };
     let mut bench = Bench {
         bus,
@@ -205,9 +209,11 @@ fn runs_with(rt: &impl Abort, alloc: Global, bus: Bus, changes: usize) -> bool {
         other: &mut other,
         records: records.as_slice(),
     };
-    let done = is_run(rt, alloc, &mut bench, &mut keeper);
+    let done = is_run(rt, alloc, &mut bench, manager, &mut keeper);
     drop(keeper);
-    drop(text);
+    expect_equal(rt, "room of the last text", texts.last.capacity(), room);
+    expect_equal(rt, "room of the other", texts.written.capacity(), room);
+    drop(texts);
     drop(beside);
     drop(file);
     drop(other);

@@ -14,11 +14,11 @@ returns-clause-settles g c =
       record {
         end = c.settle_watched-end.result;
         left = links c.settle_watched-end.new.ipmb c.settle_watched-end.new.smbus;
-        has = string_bytes c.settle_watched-end.new.watch.keeper.now.text.now;
+        has = string_bytes c.settle_watched-end.new.watch.keeper.texts.now.last;
         goes = c.settle_watched-end.ensures.goes;
         looks = run.looks;
         way = λ s shows. run.course lab_names s shows;
-        keeps = keeps_looks g.F.WritesFiles.takes g.F.WritesFiles.renames (λ watch. watch.keeper.now.beside.now) (λ watch. string_bytes watch.keeper.now.text.now) (λ watch. watch.keeper.now.files.now) _
+        keeps = keeps_looks g.F.WritesFiles.takes g.F.WritesFiles.renames (λ watch. watch.keeper.beside.now) (λ watch. string_bytes watch.keeper.texts.now.last) (λ watch. watch.keeper.files.now) _
             (λ old m allowed new saw. record { keeps = saw.0; same = ap (λ beside. beside.now) saw.1 }) run.looks c.args.watch.now c.settle_watched-end.new.watch run.seen;
         phase_is = λ s shows. c.phase-phase.ensures lab_names s shows;
       },
@@ -30,7 +30,7 @@ returns-clause-told g c =
     inr (
       run.looks,
       record {
-        text = string_bytes c.args.watch.now.keeper.now.text.now;
+        text = string_bytes c.args.watch.now.keeper.texts.now.last;
         revived = c.in-Ok.manager;
         made = c.in-Ok.ensures.made;
         way = λ s shows. (
@@ -41,26 +41,16 @@ returns-clause-told g c =
           run.course lab_names s shows,
         );
       },
-      seen_as _ (λ watch. watch.teller.now.course) (λ watch. watch.teller.now.progress.now) (λ course. LooksOn g.P.Write.contents course.kinds.now course.steps)
+      seen_as _ (λ watch. watch.teller.course) (λ watch. watch.teller.progress.now) (λ course. LooksOn g.P.Write.contents course.kinds.now course.steps)
           (λ old m allowed new saw. (saw.2, saw.3)) run.looks c.args.watch.now c.settle_watched-end.new.watch run.seen,
     )
 
 pub returns-clause-same_files : goal.returns-clause-same_files
 returns-clause-same_files g c =
     let run = c.settle_watched-end.ensures.seen in
-    stays_same _ (λ watch. watch.keeper.now.files.ghost_name) (λ old m allowed new saw. saw.4) run.looks c.args.watch.now c.settle_watched-end.new.watch run.seen
+    stays_same _ (λ watch. watch.keeper.files.ghost_name) (λ old m allowed new saw. saw.4) run.looks c.args.watch.now c.settle_watched-end.new.watch run.seen
 
 pub returns-clause-same_line : goal.returns-clause-same_line
 returns-clause-same_line g c =
     let run = c.settle_watched-end.ensures.seen in
-    stays_same _ (λ watch. watch.teller.now.progress.ghost_name) (λ old m allowed new saw. saw.5) run.looks c.args.watch.now c.settle_watched-end.new.watch run.seen
-
-pub returns-clause-same_keeper : goal.returns-clause-same_keeper
-returns-clause-same_keeper g c =
-    let run = c.settle_watched-end.ensures.seen in
-    stays_same _ (λ watch. watch.keeper.ghost_name) (λ old m allowed new saw. saw.6) run.looks c.args.watch.now c.settle_watched-end.new.watch run.seen
-
-pub returns-clause-same_teller : goal.returns-clause-same_teller
-returns-clause-same_teller g c =
-    let run = c.settle_watched-end.ensures.seen in
-    stays_same _ (λ watch. watch.teller.ghost_name) (λ old m allowed new saw. saw.7) run.looks c.args.watch.now c.settle_watched-end.new.watch run.seen
+    stays_same _ (λ watch. watch.teller.progress.ghost_name) (λ old m allowed new saw. saw.5) run.looks c.args.watch.now c.settle_watched-end.new.watch run.seen

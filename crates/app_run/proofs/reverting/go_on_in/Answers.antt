@@ -11,7 +11,7 @@ returns-clause-goes g c =
       (
         c.undo_list.result.now,
         (λ s shows. c.undo_list.ensures lab_names s shows),
-        subst (λ (greetings : Greetings). Undoes g.F.WritesFiles.takes g.F.WritesFiles.renames c.args.watch.now.keeper.now.beside.now greetings c.args.words.now.turns c.args.manager.now c.args.phase
-            c.undo_over.result (string_bytes c.args.watch.now.keeper.now.text.now) (string_bytes c.undo_over.new.watch.keeper.now.text.now) c.args.watch.now.keeper.now.files.now c.undo_over.new.watch.keeper.now.files.now) c.before_undo-greetings.ensures c.undo_over.ensures.undoes,
+        subst (λ (greetings : Greetings). Undoes g.F.WritesFiles.takes g.F.WritesFiles.renames c.args.watch.now.keeper.beside.now greetings c.args.words.now.turns c.args.manager.now c.args.phase
+            c.undo_over.result (string_bytes c.args.watch.now.keeper.texts.now.last) (string_bytes c.undo_over.new.watch.keeper.texts.now.last) c.args.watch.now.keeper.files.now c.undo_over.new.watch.keeper.files.now) c.before_undo-greetings.ensures c.undo_over.ensures.undoes,
       ),
     )

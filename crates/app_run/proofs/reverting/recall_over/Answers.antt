@@ -25,7 +25,7 @@ returns-clause-runs g c before shows =
         counted = refl;
         way = seen.course lab_names before shows;
       };
-      kept = keeps_looks g.F.WritesFiles.takes g.F.WritesFiles.renames (λ watch. watch.keeper.now.beside.now) (λ watch. string_bytes watch.keeper.now.text.now) (λ watch. watch.keeper.now.files.now) _
+      kept = keeps_looks g.F.WritesFiles.takes g.F.WritesFiles.renames (λ watch. watch.keeper.beside.now) (λ watch. string_bytes watch.keeper.texts.now.last) (λ watch. watch.keeper.files.now) _
           (λ old m allowed new saw. record { keeps = saw.0; same = ap (λ beside. beside.now) saw.1 }) seen.looks c.args.watch.now c.recall_watched.new.watch seen.seen;
     }
 
@@ -43,36 +43,26 @@ returns-clause-told g c =
         counted = refl;
         way = seen.course lab_names before shows;
       };
-      tells = seen_as _ (λ watch. watch.teller.now.course) (λ watch. watch.teller.now.progress.now) (λ course. LooksOn g.P.Write.contents course.kinds.now course.steps)
+      tells = seen_as _ (λ watch. watch.teller.course) (λ watch. watch.teller.progress.now) (λ course. LooksOn g.P.Write.contents course.kinds.now course.steps)
           (λ old m allowed new saw. (saw.2, saw.3)) seen.looks c.args.watch.now c.recall_watched.new.watch seen.seen;
     }
 
 pub returns-clause-same_words : goal.returns-clause-same_words
 returns-clause-same_words g c =
     let seen = c.recall_watched.ensures.seen in
-    stays_same _ (λ watch. watch.keeper.now.beside) (λ old m allowed new saw. saw.1) seen.looks c.args.watch.now c.recall_watched.new.watch seen.seen
+    stays_same _ (λ watch. watch.keeper.beside) (λ old m allowed new saw. saw.1) seen.looks c.args.watch.now c.recall_watched.new.watch seen.seen
 
 pub returns-clause-same_course : goal.returns-clause-same_course
 returns-clause-same_course g c =
     let seen = c.recall_watched.ensures.seen in
-    stays_same _ (λ watch. watch.teller.now.course) (λ old m allowed new saw. saw.3) seen.looks c.args.watch.now c.recall_watched.new.watch seen.seen
+    stays_same _ (λ watch. watch.teller.course) (λ old m allowed new saw. saw.3) seen.looks c.args.watch.now c.recall_watched.new.watch seen.seen
 
 pub returns-clause-same_files : goal.returns-clause-same_files
 returns-clause-same_files g c =
     let seen = c.recall_watched.ensures.seen in
-    stays_same _ (λ watch. watch.keeper.now.files.ghost_name) (λ old m allowed new saw. saw.4) seen.looks c.args.watch.now c.recall_watched.new.watch seen.seen
+    stays_same _ (λ watch. watch.keeper.files.ghost_name) (λ old m allowed new saw. saw.4) seen.looks c.args.watch.now c.recall_watched.new.watch seen.seen
 
 pub returns-clause-same_line : goal.returns-clause-same_line
 returns-clause-same_line g c =
     let seen = c.recall_watched.ensures.seen in
-    stays_same _ (λ watch. watch.teller.now.progress.ghost_name) (λ old m allowed new saw. saw.5) seen.looks c.args.watch.now c.recall_watched.new.watch seen.seen
-
-pub returns-clause-same_keeper : goal.returns-clause-same_keeper
-returns-clause-same_keeper g c =
-    let seen = c.recall_watched.ensures.seen in
-    stays_same _ (λ watch. watch.keeper.ghost_name) (λ old m allowed new saw. saw.6) seen.looks c.args.watch.now c.recall_watched.new.watch seen.seen
-
-pub returns-clause-same_teller : goal.returns-clause-same_teller
-returns-clause-same_teller g c =
-    let seen = c.recall_watched.ensures.seen in
-    stays_same _ (λ watch. watch.teller.ghost_name) (λ old m allowed new saw. saw.7) seen.looks c.args.watch.now c.recall_watched.new.watch seen.seen
+    stays_same _ (λ watch. watch.teller.progress.ghost_name) (λ old m allowed new saw. saw.5) seen.looks c.args.watch.now c.recall_watched.new.watch seen.seen

@@ -10,20 +10,20 @@ returns-in-Ok-clause-reverts g c =
     inl (
       c.recall_on.new.manager,
       c.in-Ok.end,
-      string_bytes c.recall_on.new.watch.keeper.now.text.now,
-      c.recall_on.new.watch.keeper.now.files.now,
+      string_bytes c.recall_on.new.watch.keeper.texts.now.last,
+      c.recall_on.new.watch.keeper.files.now,
       c.in-Ok.ensures.runs,
       subst (λ (beside : UndoFiles). GoesOn g.F.WritesFiles.takes g.F.WritesFiles.renames beside c.args.words.now c.recall_on.new.manager c.in-Ok.end c.go_on.result
-          (string_bytes c.recall_on.new.watch.keeper.now.text.now) (string_bytes c.go_on.new.watch.keeper.now.text.now) c.recall_on.new.watch.keeper.now.files.now
-          c.go_on.new.watch.keeper.now.files.now) (ap (λ b. b.now) c.in-Ok.ensures.same_words) c.go_on.ensures.goes,
+          (string_bytes c.recall_on.new.watch.keeper.texts.now.last) (string_bytes c.go_on.new.watch.keeper.texts.now.last) c.recall_on.new.watch.keeper.files.now
+          c.go_on.new.watch.keeper.files.now) (ap (λ b. b.now) c.in-Ok.ensures.same_words) c.go_on.ensures.goes,
     )
 
 pub returns-in-Ok-clause-told : goal.returns-in-Ok-clause-told
 returns-in-Ok-clause-told g c =
     inr (
       c.recall_on.new.manager,
-      c.recall_on.new.watch.teller.now.progress.now,
+      c.recall_on.new.watch.teller.progress.now,
       c.in-Ok.ensures.told,
-      subst (λ course. MayLookOn g.P.Write.contents course.kinds.now course.steps Undo c.recall_on.new.manager c.recall_on.new.watch.teller.now.progress.now
-          c.go_on.new.watch.teller.now.progress.now) c.in-Ok.ensures.same_course c.go_on.ensures.told,
+      subst (λ course. MayLookOn g.P.Write.contents course.kinds.now course.steps Undo c.recall_on.new.manager c.recall_on.new.watch.teller.progress.now
+          c.go_on.new.watch.teller.progress.now) c.in-Ok.ensures.same_course c.go_on.ensures.told,
     )

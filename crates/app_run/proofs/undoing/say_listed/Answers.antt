@@ -1,4 +1,4 @@
-use Rattle.std.specs.Prelude.{Result, Ok, Err}
+use Rattle.std.specs.Prelude.{Result, Ok}
 use Rattle.std.proofs.Common.{◌∙◌, ap, sym, subst}
 use Rattle.app_base.specs.declared.ending.ReportFault.{ReportFault}
 use Rattle.app_base.specs.EndingLaws.{run_reports}

@@ -10,7 +10,7 @@ pub returns-in-Ok-undo_told-clause-ends : goal.returns-in-Ok-undo_told-clause-en
 returns-in-Ok-undo_told-clause-ends g c =
     subst (λ (came : Result ListEnd ReportFault). MadeEnds g.F.WritesFiles c.args.beside.now c.args.resumed c.args.words.now.turns came c.args.files.now c.remove_undone-gone.new.files)
     (sym c.listed.ensures) (
-      string_bytes c.in-Ok.text,
+      string_bytes c.in-Ok.texts.last,
       c.put.new.files,
       c.undo_told.new.files,
       (
@@ -24,7 +24,7 @@ returns-in-Ok-undo_told-clause-ends g c =
 
 pub returns-in-Err-clause-ends : goal.returns-in-Err-clause-ends
 returns-in-Err-clause-ends g c = (
-  string_bytes c.in-Ok.text,
+  string_bytes c.in-Ok.texts.last,
   c.in-Err.field-0,
   (
     c.in-Ok.ensures,
@@ -36,7 +36,7 @@ returns-in-Err-clause-ends g c = (
 pub returns-in-Err-undo_told-clause-ends : goal.returns-in-Err-undo_told-clause-ends
 returns-in-Err-undo_told-clause-ends g c =
     inr (
-      string_bytes c.in-Ok.text,
+      string_bytes c.in-Ok.texts.last,
       c.put.new.files,
       (
         c.in-Ok.ensures,

@@ -9,30 +9,30 @@ use Rattle.app_journal.proofs.keeper.JournalKeeperObserver.look.Goals as goal
 pub returns-in-Ok-put : goal.returns-in-Ok-put
 returns-in-Ok-put g c = (
   inl (record {
-    text = string_bytes c.in-Ok.text;
+    text = string_bytes c.write_journal_into.new.text;
     is = record {
       written = c.in-Ok.ensures.text ∙ ap text_of c.journal-journal.ensures.kept;
-      stands = subst (IsTextOf (string_bytes c.in-Ok.text)) c.journal-journal.ensures.kept c.in-Ok.ensures.stands;
+      stands = subst (IsTextOf (string_bytes c.write_journal_into.new.text)) c.journal-journal.ensures.kept c.in-Ok.ensures.stands;
     };
-    puts = c.in-Ok-put.ensures.puts;
+    puts = c.in-Ok-put.ensures;
     may = refl;
   }),
-  c.in-Ok-put.ensures.same_words,
-  c.in-Ok-put.ensures.same_files,
+  refl,
+  refl,
 )
 
 pub returns-in-Err-put : goal.returns-in-Err-put
 returns-in-Err-put g c = (
   inr (inl (record {
-    text = string_bytes c.in-Ok.text;
+    text = string_bytes c.write_journal_into.new.text;
     is = record {
       written = c.in-Ok.ensures.text ∙ ap text_of c.journal-journal.ensures.kept;
-      stands = subst (IsTextOf (string_bytes c.in-Ok.text)) c.journal-journal.ensures.kept c.in-Ok.ensures.stands;
+      stands = subst (IsTextOf (string_bytes c.write_journal_into.new.text)) c.journal-journal.ensures.kept c.in-Ok.ensures.stands;
     };
     why = c.in-Err-put.field-0;
-    puts = c.in-Err-put.ensures.puts;
+    puts = c.in-Err-put.ensures;
     may = ap not (c.has_open-open.ensures ∙ ap (λ (k : Kept). has_open k.stage) c.journal-journal.ensures.kept);
   })),
-  c.in-Err-put.ensures.same_words,
-  c.in-Err-put.ensures.same_files,
+  refl,
+  refl,
 )
