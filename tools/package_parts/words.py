@@ -11,7 +11,8 @@ BRIDGED = {"--listen": None}
 # several times has three dots behind it.
 WORDS = {
     "bmclab": {
-        "frame": ({"--bus": ("ipmb", "smbus"), "--board": BOARD}, [("HEX", None)]),
+        "frame": ({"--explain": FLAG, "--bus": ("ipmb", "smbus"), "--board": BOARD}, [("HEX", None)]),
+        "ask": ({"--bus": ("ipmb", "smbus"), "--board": BOARD}, [("BYTE...", None)]),
         "play": (
             {"--frames": FLAG, "--premises": FLAG, "--chart": FLAG, "--explain": FLAG, "--list": FLAG, "--strict": FLAG, "--restart": None},
             [("BOARD", BOARD), ("PLAN", PLAN), ("SCHEDULE", SCHEDULE)],
@@ -20,7 +21,7 @@ WORDS = {
             {"--lose": None, "--repeat": None, "--delay": None, "--others": None, "--seed": None, "--undo": FLAG},
             [("BOARD", BOARD), ("PLAN", PLAN)],
         ),
-        "check": ({"--as": ("board", "plan", "undo", "journal", "readings", "schedule")}, [("FILE...", FILE)]),
+        "check": ({"--as": ("board", "plan", "undo", "journal", "readings", "schedule"), "--against": BOARD}, [("FILE...", FILE)]),
         "version": ({}, []),
     },
     "bmcnet": {
@@ -40,7 +41,7 @@ WORDS = {
         ),
         "run": ({"--wait": None, "--again": None, "--forget": None, "--greet": FLAG, "--replace": FLAG}, [("PLAN", PLAN), ("P0", None), ("P1", None), ("TURNS", None), ("UNDO", UNDO)]),
         "undo": ({"--wait": None, "--greet": FLAG}, [("UNDO", UNDO), ("P0", None), ("P1", None), ("TURNS", None)]),
-        "pair": ({}, [("BOARD", BOARD), ("PLAN", PLAN), ("TURNS", None)]),
+        "pair": ({"--strict": FLAG, "--list": FLAG}, [("BOARD", BOARD), ("PLAN", PLAN), ("TURNS", None)]),
         "version": ({}, []),
     },
     "lan-bridge": {

@@ -3,6 +3,7 @@ use Rattle.std.proofs.Common.{◌≡◌, ◌∙◌, List, true, false, Option, S
 use Rattle.std.specs.Prelude.{Box}
 use Rattle.std.specs.Str.{bytes_eq}
 use Rattle.std.proofs.lemmas.Slice.Eq.{bytes_eq-Decides}
+use Rattle.std.proofs.lemmas.Bool.{false≢true}
 use Rattle.std.specs.Box.{box_value}
 use Rattle.clap.specs.Words.{Row, Text, first_of, first_value, rows_of, subcommand_name_of, subcommand_rows, subcommand_rows_of}
 use Rattle.clap.specs.declared.parser.matches.ArgMatches.{ArgMatches}
@@ -67,3 +68,11 @@ apart {A} met name other a b differ one two =
 -- and under its name it's one thing
 pub alike : {A : Type 0} (met : Option (Text × A)) (name : Text) (a b : A) → met ≡ Some (name, a) → met ≡ Some (name, b) → a ≡ b
 alike {A} met name a b one two = ap (λ (p : Text × A). p.1) (some_same met (name, a) (name, b) one two)
+
+-- a subcommand that wasn't met under this name has it nowhere
+pub unnamed : (m : ArgMatches) (name : Text) → (subcommand_name_of m ≡ Some name → false ≡ true) → (rows : List Row) → subcommand_rows_of m ≡ Some (name, rows) → ⊥
+unnamed m name none rows is = false≢true (none (go (out-ArgMatches m).subcommand is))
+  where
+    go : {Z : Type 0} (o : Option (Box SubCommand Z)) → subcommand_rows o ≡ Some (name, rows) → option_map (λ b. (out-SubCommand (box_value b)).name.now) o ≡ Some name
+    go None there = ap (λ (o : Option (Text × List Row)). option_map (λ p. p.0) o) there
+    go (Some b) there = ap (λ (o : Option (Text × List Row)). option_map (λ p. p.0) o) there

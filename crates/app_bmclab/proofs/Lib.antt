@@ -3,3 +3,4 @@ pub mod Checks
 pub mod Numbers
 pub mod Forms
 pub mod NamedPlaces
+mod OnBoard

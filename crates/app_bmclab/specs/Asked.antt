@@ -6,9 +6,10 @@ use Rattle.app_play.specs.declared.run.Shown.{Shown}
 use Rattle.app_play.specs.declared.run.Shown.TheVariants.{Lines, Chart}
 use Rattle.app_base.specs.Asked.{AsksOf, is_given}
 use Rattle.app_bmclab.specs.declared.words.Words.{Words}
-use Rattle.app_bmclab.specs.declared.words.Words.TheVariants.{Frame, Play, Schedule, Check, Version}
+use Rattle.app_bmclab.specs.declared.words.Words.TheVariants.{Frame, Ask, Play, Schedule, Check, Version}
 use Rattle.app_bmclab.specs.declared.words.FrameWords.{FrameWords}
 use Rattle.app_bmclab.specs.declared.words.PlayWords.{PlayWords}
+use Rattle.app_bmclab.specs.AskedOf.{AsksAsk}
 use Rattle.app_bmclab.specs.Drawn.{AsksSchedule}
 use Rattle.app_bmclab.specs.Looked.{AsksCheck}
 use Rattle.app_bmclab.specs.Line.{program}
@@ -29,6 +30,7 @@ pub record AsksFrame (rows : List Row) (asked : FrameWords) : Type 0 where
   pub digits : Text
   pub given : first_of (codes "HEX") rows ≡ Some digits
   pub frame : AsksForBytes (first_of (codes "bus") rows) digits asked.frame.bus asked.frame.bytes.items
+  pub explain : asked.explain ≡ is_given (codes "explain") rows
 
 -- what was matched behind `play` asks for this
 pub record AsksPlay (rows : List Row) (asked : PlayWords) : Type 0 where
@@ -44,6 +46,7 @@ pub record AsksPlay (rows : List Row) (asked : PlayWords) : Type 0 where
 -- the subcommand, with what was matched behind it, asks for this
 abbrev pub AsksBy : Option (Text × List Row) → Words → Type 0
 AsksBy met (Frame asked) = (rows : List Row) × (met ≡ Some (codes "frame", rows)) × AsksFrame rows asked
+AsksBy met (Ask asked) = (rows : List Row) × (met ≡ Some (codes "ask", rows)) × AsksAsk rows asked
 AsksBy met (Play asked) = (rows : List Row) × (met ≡ Some (codes "play", rows)) × AsksPlay rows asked
 AsksBy met (Schedule asked) = (rows : List Row) × (met ≡ Some (codes "schedule", rows)) × AsksSchedule rows asked
 AsksBy met (Check asked) = (rows : List Row) × (met ≡ Some (codes "check", rows)) × AsksCheck rows asked

@@ -1,7 +1,9 @@
 pub mod Line
 pub mod Places
+pub mod AskedOf
 pub mod Asked
 pub mod Checks
+pub mod Against
 pub mod Drawn
 pub mod Writes
 pub mod ScheduledFiles

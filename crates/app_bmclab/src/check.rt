@@ -35,7 +35,7 @@ pub trait TellsCause {
 }
 
 /// Why a file gives no text, in words.
-fn words_of(cause: Cause) -> &'static str {
+pub(crate) fn cause_words(cause: Cause) -> &'static str {
     match cause {
         Cause::Missing => "there is no such file",
         Cause::Folder => "it is a folder",
@@ -46,7 +46,7 @@ fn words_of(cause: Cause) -> &'static str {
 }
 
 /// The word as lines show it: in printable ASCII.
-fn shown_name(alloc: Global, word: &str) -> Result<String, AllocError>
+pub(crate) fn shown_name(alloc: Global, word: &str) -> Result<String, AllocError>
     ensures { IfOk result (λ name. string_bytes name ≡ escaped word.now) }
 {
     let mut name = String::new(alloc);
@@ -93,7 +93,7 @@ fn checked_file(
 }
 
 /// What a text of this form is called.
-fn form_words(form: TextForm) -> &'static str {
+pub(crate) fn form_words(form: TextForm) -> &'static str {
     match form {
         TextForm::Undo => "an undo text",
         TextForm::Journal => "a journal",
@@ -106,7 +106,7 @@ fn form_words(form: TextForm) -> &'static str {
 }
 
 /// Tells what a file looks like that is said to be something else.
-fn tell_looks(
+pub(crate) fn tell_looks(
     alloc: Global,
     sheet: &mut Sheet,
     source: Source<'_>,
@@ -146,7 +146,7 @@ fn check_file<F: TextFiles + TellsCause>(
         }
         Err(UnreadFile::Memory) => Err(AllocError),
         Err(UnreadFile::NoText) => {
-            let cause = words_of(files.cause(word));
+            let cause = cause_words(files.cause(word));
             writeln!(sheet.text, "{name}: not read, {cause}")?;
             Ok(Outcome::Refused)
         }
@@ -174,7 +174,7 @@ fn check_each<F: TextFiles + TellsCause>(
 }
 
 /// How a run ends of whose files this came.
-fn status_of(outcome: Outcome) -> Status
+pub(crate) fn status_of(outcome: Outcome) -> Status
     ensures { result ≡ status_of outcome }
 {
     match outcome {

@@ -3,6 +3,7 @@ ghost use Rattle.app_base.specs.Ending.{RunEnds};
 ghost use Rattle.app_play.specs.Files.{words_of};
 ghost use Rattle.app_play.specs.Strict.{PrintsAskedOfFiles};
 
+use crate::check::{form_words, shown_name};
 use app_base::files::refuse;
 use app_base::{Console, Ending, Status, TextFiles};
 use app_play::{
@@ -12,6 +13,16 @@ use app_play::{
 use play_words::{explanation, schedule_note};
 use std::alloc::{AllocError, Global};
 use std::io;
+use text_check::{TextForm, form_or};
+
+/// What explains a play.
+#[derive(Drop)]
+struct Explanation {
+    /// A line for each file that looks like something else than what it is read as.
+    looks: String,
+    /// The lines that explain what was played.
+    lines: String,
+}
 
 /// Writes the text. Whether that succeeds changes nothing.
 pub(crate) fn write_notes<N: io::Write>(notes: &mut N, text: &str) {
@@ -21,11 +32,40 @@ pub(crate) fn write_notes<N: io::Write>(notes: &mut N, text: &str) {
     }
 }
 
-/// Writes what explains a play that ended with this status. Nothing explains one of which a file was refused.
-fn write_explanation<N: io::Write>(notes: &mut N, status: u8, lines: &str) {
+/// Writes what explains a play that ended with this status. Where a file was refused, nothing was played.
+fn write_explanation<N: io::Write>(notes: &mut N, status: u8, explanation: &Explanation) {
+    write_notes(notes, explanation.looks.as_str());
     if status != u8::from(Status::RefusedFile) {
-        write_notes(notes, lines);
+        write_notes(notes, explanation.lines.as_str());
     }
+}
+
+/// Adds a line where the text of the file that the word names looks like something else than this form. An empty text may be of any.
+fn push_looks(
+    alloc: Global,
+    lines: &mut String,
+    word: &str,
+    text: &str,
+    form: TextForm,
+) -> Result<(), AllocError> {
+    let looks = form_or(alloc, None, text)?;
+    if looks == form || looks == TextForm::Empty {
+        return Ok(());
+    }
+    let name = shown_name(alloc, word)?;
+    let (form, looks) = (form_words(form), form_words(looks));
+    writeln!(lines, "{name} is read as {form}, and looks like {looks}")
+}
+
+/// A line for each file of a play that looks like something else than what it is read as, as a board and a plan in each other's place do.
+fn looks(alloc: Global, schedule: &str, texts: PlayTexts<'_>) -> Result<String, AllocError> {
+    let PlayTexts { board, plan, .. } = texts;
+    let mut lines = String::new(alloc);
+    push_looks(alloc, &mut lines, board.word, board.text, TextForm::Board)?;
+    push_looks(alloc, &mut lines, plan.word, plan.text, TextForm::Plan)?;
+    let form = TextForm::Schedule;
+    push_looks(alloc, &mut lines, schedule, texts.schedule, form)?;
+    Ok(lines)
 }
 
 /// Whether one of the places is behind the last of so many events.
@@ -52,6 +92,19 @@ fn explained(alloc: Global, places: &[usize], texts: PlayTexts<'_>) -> Result<St
     }
 }
 
+/// What explains the play that these texts tell, of which the schedule's file has this word.
+fn explanation_of(
+    alloc: Global,
+    places: &[usize],
+    schedule: &str,
+    texts: PlayTexts<'_>,
+) -> Result<Explanation, AllocError> {
+    Ok(Explanation {
+        looks: looks(alloc, schedule, texts)?,
+        lines: explained(alloc, places, texts)?,
+    })
+}
+
 /// What is told of this schedule, which was made of the plan on the board. Where a text is refused it is nothing.
 pub(crate) fn note_of_schedule(
     alloc: Global,
@@ -69,8 +122,8 @@ pub(crate) fn note_of_schedule(
     }
 }
 
-/// Plays what `play_of_files` does. Where the play is to be explained, the notes get what explains it, behind what is written to the console; but nothing
-/// where a file is refused.
+/// Plays what `play_of_files` does. Where the play is to be explained, the notes get what explains it, behind what is written to the console. Where
+/// a file is refused, they get no more than which files look like something else than what they are read as.
 pub fn explained_play_of_files<F: TextFiles, N: io::Write, W: io::Write, E: io::Write>(
     alloc: Global,
     files: &F,
@@ -94,10 +147,10 @@ pub fn explained_play_of_files<F: TextFiles, N: io::Write, W: io::Write, E: io::
         Err(unread) => return refuse(alloc, &unread, console),
     };
     let texts = read.named(words);
-    let Ok(lines) = explained(alloc, places, texts) else {
+    let Ok(told) = explanation_of(alloc, places, words.schedule, texts) else {
         return u8::from(Ending::without_report(Status::Memory).write(console));
     };
     let status = show_asked(alloc, options, shown, places, texts, console);
-    write_explanation(notes, status, lines.as_str());
+    write_explanation(notes, status, &told);
     status
 }

@@ -3,12 +3,16 @@ ghost use Rattle.std.specs.Prelude.{map, string_bytes};
 ghost use Rattle.app_base.specs.Ending.{RunEnds};
 ghost use Rattle.app_bmclab.specs.Run.{SaysOfLine, SaysOfWords};
 
+use crate::against::check_against;
+use crate::ask_words::AskWords;
 use crate::check::{TellsCause, check_files};
-use crate::check_words::CheckWords;
+use crate::check_words::{CheckWay, CheckWords};
 use crate::explained::explained_play_of_files;
+use crate::notes::Notes;
 use crate::schedule_files::{ScheduleFiles, schedule_of_files};
 use crate::schedule_words::ScheduleWords;
 use crate::words::{FrameWords, PlayWords, Words, read};
+use app_ask::{answer_of_file, explained_of_file};
 use app_base::{Console, TextFiles, refuse, tell_version};
 use app_play::PlayFiles;
 use bmc_lab::frame_of_file;
@@ -27,12 +31,30 @@ fn send<F: TextFiles, W: io::Write, E: io::Write>(
         console.old console.new result }
 {
     let frame = &words.frame;
-    frame_of_file(
+    let board = words.board.as_deref();
+    let bytes = frame.bytes.as_slice();
+    if words.explain {
+        return explained_of_file(alloc, files, frame.bus, board, bytes, console);
+    }
+    frame_of_file(alloc, files, frame.bus, board, bytes, console)
+}
+
+/// Sends the request that the words ask for.
+fn ask<F: TextFiles, W: io::Write, E: io::Write>(
+    alloc: Global,
+    files: &F,
+    words: &AskWords,
+    console: &mut Console<W, E>,
+) -> u8
+    ensures { RunEnds W.contents E.contents
+        (SaysOfWords (F.gives files.now) (Words.Ask words.now))
+        console.old console.new result }
+{
+    answer_of_file(
         alloc,
         files,
-        frame.bus,
         words.board.as_deref(),
-        frame.bytes.as_slice(),
+        &words.request,
         console,
     )
 }
@@ -42,7 +64,7 @@ fn play<F: TextFiles, N: io::Write, W: io::Write, E: io::Write>(
     alloc: Global,
     files: &F,
     words: &PlayWords,
-    notes: &mut N,
+    notes: &mut Notes<N>,
     console: &mut Console<W, E>,
 ) -> u8
     ensures { RunEnds W.contents E.contents
@@ -54,16 +76,17 @@ fn play<F: TextFiles, N: io::Write, W: io::Write, E: io::Write>(
         plan: words.plan.as_str(),
         schedule: words.schedule.as_str(),
     };
+    let explain = notes.explain(words.explain);
     let restarts = words.restarts.as_slice();
     explained_play_of_files(
         alloc,
         files,
-        words.explain,
+        explain,
         words.options,
         words.shown,
         restarts,
         named,
-        notes,
+        &mut notes.writer,
         console,
     )
 }
@@ -73,7 +96,7 @@ fn write<F: TextFiles, N: io::Write, W: io::Write, E: io::Write>(
     alloc: Global,
     files: &F,
     words: &ScheduleWords,
-    notes: &mut N,
+    notes: &mut Notes<N>,
     console: &mut Console<W, E>,
 ) -> u8
     ensures { RunEnds W.contents E.contents
@@ -84,7 +107,14 @@ fn write<F: TextFiles, N: io::Write, W: io::Write, E: io::Write>(
         board: words.board.as_str(),
         plan: words.plan.as_str(),
     };
-    schedule_of_files(alloc, files, words.wanted, named, notes, console)
+    schedule_of_files(
+        alloc,
+        files,
+        words.wanted,
+        named,
+        &mut notes.writer,
+        console,
+    )
 }
 
 /// Checks the files that the words name.
@@ -98,7 +128,11 @@ fn check<F: TextFiles + TellsCause, W: io::Write, E: io::Write>(
         (SaysOfWords (F.gives files.now) (Words.Check words.now))
         console.old console.new result }
 {
-    check_files(alloc, files, words.form, words.files.as_slice(), console)
+    let named = words.files.as_slice();
+    match &words.way {
+        CheckWay::Alone(form) => check_files(alloc, files, *form, named, console),
+        CheckWay::Against(board) => { check_against(alloc, files, board.as_str(), named, console) }
+    }
 }
 
 /// Does what the words ask for.
@@ -106,7 +140,7 @@ fn carry_out<F: TextFiles + TellsCause, N: io::Write, W: io::Write, E: io::Write
     alloc: Global,
     files: &F,
     words: &Words,
-    notes: &mut N,
+    notes: &mut Notes<N>,
     console: &mut Console<W, E>,
 ) -> u8
     ensures { RunEnds W.contents E.contents (SaysOfWords (F.gives files.now) words.now)
@@ -114,6 +148,7 @@ fn carry_out<F: TextFiles + TellsCause, N: io::Write, W: io::Write, E: io::Write
 {
     match words {
         Words::Frame(words) => send(alloc, files, words, console),
+        Words::Ask(words) => ask(alloc, files, words, console),
         Words::Play(words) => play(alloc, files, words, notes, console),
         Words::Schedule(words) => write(alloc, files, words, notes, console),
         Words::Check(words) => check(alloc, files, words, console),
@@ -122,13 +157,14 @@ fn carry_out<F: TextFiles + TellsCause, N: io::Write, W: io::Write, E: io::Write
 }
 
 /// Does what the words of a command line ask for, the program's own name first among them, with these files: what `frame_of_file`,
-/// `play_of_files`, `schedule_of_files`, `check_files` or `tell_version` does. Where they ask for nothing it reads no file, standard error gets why or the
-/// help that is asked for, and the status is 2. What explains a play, and what is told of a schedule that is written, goes to the notes.
+/// `explained_of_file`, `answer_of_file`, `play_of_files`, `schedule_of_files`, `check_files`, `check_against` or `tell_version` does. Where they
+/// ask for nothing it reads no file, standard error gets why or the help that is asked for, and the status is 2. What explains a play, where the
+/// words ask for that or the notes go to a terminal, and what is told of a schedule that is written, goes to the notes.
 pub fn run_line<F: TextFiles + TellsCause, N: io::Write, W: io::Write, E: io::Write>(
     alloc: Global,
     files: &F,
     words: &[String],
-    notes: &mut N,
+    notes: &mut Notes<N>,
     console: &mut Console<W, E>,
 ) -> u8
     ensures { RunEnds W.contents E.contents

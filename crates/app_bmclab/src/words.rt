@@ -7,6 +7,7 @@ ghost use Rattle.app_bmclab.specs.Line.{frame_app, play_app, program};
 ghost use Rattle.app_bmclab.specs.Asked.{AsksBy, AsksFor, AsksFrame, AsksPlay, shown_of};
 ghost use Rattle.app_bmclab.specs.Places.{NamesPlaces};
 
+use crate::ask_words::{AskWords, ask_command, ask_words};
 use crate::check_words::{CheckWords, check_command, check_words};
 use crate::places::places_of;
 use crate::schedule_words::{ScheduleWords, schedule_command, schedule_words};
@@ -25,6 +26,7 @@ use two_wire::Bus;
 #[derive(Drop)]
 pub enum Words {
     Frame(FrameWords),
+    Ask(AskWords),
     Play(PlayWords),
     Schedule(ScheduleWords),
     Check(CheckWords),
@@ -37,6 +39,8 @@ pub struct FrameWords {
     /// The word of the board file, where one is given.
     pub board: Option<String>,
     pub frame: AskedFrame,
+    /// Whether the frames are explained.
+    pub explain: bool,
 }
 
 /// What the words of `bmclab play` ask for.
@@ -73,15 +77,20 @@ const FRAME_ABOUT: &str = "Sends one frame to a fresh controller, and prints wha
 
 const FRAME_EXAMPLES: &str = "Examples:
   bmclab frame 2018C82C0001D3
-  bmclab frame --bus smbus --board sample.toml 200F0931010A08C801800002BE";
+  bmclab frame --bus smbus --board sample.toml 200F0931010A08C801800002BE
+  bmclab frame --explain 2010D02C002705A8";
 
-const FRAME_ARGUMENTS: [Argument<'static>; 3] = [
+const FRAME_EXPLAIN_HELP: &str =
+    "Says what the frame and its replies say, part by part, and what a wrong check byte would be";
+
+const FRAME_ARGUMENTS: [Argument<'static>; 4] = [
+    Argument::Flag("explain", FRAME_EXPLAIN_HELP),
     Argument::Option("bus", "BUS", BUS_HELP),
     Argument::Option("board", "FILE", BOARD_HELP),
     Argument::Needed("HEX", HEX_HELP),
 ];
 
-/// `frame [--bus ipmb|smbus] [--board FILE] HEX`.
+/// `frame [--explain] [--bus ipmb|smbus] [--board FILE] HEX`.
 fn frame_command<'a>(alloc: Global) -> Result<Command<'a>, AllocError>
     ensures { IfOk result (IsCommand frame_app) }
 {
@@ -102,7 +111,7 @@ const PREMISES_HELP: &str =
     "Prints the first event at which a packet joined one that had waited too long, or premises kept";
 
 const EXPLAIN_HELP: &str =
-    "Says on standard error where the plan halts and why, and in which line of the schedule";
+    "Says on standard error where the plan halts and why, and in which line of the schedule; it does so unasked where that is a terminal";
 
 const SCHEDULE_HELP: &str = "The schedule: what comes when, as examples/clean/schedule.txt";
 
@@ -153,6 +162,7 @@ const ABOUT: &str =
 
 const EXAMPLES: &str = "Examples:
   bmclab frame 2018C82C0001D3
+  bmclab ask 04 27 05
   bmclab play sample.toml examples/clean/plan.toml examples/clean/schedule.txt
   bmclab schedule --undo sample.toml examples/clean/plan.toml
   bmclab check sample.toml examples/clean/plan.toml examples/clean/schedule.txt";
@@ -163,6 +173,7 @@ fn command<'a>(alloc: Global) -> Result<Command<'a>, AllocError>
 {
     let program = new_program(alloc, "bmclab", ABOUT, EXAMPLES)?;
     let program = with_command(program, frame_command(alloc))?;
+    let program = with_command(program, ask_command(alloc))?;
     let program = with_command(program, play_command(alloc))?;
     let program = with_command(program, schedule_command(alloc))?;
     let program = with_command(program, check_command(alloc))?;
@@ -207,9 +218,14 @@ fn frame_words(alloc: Global, matches: &ArgMatches) -> Result<FrameWords, Refusa
         return Err(lacking(alloc));
     };
     let board = given(alloc, matches, "board")?;
+    let explain = has_flag(matches, "explain");
     let bus = matches.get_str("bus");
     match asked_frame(alloc, bus, digits) {
-        Ok(frame) => Ok(FrameWords { board, frame }),
+        Ok(frame) => Ok(FrameWords {
+            board,
+            frame,
+            explain,
+        }),
         Err(status) => Err(frame_refusal(alloc, status, bus, digits)),
     }
 }
@@ -304,6 +320,9 @@ fn matched_words(alloc: Global, matches: &ArgMatches) -> Result<Words, Refusal>
 {
     if let Some(frame) = matches.subcommand_matches("frame") {
         return Ok(Words::Frame(frame_words(alloc, frame)?));
+    }
+    if let Some(ask) = matches.subcommand_matches("ask") {
+        return Ok(Words::Ask(ask_words(alloc, ask)?));
     }
     if let Some(play) = matches.subcommand_matches("play") {
         return Ok(Words::Play(play_words(alloc, play)?));

@@ -3,9 +3,10 @@ use super::runs::words_of;
 use super::text::parted;
 use app_base::{Refusal, Status};
 use app_bmclab::words::read;
-use app_bmclab::{Links, ScheduleWords, Words};
+use app_bmclab::{CheckWay, Links, ScheduleWords, Words};
 use app_play::{PlayOptions, Shown};
 use bmc_lab::{AskedFrame, asked_frame};
+use record_base::Asked;
 use std::alloc::{AllocError, Global};
 
 /// Appends a frame's bus and its bytes.
@@ -80,9 +81,41 @@ fn push_schedule(text: &mut String, words: &ScheduleWords) -> Result<(), AllocEr
     )
 }
 
-/// Appends the words of files to check.
-fn push_files(text: &mut String, files: &[String]) -> Result<(), AllocError> {
+/// Appends the board file's word, where there is one.
+fn push_board(text: &mut String, board: Option<&str>) -> Result<(), AllocError> {
+    match board {
+        Some(board) => write!(text, " {board}"),
+        None => Ok(()),
+    }
+}
+
+/// Appends a request's bus and its bytes: the network function or the type, the command, and the data.
+fn push_request(alloc: Global, text: &mut String, request: &Asked) -> Result<(), AllocError> {
+    let (bus, first, command, body) = match request {
+        Asked::Ipmi {
+            net_fn,
+            command,
+            body,
+            ..
+        } => ("ipmb", net_fn.number(), *command, body.as_slice()),
+        Asked::Pldm {
+            kind,
+            command,
+            body,
+            ..
+        } => ("smbus", kind.number(), *command, body.as_slice()),
+    };
+    let head = hex::encode_upper(alloc, &[first, command])?;
+    let digits = hex::encode_upper(alloc, body)?;
+    write!(text, "ask {bus} {}{}", head.as_str(), digits.as_str())
+}
+
+/// Appends the words of files to check, and of the board against which.
+fn push_files(text: &mut String, way: &CheckWay, files: &[String]) -> Result<(), AllocError> {
     text.push_str("check")?;
+    if let CheckWay::Against(board) = way {
+        write!(text, " against {}", board.as_str())?;
+    }
     for file in files {
         write!(text, " {}", file.as_str())?;
     }
@@ -98,10 +131,14 @@ fn push_words(
     match asked {
         Ok(Words::Frame(words)) => {
             push_frame(alloc, text, &words.frame)?;
-            match &words.board {
-                Some(board) => write!(text, " {}", board.as_str()),
-                None => Ok(()),
+            if words.explain {
+                text.push_str(" explained")?;
             }
+            push_board(text, words.board.as_deref())
+        }
+        Ok(Words::Ask(words)) => {
+            push_request(alloc, text, &words.request)?;
+            push_board(text, words.board.as_deref())
         }
         Ok(Words::Play(words)) => {
             let (board, plan) = (words.board.as_str(), words.plan.as_str());
@@ -113,7 +150,7 @@ fn push_words(
             push_restarts(text, words.restarts.as_slice())
         }
         Ok(Words::Schedule(words)) => push_schedule(text, words),
-        Ok(Words::Check(words)) => push_files(text, words.files.as_slice()),
+        Ok(Words::Check(words)) => push_files(text, &words.way, words.files.as_slice()),
         Ok(Words::Version) => text.push_str("version"),
         Err(Refusal::Words(_)) => text.push_str("refused"),
         Err(Refusal::Memory) => text.push_str("memory"),

@@ -22,6 +22,12 @@ notes bmclab play --chart --explain board.toml plan.toml schedule.txt -> noted
   next: look at the values that the command takes
   next: mend the step. `undo` takes back the steps before it
   1 of 3 steps was never tried
+terminal bmclab play board.toml plan.toml schedule.txt -> noted
+  halted at event 9, line 10 of the schedule, step 2 of 3 (sensor 5 thresholds): the controller refused the step's Set, with this code, and changed nothing
+  CCh invalid data field: a value, bit or number that this board or profile doesn't take; a channel without LAN parameters
+  next: look at the values that the command takes
+  next: mend the step. `undo` takes back the steps before it
+  1 of 3 steps was never tried
 notes bmclab play board.toml plan.toml schedule.txt -> nothing
 bmclab play --explain board.toml plan.toml schedule.txt -> 0 out
   phase Halted 1 Refused CC / frames 8 / undo 1 / ipmb 102405FF0202 / records changed 1
@@ -105,6 +111,29 @@ notes bmclab play --explain none.toml plan.toml schedule.txt -> nothing
 memory plan
 notes bmclab play --explain board.toml plan.toml schedule.txt -> nothing
 bmclab play --explain board.toml plan.toml schedule.txt -> 5 err: memory
+
+story files in each other's place are told
+board: [[step]] / kind = \"power-policy\" / policy = 2
+plan sample
+schedule: start
+bmclab play --explain board.toml plan.toml schedule.txt -> 3 err: board Missing top tid
+notes bmclab play --explain board.toml plan.toml schedule.txt -> noted
+  board.toml is read as a board file, and looks like a plan
+  plan.toml is read as a plan, and looks like a board file
+terminal bmclab play board.toml plan.toml schedule.txt -> noted
+  board.toml is read as a board file, and looks like a plan
+  plan.toml is read as a plan, and looks like a board file
+notes bmclab play board.toml plan.toml schedule.txt -> nothing
+board sample
+notes bmclab play --explain board.toml plan.toml schedule.txt -> noted
+  plan.toml is read as a plan, and looks like a board file
+  each step was done / next: `undo` takes all back
+plan: start
+schedule: [[step]] / kind = \"power-policy\" / policy = 2
+bmclab play --explain board.toml plan.toml schedule.txt -> 3 err: plan Text
+notes bmclab play --explain board.toml plan.toml schedule.txt -> noted
+  plan.toml is read as a plan, and looks like a schedule
+  schedule.txt is read as a schedule, and looks like a plan
 ";
 
 /// Schedules that are written.

@@ -2,7 +2,7 @@
 use super::expect_told;
 
 /// Runs of whole command lines, over files that are held in memory.
-const LINES: &str = "story a frame is sent to the board that is named
+const LINES: &str = r#"story a frame is sent to the board that is named
 # The sample board has the sensor; the other one hasn't, and answers CBh.
 bmclab frame 2010D02C08260510000000005A0037 -> 0 out: 2C14C020082600B2
 board fields device-20h
@@ -136,13 +136,161 @@ bmclab check schedule.txt -> 3 out
   schedule.txt: readings refused, line 1
   schedule.txt:1: 0 scna 05 30: no line has the word scna, nearest is scan
 
+# The last byte of a frame of IPMB makes the sum of those from the fourth on 0: 2Ch + 00h + 27h + 05h + A8h = 100h. The reply's data are the sample board's.
+story a request is asked by its bytes
+bmclab ask 04 27 05 -> 0 out
+  sent 2010D02C002705A8
+  came 2C14C0200027003F140A05505F6E3A
+  code 00h completed
+  data 3F140A05505F6E
+bmclab ask 042705 -> 0 out
+  sent 2010D02C002705A8
+  came 2C14C0200027003F140A05505F6E3A
+  code 00h completed
+  data 3F140A05505F6E
+bmclab ask 04 27 09 -> 0 out
+  sent 2010D02C002709A4
+  came 2C14C0200027CBEE
+  code CBh not present
+bmclab ask --bus smbus 00 02 -> 0 out
+  sent 200F0931010A08C801800002BE
+  came 300F0B2101080AC00100000200051C
+  code 00h success
+  data 05
+board sample
+swap tid = 5 => tid = 9
+bmclab ask --bus smbus --board board.toml 00 02 -> 0 out
+  sent 200F0931010A08C801800002BE
+  came 300F0B2101080AC001000002000938
+  code 00h success
+  data 09
+bmclab ask --board none.toml 04 27 05 -> 3 err: file none.toml
+board: tid =
+bmclab ask --board board.toml 04 27 05 -> 3 err: board Text
+memory board
+bmclab ask --board board.toml 04 27 05 -> 5 err: memory
+
+story a frame is explained
+bmclab frame --explain 2010D02C002705A8 -> 0 out
+    to 20h LUN 0, from 2Ch LUN 0, number 0
+    netFn 04h sensor/event, request
+    command 27h Get Sensor Thresholds
+    data 05
+    third byte D0h, right
+    last byte A8h, right
+  2C14C0200027003F140A05505F6E3A
+    to 2Ch LUN 0, from 20h LUN 0, number 0
+    netFn 05h sensor/event, reply
+    command 27h Get Sensor Thresholds
+    code 00h completed
+    data 3F 14 0A 05 50 5F 6E
+    third byte C0h, right
+    last byte 3Ah, right
+bmclab frame --explain 2010D02C002705A9 -> 1 out
+    to 20h LUN 0, from 2Ch LUN 0, number 0
+    netFn 04h sensor/event, request
+    command 27h Get Sensor Thresholds
+    data 05
+    third byte D0h, right
+    last byte A9h, wrong: it would be A8h
+  ignored BodySum
+bmclab frame --explain 2010 -> 1 out
+    too short: a frame of IPMB has at least 7 bytes
+  ignored Short
+bmclab frame --explain --bus smbus 200F0931010A08C801800002BE -> 0 out
+    to 20h endpoint 0Ah, from 30h endpoint 08h
+    command code 0Fh, count 9, version 1
+    first, last packet of a message, number 0, tag 0, its sender's
+    PLDM type 0, request, instance 0
+    command 02h GetTID
+    last byte BEh, right
+  300F0B2101080AC00100000200051C
+    to 30h endpoint 08h, from 20h endpoint 0Ah
+    command code 0Fh, count 11, version 1
+    first, last packet of a message, number 0, tag 0, its receiver's
+    PLDM type 0, reply, instance 0
+    command 02h GetTID
+    code 00h success
+    data 05
+    last byte 1Ch, right
+bmclab frame --explain --board none.toml 2018C82C0001D3 -> 3 err: file none.toml
+
+# Upper non-recoverable is 6Eh, so upper critical isn't 70h. No Set brings the watchdog back that was never set.
+story plans are tried on a board
+board sample
+plan: [[step]] / kind = "thresholds" / sensor = 5 / uc = 0x5A / [[step]] / kind = "thresholds" / sensor = 5 / uc = 0x5C / [[step]] / kind = "hysteresis" / sensor = 9 / positive = 1 / negative = 1 / [[step]] / kind = "thresholds" / sensor = 5 / uc = 0x70 / [[step]] / kind = "watchdog" / use = 4 / no_log = false / action = 1 / interrupt = 0 / pre = 10 / initial = 600 / [[step]] / kind = "thresholds" / sensor = 5 / uc = 0x5C
+bmclab check --against board.toml plan.toml -> 3 out
+  plan.toml: plan, 6 steps, retries 3
+  plan.toml: step 0: sensor 5 upper critical: 95 (5Fh) -> 90 (5Ah)
+  plan.toml: step 1: sensor 5 upper critical: 90 (5Ah) -> 92 (5Ch)
+  plan.toml: step 2: sensor 9 hysteresis: the board hasn't it (CBh not present)
+  plan.toml: step 3: sensor 5 upper critical: 112 (70h): would be refused (CCh invalid data field)
+  plan.toml: step 4: watchdog timer: can't be taken back
+  plan.toml: step 5: sensor 5 thresholds: no change
+# By the tables of commands: an unknown user or channel and a channel without LAN parameters give CCh, an unknown attribute 88h, an unknown effecter 80h, and a
+# value that an attribute can't have 02h: the third attribute has steps of 10 from 0, and is 30.
+plan: [[step]] / kind = "user-name" / user = 9 / name = "eve" / [[step]] / kind = "channel-access" / channel = 9 / store = "volatile" / limit = 4 / [[step]] / kind = "bios-attribute" / handle = 9 / number = 1 / [[step]] / kind = "bios-attribute" / handle = 2 / number = 35 / [[step]] / kind = "bios-attribute" / handle = 2 / number = 40 / [[step]] / kind = "lan-param" / channel = 1 / param = 4 / data = [2] / [[step]] / kind = "numeric-effecter" / effecter = 3 / size = 0 / value = 1
+bmclab check --against board.toml plan.toml -> 3 out
+  plan.toml: plan, 7 steps, retries 3
+  plan.toml: step 0: user 9 name: the board hasn't it (CCh invalid data field)
+  plan.toml: step 1: channel 9 volatile access: the board hasn't it (CCh invalid data field)
+  plan.toml: step 2: attribute 9: the board hasn't it (88h particular to a command)
+  plan.toml: step 3: attribute 2: 35: would be refused (02h invalid data)
+  plan.toml: step 4: attribute 2: 30 -> 40
+  plan.toml: step 5: LAN parameter 4 of channel 1: the board hasn't it (CCh invalid data field)
+  plan.toml: step 6: numeric effecter 3: the board hasn't it (80h particular to a command)
+plan: [[step]] / kind = "thresholds" / sensor = 5 / uc = 0x5A
+bmclab check --against board.toml plan.toml plan.toml -> 0 out
+  plan.toml: plan, 1 step, retries 3
+  plan.toml: step 0: sensor 5 upper critical: 95 (5Fh) -> 90 (5Ah)
+  plan.toml: plan, 1 step, retries 3
+  plan.toml: step 0: sensor 5 upper critical: 95 (5Fh) -> 90 (5Ah)
+bmclab check --against board.toml plan.toml none.toml -> 3 out
+  plan.toml: plan, 1 step, retries 3
+  plan.toml: step 0: sensor 5 upper critical: 95 (5Fh) -> 90 (5Ah)
+  none.toml: not read, there is no such file
+plan: retries = 64
+bmclab check --against board.toml plan.toml -> 3 out
+  plan.toml: plan refused, Range: table top, field retries
+  plan.toml:1: top: retries = 64: a number from 0 to 15
+plan: retires = 9
+bmclab check --against board.toml plan.toml -> 1 out
+  plan.toml: plan, 0 steps, retries 3
+  plan.toml:1: top: unknown key retires, nearest is retries
+bmclab check --against none.toml plan.toml -> 3 out: none.toml: not read, there is no such file
+memory board
+bmclab check --against board.toml plan.toml -> 5 err: memory
+board sample
+memory plan
+bmclab check --against board.toml plan.toml -> 5 err: memory
+
+story a board and a plan in each other's place are told
+board: # A remark. / [[step]] / kind = "power-policy" / policy = 2 / [[step]] / kind = "power-policy" / policy = 1
+plan sample
+bmclab check --against board.toml plan.toml -> 3 out
+  board.toml: board refused, Missing: table top, field tid
+  board.toml: top: lacks tid: a number from 0 to 255
+  board.toml:2: top: unknown key step
+  board.toml: it looks like a plan
+board sample
+bmclab check --against board.toml plan.toml -> 1 out
+  plan.toml: plan, 0 steps, retries 3
+  ..
+  plan.toml: it looks like a board file
+plan: start
+bmclab check --against board.toml plan.toml -> 3 out
+  plan.toml: plan refused, ..
+  plan.toml: it looks like a schedule
+board: tid =
+bmclab check --against board.toml plan.toml -> 3 out: board.toml: board refused, TOML parse error at line 1, column 6: ..
+
 story the version is a word of its own
 bmclab version -> 0 out: version 0.3.0
 
 story a line that asks for nothing says why
 bmclab -> 2 err
   error: 'bmclab' requires a subcommand but one was not provided
-    [subcommands: frame, play, schedule, check, version, help] /  / Usage: bmclab <COMMAND> /  / For more information, try '--help'.
+    [subcommands: frame, ask, play, schedule, check, version, help] /  / Usage: bmclab <COMMAND> /  / For more information, try '--help'.
 bmclab frmae 20 -> 2 err
   error: unrecognized subcommand 'frmae' /  /   tip: a similar subcommand exists: 'frame' /  / Usage: bmclab <COMMAND> /  / For more information, try '--help'.
 bmclab --version -> 2 err
@@ -194,6 +342,16 @@ bmclab check -> 2 err
     <FILE>... /  / Usage: bmclab check <FILE>... /  / For more information, try '--help'.
 bmclab check --as boards a -> 2 err
   error: invalid value 'boards' for '--as <FORM>' /   [possible values: board, plan, undo, journal, readings, schedule] /  / Usage: bmclab check [OPTIONS] <FILE>... /  / For more information, try '--help'.
+bmclab check --as plan --against b a -> 2 err
+  error: the argument '--as <FORM>' cannot be used with '--against <BOARD>' /  / Usage: bmclab check [OPTIONS] <FILE>... /  / For more information, try '--help'.
+bmclab ask -> 2 err
+  error: the following required arguments were not provided:
+    <BYTE>... /  / Usage: bmclab ask <BYTE>... /  / For more information, try '--help'.
+bmclab ask --bus i2c 04 27 05 -> 2 err
+  error: invalid value 'i2c' for '--bus <BUS>'
+    [possible values: ipmb, smbus] /  / Usage: bmclab ask [OPTIONS] <BYTE>... /  / For more information, try '--help'.
+bmclab ask 05 27 05 -> 2 err
+  error: invalid value for '<BYTE>...': NETFN COMMAND DATA.., where NETFN is even and below 40, with at most 25 bytes of data; with --bus smbus TYPE COMMAND DATA.., where TYPE is below 40, with at most 252; two hexadecimal digits for each byte, without 0x /  / Usage: bmclab ask [OPTIONS] <BYTE>... /  / For more information, try '--help'.
 bmclab check --all a -> 2 err
   error: unexpected argument '--all' found /  /   tip: to pass '--all' as a value, use '-- --all' /  / Usage: bmclab check [OPTIONS] <FILE>... /  / For more information, try '--help'.
 
@@ -201,6 +359,7 @@ story a request for help is refused, and helped
 bmclab --help -> 2 err
   Sends frames to a modelled board controller, plays plans on it and takes them back, writes schedules, and checks files /  / Usage: bmclab <COMMAND> /  / Commands:
     frame     Sends one frame to a fresh controller, and prints what it sends back
+    ask       Sends one request to a fresh controller, and prints its frames, the reply's code by name and its data
     play      Plays a plan on a board, over buses that lose, repeat and delay frames
     schedule  Writes a schedule of a plan on a board: a clean one, or one that is drawn
     check     Tells what files hold, where a fault is, and which keys nothing reads
@@ -208,12 +367,14 @@ bmclab --help -> 2 err
     help      Print this message or the help of the given subcommand(s) /  / Options:
     -h, --help  Print help /  / Examples:
     bmclab frame 2018C82C0001D3
+    bmclab ask 04 27 05
     bmclab play sample.toml examples/clean/plan.toml examples/clean/schedule.txt
     bmclab schedule --undo sample.toml examples/clean/plan.toml
     bmclab check sample.toml examples/clean/plan.toml examples/clean/schedule.txt
 bmclab -h -> 2 err
   Sends frames to a modelled board controller, plays plans on it and takes them back, writes schedules, and checks files /  / Usage: bmclab <COMMAND> /  / Commands:
     frame     Sends one frame to a fresh controller, and prints what it sends back
+    ask       Sends one request to a fresh controller, and prints its frames, the reply's code by name and its data
     play      Plays a plan on a board, over buses that lose, repeat and delay frames
     schedule  Writes a schedule of a plan on a board: a clean one, or one that is drawn
     check     Tells what files hold, where a fault is, and which keys nothing reads
@@ -221,12 +382,14 @@ bmclab -h -> 2 err
     help      Print this message or the help of the given subcommand(s) /  / Options:
     -h, --help  Print help /  / Examples:
     bmclab frame 2018C82C0001D3
+    bmclab ask 04 27 05
     bmclab play sample.toml examples/clean/plan.toml examples/clean/schedule.txt
     bmclab schedule --undo sample.toml examples/clean/plan.toml
     bmclab check sample.toml examples/clean/plan.toml examples/clean/schedule.txt
 bmclab help -> 2 err
   Sends frames to a modelled board controller, plays plans on it and takes them back, writes schedules, and checks files /  / Usage: bmclab <COMMAND> /  / Commands:
     frame     Sends one frame to a fresh controller, and prints what it sends back
+    ask       Sends one request to a fresh controller, and prints its frames, the reply's code by name and its data
     play      Plays a plan on a board, over buses that lose, repeat and delay frames
     schedule  Writes a schedule of a plan on a board: a clean one, or one that is drawn
     check     Tells what files hold, where a fault is, and which keys nothing reads
@@ -234,12 +397,14 @@ bmclab help -> 2 err
     help      Print this message or the help of the given subcommand(s) /  / Options:
     -h, --help  Print help /  / Examples:
     bmclab frame 2018C82C0001D3
+    bmclab ask 04 27 05
     bmclab play sample.toml examples/clean/plan.toml examples/clean/schedule.txt
     bmclab schedule --undo sample.toml examples/clean/plan.toml
     bmclab check sample.toml examples/clean/plan.toml examples/clean/schedule.txt
 bmclab frame --help -> 2 err
   Sends one frame to a fresh controller, and prints what it sends back /  / Usage: bmclab frame [OPTIONS] <HEX> /  / Arguments:
     <HEX>  The frame, as in 2018C82C0001D3: two hexadecimal digits for each byte, without spaces and without 0x /  / Options:
+        --explain       Says what the frame and its replies say, part by part, and what a wrong check byte would be
         --bus <BUS>     The bus, as in --bus smbus:
                         ipmb   the frame is one of IPMB; so it is where no bus is named
                         smbus  it is a packet of MCTP
@@ -247,9 +412,11 @@ bmclab frame --help -> 2 err
     -h, --help          Print help /  / Examples:
     bmclab frame 2018C82C0001D3
     bmclab frame --bus smbus --board sample.toml 200F0931010A08C801800002BE
+    bmclab frame --explain 2010D02C002705A8
 bmclab help frame -> 2 err
   Sends one frame to a fresh controller, and prints what it sends back /  / Usage: bmclab frame [OPTIONS] <HEX> /  / Arguments:
     <HEX>  The frame, as in 2018C82C0001D3: two hexadecimal digits for each byte, without spaces and without 0x /  / Options:
+        --explain       Says what the frame and its replies say, part by part, and what a wrong check byte would be
         --bus <BUS>     The bus, as in --bus smbus:
                         ipmb   the frame is one of IPMB; so it is where no bus is named
                         smbus  it is a packet of MCTP
@@ -257,6 +424,7 @@ bmclab help frame -> 2 err
     -h, --help          Print help /  / Examples:
     bmclab frame 2018C82C0001D3
     bmclab frame --bus smbus --board sample.toml 200F0931010A08C801800002BE
+    bmclab frame --explain 2010D02C002705A8
 bmclab play --help -> 2 err
   Plays a plan on a board, over buses that lose, repeat and delay frames /  / Usage: bmclab play [OPTIONS] <BOARD> <PLAN> <SCHEDULE> /  / Arguments:
     <BOARD>     The board file, as sample.toml
@@ -265,7 +433,7 @@ bmclab play --help -> 2 err
         --frames            Prints each frame, too, as in frame 0 mgr ipmb 2010D02C002905A6
         --premises          Prints the first event at which a packet joined one that had waited too long, or premises kept
         --chart             Draws the play in place of its lines
-        --explain           Says on standard error where the plan halts and why, and in which line of the schedule
+        --explain           Says on standard error where the plan halts and why, and in which line of the schedule; it does so unasked where that is a terminal
         --list              Prints each record that changed, too, as in sensor 5 upper critical: 95 (5Fh) -> 90 (5Ah)
         --strict            Ends with a status of 10 to 13 where a plan halted, a request isn't settled, an undo was refused or records changed, and refuses a file with a key that nothing reads
         --restart <PLACES>  Ends the manager's process behind these events and makes it anew of its journal, as in --restart 3,7
@@ -284,11 +452,13 @@ bmclab version --help -> 2 err
 bmclab check --help -> 2 err
   Tells what files hold, where a fault is, and which keys nothing reads /  / Usage: bmclab check [OPTIONS] <FILE>... /  / Arguments:
     <FILE>...  The files: board files, plans, schedules, undo texts, journals and readings /  / Options:
-        --as <FORM>  What the files are, as in --as plan: board, plan, undo, journal, readings or schedule; what they look like where it isn't named
-    -h, --help       Print help /  / Examples:
+        --as <FORM>        What the files are, as in --as plan: board, plan, undo, journal, readings or schedule; what they look like where it isn't named
+        --against <BOARD>  The board file of a board on which each step of the files, which are plans, is tried, as in --against sample.toml
+    -h, --help             Print help /  / Examples:
     bmclab check sample.toml
     bmclab check sample.toml examples/clean/plan.toml examples/clean/schedule.txt
     bmclab check --as plan examples/clean/plan.toml
+    bmclab check --against sample.toml examples/clean/plan.toml
 bmclab play -h a b c -> 2 err
   Plays a plan on a board, over buses that lose, repeat and delay frames /  / Usage: bmclab play [OPTIONS] <BOARD> <PLAN> <SCHEDULE> /  / Arguments:
     <BOARD>     The board file, as sample.toml
@@ -297,7 +467,7 @@ bmclab play -h a b c -> 2 err
         --frames            Prints each frame, too, as in frame 0 mgr ipmb 2010D02C002905A6
         --premises          Prints the first event at which a packet joined one that had waited too long, or premises kept
         --chart             Draws the play in place of its lines
-        --explain           Says on standard error where the plan halts and why, and in which line of the schedule
+        --explain           Says on standard error where the plan halts and why, and in which line of the schedule; it does so unasked where that is a terminal
         --list              Prints each record that changed, too, as in sensor 5 upper critical: 95 (5Fh) -> 90 (5Ah)
         --strict            Ends with a status of 10 to 13 where a plan halted, a request isn't settled, an undo was refused or records changed, and refuses a file with a key that nothing reads
         --restart <PLACES>  Ends the manager's process behind these events and makes it anew of its journal, as in --restart 3,7
@@ -309,7 +479,7 @@ bmclab play -h a b c -> 2 err
     bmclab play --explain sample.toml examples/refused/plan.toml examples/refused/schedule.txt
     bmclab play --strict --list sample.toml examples/clean/plan.toml examples/clean/schedule.txt
     bmclab play --restart 4 sample.toml examples/set_unheard/plan.toml examples/set_unheard/schedule.txt
-";
+"#;
 
 /// What the words ask for.
 const ASKS: &str = "story the bus is the one that is named
@@ -351,6 +521,30 @@ asks bmclab check sample.toml plan.toml schedule.txt undo.txt -> check sample.to
 asks bmclab check plan.toml plan.toml -> check plan.toml plan.toml
 asks bmclab check --as board plan.toml -> check plan.toml
 asks bmclab check -- --frames -> check --frames
+
+story a plan is checked against a board
+asks bmclab check --against sample.toml plan.toml -> check against sample.toml plan.toml
+asks bmclab check plan.toml other.toml --against sample.toml -> check against sample.toml plan.toml other.toml
+asks bmclab check --against sample.toml -> refused
+asks bmclab check --as plan --against sample.toml plan.toml -> refused
+
+story a request is named by its bytes
+asks bmclab ask 04 27 05 -> ask ipmb 042705
+asks bmclab ask 04 2705 -> ask ipmb 042705
+asks bmclab ask 06 01 -> ask ipmb 0601
+asks bmclab ask --bus smbus 3F 02 0a -> ask smbus 3F020A
+asks bmclab ask --board sample.toml 0601 -> ask ipmb 0601 sample.toml
+asks bmclab frame --explain 2018 -> ipmb 2018 explained
+asks bmclab ask 04 -> refused
+asks bmclab ask 05 27 -> refused
+asks bmclab ask 40 27 -> refused
+asks bmclab ask 4 27 -> refused
+asks bmclab ask 0x04 27 -> refused
+asks bmclab ask --bus smbus 40 02 -> refused
+asks bmclab ask --bus can 04 27 -> refused
+asks bmclab ask 04 27 000000000000000000000000000000000000000000000000 00 -> ask ipmb 042700000000000000000000000000000000000000000000000000
+asks bmclab ask 04 27 000000000000000000000000000000000000000000000000 0000 -> refused
+asks bmclab ask -> refused
 
 story the version is asked for by one word
 asks bmclab version -> version

@@ -32,7 +32,7 @@ use story_lines::NoOutcome;
 ///   and `chart` one that is drawn, as is `show`;
 /// - `ipmb HEX`, `smbus ..`: a frame that is sent to the board, or to the sample board where the story has none;
 /// - `bmclab WORDS`: this command line, where the files `board.toml`, `plan.toml` and `schedule.txt` hold the texts; in a word `~` stands for a
-///   space, and `''` is an empty word; `notes bmclab WORDS` is what it notes;
+///   space, and `''` is an empty word; `notes bmclab WORDS` is what it notes, and `terminal bmclab WORDS` what it notes on a terminal;
 /// - `late SEED`: the schedule that is drawn from the seed where packets may join late ones;
 /// - `call NAME`, `refuse WHAT`: a call over these files, and a refusal by itself.
 ///

@@ -5,7 +5,7 @@ use super::scene::Scene;
 use super::text::parted;
 use app_base::{Ending, Refusal, Report, refuse};
 use app_bmclab::{
-    Chances, Links, Percent, ScheduleFiles, ScheduleOptions, run_line, schedule_of_files,
+    Chances, Links, Notes, Percent, ScheduleFiles, ScheduleOptions, run_line, schedule_of_files,
     schedule_run,
 };
 use app_play::{PlayFiles, PlayOptions, Shown, chart_run, play_of_files, play_run, show};
@@ -138,12 +138,20 @@ pub fn words_of(alloc: Global, line: &str) -> Result<Vec<String>, AllocError> {
     Ok(words)
 }
 
+/// Notes on a terminal, or elsewhere, of which nothing is written.
+fn new_notes(alloc: Global, is_terminal: bool) -> Notes<Sheet> {
+    Notes {
+        writer: new_sheet(alloc),
+        is_terminal,
+    }
+}
+
 /// A run of a command line, with the story's files, which notes here.
 fn run_noted(
     alloc: Global,
     scene: &Scene,
     line: &str,
-    notes: &mut Sheet,
+    notes: &mut Notes<Sheet>,
     paper: &mut Paper,
 ) -> Result<u8, NoOutcome> {
     let words = words_of(alloc, line)?;
@@ -154,25 +162,26 @@ fn run_noted(
 
 /// A run of a command line, with the story's files.
 fn run_words(alloc: Global, scene: &Scene, line: &str, paper: &mut Paper) -> Result<u8, NoOutcome> {
-    let mut notes = new_sheet(alloc);
+    let mut notes = new_notes(alloc, false);
     let ended = run_noted(alloc, scene, line, &mut notes, paper);
     drop(notes);
     ended
 }
 
-/// Appends what a run of a command line notes.
+/// Appends what a run of a command line notes, on a terminal or elsewhere.
 fn push_notes(
     alloc: Global,
     scene: &Scene,
+    is_terminal: bool,
     line: &str,
     came: &mut String,
 ) -> Result<(), NoOutcome> {
     let mut paper = scene.paper();
-    let mut notes = new_sheet(alloc);
+    let mut notes = new_notes(alloc, is_terminal);
     let ended = run_noted(alloc, scene, line, &mut notes, &mut paper);
     drop(paper);
     let pushed = match ended {
-        Ok(_) => push_sheet(came, &notes),
+        Ok(_) => push_sheet(came, &notes.writer),
         Err(why) => Err(why),
     };
     drop(notes);
@@ -215,7 +224,8 @@ pub fn push_came(
     match parted(line) {
         ("asks", words) => Ok(push_asked(alloc, came, words)?),
         ("names", words) => Ok(push_named(alloc, came, words)?),
-        ("notes", words) => push_notes(alloc, scene, words, came),
+        ("notes", words) => push_notes(alloc, scene, false, words, came),
+        ("terminal", words) => push_notes(alloc, scene, true, words, came),
         _ => push_run(alloc, scene, line, came),
     }
 }

@@ -3,10 +3,10 @@ use Rattle.std.proofs.lemmas.Result.{err_from_is_err_and}
 use Rattle.app_base.proofs.Readings.{refuses_more}
 use Rattle.app_bmclab.proofs.check_words.check_words.Goals as goal
 
-pub returns-in_err-form-clause-refused : goal.returns-in_err-form-clause-refused
-returns-in_err-form-clause-refused c =
+pub returns-in_err-way-clause-refused : goal.returns-in_err-way-clause-refused
+returns-in_err-way-clause-refused c =
     let p = err_from_is_err_and c.from_residual.result c.from_residual.ensures.1 in
-    rw (p.1, p.2) (refuses_more _ _ _ (λ asked asks. (asked.form, asks.form)) c.in_err-form.ensures.refused)
+    rw (p.1, p.2) (refuses_more _ _ _ (λ asked asks. (asked.way, asks.way)) c.in_err-way.ensures.refused)
 
 pub returns-in_err-files-clause-refused : goal.returns-in_err-files-clause-refused
 returns-in_err-files-clause-refused c =

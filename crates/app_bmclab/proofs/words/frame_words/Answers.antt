@@ -1,6 +1,7 @@
 use Rattle.std.proofs.Common.{◌∙◌, Err, sym, ap, subst, codes, option_map}
 use Rattle.clap.specs.Words.{found_of}
-use Rattle.clap.proofs.WalkLemmas.{first_value-rows}
+use Rattle.clap.proofs.WalkLemmas.{first_value-rows, one_text-rows}
+use Rattle.app_base.specs.Asked.{says_yes}
 use Rattle.bmc_lab.specs.Asked.{AsksForBytes}
 use Rattle.app_base.proofs.Readings.{first_by_rows, none_there, refuses_more, refuses_none}
 use Rattle.app_bmclab.proofs.Readings.{frame_asked, frame_refuses}
@@ -24,5 +25,6 @@ returns-in-Ok-clause-asked c =
       board = c.in_ok-board.ensures.word ∙ first_value-rows (found_of c.args.matches.now) (codes "board");
       digits = c.in-Some.digits.now;
       given = first_by_rows (found_of c.args.matches.now) (codes "HEX") _ (sym c.get_str.ensures ∙ ap (option_map (λ s. s.now)) c.in-Some.is);
+      explain = c.has_flag-explain.ensures ∙ ap says_yes (one_text-rows (found_of c.args.matches.now) (codes "explain"));
       frame = subst (λ word. AsksForBytes word c.in-Some.digits.now c.in-Ok.frame.bus c.in-Ok.frame.bytes.items) (sym bus) c.in-Ok.ensures.asked;
     }

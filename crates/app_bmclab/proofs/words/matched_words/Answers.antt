@@ -2,7 +2,7 @@ use Rattle.std.proofs.Common.{codes, refl}
 use Rattle.std.proofs.lemmas.Result.{err_from_is_err_and}
 use Rattle.clap.specs.Words.{found_of, rows_of}
 use Rattle.app_base.proofs.Readings.{met, refuses_more, refuses_none}
-use Rattle.app_bmclab.proofs.Readings.{frame_behind, play_behind, schedule_behind, check_behind, none_behind}
+use Rattle.app_bmclab.proofs.Readings.{frame_behind, ask_behind, play_behind, schedule_behind, check_behind, none_behind}
 use Rattle.app_bmclab.proofs.words.matched_words.Goals as goal
 
 pub returns-in_err-frame_words-clause-refused : goal.returns-in_err-frame_words-clause-refused
@@ -14,26 +14,26 @@ returns-in_err-frame_words-clause-refused c =
 pub returns-in_err-schedule_words-clause-refused : goal.returns-in_err-schedule_words-clause-refused
 returns-in_err-schedule_words-clause-refused c =
     let p = err_from_is_err_and c.from_residual-in_err-schedule_words.result c.from_residual-in_err-schedule_words.ensures.1 in
-    let behind = met c.args.matches.now (codes "schedule") (rows_of (found_of c.in-Some-subcommand_matches-2.schedule.now)) (c.in-Some-subcommand_matches-2.ensures.found.0 refl) c.in-Some-subcommand_matches-2.ensures.rows in
+    let behind = met c.args.matches.now (codes "schedule") (rows_of (found_of c.in-Some-subcommand_matches-3.schedule.now)) (c.in-Some-subcommand_matches-3.ensures.found.0 refl) c.in-Some-subcommand_matches-3.ensures.rows in
     rw (p.1, p.2) (refuses_more _ _ _ (schedule_behind _ _ behind) c.in_err-schedule_words.ensures.refused)
 
 pub returns-in_err-play_words-clause-refused : goal.returns-in_err-play_words-clause-refused
 returns-in_err-play_words-clause-refused c =
     let p = err_from_is_err_and c.from_residual-in_err-play_words.result c.from_residual-in_err-play_words.ensures.1 in
-    let behind = met c.args.matches.now (codes "play") (rows_of (found_of c.in-Some-subcommand_matches.play.now)) (c.in-Some-subcommand_matches.ensures.found.0 refl) c.in-Some-subcommand_matches.ensures.rows in
+    let behind = met c.args.matches.now (codes "play") (rows_of (found_of c.in-Some-subcommand_matches-2.play.now)) (c.in-Some-subcommand_matches-2.ensures.found.0 refl) c.in-Some-subcommand_matches-2.ensures.rows in
     rw (p.1, p.2) (refuses_more _ _ _ (play_behind _ _ behind) c.in_err-play_words.ensures.refused)
 
 pub returns-in_err-check_words-clause-refused : goal.returns-in_err-check_words-clause-refused
 returns-in_err-check_words-clause-refused c =
     let p = err_from_is_err_and c.from_residual-in_err-check_words.result c.from_residual-in_err-check_words.ensures.1 in
-    let behind = met c.args.matches.now (codes "check") (rows_of (found_of c.in-Some-subcommand_matches-3.check.now)) (c.in-Some-subcommand_matches-3.ensures.found.0 refl) c.in-Some-subcommand_matches-3.ensures.rows in
+    let behind = met c.args.matches.now (codes "check") (rows_of (found_of c.in-Some-subcommand_matches-4.check.now)) (c.in-Some-subcommand_matches-4.ensures.found.0 refl) c.in-Some-subcommand_matches-4.ensures.rows in
     rw (p.1, p.2) (refuses_more _ _ _ (check_behind _ _ behind) c.in_err-check_words.ensures.refused)
 
-pub returns-in_default-subcommand_matches-4-clause-refused : goal.returns-in_default-subcommand_matches-4-clause-refused
-returns-in_default-subcommand_matches-4-clause-refused c =
+pub returns-in_default-subcommand_matches-5-clause-refused : goal.returns-in_default-subcommand_matches-5-clause-refused
+returns-in_default-subcommand_matches-5-clause-refused c =
     refuses_none _ c.lacking.result
-    (none_behind c.args.matches.now c.in_default.ensures.found.1 c.in_default-subcommand_matches.ensures.found.1 c.in_default-subcommand_matches-2.ensures.found.1 c.in_default-subcommand_matches-3.ensures.found.1
-    c.in_default-subcommand_matches-4.ensures.found.1)
+    (none_behind c.args.matches.now c.in_default.ensures.found.1 c.in_default-subcommand_matches.ensures.found.1 c.in_default-subcommand_matches-2.ensures.found.1 c.in_default-subcommand_matches-3.ensures.found.1 c.in_default-subcommand_matches-4.ensures.found.1
+    c.in_default-subcommand_matches-5.ensures.found.1)
 
 pub returns-in-Some-clause-asked : goal.returns-in-Some-clause-asked
 returns-in-Some-clause-asked c =
@@ -41,27 +41,42 @@ returns-in-Some-clause-asked c =
     let rows = rows_of (found_of arm.frame.now) in
     (rows, met c.args.matches.now (codes "frame") rows (arm.ensures.found.0 refl) arm.ensures.rows, c.in_ok-frame_words.ensures.asked)
 
+pub returns-in_err-ask_words-clause-refused : goal.returns-in_err-ask_words-clause-refused
+returns-in_err-ask_words-clause-refused c =
+    let p = err_from_is_err_and c.from_residual-in_err-ask_words.result c.from_residual-in_err-ask_words.ensures.1 in
+    let behind = met c.args.matches.now (codes "ask") (rows_of (found_of c.in-Some-subcommand_matches.ask.now)) (c.in-Some-subcommand_matches.ensures.found.0 refl) c.in-Some-subcommand_matches.ensures.rows in
+    rw (p.1, p.2) (refuses_more _ _ _ (ask_behind _ _ behind) c.in_err-ask_words.ensures.refused)
+
 pub returns-in-Some-subcommand_matches-clause-asked : goal.returns-in-Some-subcommand_matches-clause-asked
 returns-in-Some-subcommand_matches-clause-asked c =
     let arm = c.in-Some-subcommand_matches in
-    let rows = rows_of (found_of arm.play.now) in
-    (rows, met c.args.matches.now (codes "play") rows (arm.ensures.found.0 refl) arm.ensures.rows, c.in_ok-play_words.ensures.asked)
+    let rows = rows_of (found_of arm.ask.now) in
+    (rows, met c.args.matches.now (codes "ask") rows (arm.ensures.found.0 refl) arm.ensures.rows, c.in_ok-ask_words.ensures.asked)
+
+pub returns-in_err-ask_words-clause-asked : goal.returns-in_err-ask_words-clause-asked
+returns-in_err-ask_words-clause-asked c = rw (err_from_is_err_and c.from_residual-in_err-ask_words.result c.from_residual-in_err-ask_words.ensures.1).1 tt
 
 pub returns-in-Some-subcommand_matches-2-clause-asked : goal.returns-in-Some-subcommand_matches-2-clause-asked
 returns-in-Some-subcommand_matches-2-clause-asked c =
     let arm = c.in-Some-subcommand_matches-2 in
-    let rows = rows_of (found_of arm.schedule.now) in
-    (rows, met c.args.matches.now (codes "schedule") rows (arm.ensures.found.0 refl) arm.ensures.rows, c.in_ok-schedule_words.ensures.asked)
+    let rows = rows_of (found_of arm.play.now) in
+    (rows, met c.args.matches.now (codes "play") rows (arm.ensures.found.0 refl) arm.ensures.rows, c.in_ok-play_words.ensures.asked)
 
 pub returns-in-Some-subcommand_matches-3-clause-asked : goal.returns-in-Some-subcommand_matches-3-clause-asked
 returns-in-Some-subcommand_matches-3-clause-asked c =
     let arm = c.in-Some-subcommand_matches-3 in
+    let rows = rows_of (found_of arm.schedule.now) in
+    (rows, met c.args.matches.now (codes "schedule") rows (arm.ensures.found.0 refl) arm.ensures.rows, c.in_ok-schedule_words.ensures.asked)
+
+pub returns-in-Some-subcommand_matches-4-clause-asked : goal.returns-in-Some-subcommand_matches-4-clause-asked
+returns-in-Some-subcommand_matches-4-clause-asked c =
+    let arm = c.in-Some-subcommand_matches-4 in
     let rows = rows_of (found_of arm.check.now) in
     (rows, met c.args.matches.now (codes "check") rows (arm.ensures.found.0 refl) arm.ensures.rows, c.in_ok-check_words.ensures.asked)
 
 pub returns-clause-asked : goal.returns-clause-asked
 returns-clause-asked c =
-    let arm = c.in-Some-subcommand_matches-4 in
+    let arm = c.in-Some-subcommand_matches-5 in
     let rows = rows_of (found_of arm._version.now) in
     (rows, met c.args.matches.now (codes "version") rows (arm.ensures.found.0 refl) arm.ensures.rows)
 
