@@ -1,13 +1,8 @@
 -- What is asked for behind a subcommand.
-use Rattle.std.proofs.Common.{◌≡◌, List, Option, Some, None, true, false, option_map, ap, subst, codes, refl}
-use Rattle.std.specs.Prelude.{Box}
-use Rattle.std.specs.Box.{box_value}
-use Rattle.std.proofs.lemmas.Bool.{false≢true}
-use Rattle.clap.specs.Words.{Row, Text, subcommand_name_of, subcommand_rows, subcommand_rows_of}
+use Rattle.std.proofs.Common.{◌≡◌, List, Option, Some, true, false, subst, codes, refl}
+use Rattle.clap.specs.Words.{Row, Text, subcommand_name_of, subcommand_rows_of}
 use Rattle.clap.specs.declared.parser.matches.ArgMatches.{ArgMatches}
-use Rattle.clap.specs.declared.parser.matches.ArgMatches.TheViews.{out-ArgMatches, out-SubCommand}
-use Rattle.clap.specs.declared.parser.matches.SubCommand.{SubCommand}
-use Rattle.app_base.proofs.Readings.{alike, apart}
+use Rattle.app_base.proofs.Readings.{alike, apart, unnamed}
 use Rattle.app_serve.specs.declared.run.ServeWords.{ServeWords}
 use Rattle.app_run.specs.declared.running.RunWords.{RunWords}
 use Rattle.app_run.specs.declared.undoing.UndoWords.{UndoWords}
@@ -20,45 +15,25 @@ use Rattle.app_bmcnet.specs.Asked.{AsksBy, AsksServe, AsksRun, AsksUndo, AsksPai
 pub serve_behind : (met : Option (Text × List Row)) (rows : List Row) → met ≡ Some (codes "serve", rows) → (asked : Words) → AsksBy met asked
     → (words : ServeWords) × AsksServe rows words
 serve_behind met rows is (Serve words) asks = (words, subst (λ (r : List Row). AsksServe r words) (alike met (codes "serve") asks.0 rows asks.1 is) asks.2)
-serve_behind met rows is (Run words) asks = absurd (apart met (codes "serve") (codes "run") rows asks.0 refl is asks.1)
-serve_behind met rows is (Undo words) asks = absurd (apart met (codes "serve") (codes "undo") rows asks.0 refl is asks.1)
-serve_behind met rows is (Pair words) asks = absurd (apart met (codes "serve") (codes "pair") rows asks.0 refl is asks.1)
-serve_behind met rows is Version asks = absurd (apart met (codes "serve") (codes "version") rows asks.0 refl is asks.1)
+serve_behind met rows is _ asks = absurd (apart met (codes "serve") _ rows asks.0 refl is asks.1)
 
 -- what asks for anything behind `run` asks for a run
 pub run_behind : (met : Option (Text × List Row)) (rows : List Row) → met ≡ Some (codes "run", rows) → (asked : Words) → AsksBy met asked
     → (words : RunWords) × AsksRun rows words
 run_behind met rows is (Run words) asks = (words, subst (λ (r : List Row). AsksRun r words) (alike met (codes "run") asks.0 rows asks.1 is) asks.2)
-run_behind met rows is (Serve words) asks = absurd (apart met (codes "run") (codes "serve") rows asks.0 refl is asks.1)
-run_behind met rows is (Undo words) asks = absurd (apart met (codes "run") (codes "undo") rows asks.0 refl is asks.1)
-run_behind met rows is (Pair words) asks = absurd (apart met (codes "run") (codes "pair") rows asks.0 refl is asks.1)
-run_behind met rows is Version asks = absurd (apart met (codes "run") (codes "version") rows asks.0 refl is asks.1)
+run_behind met rows is _ asks = absurd (apart met (codes "run") _ rows asks.0 refl is asks.1)
 
 -- what asks for anything behind `undo` asks for an undo
 pub undo_behind : (met : Option (Text × List Row)) (rows : List Row) → met ≡ Some (codes "undo", rows) → (asked : Words) → AsksBy met asked
     → (words : UndoWords) × AsksUndo rows words
 undo_behind met rows is (Undo words) asks = (words, subst (λ (r : List Row). AsksUndo r words) (alike met (codes "undo") asks.0 rows asks.1 is) asks.2)
-undo_behind met rows is (Serve words) asks = absurd (apart met (codes "undo") (codes "serve") rows asks.0 refl is asks.1)
-undo_behind met rows is (Run words) asks = absurd (apart met (codes "undo") (codes "run") rows asks.0 refl is asks.1)
-undo_behind met rows is (Pair words) asks = absurd (apart met (codes "undo") (codes "pair") rows asks.0 refl is asks.1)
-undo_behind met rows is Version asks = absurd (apart met (codes "undo") (codes "version") rows asks.0 refl is asks.1)
+undo_behind met rows is _ asks = absurd (apart met (codes "undo") _ rows asks.0 refl is asks.1)
 
 -- what asks for anything behind `pair` asks for a pair
 pub pair_behind : (met : Option (Text × List Row)) (rows : List Row) → met ≡ Some (codes "pair", rows) → (asked : Words) → AsksBy met asked
     → (words : PairWords) × AsksPair rows words
 pair_behind met rows is (Pair words) asks = (words, subst (λ (r : List Row). AsksPair r words) (alike met (codes "pair") asks.0 rows asks.1 is) asks.2)
-pair_behind met rows is (Serve words) asks = absurd (apart met (codes "pair") (codes "serve") rows asks.0 refl is asks.1)
-pair_behind met rows is (Run words) asks = absurd (apart met (codes "pair") (codes "run") rows asks.0 refl is asks.1)
-pair_behind met rows is (Undo words) asks = absurd (apart met (codes "pair") (codes "undo") rows asks.0 refl is asks.1)
-pair_behind met rows is Version asks = absurd (apart met (codes "pair") (codes "version") rows asks.0 refl is asks.1)
-
--- a subcommand that wasn't met under this name has it nowhere
-pub unnamed : (m : ArgMatches) (name : Text) → (subcommand_name_of m ≡ Some name → false ≡ true) → (rows : List Row) → subcommand_rows_of m ≡ Some (name, rows) → ⊥
-unnamed m name none rows is = false≢true (none (go (out-ArgMatches m).subcommand is))
-  where
-    go : {Z : Type 0} (o : Option (Box SubCommand Z)) → subcommand_rows o ≡ Some (name, rows) → option_map (λ b. (out-SubCommand (box_value b)).name.now) o ≡ Some name
-    go None there = ap (λ (o : Option (Text × List Row)). option_map (λ p. p.0) o) there
-    go (Some b) there = ap (λ (o : Option (Text × List Row)). option_map (λ p. p.0) o) there
+pair_behind met rows is _ asks = absurd (apart met (codes "pair") _ rows asks.0 refl is asks.1)
 
 -- where none of the subcommands was met, nothing is asked for
 pub none_behind : (m : ArgMatches) → (subcommand_name_of m ≡ Some (codes "serve") → false ≡ true) → (subcommand_name_of m ≡ Some (codes "run") → false ≡ true)

@@ -1,6 +1,6 @@
 -- What a pair came to, and what is said of it.
 use Rattle.std.specs.Prelude.{IfOk, Option, Some, None}
-use Rattle.std.proofs.Common.{◌≡◌, ◌⊎◌, refl, inl, inr, sym, subst, ℕ, List, Result, Ok, Err, string_bytes}
+use Rattle.std.proofs.Common.{◌≡◌, ◌⊎◌, refl, inl, inr, sym, subst, ℕ, Bool, false, List, Result, Ok, Err, string_bytes}
 use Rattle.undo_plans.specs.declared.plan.Plan.{Plan}
 use Rattle.model_undo.specs.declared.phase.Phase.{Phase}
 use Rattle.model_lab.specs.Meaning.{lab_names}
@@ -15,9 +15,11 @@ use Rattle.app_base.specs.declared.console.Stream.TheVariants.{Output}
 use Rattle.app_base.specs.declared.status.Status.TheVariants.{Stopped}
 use Rattle.app_base.specs.declared.ending.ReportFault.{ReportFault}
 use Rattle.app_base.specs.declared.ending.ReportFault.TheVariants as untold
-use Rattle.app_base.specs.Ending.{ReportTells}
+use Rattle.app_base.specs.Ending.{ReportTells, Saying}
+use Rattle.app_strict.specs.Refusals.{SaysUnless, is_loose}
 use Rattle.app_run.specs.Driven.{DrivenState, DrivesAgain, RunFrom, CallRun, opened_with, fresh_links}
 use Rattle.app_bmcnet.specs.declared.inputs.Inputs.{Inputs}
+use Rattle.app_bmcnet.specs.declared.pairing.PairOptions.{PairOptions}
 use Rattle.app_bmcnet.specs.Inputs.{InputsAreRead}
 use Rattle.app_bmcnet.specs.Paired.{RunsAndUndoes, TellsPair}
 use Rattle.app_bmcnet.specs.PairRun.{SaysPair, PrintsPair}
@@ -54,11 +56,23 @@ ran_and_undid plan turns mid last run undid begun half counts is_fresh runs undo
 
 -- ---- what is said
 
--- what a report of inputs tells is said of their texts
-pub pair_told : (board plan : List ℕ) (turns : ℕ) (inputs : Inputs) (report : Result Report ReportFault) → InputsAreRead board plan (Ok inputs)
-    → IfOk report (λ r. r.stream ≡ Output) → IfOk report (λ r. TellsPair inputs.file inputs.plan turns (string_bytes r.text) r.status)
-    → ReportTells (PrintsPair board plan turns) report
-pair_told board plan turns inputs (Ok report) reads to told =
-    inl (inputs, reads, subst (λ (s : Stream). SaysPair inputs turns s (string_bytes report.text) report.status) (sym to) told)
-pair_told board plan turns inputs (Err untold.Memory) reads to told = tt
-pair_told board plan turns inputs (Err untold.Stopped) reads to told = inl (inputs, reads, (refl, refl))
+-- what a report of inputs tells is said of them
+pub pair_said : (inputs : Inputs) (options : PairOptions) (report : Result Report ReportFault)
+    → IfOk report (λ r. r.stream ≡ Output) → IfOk report (λ r. TellsPair inputs.file inputs.plan options (string_bytes r.text) r.status)
+    → ReportTells (SaysPair inputs options) report
+pair_said inputs options (Ok report) to told = subst (λ (s : Stream). SaysPair inputs options s (string_bytes report.text) report.status) (sym to) told
+pair_said inputs options (Err untold.Memory) to told = tt
+pair_said inputs options (Err untold.Stopped) to told = (refl, refl)
+
+-- what is said of files that aren't refused is said unless they are
+pub said_unless : (loose : Bool) (says : Saying) (report : Result Report ReportFault) → loose ≡ false → ReportTells says report → ReportTells (SaysUnless loose says) report
+said_unless loose says (Ok report) fits said = inr (fits, said)
+said_unless loose says (Err untold.Memory) fits said = tt
+said_unless loose says (Err untold.Stopped) fits said = inr (fits, said)
+
+-- what is said of what the texts tell is said of the texts
+pub pair_told : (board plan : List ℕ) (options : PairOptions) (inputs : Inputs) (report : Result Report ReportFault) → InputsAreRead board plan (Ok inputs)
+    → ReportTells (SaysUnless (is_loose options.strict board plan inputs.plan) (SaysPair inputs options)) report → ReportTells (PrintsPair board plan options) report
+pair_told board plan options inputs (Ok report) reads told = inl (inputs, reads, told)
+pair_told board plan options inputs (Err untold.Memory) reads told = tt
+pair_told board plan options inputs (Err untold.Stopped) reads told = inl (inputs, reads, told)

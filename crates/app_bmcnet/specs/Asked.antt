@@ -92,7 +92,9 @@ pub record AsksUndo (rows : List Row) (asked : UndoWords) : Type 0 where
 pub record AsksPair (rows : List Row) (asked : PairWords) : Type 0 where
   pub board : first_of (codes "BOARD") rows ≡ Some (string_bytes asked.board)
   pub plan : first_of (codes "PLAN") rows ≡ Some (string_bytes asked.plan)
-  pub turns : NamesTurns rows asked.turns
+  pub turns : NamesTurns rows asked.options.turns
+  pub strict : is_given (codes "strict") rows ≡ asked.options.strict
+  pub list : is_given (codes "list") rows ≡ asked.options.list
 
 -- the subcommand, with what was matched behind it, asks for this
 abbrev pub AsksBy : Option (Text × List Row) → Words → Type 0

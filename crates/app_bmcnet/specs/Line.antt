@@ -25,12 +25,16 @@ run_options = option_rule (codes "wait") ∷ option_rule (codes "again") ∷ opt
 abbrev pub undo_options : List Rule
 undo_options = option_rule (codes "wait") ∷ flag_rule (codes "greet") ∷ []
 
+-- those of `pair`: `[--strict] [--list]`
+abbrev pub pair_options : List Rule
+pair_options = flag_rule (codes "strict") ∷ flag_rule (codes "list") ∷ []
+
 -- behind their options, `serve BOARD P0 P1 TURNS`, `run PLAN P0 P1 TURNS UNDO`, `undo UNDO P0 P1 TURNS`, and `pair BOARD PLAN TURNS`
 abbrev pub app_named : Task → App
 app_named Serve = taking (codes "serve") serve_options (codes "BOARD" ∷ codes "P0" ∷ codes "P1" ∷ codes "TURNS" ∷ [])
 app_named Run = taking (codes "run") run_options (codes "PLAN" ∷ codes "P0" ∷ codes "P1" ∷ codes "TURNS" ∷ codes "UNDO" ∷ [])
 app_named Undo = taking (codes "undo") undo_options (codes "UNDO" ∷ codes "P0" ∷ codes "P1" ∷ codes "TURNS" ∷ [])
-app_named Pair = taking (codes "pair") [] (codes "BOARD" ∷ codes "PLAN" ∷ codes "TURNS" ∷ [])
+app_named Pair = taking (codes "pair") pair_options (codes "BOARD" ∷ codes "PLAN" ∷ codes "TURNS" ∷ [])
 
 -- `bmcnet`, and what it does with one side
 abbrev pub serves : App

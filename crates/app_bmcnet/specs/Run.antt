@@ -28,7 +28,7 @@ EndsAsAsked out err read files (Run asked) before after old new result =
 EndsAsAsked out err read files (Undo asked) before after old new result =
     UndoEndsOf out err read files asked before after old new result
 EndsAsAsked out err read files (Pair asked) before after old new result =
-    (after ≡ before) × RunEnds out err (PrintsPairOfFiles (read.gives before) (words_of asked) asked.turns) old new result
+    (after ≡ before) × RunEnds out err (PrintsPairOfFiles (read.gives before) (words_of asked) asked.options) old new result
 EndsAsAsked out err read files Version before after old new result =
     (after ≡ before) × RunEnds out err SaysVersion old new result
 

@@ -14,7 +14,7 @@ pub mod words;
 
 pub use file::NetFiles;
 pub use inputs::{InputFault, Inputs, read_inputs};
-pub use pairing::{PairWords, changed_of, pair};
+pub use pairing::{PairOptions, PairWords, changed_of, pair};
 pub use run::run_line;
 pub use terminal::line_on;
 pub use words::Words;

@@ -173,16 +173,23 @@ fn undo_command<'a>(alloc: Global) -> Result<Command<'a>, AllocError>
 const PAIR_ABOUT: &str =
     "Serves a board, runs a plan on it and takes the plan back, in one process over UDP";
 
-const PAIR_EXAMPLES: &str = "Examples:
-  bmcnet pair sample.toml examples/reply_lost/plan.toml 20";
+const PAIR_STRICT_HELP: &str =
+    "Ends with 10 to 13 where the plan halted, a request isn't settled, an undo was refused or records are changed, and refuses \
+a file with a key that nothing reads, as in --strict";
 
-const PAIR_ARGUMENTS: [Argument<'static>; 3] = [
+const PAIR_EXAMPLES: &str = "Examples:
+  bmcnet pair sample.toml examples/reply_lost/plan.toml 20
+  bmcnet pair --strict --list sample.toml examples/reply_lost/plan.toml 20";
+
+const PAIR_ARGUMENTS: [Argument<'static>; 5] = [
+    Argument::Flag("strict", PAIR_STRICT_HELP),
+    Argument::Flag("list", LIST_HELP),
     Argument::Needed("BOARD", BOARD_HELP),
     Argument::Needed("PLAN", PLAN_HELP),
     Argument::Needed("TURNS", TURNS_HELP),
 ];
 
-/// `pair BOARD PLAN TURNS`.
+/// `pair [--strict] [--list] BOARD PLAN TURNS`.
 fn pair_command<'a>(alloc: Global) -> Result<Command<'a>, AllocError>
     ensures { IfOk result (IsCommand (app_named Task.Pair)) }
 {

@@ -6,7 +6,7 @@ ghost use Rattle.app_bmcnet.specs.Asked.{AsksBy, AsksFor, AsksPair, AsksRun, Ask
 ghost use Rattle.app_bmcnet.specs.Asked.{NamesOption, NamesOr, NamesPort, NamesTurns, NamesWait, OptionsStand, StandBeside};
 
 use crate::number::{number_from, number_of, port_of};
-use crate::pairing::PairWords;
+use crate::pairing::{PairOptions, PairWords};
 use crate::tasks::{Task, command};
 use app_base::{Refusal, given, has_flag, lacking, named, refusal_by, refusal_of};
 use app_run::{RunWords, UndoWords, WAIT_MS};
@@ -248,7 +248,11 @@ fn pair_words(alloc: Global, matches: &ArgMatches) -> Result<PairWords, Refusal>
     Ok(PairWords {
         board: named(alloc, matches, "BOARD")?,
         plan: named(alloc, matches, "PLAN")?,
-        turns: turns(alloc, matches, Task::Pair)?,
+        options: PairOptions {
+            turns: turns(alloc, matches, Task::Pair)?,
+            strict: has_flag(matches, "strict"),
+            list: has_flag(matches, "list"),
+        },
     })
 }
 

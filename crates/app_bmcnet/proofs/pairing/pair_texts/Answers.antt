@@ -4,5 +4,5 @@ use Rattle.app_bmcnet.proofs.pairing.pair_texts.Goals as goal
 
 pub returns : goal.returns
 returns g c =
-    run_reports g.W.Write.contents g.E.Write.contents (PrintsPair c.args.board.now c.args.plan.now c.args.turns) c.texts_report-report.result c.args.console.now
+    run_reports g.W.Write.contents g.E.Write.contents (PrintsPair c.args.board.text.now c.args.plan.text.now c.args.options) c.texts_report-report.result c.args.console.now
     c.end_run-status.new.console c.end_run-status.result c.texts_report-report.ensures c.end_run-status.ensures

@@ -1,6 +1,6 @@
 //! Files that are refused, and links that can't be had.
 use super::files::FakeFiles;
-use super::pairs::expect_pair;
+use super::pairs::{expect_pair, plain};
 use super::texts::{BOARD, OTHERS, PLAN, UNDO};
 use super::{End, expect_end, expect_line, new_line, new_paper};
 use app_run::{RunWords, UndoWords, run, undo};
@@ -211,13 +211,19 @@ fn an_undo_text_with_other_names_is_refused(rt: HostRuntime) {
 #[test]
 fn all_files_are_read_before_a_text_is_refused(rt: HostRuntime) {
     let bad = [("board.toml", "tid = 5\n")];
-    expect_pair(&rt, rt.alloc(), 1, &bad, refused(b"file plan.toml\n"));
+    expect_pair(
+        &rt,
+        rt.alloc(),
+        plain(1),
+        &bad,
+        refused(b"file plan.toml\n"),
+    );
     let both = [("board.toml", "tid = 5\n"), ("plan.toml", "[[step]]\n")];
     let clock = refused(b"board Missing top clock\n");
-    expect_pair(&rt, rt.alloc(), 1, &both, clock);
+    expect_pair(&rt, rt.alloc(), plain(1), &both, clock);
     let second = [("board.toml", BOARD), ("plan.toml", "retries = 16\n")];
     let retries = refused(b"plan Range retries\n");
-    expect_pair(&rt, rt.alloc(), 1, &second, retries);
+    expect_pair(&rt, rt.alloc(), plain(1), &second, retries);
 }
 
 /// The texts that a run leaves in the file of the undo text and in that of the journal.
