@@ -1,5 +1,5 @@
 //! Chances, and a generator of numbers that looks random and is the same in each run.
-ghost use Rattle.std.specs.Prelude.{◌<◌};
+ghost use Rattle.std.specs.Prelude.{◌≡◌, ◌<◌, true, false};
 
 use rand_core::{Rng, SeedableRng};
 use rand_xoshiro::SplitMix64;
@@ -47,8 +47,11 @@ impl Dice {
         self.rng.next_u32() % end
     }
 
-    /// Whether something happens that does so often.
-    pub fn happens(&mut self, chance: Percent) -> bool {
+    /// Whether something happens that does so often: never at 0, and each time at 100.
+    pub fn happens(&mut self, chance: Percent) -> bool
+        ensures never { chance ≡ 0 → result ≡ false }
+        ensures always { chance ≡ 100 → result ≡ true }
+    {
         self.below(100) < u32::from(chance.number())
     }
 }
