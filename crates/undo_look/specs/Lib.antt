@@ -1,0 +1,5 @@
+pub mod Requests
+pub mod Replies
+pub mod OpenGet
+pub mod Looks
+pub mod Course
