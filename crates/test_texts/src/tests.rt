@@ -13,6 +13,7 @@ mod lines;
 mod numeric;
 mod order;
 mod plan;
+mod plan_text;
 mod play;
 mod readings;
 mod schedule;
