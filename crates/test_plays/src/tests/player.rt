@@ -18,6 +18,7 @@ use story_lines::NoOutcome;
 /// - `board`, `plan`, `schedule`: the lines are this text of the story;
 /// - `then`: with these lines the schedule goes on;
 /// - `make RUN`: the schedule is what this run writes, which ends with 0;
+/// - `same RUN`: this run writes the schedule, too, and ends with 0; `other RUN` is one that writes another;
 /// - `swap OLD => NEW`: in the board NEW stands in the place of the first OLD;
 /// - `unreadable plan`, `memory plan`: the file of the plan can't be read, or memory for it is refused;
 /// - `fails out 3`: the writer of standard output, or of `err`, fails once, behind three calls, in each run from here on;
@@ -137,6 +138,21 @@ impl<'s> Player<'s> {
         }
     }
 
+    /// The run writes the schedule, or another.
+    fn compare(&mut self, run: &str, is_same: bool) -> Result<(), NoOutcome> {
+        self.is_played = true;
+        push_came(self.alloc, &self.scene, run, &mut self.came)?;
+        let came = self.came.as_str().strip_prefix("0 out\n");
+        let is_told = match (came, self.scene.file("schedule.txt")) {
+            (Some(came), Ok(schedule)) => (came == schedule) == is_same,
+            _ => false,
+        };
+        if !is_told {
+            self.tell_came()?;
+        }
+        Ok(())
+    }
+
     /// A story begins. Of the one before, if there was one, something was played.
     fn begin_story(&mut self, name: &'s str) -> Result<(), NoOutcome> {
         if !self.is_played && self.story != "" {
@@ -189,6 +205,8 @@ impl<'s> Player<'s> {
             "board" | "plan" | "schedule" => self.put_text(word),
             "then" => self.go_on(),
             "make" => self.make(rest),
+            "same" => self.compare(rest, true),
+            "other" => self.compare(rest, false),
             "swap" => self.scene.swap(rest),
             "fails" => self.scene.fail(rest),
             "unreadable" => self.scene.put(rest, Err(UnreadFile::NoText)),
