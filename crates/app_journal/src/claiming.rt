@@ -146,7 +146,7 @@ fn may_go(standing: Standing) -> bool
 }
 
 /// Whether this word names no file.
-fn is_free<F: WritesFiles>(files: &F, word: &str) -> Result<bool, AllocError>
+pub fn is_free<F: WritesFiles>(files: &F, word: &str) -> Result<bool, AllocError>
     ensures { IfOk result (IsFreeAt (F.leads files.now) word.now) }
 {
     match files.place(word) {
@@ -157,7 +157,7 @@ fn is_free<F: WritesFiles>(files: &F, word: &str) -> Result<bool, AllocError>
 }
 
 /// The first of the words with a number behind this one that names no file.
-fn free_name<F: WritesFiles>(
+pub fn free_name<F: WritesFiles>(
     alloc: Global,
     files: &F,
     word: &str,
