@@ -30,7 +30,7 @@ pub(crate) struct Ran {
 }
 
 /// The manager that is made again of the last text that the journal's file was given.
-fn revive_last<F: WritesFiles>(
+pub fn revive_last<F: WritesFiles>(
     alloc: Global,
     keeper: &JournalKeeper<F>,
 ) -> Result<Manager, ReviveFault>

@@ -34,7 +34,7 @@ use undo_plans::Plan;
 
 /// A manager of a plan, the kinds of the plan's steps, the greetings before it is called, and the texts of its journal.
 #[derive(Drop)]
-pub(crate) struct Ready {
+pub struct Ready {
     pub manager: Manager,
     pub kinds: Vec<Kind>,
     pub greetings: Greetings,
@@ -143,7 +143,7 @@ fn claimed<F: TextFiles + WritesFiles, W: io::Write, E: io::Write>(
 // ---- the first journal
 
 /// A manager of this plan, that is ready to begin, and whether the controller is greeted before.
-fn make_ready(alloc: Global, plan: Plan, greet: bool) -> Result<Ready, AllocError>
+pub fn make_ready(alloc: Global, plan: Plan, greet: bool) -> Result<Ready, AllocError>
     ensures manager { IfOk result (λ ready. Represents lab_names ready.manager (opened_with plan)) }
     ensures kinds { IfOk result (λ ready. ready.kinds.items ≡ map kind_of plan.steps) }
     ensures greetings { IfOk result (λ ready. ready.greetings ≡ greetings_before_run greet plan) }

@@ -316,7 +316,7 @@ fn revert<F: WritesFiles, P: io::Write, R: Net>(
 // ---- what is said
 
 /// Whether the text begins as that of a journal does.
-pub(crate) fn is_journal(text: &str) -> bool
+pub fn is_journal(text: &str) -> bool
     ensures { (result ≡ true) ↔ IsJournal text.now }
 {
     behind("journal 1\n", text).is_some()
