@@ -4,7 +4,7 @@ use Rattle.std.specs.Option.{SomeIff}
 use Rattle.std.specs.Str.Parse.{IsNumeral, digits_value}
 use Rattle.clap.specs.Words.{Row, Text, first_of}
 use Rattle.app_base.proofs.Readings.{none_there, some_same}
-use Rattle.app_bmcnet.specs.Asked.{NamesNumber, NamesOption, NamesOr}
+use Rattle.app_bmcnet.specs.Asked.{NamesNumber, NamesOption, NamesOr, NamesPortOr}
 
 -- the word is a number of so many bits
 abbrev pub Fits : (bits : ℕ) → Text → Type 0
@@ -55,3 +55,8 @@ no_option least rows name word is none (Some number) (named, enough) =
 pub given_or : (least usual : ℕ) (rows : List Row) (name : Text) (number : ℕ) → NamesOr least usual rows name number → (given : Option ℕ) × NamesOption least rows name given
 given_or least usual rows name number (inl named) = (Some number, named)
 given_or least usual rows name number (inr (none, same)) = (None, none)
+
+-- a word that isn't read as a port names none
+pub no_port : (rows : List Row) (name word : Text) → first_of name rows ≡ Some word → (Fits 16 word → ⊥) → (given : Option ℕ) → NamesPortOr rows name given → ⊥
+no_port rows name word is none None missing = none_there (first_of name rows) word missing is
+no_port rows name word is none (Some port) named = no_number 16 rows name word is none port named

@@ -1,10 +1,10 @@
 -- The program's command line, as clap has it.
 use Rattle.std.specs.Prelude.{[], ◌∷◌, ◌++◌, List, codes, fold, map}
-use Rattle.clap.specs.Words.{App, Rule, Text, new_app, with_rule, with_subcommand}
+use Rattle.clap.specs.Words.{App, Rule, Text, new_app, new_rule, with_rule, with_subcommand}
 use Rattle.app_base.specs.Line.{flag_rule, needed_rule, needing_subcommand, option_rule}
 use Rattle.app_base.specs.Version.{version_app}
 use Rattle.app_bmcnet.specs.declared.tasks.Task.{Task}
-use Rattle.app_bmcnet.specs.declared.tasks.Task.TheVariants.{Serve, Run, Undo, Pair}
+use Rattle.app_bmcnet.specs.declared.tasks.Task.TheVariants.{Serve, Run, Undo, Pair, Apply, Revert}
 
 -- a command of this name, with these options, and with words each of which must be there
 abbrev pub taking : (name : Text) → (options : List Rule) → (words : List Text) → App
@@ -29,17 +29,36 @@ undo_options = option_rule (codes "wait") ∷ flag_rule (codes "greet") ∷ []
 abbrev pub pair_options : List Rule
 pair_options = flag_rule (codes "strict") ∷ flag_rule (codes "list") ∷ []
 
--- behind their options, `serve BOARD P0 P1 TURNS`, `run PLAN P0 P1 TURNS UNDO`, `undo UNDO P0 P1 TURNS`, and `pair BOARD PLAN TURNS`
+-- those of `apply`: `[--undo FILE] [--replace] [--wait MS] [--again N]`
+abbrev pub apply_options : List Rule
+apply_options = option_rule (codes "undo") ∷ flag_rule (codes "replace") ∷ option_rule (codes "wait") ∷ option_rule (codes "again") ∷ []
+
+-- those of `revert`: `[--wait MS] [--again N]`
+abbrev pub revert_options : List Rule
+revert_options = option_rule (codes "wait") ∷ option_rule (codes "again") ∷ []
+
+-- a command with a last word P1, which may be left out
+abbrev pub with_smbus_port : App → App
+with_smbus_port app = with_rule app (new_rule (codes "P1"))
+
+-- behind their options, `serve BOARD P0 P1 TURNS`, `run PLAN P0 P1 TURNS UNDO`, `undo UNDO P0 P1 TURNS`, `pair BOARD PLAN TURNS`, `apply PLAN P0
+-- [P1]` and `revert FILE P0 [P1]`
 abbrev pub app_named : Task → App
 app_named Serve = taking (codes "serve") serve_options (codes "BOARD" ∷ codes "P0" ∷ codes "P1" ∷ codes "TURNS" ∷ [])
 app_named Run = taking (codes "run") run_options (codes "PLAN" ∷ codes "P0" ∷ codes "P1" ∷ codes "TURNS" ∷ codes "UNDO" ∷ [])
 app_named Undo = taking (codes "undo") undo_options (codes "UNDO" ∷ codes "P0" ∷ codes "P1" ∷ codes "TURNS" ∷ [])
 app_named Pair = taking (codes "pair") pair_options (codes "BOARD" ∷ codes "PLAN" ∷ codes "TURNS" ∷ [])
+app_named Apply = with_smbus_port (taking (codes "apply") apply_options (codes "PLAN" ∷ codes "P0" ∷ []))
+app_named Revert = with_smbus_port (taking (codes "revert") revert_options (codes "FILE" ∷ codes "P0" ∷ []))
 
 -- `bmcnet`, and what it does with one side
 abbrev pub serves : App
 serves = with_subcommand (with_subcommand (needing_subcommand (new_app (codes "bmcnet"))) (app_named Serve).top) (app_named Run).top
 
+-- `bmcnet`, and what it does in one process, and with a file beside it
+abbrev pub pairs : App
+pairs = with_subcommand (with_subcommand serves (app_named Undo).top) (app_named Pair).top
+
 -- `bmcnet`, and what it can do
 abbrev pub program : App
-program = with_subcommand (with_subcommand (with_subcommand serves (app_named Undo).top) (app_named Pair).top) version_app.top
+program = with_subcommand (with_subcommand (with_subcommand pairs (app_named Apply).top) (app_named Revert).top) version_app.top

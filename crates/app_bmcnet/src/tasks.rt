@@ -1,11 +1,11 @@
 //! What the program can do, and its command line.
 ghost use Rattle.std.specs.Prelude.{◌≡◌, IfOk};
-ghost use Rattle.clap.specs.Words.{app_of};
+ghost use Rattle.clap.specs.Words.{App, app_of};
 ghost use Rattle.app_base.specs.Line.{IsCommand};
-ghost use Rattle.app_bmcnet.specs.Line.{app_named, program};
+ghost use Rattle.app_bmcnet.specs.Line.{app_named, program, with_smbus_port};
 
 use app_base::{Argument, new_command, new_program, version_command, with_command};
-use clap::Command;
+use clap::{Arg, Command};
 use std::alloc::{AllocError, Global};
 
 /// What `bmcnet` can do.
@@ -15,6 +15,8 @@ pub enum Task {
     Run,
     Undo,
     Pair,
+    Apply,
+    Revert,
 }
 
 const BOARD_HELP: &str = "The board file, as sample.toml";
@@ -196,6 +198,88 @@ fn pair_command<'a>(alloc: Global) -> Result<Command<'a>, AllocError>
     new_command(alloc, "pair", PAIR_ABOUT, PAIR_EXAMPLES, &PAIR_ARGUMENTS)
 }
 
+const APPLY_ABOUT: &str =
+    "Changes a controller by a plan, and keeps in a file at each moment what takes that back";
+
+const FILE_HELP: &str =
+    "The file that gets what takes the plan back, as in --undo fans.undo; else the plan's name with .undo for .toml";
+
+const FILE_REPLACE_HELP: &str =
+    "Puts that file aside, under a free name, where it has something to take back, as in --replace";
+
+const REACH_AGAIN_HELP: &str =
+    "How often to begin anew with a request that no retry brought a reply to, as in --again 3; \
+0 where none is given: a decimal number from 0 to 4294967295";
+
+const P1_MAYBE_HELP: &str =
+    "The UDP port of SMBus on 127.0.0.1, as 9621, where requests go on SMBus: a decimal number up to 65535";
+
+/// The command with a last word that may be left out: the port of SMBus.
+fn with_smbus_port<'a>(alloc: Global, command: Command<'a>) -> Result<Command<'a>, AllocError>
+    ensures { (app : App) → IsCommand app command
+        → IfOk result (IsCommand (with_smbus_port app)) }
+{
+    command.arg(Arg::new(alloc, "P1").help(P1_MAYBE_HELP))
+}
+
+const APPLY_EXAMPLES: &str = "Examples:
+  bmcnet apply examples/clean/plan.toml 9620 9621
+  bmcnet apply --undo fans.undo examples/clean/plan.toml 9620 9621
+  bmcnet apply --wait 500 --again 3 examples/clean/plan.toml 9620 9621";
+
+const APPLY_ARGUMENTS: [Argument<'static>; 6] = [
+    Argument::Option("undo", "FILE", FILE_HELP),
+    Argument::Flag("replace", FILE_REPLACE_HELP),
+    Argument::Option("wait", "MS", WAIT_HELP),
+    Argument::Option("again", "N", REACH_AGAIN_HELP),
+    Argument::Needed("PLAN", PLAN_HELP),
+    Argument::Needed("P0", P0_HELP),
+];
+
+/// `apply [--undo FILE] [--replace] [--wait MS] [--again N] PLAN P0 [P1]`.
+fn apply_command<'a>(alloc: Global) -> Result<Command<'a>, AllocError>
+    ensures { IfOk result (IsCommand (app_named Task.Apply)) }
+{
+    let command = new_command(
+        alloc,
+        "apply",
+        APPLY_ABOUT,
+        APPLY_EXAMPLES,
+        &APPLY_ARGUMENTS,
+    )?;
+    with_smbus_port(alloc, command)
+}
+
+const REVERT_ABOUT: &str = "Takes back on a controller what a file says, to which a plan was applied";
+
+const REVERT_FILE_HELP: &str =
+    "The file that apply kept, as fans.undo: a journal or an undo text. Meanwhile it is the journal of the way back";
+
+const REVERT_EXAMPLES: &str = "Examples:
+  bmcnet revert examples/clean/plan.undo 9620 9621
+  bmcnet revert --wait 500 --again 3 fans.undo 9620";
+
+const REVERT_ARGUMENTS: [Argument<'static>; 4] = [
+    Argument::Option("wait", "MS", WAIT_HELP),
+    Argument::Option("again", "N", REACH_AGAIN_HELP),
+    Argument::Needed("FILE", REVERT_FILE_HELP),
+    Argument::Needed("P0", P0_HELP),
+];
+
+/// `revert [--wait MS] [--again N] FILE P0 [P1]`.
+fn revert_command<'a>(alloc: Global) -> Result<Command<'a>, AllocError>
+    ensures { IfOk result (IsCommand (app_named Task.Revert)) }
+{
+    let command = new_command(
+        alloc,
+        "revert",
+        REVERT_ABOUT,
+        REVERT_EXAMPLES,
+        &REVERT_ARGUMENTS,
+    )?;
+    with_smbus_port(alloc, command)
+}
+
 impl Task {
     /// The command that does it.
     pub fn command<'a>(self, alloc: Global) -> Result<Command<'a>, AllocError>
@@ -206,6 +290,8 @@ impl Task {
             Task::Run => run_command(alloc),
             Task::Undo => undo_command(alloc),
             Task::Pair => pair_command(alloc),
+            Task::Apply => apply_command(alloc),
+            Task::Revert => revert_command(alloc),
         }
     }
 
@@ -216,6 +302,8 @@ impl Task {
             Task::Run => "bmcnet run",
             Task::Undo => "bmcnet undo",
             Task::Pair => "bmcnet pair",
+            Task::Apply => "bmcnet apply",
+            Task::Revert => "bmcnet revert",
         }
     }
 }
@@ -230,7 +318,9 @@ const EXAMPLES: &str = "Examples:
   bmcnet serve --periods sample.toml 9620 9621 1000
   bmcnet run examples/clean/plan.toml 9620 9621 1000 undo.txt
   bmcnet undo undo.txt 9620 9621 1000
-  bmcnet pair sample.toml examples/reply_lost/plan.toml 20";
+  bmcnet pair sample.toml examples/reply_lost/plan.toml 20
+  bmcnet apply examples/clean/plan.toml 9620 9621
+  bmcnet revert examples/clean/plan.undo 9620 9621";
 
 /// `bmcnet`, and what it can do.
 pub fn command<'a>(alloc: Global) -> Result<Command<'a>, AllocError>
@@ -241,5 +331,7 @@ pub fn command<'a>(alloc: Global) -> Result<Command<'a>, AllocError>
     let program = with_command(program, run_command(alloc))?;
     let program = with_command(program, undo_command(alloc))?;
     let program = with_command(program, pair_command(alloc))?;
+    let program = with_command(program, apply_command(alloc))?;
+    let program = with_command(program, revert_command(alloc))?;
     with_command(program, version_command(alloc, VERSION_EXAMPLES))
 }

@@ -1,0 +1,3 @@
+mod Out
+mod Untold
+mod Plans

@@ -1,0 +1,6 @@
+use Rattle.std.proofs.lemmas.Result.{IfOk-weaker}
+use Rattle.app_base.proofs.Builders.{adds_rule}
+use Rattle.app_bmcnet.proofs.tasks.with_smbus_port.Goals as goal
+
+pub returns : goal.returns
+returns c app is = IfOk-weaker c.arg.result _ _ (λ command adds. adds_rule app _ c.args.command command _ is c.help.ensures adds) c.arg.ensures

@@ -1,0 +1,31 @@
+use Rattle.std.proofs.lemmas.Result.{err_from_is_err_and}
+use Rattle.app_base.proofs.Readings.{refuses_more}
+use Rattle.app_bmcnet.proofs.words.reach.Goals as goal
+
+pub returns-in_err-port-clause-refused : goal.returns-in_err-port-clause-refused
+returns-in_err-port-clause-refused c =
+    let p = err_from_is_err_and c.from_residual.result c.from_residual.ensures.1 in
+    rw (p.1, p.2) (refuses_more _ _ _ (λ asked asks. (asked.ipmb_port, asks.ipmb)) c.in_err-port.ensures.refused)
+
+pub returns-in_err-port_given-clause-refused : goal.returns-in_err-port_given-clause-refused
+returns-in_err-port_given-clause-refused c =
+    let p = err_from_is_err_and c.from_residual-in_err-port_given.result c.from_residual-in_err-port_given.ensures.1 in
+    rw (p.1, p.2) (refuses_more _ _ _ (λ asked asks. (asked.smbus_port, asks.smbus)) c.in_err-port_given.ensures.refused)
+
+pub returns-in_err-wait-clause-refused : goal.returns-in_err-wait-clause-refused
+returns-in_err-wait-clause-refused c =
+    let p = err_from_is_err_and c.from_residual-in_err-wait.result c.from_residual-in_err-wait.ensures.1 in
+    rw (p.1, p.2) (refuses_more _ _ _ (λ asked asks. (asked.wait_ms, asks.wait)) c.in_err-wait.ensures.refused)
+
+pub returns-in_err-number_or-clause-refused : goal.returns-in_err-number_or-clause-refused
+returns-in_err-number_or-clause-refused c =
+    let p = err_from_is_err_and c.from_residual-in_err-number_or.result c.from_residual-in_err-number_or.ensures.1 in
+    rw (p.1, p.2) (refuses_more _ _ _ (λ asked asks. (asked.again, asks.again)) c.in_err-number_or.ensures.refused)
+
+pub returns-clause-reach : goal.returns-clause-reach
+returns-clause-reach c = record {
+  ipmb = c.in_ok-port.ensures.port;
+  smbus = c.in_ok-port_given.ensures.port;
+  wait = c.in_ok-wait.ensures.wait;
+  again = c.in_ok-number_or.ensures.number;
+}
