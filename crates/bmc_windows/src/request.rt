@@ -4,14 +4,14 @@ use two_wire::{Below, Data};
 /// A request of one of `NUMBERS` numbers.
 #[derive(Drop)]
 pub struct Request<'a, const NUMBERS: u8> {
+    /// Its bytes behind the first, where they lie.
+    pub rest: &'a [u8],
     /// Who asks: an address of IPMB, or an EID.
     pub requester: u8,
     /// The number that the requester gave to it.
     pub number: Below<NUMBERS>,
     /// The first of its bytes.
     pub first: u8,
-    /// The others, where they lie.
-    pub rest: &'a [u8],
 }
 
 /// What is to be done with a request.
