@@ -59,12 +59,15 @@ fn try_set<S: Store>(
     ensures place { IfOk result (λ at. S.places store.now (key_of op.now) ≡ Some at) }
 {
     let key = Limits::key(op);
-    match (setup.limits(&key), store.find(&key)) {
-        (Some(limits), Some(place)) => {
-            limits.apply(op, store.value(place), made)?;
-            Ok(place)
-        }
-        _ => Err(unknown_code(setup, &key)),
+    match setup.limits(&key) {
+        Some(limits) => match store.find(&key) {
+            Some(place) => {
+                limits.apply(op, store.value(place), made)?;
+                Ok(place)
+            }
+            None => Err(unknown_code(setup, &key)),
+        },
+        None => Err(unknown_code(setup, &key)),
     }
 }
 
