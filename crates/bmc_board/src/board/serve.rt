@@ -337,8 +337,32 @@ impl<S: Store> Board<S> {
         }
     }
 
-    /// Appends what a Get of the key's record replies.
+    /// Appends what a Get of the key's record replies. Gets of thresholds, of which most frames are, are compiled by themselves: they fill no local
+    /// of another kind with zeros.
     pub(super) fn get<B: Buffer>(&self, key: &Key, to: &mut B) -> Result<(), Code>
+        requires room { ReplyFits (Ok (request.Get key.now)) (B.bytes to.old) B.capacity }
+        ensures { AppendsReply B.bytes result to.old to.new
+            (serve_by self.now (request.Get key.now)).0 }
+    {
+        match key {
+            Key::Thresholds(number) => self.get_at(&Key::Thresholds(*number), to),
+            _ => self.get_any(key, to),
+        }
+    }
+
+    /// Appends the same, for a key of whatever kind. It is never compiled into its callers.
+    #[inline(never)]
+    fn get_any<B: Buffer>(&self, key: &Key, to: &mut B) -> Result<(), Code>
+        requires room { ReplyFits (Ok (request.Get key.now)) (B.bytes to.old) B.capacity }
+        ensures { AppendsReply B.bytes result to.old to.new
+            (serve_by self.now (request.Get key.now)).0 }
+    {
+        self.get_at(key, to)
+    }
+
+    /// Appends the same, and is compiled into its callers.
+    #[inline(always)]
+    fn get_at<B: Buffer>(&self, key: &Key, to: &mut B) -> Result<(), Code>
         requires room { ReplyFits (Ok (request.Get key.now)) (B.bytes to.old) B.capacity }
         ensures { AppendsReply B.bytes result to.old to.new
             (serve_by self.now (request.Get key.now)).0 }

@@ -7,7 +7,7 @@ use Rattle.record_kinds.specs.Series.{first_shown}
 use Rattle.record_kinds.specs.SeriesLaws.{first_short}
 use Rattle.record_kinds.specs.SoundLaws.{valid_at}
 use Rattle.bmc_board.proofs.AnswerFacts.{limits_are_of}
-use Rattle.bmc_board.proofs.board.Board.get.Goals as goal
+use Rattle.bmc_board.proofs.board.Board.get_at.Goals as goal
 
 pub get_first-requires-clause-room : goal.get_first-requires-clause-room
 get_first-requires-clause-room g c =
