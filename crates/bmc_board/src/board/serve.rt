@@ -4,10 +4,9 @@ ghost use Rattle.two_wire.specs.Codes.{node_busy, pldm_not_ready};
 ghost use Rattle.cfg_records.specs.Records.{records_of};
 ghost use Rattle.cfg_records.specs.Boards.{pairs_of};
 ghost use Rattle.record_base.specs.Meaning.{room_for};
-ghost use Rattle.record_base.specs.declared.message.Answered.{Answered as Reply};
 ghost use Rattle.bios_attr.specs.Tables.{AreTables};
 ghost use Rattle.bmc_board.specs.State.{opening};
-ghost use Rattle.bmc_board.specs.Gives.{GivesReply, AppendsReply};
+ghost use Rattle.bmc_board.specs.Gives.{AppendsReply};
 ghost use Rattle.bmc_board.specs.Replies.{done};
 ghost use Rattle.bmc_board.specs.Sensing.{value_at};
 ghost use Rattle.bmc_board.specs.declared.board.Kept.TheVariants.{Stale};
@@ -19,6 +18,7 @@ use crate::command::Command;
 use crate::live::{
     LiveCommand, NO_ERROR, PLDM_TYPES, already_in_progress, device_data, progress_data,
 };
+use crate::reply::answered;
 use crate::request::{read_request, requester};
 use crate::storage::{
     add_entry, clear, part_in, sdr_info, sel_info, show_entry, show_sdr, time_in,
@@ -32,7 +32,6 @@ use record_base::{AccessStore, ChannelNumber, SetChannelAccess, StoredAccess, Us
 use record_kinds::{PlainKind, Setup, of_each_plain_kind};
 use sensor_recs::readings::reading_data;
 use std::alloc::{AllocError, Global};
-use two_wire::size::MOST_PLDM_REPLY_DATA;
 use two_wire::{Buffer, Bytes, Code, code};
 use user_chan::channel_request::{ChannelRequest, channel_request_in, stored_in};
 use user_chan::password::{PasswordChange, change_of, set_enabled};
@@ -73,16 +72,6 @@ pub(super) fn outdate(kept: &mut Kept)
 {
     if *kept == Kept::Current {
         *kept = Kept::Stale;
-    }
-}
-
-/// The answer of a call that appended its data to nothing.
-fn answered(done: Result<(), Code>, body: Bytes<{ MOST_PLDM_REPLY_DATA }>) -> Answered
-    ensures { (answer : Reply) → GivesReply done [] body answer → result ≡ answer }
-{
-    match done {
-        Ok(()) => Answered { code: 0, body },
-        Err(code) => Answered::refused(code),
     }
 }
 
