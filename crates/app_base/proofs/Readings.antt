@@ -1,28 +1,29 @@
 -- What is read off the words that clap matched.
-use Rattle.std.proofs.Common.{◌≡◌, ◌∙◌, List, true, false, Option, Some, None, sym, ap, option_map}
+use Rattle.std.proofs.Common.{◌≡◌, ◌∙◌, List, true, false, Option, Some, None, Result, Ok, Err, IfErr, sym, ap, subst, option_map}
+use Rattle.std.specs.Result.{IsErrAnd}
 use Rattle.std.specs.Prelude.{Box}
 use Rattle.std.specs.Str.{bytes_eq}
 use Rattle.std.proofs.lemmas.Slice.Eq.{bytes_eq-Decides}
 use Rattle.std.proofs.lemmas.Bool.{false≢true}
 use Rattle.std.specs.Box.{box_value}
-use Rattle.clap.specs.Words.{Row, Text, first_of, first_value, rows_of, subcommand_name_of, subcommand_rows, subcommand_rows_of}
+use Rattle.clap.specs.Words.{Row, Text, subcommand_name_of, subcommand_rows, subcommand_rows_of}
 use Rattle.clap.specs.declared.parser.matches.ArgMatches.{ArgMatches}
 use Rattle.clap.specs.declared.parser.matches.ArgMatches.TheViews.{out-ArgMatches, out-SubCommand}
-use Rattle.clap.specs.declared.parser.matches.Found.{Found}
 use Rattle.clap.specs.declared.parser.matches.SubCommand.{SubCommand}
-use Rattle.clap.proofs.WalkLemmas.{first_value-rows}
 use Rattle.app_base.specs.declared.refusal.Refusal.{Refusal}
 use Rattle.app_base.specs.declared.refusal.Refusal.TheVariants.{Memory as Lacking, Words as Refused}
 use Rattle.app_base.specs.Asked.{RefusesWords}
-
--- `matches.get_str`, by the rows
-pub first_by_rows : (found : Found) (name : Text) (word : Option Text) → first_value found name ≡ word → first_of name (rows_of found) ≡ word
-first_by_rows found name word is = sym (first_value-rows found name) ∙ is
 
 -- who asks for nothing of one kind asks for nothing of another, if each of that other has one of the first
 pub refuses_more : {A B : Type 0} (P : A → Type 0) (Q : B → Type 0) (refusal : Refusal) → ((b : B) → Q b → (a : A) × P a) → RefusesWords P refusal → RefusesWords Q refusal
 refuses_more P Q Lacking has refused = tt
 refuses_more P Q (Refused why) has refused = λ asked asks. let one = has asked asks in refused one.0 one.1
+
+-- so it is where the refusal goes on by a `?`
+pub refuses_on : {A B X : Type 0} (P : A → Type 0) (Q : B → Type 0) (refusal : Refusal) (result : Result X Refusal) → IsErrAnd result (λ (on : Refusal). on ≡ refusal)
+    → ((b : B) → Q b → (a : A) × P a) → RefusesWords P refusal → IfErr result (RefusesWords Q)
+refuses_on P Q refusal (Ok x) goes has refused = absurd goes
+refuses_on P Q refusal (Err on) goes has refused = refuses_more P Q on has (subst (λ (r : Refusal). RefusesWords P r) (sym goes) refused)
 
 -- who asks for nothing at all is refused rightly
 pub refuses_none : {A : Type 0} (P : A → Type 0) (refusal : Refusal) → ((a : A) → P a → ⊥) → RefusesWords P refusal

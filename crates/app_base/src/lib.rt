@@ -20,7 +20,7 @@ pub use console::{Console, Stream};
 pub use ending::{Ending, ReportFault, end_run};
 pub use file::HostFiles;
 pub use files::{ReadFault, TextFiles, UnreadFile, text_of};
-pub use matched::{all_named, given, has_flag, lacking, named};
+pub use matched::{all_named, given, has_flag, lacking, named, word_of};
 pub use number::has_plus;
 pub use process::words_of_process;
 pub use refusal::{Refusal, refusal_by, refusal_of, refuse};

@@ -1,7 +1,7 @@
 //! What was matched of a command line's words.
 ghost use Rattle.std.specs.Prelude.{◌≡◌, IfOk, IfErr, Some, map, option_map, string_bytes};
-ghost use Rattle.clap.specs.Words.{all_of, first_value, found_of, one_text, rows_of};
-ghost use Rattle.app_base.specs.Asked.{RefusesWords, says_yes};
+ghost use Rattle.clap.specs.Words.{all_of, first_of, found_of, one_text, rows_of};
+ghost use Rattle.app_base.specs.Asked.{RefusesWords, is_given, says_yes};
 
 use crate::refusal::Refusal;
 use clap::ArgMatches;
@@ -23,14 +23,23 @@ pub fn lacking(alloc: Global) -> Refusal {
     Refusal::Words(String::new(alloc))
 }
 
+/// The word that has this name, where one is given, as it was matched.
+pub fn word_of<'a>(matches: &ArgMatches<'a>, name: &str) -> Option<&'a str>
+    ensures { option_map (λ word. word.now) result
+        ≡ first_of name.now (rows_of (found_of matches.now)) }
+{
+    matches.get_str(name)
+}
+
 /// The word that has this name.
 pub fn named(alloc: Global, matches: &ArgMatches, name: &str) -> Result<String, Refusal>
     ensures word { IfOk result
-        (λ word. first_value (found_of matches.now) name.now ≡ Some (string_bytes word)) }
+        (λ word. first_of name.now (rows_of (found_of matches.now))
+        ≡ Some (string_bytes word)) }
     ensures refused { IfErr result
-        (RefusesWords (λ word. first_value (found_of matches.now) name.now ≡ Some word)) }
+        (RefusesWords (λ word. first_of name.now (rows_of (found_of matches.now)) ≡ Some word)) }
 {
-    match matches.get_str(name) {
+    match word_of(matches, name) {
         Some(word) => kept(alloc, word),
         None => Err(lacking(alloc)),
     }
@@ -39,10 +48,11 @@ pub fn named(alloc: Global, matches: &ArgMatches, name: &str) -> Result<String, 
 /// The word that has this name, where one is given.
 pub fn given(alloc: Global, matches: &ArgMatches, name: &str) -> Result<Option<String>, Refusal>
     ensures word { IfOk result
-        (λ word. option_map string_bytes word ≡ first_value (found_of matches.now) name.now) }
+        (λ word. option_map string_bytes word
+        ≡ first_of name.now (rows_of (found_of matches.now))) }
     ensures memory { IfErr result (λ refusal. refusal ≡ Refusal.Memory) }
 {
-    match matches.get_str(name) {
+    match word_of(matches, name) {
         Some(word) => Ok(Some(kept(alloc, word)?)),
         None => Ok(None),
     }
@@ -78,10 +88,17 @@ pub fn all_named(alloc: Global, matches: &ArgMatches, name: &str) -> Result<Vec<
     }
 }
 
-/// Whether the flag of this name is given.
-pub fn has_flag(matches: &ArgMatches, name: &str) -> bool
+/// Whether the text that has this name says yes.
+fn has_yes(matches: &ArgMatches, name: &str) -> bool
     ensures { result ≡ says_yes (one_text (found_of matches.now) name.now) }
 {
     // `get_flag` promises nothing of a text that is neither `true` nor `false`.
     matches.get_one::<bool>(name).unwrap_or(false)
+}
+
+/// Whether the flag of this name is given.
+pub fn has_flag(matches: &ArgMatches, name: &str) -> bool
+    ensures { result ≡ is_given name.now (rows_of (found_of matches.now)) }
+{
+    has_yes(matches, name)
 }

@@ -7,7 +7,7 @@ ghost use Rattle.app_bmclab.specs.Line.{ask_app};
 ghost use Rattle.app_bmclab.specs.AskedOf.{AsksAsk};
 
 use app_ask::asked_request;
-use app_base::{Argument, Refusal, Status, all_named, given, new_command, refusal_by};
+use app_base::{Argument, Refusal, Status, all_named, given, new_command, refusal_by, word_of};
 use clap::error::ErrorKind;
 use clap::{ArgMatches, Command};
 use record_base::Asked;
@@ -93,7 +93,7 @@ pub fn ask_words(alloc: Global, matches: &ArgMatches) -> Result<AskWords, Refusa
 {
     let bytes = all_named(alloc, matches, "BYTE")?;
     let board = given(alloc, matches, "board")?;
-    let bus = matches.get_str("bus");
+    let bus = word_of(matches, "bus");
     match asked_request(alloc, bus, bytes.as_slice()) {
         Ok(request) => Ok(AskWords { board, request }),
         Err(status) => Err(request_refusal(alloc, status, bus)),

@@ -6,7 +6,7 @@ ghost use Rattle.app_base.specs.Asked.{RefusesWords};
 ghost use Rattle.app_bmclab.specs.Line.{check_app};
 ghost use Rattle.app_bmclab.specs.Looked.{AsksCheck, AsksForm, AsksWay};
 
-use app_base::{Argument, Refusal, all_named, given, new_command, refusal_by};
+use app_base::{Argument, Refusal, all_named, given, new_command, refusal_by, word_of};
 use clap::error::ErrorKind;
 use clap::{ArgMatches, Command};
 use std::alloc::{AllocError, Global};
@@ -86,7 +86,7 @@ fn form(alloc: Global, matches: &ArgMatches) -> Result<Option<TextForm>, Refusal
     ensures form { IfOk result (AsksForm (rows_of (found_of matches.now))) }
     ensures refused { IfErr result (RefusesWords (AsksForm (rows_of (found_of matches.now)))) }
 {
-    let Some(word) = matches.get_str("as") else {
+    let Some(word) = word_of(matches, "as") else {
         return Ok(None);
     };
     match TextForm::named(word) {
@@ -111,7 +111,7 @@ fn way(alloc: Global, matches: &ArgMatches) -> Result<CheckWay, Refusal>
     let Some(board) = given(alloc, matches, "against")? else {
         return Ok(CheckWay::Alone(form(alloc, matches)?));
     };
-    match matches.get_str("as") {
+    match word_of(matches, "as") {
         None => Ok(CheckWay::Against(board)),
         Some(_) => Err(way_refusal(alloc)),
     }

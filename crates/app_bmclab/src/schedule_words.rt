@@ -7,7 +7,7 @@ ghost use Rattle.app_bmclab.specs.Line.{schedule_app};
 ghost use Rattle.app_bmclab.specs.Drawn.{AsksOptions, AsksSchedule, NamesBelow, NamesSeed, is_empty, links_of};
 
 use crate::number::{DELAY_END, PERCENT_END, number_of, percent_of};
-use app_base::{Argument, Refusal, has_flag, named, new_command, refusal_by};
+use app_base::{Argument, Refusal, has_flag, named, new_command, refusal_by, word_of};
 use clap::error::ErrorKind;
 use clap::{ArgMatches, Command};
 use lab_schedule::{Chances, Links, Percent, ScheduleOptions};
@@ -109,7 +109,7 @@ fn percent(
     ensures refused { IfErr result
         (RefusesWords (NamesBelow end (first_of name.now (rows_of (found_of matches.now))))) }
 {
-    let Some(word) = matches.get_str(name) else {
+    let Some(word) = word_of(matches, name) else {
         return Ok(None);
     };
     match percent_of(word, end) {
@@ -123,7 +123,7 @@ fn seed(alloc: Global, matches: &ArgMatches) -> Result<Option<u64>, Refusal>
     ensures seed { IfOk result (NamesSeed (rows_of (found_of matches.now))) }
     ensures refused { IfErr result (RefusesWords (NamesSeed (rows_of (found_of matches.now)))) }
 {
-    let Some(word) = matches.get_str("seed") else {
+    let Some(word) = word_of(matches, "seed") else {
         return Ok(None);
     };
     match number_of(word) {

@@ -13,7 +13,7 @@ use crate::places::places_of;
 use crate::schedule_words::{ScheduleWords, schedule_command, schedule_words};
 use app_base::{
     Argument, Refusal, Status, given, has_flag, lacking, named, new_command, new_program,
-    refusal_by, refusal_of, version_command, with_command,
+    refusal_by, refusal_of, version_command, with_command, word_of,
 };
 use app_play::{PlayOptions, Shown};
 use bmc_lab::{AskedFrame, asked_frame};
@@ -214,12 +214,12 @@ fn frame_words(alloc: Global, matches: &ArgMatches) -> Result<FrameWords, Refusa
     ensures asked { IfOk result (AsksFrame (rows_of (found_of matches.now))) }
     ensures refused { IfErr result (RefusesWords (AsksFrame (rows_of (found_of matches.now)))) }
 {
-    let Some(digits) = matches.get_str("HEX") else {
+    let Some(digits) = word_of(matches, "HEX") else {
         return Err(lacking(alloc));
     };
     let board = given(alloc, matches, "board")?;
     let explain = has_flag(matches, "explain");
-    let bus = matches.get_str("bus");
+    let bus = word_of(matches, "bus");
     match asked_frame(alloc, bus, digits) {
         Ok(frame) => Ok(FrameWords {
             board,
@@ -275,7 +275,7 @@ fn restarts(alloc: Global, matches: &ArgMatches) -> Result<Vec<usize>, Refusal>
     ensures refused { IfErr result (RefusesWords
         (NamesPlaces (first_of (codes "restart") (rows_of (found_of matches.now))))) }
 {
-    let Some(word) = matches.get_str("restart") else {
+    let Some(word) = word_of(matches, "restart") else {
         return Ok(Vec::new(alloc));
     };
     match places_of(alloc, word) {

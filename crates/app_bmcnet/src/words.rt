@@ -8,7 +8,7 @@ ghost use Rattle.app_bmcnet.specs.Asked.{NamesOption, NamesOr, NamesPort, NamesT
 use crate::number::{number_from, number_of, port_of};
 use crate::pairing::{PairOptions, PairWords};
 use crate::tasks::{Task, command};
-use app_base::{Refusal, given, has_flag, lacking, named, refusal_by, refusal_of};
+use app_base::{Refusal, given, has_flag, lacking, named, refusal_by, refusal_of, word_of};
 use app_run::{RunWords, UndoWords, WAIT_MS};
 use app_serve::ServeWords;
 use clap::ArgMatches;
@@ -69,7 +69,7 @@ fn port(alloc: Global, matches: &ArgMatches, task: Task, name: &str) -> Result<u
     ensures refused { IfErr result
         (RefusesWords (NamesPort (rows_of (found_of matches.now)) name.now)) }
 {
-    let Some(word) = matches.get_str(name) else {
+    let Some(word) = word_of(matches, name) else {
         return Err(lacking(alloc));
     };
     match port_of(word) {
@@ -83,7 +83,7 @@ fn turns(alloc: Global, matches: &ArgMatches, task: Task) -> Result<u32, Refusal
     ensures turns { IfOk result (NamesTurns (rows_of (found_of matches.now))) }
     ensures refused { IfErr result (RefusesWords (NamesTurns (rows_of (found_of matches.now)))) }
 {
-    let Some(word) = matches.get_str("TURNS") else {
+    let Some(word) = word_of(matches, "TURNS") else {
         return Err(lacking(alloc));
     };
     match number_of(word) {
@@ -105,7 +105,7 @@ fn number_given(
     ensures refused { IfErr result
         (RefusesWords (NamesOption least (rows_of (found_of matches.now)) name.now)) }
 {
-    let Some(word) = matches.get_str(name) else {
+    let Some(word) = word_of(matches, name) else {
         return Ok(None);
     };
     match number_from(least, word) {
@@ -170,7 +170,7 @@ fn stand_beside(alloc: Global, matches: &ArgMatches) -> Result<(), Refusal>
     let clock = has_flag(matches, "clock");
     let repeats = has_flag(matches, "repeat-readings");
     let periods = has_flag(matches, "periods");
-    let readings = matches.get_str("readings").is_some();
+    let readings = word_of(matches, "readings").is_some();
     match misfit(clock, repeats, periods, readings) {
         None => Ok(()),
         Some(message) => Err(refusal_by(

@@ -1,33 +1,29 @@
 use Rattle.std.proofs.Common.{codes, refl}
-use Rattle.std.proofs.lemmas.Result.{err_from_is_err_and}
+use Rattle.std.proofs.lemmas.Result.{IfOk-from_err}
 use Rattle.clap.specs.Words.{found_of, rows_of}
-use Rattle.app_base.proofs.Readings.{met, refuses_more, refuses_none}
+use Rattle.app_base.proofs.Readings.{met, refuses_none, refuses_on}
 use Rattle.app_bmcnet.proofs.Behind.{serve_behind, run_behind, undo_behind, pair_behind, none_behind}
 use Rattle.app_bmcnet.proofs.words.matched_words.Goals as goal
 
 pub returns-in_err-run_words-clause-refused : goal.returns-in_err-run_words-clause-refused
 returns-in_err-run_words-clause-refused c =
-    let p = err_from_is_err_and c.from_residual-in_err-run_words.result c.from_residual-in_err-run_words.ensures.1 in
     let behind = met c.args.matches.now (codes "run") (rows_of (found_of c.in-Some-subcommand_matches.run'.now)) (c.in-Some-subcommand_matches.ensures.found.0 refl) c.in-Some-subcommand_matches.ensures.rows in
-    rw (p.1, p.2) (refuses_more _ _ _ (run_behind _ _ behind) c.in_err-run_words.ensures.refused)
+    refuses_on _ _ _ _ c.from_residual-in_err-run_words.ensures.1 (run_behind _ _ behind) c.in_err-run_words.ensures.refused
 
 pub returns-in_err-undo_words-clause-refused : goal.returns-in_err-undo_words-clause-refused
 returns-in_err-undo_words-clause-refused c =
-    let p = err_from_is_err_and c.from_residual-in_err-undo_words.result c.from_residual-in_err-undo_words.ensures.1 in
     let behind = met c.args.matches.now (codes "undo") (rows_of (found_of c.in-Some-subcommand_matches-2.undo.now)) (c.in-Some-subcommand_matches-2.ensures.found.0 refl) c.in-Some-subcommand_matches-2.ensures.rows in
-    rw (p.1, p.2) (refuses_more _ _ _ (undo_behind _ _ behind) c.in_err-undo_words.ensures.refused)
+    refuses_on _ _ _ _ c.from_residual-in_err-undo_words.ensures.1 (undo_behind _ _ behind) c.in_err-undo_words.ensures.refused
 
 pub returns-in_err-serve_words-clause-refused : goal.returns-in_err-serve_words-clause-refused
 returns-in_err-serve_words-clause-refused c =
-    let p = err_from_is_err_and c.from_residual.result c.from_residual.ensures.1 in
     let behind = met c.args.matches.now (codes "serve") (rows_of (found_of c.in-Some.serve.now)) (c.in-Some.ensures.found.0 refl) c.in-Some.ensures.rows in
-    rw (p.1, p.2) (refuses_more _ _ _ (serve_behind _ _ behind) c.in_err-serve_words.ensures.refused)
+    refuses_on _ _ _ _ c.from_residual.ensures.1 (serve_behind _ _ behind) c.in_err-serve_words.ensures.refused
 
 pub returns-in_err-pair_words-clause-refused : goal.returns-in_err-pair_words-clause-refused
 returns-in_err-pair_words-clause-refused c =
-    let p = err_from_is_err_and c.from_residual-in_err-pair_words.result c.from_residual-in_err-pair_words.ensures.1 in
     let behind = met c.args.matches.now (codes "pair") (rows_of (found_of c.in-Some-subcommand_matches-3.pair.now)) (c.in-Some-subcommand_matches-3.ensures.found.0 refl) c.in-Some-subcommand_matches-3.ensures.rows in
-    rw (p.1, p.2) (refuses_more _ _ _ (pair_behind _ _ behind) c.in_err-pair_words.ensures.refused)
+    refuses_on _ _ _ _ c.from_residual-in_err-pair_words.ensures.1 (pair_behind _ _ behind) c.in_err-pair_words.ensures.refused
 
 pub returns-in_default-subcommand_matches-4-clause-refused : goal.returns-in_default-subcommand_matches-4-clause-refused
 returns-in_default-subcommand_matches-4-clause-refused c =
@@ -65,13 +61,13 @@ returns-clause-asked c =
     (rows, met c.args.matches.now (codes "version") rows (arm.ensures.found.0 refl) arm.ensures.rows)
 
 pub returns-in_err-serve_words-clause-asked : goal.returns-in_err-serve_words-clause-asked
-returns-in_err-serve_words-clause-asked c = rw (err_from_is_err_and c.from_residual.result c.from_residual.ensures.1).1 tt
+returns-in_err-serve_words-clause-asked c = IfOk-from_err _ _ c.from_residual.ensures.0
 
 pub returns-in_err-run_words-clause-asked : goal.returns-in_err-run_words-clause-asked
-returns-in_err-run_words-clause-asked c = rw (err_from_is_err_and c.from_residual-in_err-run_words.result c.from_residual-in_err-run_words.ensures.1).1 tt
+returns-in_err-run_words-clause-asked c = IfOk-from_err _ _ c.from_residual-in_err-run_words.ensures.0
 
 pub returns-in_err-undo_words-clause-asked : goal.returns-in_err-undo_words-clause-asked
-returns-in_err-undo_words-clause-asked c = rw (err_from_is_err_and c.from_residual-in_err-undo_words.result c.from_residual-in_err-undo_words.ensures.1).1 tt
+returns-in_err-undo_words-clause-asked c = IfOk-from_err _ _ c.from_residual-in_err-undo_words.ensures.0
 
 pub returns-in_err-pair_words-clause-asked : goal.returns-in_err-pair_words-clause-asked
-returns-in_err-pair_words-clause-asked c = rw (err_from_is_err_and c.from_residual-in_err-pair_words.result c.from_residual-in_err-pair_words.ensures.1).1 tt
+returns-in_err-pair_words-clause-asked c = IfOk-from_err _ _ c.from_residual-in_err-pair_words.ensures.0

@@ -2,23 +2,23 @@ use Rattle.std.proofs.Common.{◌∙◌, ℕ, Option, ap, option_map, subst, sym
 use Rattle.std.specs.Option.{SomeIff}
 use Rattle.std.specs.Str.Parse.{digits_value}
 use Rattle.clap.specs.Words.{found_of, rows_of}
-use Rattle.app_base.proofs.Readings.{first_by_rows, none_there, refuses_none}
+use Rattle.app_base.proofs.Readings.{none_there, refuses_none}
 use Rattle.app_bmcnet.proofs.Readings.{Fits, no_number, number_named}
 use Rattle.app_bmcnet.proofs.words.port.Goals as goal
 
 pub returns-in_default-clause-refused : goal.returns-in_default-clause-refused
 returns-in_default-clause-refused c =
-    let missing = first_by_rows (found_of c.args.matches.now) c.args.name.now _ (sym c.get_str.ensures ∙ ap (option_map (λ s. s.now)) c.in_default.is) in
+    let missing = sym c.word_of.ensures ∙ ap (option_map (λ s. s.now)) c.in_default.is in
     refuses_none _ c.lacking.result (λ number asks. none_there _ _ missing asks.1)
 
 pub returns-in-None-clause-refused : goal.returns-in-None-clause-refused
 returns-in-None-clause-refused c =
-    let word = first_by_rows (found_of c.args.matches.now) c.args.name.now _ (sym c.get_str.ensures ∙ ap (option_map (λ s. s.now)) c.in-Some.is) in
+    let word = sym c.word_of.ensures ∙ ap (option_map (λ s. s.now)) c.in-Some.is in
     let none = subst (λ (o : Option ℕ). SomeIff o (Fits 16 c.in-Some.word.now) (digits_value 10 c.in-Some.word.now)) c.in-None.is c.port_of.ensures in
     refuses_none _ c.number_refusal.result (no_number 16 (rows_of (found_of c.args.matches.now)) c.args.name.now c.in-Some.word.now word none)
 
 pub returns-in-Some-port_of-clause-port : goal.returns-in-Some-port_of-clause-port
 returns-in-Some-port_of-clause-port c =
-    let word = first_by_rows (found_of c.args.matches.now) c.args.name.now _ (sym c.get_str.ensures ∙ ap (option_map (λ s. s.now)) c.in-Some.is) in
+    let word = sym c.word_of.ensures ∙ ap (option_map (λ s. s.now)) c.in-Some.is in
     let some = subst (λ (o : Option ℕ). SomeIff o (Fits 16 c.in-Some.word.now) (digits_value 10 c.in-Some.word.now)) c.in-Some-port_of.is c.port_of.ensures in
     number_named 16 (rows_of (found_of c.args.matches.now)) c.args.name.now c.in-Some.word.now c.in-Some-port_of.port word some
