@@ -5,4 +5,5 @@ pub mod Files
 pub mod Report
 pub mod Line
 pub mod Asked
+pub mod Numbers
 pub mod Version

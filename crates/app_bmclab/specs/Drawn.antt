@@ -1,18 +1,13 @@
 -- What the words behind `schedule` ask for.
-use Rattle.std.specs.Prelude.{◌≡◌, ◌<◌, ◌^◌, ℕ, Bool, false, ◌&&◌, List, Option, None, Some, codes, string_bytes, if◌then◌else◌}
+use Rattle.std.specs.Prelude.{◌≡◌, ◌^◌, ℕ, Bool, false, ◌&&◌, List, Option, Some, codes, string_bytes, if◌then◌else◌}
 use Rattle.std.specs.Option.{is_none, unwrap_or}
-use Rattle.std.specs.Net.Grammar.{IsNumber}
 use Rattle.clap.specs.Words.{Row, Text, first_of}
 use Rattle.app_base.specs.Asked.{is_given}
+use Rattle.app_base.specs.Numbers.{NamesBelow}
 use Rattle.lab_schedule.specs.declared.make.Links.{Links}
 use Rattle.lab_schedule.specs.declared.make.Links.TheVariants.{Clean, Drawn}
 use Rattle.app_bmclab.specs.declared.schedule_words.Options.{Options}
 use Rattle.app_bmclab.specs.declared.schedule_words.ScheduleWords.{ScheduleWords}
-
--- the word, where there is one, is this number in decimal digits, which is below the end
-abbrev pub NamesBelow : (end : ℕ) → Option Text → Option ℕ → Type 0
-NamesBelow end None number = number ≡ None
-NamesBelow end (Some word) number = (n : ℕ) × (number ≡ Some n) × IsNumber 10 word n × (n < end)
 
 -- the option of this name says so many of a hundred, where it is given
 abbrev pub NamesPercent : List Row → (name : Text) → Option ℕ → Type 0

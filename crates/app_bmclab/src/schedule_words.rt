@@ -3,8 +3,9 @@ ghost use Rattle.std.specs.Prelude.{◌≡◌, ◌<◌, ◌≤◌, IfOk, IfErr};
 ghost use Rattle.clap.specs.Words.{first_of, found_of, rows_of};
 ghost use Rattle.app_base.specs.Line.{IsCommand};
 ghost use Rattle.app_base.specs.Asked.{RefusesWords};
+ghost use Rattle.app_base.specs.Numbers.{NamesBelow};
 ghost use Rattle.app_bmclab.specs.Line.{schedule_app};
-ghost use Rattle.app_bmclab.specs.Drawn.{AsksOptions, AsksSchedule, NamesBelow, NamesSeed, is_empty, links_of};
+ghost use Rattle.app_bmclab.specs.Drawn.{AsksOptions, AsksSchedule, NamesSeed, is_empty, links_of};
 
 use crate::number::{DELAY_END, PERCENT_END, number_of, percent_of};
 use app_base::{Argument, Refusal, has_flag, named, new_command, refusal_by, word_of};

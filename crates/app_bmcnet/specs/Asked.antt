@@ -1,8 +1,8 @@
 -- What the words of the command line ask for.
 use Rattle.std.specs.Prelude.{◌≡◌, ◌≤◌, ◌<◌, ◌^◌, ◌⊎◌, ℕ, Bool, true, false, List, Option, None, Some, option_map, is_some, codes, string_bytes}
-use Rattle.std.specs.Net.Grammar.{IsNumber}
 use Rattle.clap.specs.Words.{Row, Text, first_of}
 use Rattle.app_base.specs.Asked.{AsksOf, is_given}
+use Rattle.app_base.specs.Numbers.{NamesBelow}
 use Rattle.app_serve.specs.declared.run.ServeWords.{ServeWords}
 use Rattle.app_run.specs.declared.running.RunWords.{RunWords}
 use Rattle.app_run.specs.declared.undoing.UndoWords.{UndoWords}
@@ -11,22 +11,18 @@ use Rattle.app_bmcnet.specs.declared.words.Words.{Words}
 use Rattle.app_bmcnet.specs.declared.words.Words.TheVariants.{Serve, Run, Undo, Pair, Version}
 use Rattle.app_bmcnet.specs.Line.{program}
 
--- the word of this name is this number of so many bits, in decimal digits
-abbrev pub NamesNumber : (bits : ℕ) → List Row → (name : Text) → (number : ℕ) → Type 0
-NamesNumber bits rows name number = (word : Text) × (first_of name rows ≡ Some word) × IsNumber 10 word number × (number < 2 ^ bits)
-
 -- the word of this name is this port
 abbrev pub NamesPort : List Row → (name : Text) → (port : ℕ) → Type 0
-NamesPort rows name port = NamesNumber 16 rows name port
+NamesPort rows name port = NamesBelow (2 ^ 16) (first_of name rows) (Some port)
 
 -- the word TURNS is so many turns
 abbrev pub NamesTurns : List Row → (turns : ℕ) → Type 0
-NamesTurns rows turns = NamesNumber 32 rows (codes "TURNS") turns
+NamesTurns rows turns = NamesBelow (2 ^ 32) (first_of (codes "TURNS") rows) (Some turns)
 
 -- the option of this name is this number of 32 bits, in decimal digits, from the least one on; or it isn't given, and there is none
 abbrev pub NamesOption : (least : ℕ) → List Row → (name : Text) → Option ℕ → Type 0
 NamesOption least rows name None = first_of name rows ≡ None
-NamesOption least rows name (Some number) = NamesNumber 32 rows name number × (least ≤ number)
+NamesOption least rows name (Some number) = NamesBelow (2 ^ 32) (first_of name rows) (Some number) × (least ≤ number)
 
 -- it is this number, which is the usual one where the option isn't given
 abbrev pub NamesOr : (least usual : ℕ) → List Row → (name : Text) → (number : ℕ) → Type 0

@@ -3,7 +3,7 @@ use Rattle.std.specs.Option.{SomeIff}
 use Rattle.std.specs.Str.Parse.{digits_value}
 use Rattle.clap.specs.Words.{found_of, rows_of}
 use Rattle.app_base.proofs.Readings.{refuses_none}
-use Rattle.app_bmclab.proofs.Numbers.{Below, no_number, none_named, number_named}
+use Rattle.app_base.proofs.Numbers.{Below, no_number, none_named, number_named}
 use Rattle.app_bmclab.proofs.schedule_words.percent.Goals as goal
 
 pub returns-in_default-clause-percent : goal.returns-in_default-clause-percent

@@ -3,7 +3,7 @@ use Rattle.std.specs.Option.{SomeIff}
 use Rattle.std.specs.Str.Parse.{digits_value}
 use Rattle.clap.specs.Words.{found_of, rows_of}
 use Rattle.app_base.proofs.Readings.{refuses_none}
-use Rattle.app_bmclab.proofs.Numbers.{Fits, no_number, none_named, number_named}
+use Rattle.app_base.proofs.Numbers.{Below, no_number, none_named, number_named}
 use Rattle.app_bmclab.proofs.schedule_words.seed.Goals as goal
 
 pub returns-in_default-clause-seed : goal.returns-in_default-clause-seed
@@ -14,11 +14,11 @@ returns-in_default-clause-seed c =
 pub returns-in-None-clause-refused : goal.returns-in-None-clause-refused
 returns-in-None-clause-refused c =
     let word = sym c.word_of.ensures ∙ ap (option_map (λ s. s.now)) c.in-Some.is in
-    let none = subst (λ (o : Option ℕ). SomeIff o (Fits c.in-Some.word.now) (digits_value 10 c.in-Some.word.now)) c.in-None.is c.number_of.ensures in
+    let none = subst (λ (o : Option ℕ). SomeIff o (Below (2 ^ 64) c.in-Some.word.now) (digits_value 10 c.in-Some.word.now)) c.in-None.is c.number_of.ensures in
     refuses_none _ c.number_refusal.result (no_number (2 ^ 64) (rows_of (found_of c.args.matches.now)) (codes "seed") c.in-Some.word.now word none)
 
 pub returns-in-Some-number_of-clause-seed : goal.returns-in-Some-number_of-clause-seed
 returns-in-Some-number_of-clause-seed c =
     let word = sym c.word_of.ensures ∙ ap (option_map (λ s. s.now)) c.in-Some.is in
-    let some = subst (λ (o : Option ℕ). SomeIff o (Fits c.in-Some.word.now) (digits_value 10 c.in-Some.word.now)) c.in-Some-number_of.is c.number_of.ensures in
+    let some = subst (λ (o : Option ℕ). SomeIff o (Below (2 ^ 64) c.in-Some.word.now) (digits_value 10 c.in-Some.word.now)) c.in-Some-number_of.is c.number_of.ensures in
     number_named (2 ^ 64) (rows_of (found_of c.args.matches.now)) (codes "seed") c.in-Some.word.now c.in-Some-number_of.seed word some
