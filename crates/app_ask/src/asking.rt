@@ -14,7 +14,7 @@ ghost use Rattle.app_ask.specs.Run.{AskPrints, PrintsAsk, TellsReply, exchange_l
 
 use crate::frames::request_frames;
 use crate::reply::{Reply, reply_in};
-use app_base::{Console, Ending, Report, Status, Stream};
+use app_base::{Console, Ending, Report, Status};
 use bmc_core::{Board, Disposition, Out, Port};
 use bmc_lab::{board_or_sample, controller_place};
 use cfg_records::BoardFile;
@@ -150,11 +150,7 @@ fn told(alloc: Global, file: BoardFile, asked: &Asked) -> Result<Report, AllocEr
     let mut text = String::new(alloc);
     push_exchange(alloc, &mut text, frames.as_slice(), &out)?;
     push_told(alloc, &mut text, bus, out.frames.as_slice())?;
-    Ok(Report {
-        stream: Stream::Output,
-        text,
-        status: status_of(&out),
-    })
+    Ok(Report::output(text, status_of(&out)))
 }
 
 /// What is told of the request, or why the file holds no board.

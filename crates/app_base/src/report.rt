@@ -27,6 +27,32 @@ impl Drop for Report {
 }
 
 impl Report {
+    /// What a run writes to standard output, and how it ends.
+    pub fn output(text: String, status: Status) -> Report
+        ensures stream { result.stream ≡ Stream.Output }
+        ensures text { result.text ≡ text }
+        ensures status { result.status ≡ status }
+    {
+        Report {
+            stream: Stream::Output,
+            text,
+            status,
+        }
+    }
+
+    /// What a run writes to standard error, and how it ends.
+    pub fn complaint(text: String, status: Status) -> Report
+        ensures stream { result.stream ≡ Stream.Error }
+        ensures text { result.text ≡ text }
+        ensures status { result.status ≡ status }
+    {
+        Report {
+            stream: Stream::Error,
+            text,
+            status,
+        }
+    }
+
     /// What is said of a file that can't be read: `file` and the word that names it.
     pub fn of_file(alloc: Global, word: &str) -> Result<Report, AllocError>
         ensures stream { IfOk result (λ report. report.stream ≡ Stream.Error) }
@@ -35,11 +61,7 @@ impl Report {
     {
         let mut text = String::new(alloc);
         writeln!(text, "file {word}")?;
-        Ok(Report {
-            stream: Stream::Error,
-            text,
-            status: Status::RefusedFile,
-        })
+        Ok(Report::complaint(text, Status::RefusedFile))
     }
 
     /// What is said of a board file that is refused: `board` and the fault.
@@ -50,10 +72,6 @@ impl Report {
     {
         let mut text = String::new(alloc);
         writeln!(text, "board {why}")?;
-        Ok(Report {
-            stream: Stream::Error,
-            text,
-            status: Status::RefusedFile,
-        })
+        Ok(Report::complaint(text, Status::RefusedFile))
     }
 }

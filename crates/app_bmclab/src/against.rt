@@ -223,11 +223,7 @@ fn account_report(account: Account) -> Report
     ensures status { result.status ≡ status_of (worst_of account.outcomes.items) }
 {
     let status = status_of(worst(account.outcomes.as_slice()));
-    Report {
-        stream: Stream::Output,
-        text: account.text,
-        status,
-    }
+    Report::output(account.text, status)
 }
 
 /// The report of a board's file that is refused, of which this is told.
@@ -236,11 +232,7 @@ fn refusal_report(text: String) -> Report
     ensures text { result.text ≡ text }
     ensures status { result.status ≡ Status.RefusedFile }
 {
-    Report {
-        stream: Stream::Output,
-        text,
-        status: Status::RefusedFile,
-    }
+    Report::output(text, Status::RefusedFile)
 }
 
 /// What is told of the files that the words name on the board of this text; or of the text, where it holds no board.

@@ -5,7 +5,7 @@ ghost use Rattle.app_base.specs.Ending.{RunEnds};
 ghost use Rattle.file_words.specs.Escapes.{escaped};
 ghost use Rattle.app_bmclab.specs.Checks.{FileOutcome, IsReadingsOutcome, IsTextOutcome, SaysOfChecks, status_of};
 
-use app_base::{Console, Ending, Report, Status, Stream, TextFiles, UnreadFile};
+use app_base::{Console, Ending, Report, Status, TextFiles, UnreadFile};
 use app_serve::{ReadingsFault, read_readings};
 use file_faults::{Sheet, Source};
 use file_words::push_escaped;
@@ -197,11 +197,7 @@ fn check_report<F: TextFiles + TellsCause>(
 {
     let mut sheet = Sheet::new(alloc);
     let outcomes = check_each(alloc, files, said, words, &mut sheet)?;
-    Ok(Report {
-        stream: Stream::Output,
-        text: sheet.into_text(),
-        status: status_of(worst(outcomes.as_slice())),
-    })
+    Ok(Report::output(sheet.into_text(), status_of(worst(outcomes.as_slice()))))
 }
 
 /// Reads each of the files that the words name as what they are said to be, or else as what it looks like, in their order, and writes to standard output what is told of it: a line

@@ -6,7 +6,7 @@ ghost use Rattle.app_play.specs.Run.{PrintsPlay};
 ghost use Rattle.app_bmclab.specs.Writes.{WritesSchedule};
 
 use crate::explained::{note_of_schedule, write_notes};
-use app_base::{Console, Ending, Report, Status, Stream};
+use app_base::{Console, Ending, Report, Status};
 use app_play::{Inputs, is_memory, read_inputs, refusal_report};
 use lab_schedule::{ScheduleOptions, make_schedule};
 use std::alloc::{AllocError, Global};
@@ -26,11 +26,7 @@ fn written_report(
     let Inputs { file, plan, .. } = inputs;
     let events = make_schedule(alloc, file, plan, wanted)?;
     let text = write_schedule(alloc, events.as_slice())?;
-    Ok(Report {
-        stream: Stream::Output,
-        text,
-        status: Status::Success,
-    })
+    Ok(Report::output(text, Status::Success))
 }
 
 /// The schedule of the plan on the board, or what is said of the first text that is refused.

@@ -4,7 +4,7 @@ ghost use Rattle.app_base.specs.declared.console.Stream.TheVariants.{Error};
 ghost use Rattle.app_base.specs.declared.status.Status.TheVariants.{RefusedFile};
 ghost use Rattle.app_bmcnet.specs.Inputs.{InputsAreRead, is_memory, refusal_line};
 
-use app_base::{Report, Status, Stream};
+use app_base::{Report, Status};
 use cfg_records::BoardFile;
 use plan_file::{PlanFault, read_plan};
 use std::alloc::{AllocError, Global};
@@ -62,9 +62,5 @@ pub(crate) fn refusal(alloc: Global, why: InputFault) -> Result<Report, AllocErr
         InputFault::Board(why) => writeln!(text, "board {why}")?,
         InputFault::Plan(why) => writeln!(text, "plan {why}")?,
     }
-    Ok(Report {
-        stream: Stream::Error,
-        text,
-        status: Status::RefusedFile,
-    })
+    Ok(Report::complaint(text, Status::RefusedFile))
 }

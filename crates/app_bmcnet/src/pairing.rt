@@ -16,9 +16,7 @@ use crate::inputs::{Inputs, is_memory, read_inputs, refusal};
 use crate::links::{BusLinks, controller_ends, manager_ends};
 use crate::side::{Controller, Driver, Paired, Phases, pair_over};
 use app_base::files::refuse;
-use app_base::{
-    Console, ReadFault, Report, ReportFault, Status, Stream, TextFiles, end_run, text_of,
-};
+use app_base::{Console, ReadFault, Report, ReportFault, Status, TextFiles, end_run, text_of};
 use app_run::{open_manager, push_phase};
 use app_serve::{Begun, ClosedBoard, begin, controller_ports, tally_of};
 use app_strict::{NamedText, end_status, files_refusal, halts};
@@ -262,11 +260,7 @@ fn account_report(alloc: Global, strict: bool, account: &Account) -> Result<Repo
     push_phase(&mut text, undone)?;
     push_changed(&mut text, account.changed)?;
     text.push_str(account.list.as_str())?;
-    Ok(Report {
-        stream: Stream::Output,
-        text,
-        status: status_by(strict, account),
-    })
+    Ok(Report::output(text, status_by(strict, account)))
 }
 
 /// What is said of a board and a plan.

@@ -9,7 +9,7 @@ use crate::ended::{Ended, parts_of};
 use crate::inputs::Inputs;
 use crate::lines::push_stopped;
 use crate::report::status;
-use app_base::{Report, Stream};
+use app_base::Report;
 use cfg_records::BoardFile;
 use lab_play::{Stopped, play_noted};
 use lab_run::Note;
@@ -53,11 +53,7 @@ pub(crate) fn drawing(
     if let Some(stopped) = stopped {
         push_stopped(&mut text, stopped)?;
     }
-    Ok(Report {
-        stream: Stream::Output,
-        text,
-        status: status(stopped),
-    })
+    Ok(Report::output(text, status(stopped)))
 }
 
 /// What is drawn of the play that these inputs tell.

@@ -7,7 +7,7 @@ ghost use Rattle.app_play.specs.Lines.{text_of};
 ghost use Rattle.app_play.specs.Account.{AccountOf, status_of};
 
 use crate::account::Account;
-use app_base::{Report, Status, Stream};
+use app_base::{Report, Status};
 use lab_play::{Played, Stopped};
 use std::alloc::{AllocError, Global};
 
@@ -50,9 +50,5 @@ pub(crate) fn account_report(
     ensures status { IfOk result (λ report. report.status ≡ status_of account.now.stopped) }
 {
     let text = account.text(alloc, frames, premises)?;
-    Ok(Report {
-        stream: Stream::Output,
-        text,
-        status: status(account.stopped),
-    })
+    Ok(Report::output(text, status(account.stopped)))
 }

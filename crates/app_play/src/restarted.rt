@@ -11,7 +11,7 @@ use crate::lines::push_stopped;
 use crate::report::{account_of, account_report, status};
 use crate::restart_rows::chart_restarts;
 use crate::run::Shown;
-use app_base::{Report, Status, Stream};
+use app_base::{Report, Status};
 use cfg_records::BoardFile;
 use lab_play::{Stopped, play_restarting};
 use lab_run::Note;
@@ -35,11 +35,7 @@ pub(crate) fn place_refusal(alloc: Global, place: usize) -> Result<Report, Alloc
 {
     let mut text = String::new(alloc);
     writeln!(text, "restart {place}")?;
-    Ok(Report {
-        stream: Stream::Error,
-        text,
-        status: Status::RefusedWords,
-    })
+    Ok(Report::complaint(text, Status::RefusedWords))
 }
 
 /// What is said in lines of the play that these inputs tell, whose manager is made again behind the events of these places.
@@ -108,11 +104,7 @@ pub(crate) fn drawing(
     if let Some(stopped) = stopped {
         push_stopped(&mut text, stopped)?;
     }
-    Ok(Report {
-        stream: Stream::Output,
-        text,
-        status: status(stopped),
-    })
+    Ok(Report::output(text, status(stopped)))
 }
 
 /// What is drawn of the play that these inputs tell, whose manager is made again behind the events of these places.

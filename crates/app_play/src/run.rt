@@ -12,7 +12,7 @@ use crate::ended::{Ended, parts_of};
 use crate::inputs::{InputFault, Inputs, read_inputs};
 use crate::report::{account_of, account_report};
 use crate::restarted::restarted_report;
-use app_base::{Console, Ending, Report, Status, Stream};
+use app_base::{Console, Ending, Report, Status};
 use lab_play::play;
 use plan_file::PlanFault;
 use std::alloc::{AllocError, Global};
@@ -48,11 +48,7 @@ pub fn refusal_report(alloc: Global, why: InputFault) -> Result<Report, AllocErr
 {
     let mut text = String::new(alloc);
     writeln!(text, "{why}")?;
-    Ok(Report {
-        stream: Stream::Error,
-        text,
-        status: Status::RefusedFile,
-    })
+    Ok(Report::complaint(text, Status::RefusedFile))
 }
 
 /// What is said of the play that these inputs tell.

@@ -17,7 +17,7 @@ use crate::inputs::{Inputs, read_inputs};
 use crate::report::{account_of, status};
 use crate::restarted::{self, first_behind, place_refusal};
 use crate::run::{Shown, is_memory, refusal_report, show};
-use app_base::{Console, Ending, Report, Status, Stream};
+use app_base::{Console, Ending, Report, Status};
 use app_strict::{NamedText, end_status, files_refusal};
 use cfg_records::BoardFile;
 use changed_words::ChangeList;
@@ -102,11 +102,7 @@ fn listed_report(
     let mut lines = String::new(alloc);
     list.push(&mut lines, played.records())?;
     let text = account.listed_text(alloc, lines.as_str(), frames, premises)?;
-    Ok(Report {
-        stream: Stream::Output,
-        text,
-        status: ending_of(options.strict, steps, account),
-    })
+    Ok(Report::output(text, ending_of(options.strict, steps, account)))
 }
 
 /// What is said in lines of the play that these inputs tell.

@@ -8,7 +8,7 @@ ghost use Rattle.app_run.specs.Lines.{phase_line, plan_line, undo_line, others_l
 ghost use Rattle.app_run.specs.Lines.{unanswered_line};
 
 use crate::greeting::Unanswered;
-use app_base::{Console, Ending, Report, ReportFault, Status, Stream, end_run};
+use app_base::{Console, Ending, Report, ReportFault, Status, end_run};
 use plan_file::PlanFault;
 use std::alloc::{AllocError, Global};
 use std::io;
@@ -30,11 +30,7 @@ pub(crate) fn phase_report(alloc: Global, phase: Phase) -> Result<Report, AllocE
 {
     let mut text = String::new(alloc);
     push_phase(&mut text, phase)?;
-    Ok(Report {
-        stream: Stream::Output,
-        text,
-        status: Status::Success,
-    })
+    Ok(Report::output(text, Status::Success))
 }
 
 /// What is said of a plan that is refused.
@@ -45,11 +41,7 @@ pub(crate) fn plan_refusal(alloc: Global, why: PlanFault) -> Result<Report, Allo
 {
     let mut text = String::new(alloc);
     writeln!(text, "plan {why}")?;
-    Ok(Report {
-        stream: Stream::Error,
-        text,
-        status: Status::RefusedFile,
-    })
+    Ok(Report::complaint(text, Status::RefusedFile))
 }
 
 /// What is said of an undo text that is refused.
@@ -60,11 +52,7 @@ pub(crate) fn undo_refusal(alloc: Global, why: UndoFault) -> Result<Report, Allo
 {
     let mut text = String::new(alloc);
     writeln!(text, "undo {why}")?;
-    Ok(Report {
-        stream: Stream::Error,
-        text,
-        status: Status::RefusedFile,
-    })
+    Ok(Report::complaint(text, Status::RefusedFile))
 }
 
 /// What is said of an undo text that has other names.
@@ -73,11 +61,10 @@ pub(crate) fn names_refusal(alloc: Global) -> Result<Report, AllocError>
     ensures text { IfOk result (λ report. string_bytes report.text ≡ others_line) }
     ensures status { IfOk result (λ report. report.status ≡ RefusedFile) }
 {
-    Ok(Report {
-        stream: Stream::Error,
-        text: String::from_str(alloc, "undo OtherNames\n")?,
-        status: Status::RefusedFile,
-    })
+    Ok(Report::complaint(
+        String::from_str(alloc, "undo OtherNames\n")?,
+        Status::RefusedFile,
+    ))
 }
 
 /// What is said of a greeting that wasn't answered.
@@ -90,11 +77,7 @@ fn unanswered_report(alloc: Global, why: Unanswered) -> Result<Report, AllocErro
     let bus = why.bus.name();
     let mut text = String::new(alloc);
     writeln!(text, "{word} on {bus}")?;
-    Ok(Report {
-        stream: Stream::Error,
-        text,
-        status: Status::Success,
-    })
+    Ok(Report::complaint(text, Status::Success))
 }
 
 /// Writes one report behind the other, unless the first can't be written, and gives the status of the last.

@@ -23,7 +23,7 @@ use crate::links::sit_out;
 use crate::progress::kinds_of;
 use crate::running::{Outcome, RunWords, say_outcome, unmade};
 use app_base::files::refuse;
-use app_base::{Console, Ending, Report, ReportFault, Status, Stream, TextFiles, end_run, text_of};
+use app_base::{Console, Ending, Report, ReportFault, Status, TextFiles, end_run, text_of};
 use app_journal::{Claim, JournalTexts, Taken, UndoFiles, WriteFault, WritesFiles, claim_files};
 use plan_file::{Kind, PlanFault, read_plan};
 use std::alloc::{AllocError, Global};
@@ -90,11 +90,7 @@ fn aside_report(alloc: Global, name: &str) -> Result<Report, AllocError>
 {
     let mut text = String::new(alloc);
     writeln!(text, "aside {name}")?;
-    Ok(Report {
-        stream: Stream::Error,
-        text,
-        status: Status::Success,
-    })
+    Ok(Report::complaint(text, Status::Success))
 }
 
 /// Says what was put aside, if something was, and gives the status.

@@ -27,7 +27,7 @@ use crate::links::{BusLinks, open_ends};
 use crate::observer::{ProgressWriter, RunWatch};
 use crate::progress::{PlanOutline, Progress, kinds_of};
 use crate::undoing::UndoWords;
-use app_base::{Console, Report, ReportFault, Status, Stream, end_run};
+use app_base::{Console, Report, ReportFault, Status, end_run};
 use app_journal::{JournalKeeper, JournalTexts, ReviveFault, UndoFiles, WritesFiles, revive_text};
 use bmc_ports::{DriveEnd, KeptBack, Observer, drive_observed};
 use std::alloc::{AllocError, Global};
@@ -332,11 +332,7 @@ fn line_refusal(alloc: Global, line: usize) -> Result<Report, AllocError>
     let why = JournalTextFault::Line(line);
     let mut text = String::new(alloc);
     writeln!(text, "journal {why}")?;
-    Ok(Report {
-        stream: Stream::Error,
-        text,
-        status: Status::RefusedFile,
-    })
+    Ok(Report::complaint(text, Status::RefusedFile))
 }
 
 /// What is said of one whose manager sends a request again more often than any can.
@@ -346,11 +342,10 @@ fn retries_refusal(alloc: Global) -> Result<Report, AllocError>
         ≡ journal_line AnyFault.Retries) }
     ensures status { IfOk result (λ report. report.status ≡ RefusedFile) }
 {
-    Ok(Report {
-        stream: Stream::Error,
-        text: String::from_str(alloc, "journal Retries\n")?,
-        status: Status::RefusedFile,
-    })
+    Ok(Report::complaint(
+        String::from_str(alloc, "journal Retries\n")?,
+        Status::RefusedFile,
+    ))
 }
 
 /// What is said of the text of a journal that no manager is made of.

@@ -10,7 +10,7 @@ ghost use Rattle.app_serve.specs.Served.{IsAsked, clock_list, list_for, list_in}
 
 use crate::readings_text::{ReadingsFault, read_readings};
 use crate::run::ServeWords;
-use app_base::{Report, ReportFault, Status, Stream};
+use app_base::{Report, ReportFault, Status};
 use bmc_board::Bench;
 use bmc_ports::{Agenda, TICK_MS, Timed, Timetable};
 use std::alloc::{AllocError, Global};
@@ -81,11 +81,7 @@ fn fault_report(alloc: Global, why: ReadingsFault) -> Result<Report, AllocError>
 {
     let mut text = String::new(alloc);
     writeln!(text, "readings {why}")?;
-    Ok(Report {
-        stream: Stream::Error,
-        text,
-        status: Status::RefusedFile,
-    })
+    Ok(Report::complaint(text, Status::RefusedFile))
 }
 
 /// What is said of a text of readings that stands for no list.

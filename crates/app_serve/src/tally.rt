@@ -12,7 +12,7 @@ ghost use Rattle.app_serve.specs.Run.{end_status};
 ghost use Rattle.app_serve.specs.Served.{IsListedBoard, most_events, text_of};
 
 use crate::board::{ClosedBoard, MOST_EVENTS};
-use app_base::{Report, Status, Stream};
+use app_base::{Report, Status};
 use app_strict::records_status;
 use bmc_board::{Board, Records};
 use cfg_records::{BoardFile, Key, StartValue, changed_count};
@@ -188,9 +188,5 @@ pub(crate) fn report(
     writeln!(text, "served {events}")?;
     push_records(&mut text, changed)?;
     text.push_str(account.changes.as_str())?;
-    Ok(Report {
-        stream: Stream::Output,
-        text,
-        status: end_status(strict, changed),
-    })
+    Ok(Report::output(text, end_status(strict, changed)))
 }

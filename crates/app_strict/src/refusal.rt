@@ -3,7 +3,7 @@ ghost use Rattle.std.specs.Prelude.{◌≡◌, IfOk, string_bytes};
 ghost use Rattle.file_words.specs.Escapes.{escaped};
 ghost use Rattle.app_strict.specs.Refusals.{RefusedIf, is_loose, is_loose_board, is_loose_plan};
 
-use app_base::{Report, Status, Stream};
+use app_base::{Report, Status};
 use file_faults::{Sheet, Source};
 use file_words::push_escaped;
 use std::alloc::{AllocError, Global};
@@ -26,11 +26,7 @@ fn refusal_of(sheet: Sheet, is_told: bool) -> Option<Report>
     if !is_told {
         return None;
     }
-    Some(Report {
-        stream: Stream::Error,
-        text: sheet.into_text(),
-        status: Status::RefusedFile,
-    })
+    Some(Report::complaint(sheet.into_text(), Status::RefusedFile))
 }
 
 /// A file: the word that names it, and its text.

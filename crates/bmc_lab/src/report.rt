@@ -44,9 +44,5 @@ pub fn port_report(alloc: Global, out: &Out) -> Result<Report, AllocError>
         Disposition::Answered | Disposition::Repeated | Disposition::Busy | Disposition::Control =>
             {}
     }
-    Ok(Report {
-        stream: Stream::Output,
-        text,
-        status: status(out),
-    })
+    Ok(Report::output(text, status(out)))
 }

@@ -1,4 +1,4 @@
-use Rattle.std.proofs.Common.{◌≡◌, List, Ok, refl, string_bytes, subst}
+use Rattle.std.proofs.Common.{◌≡◌, ◌∙◌, List, ℕ, Ok, ap, string_bytes, subst, sym}
 use Rattle.text_schedule.specs.declared.event.Event.{Event}
 use Rattle.text_schedule.specs.Schedule.{TextIsRead}
 use Rattle.text_schedule.specs.Written.{text_of}
@@ -7,10 +7,13 @@ use Rattle.app_bmclab.proofs.schedule_text.written_report.Goals as goal
 pub returns-clause-written : goal.returns-clause-written
 returns-clause-written c =
     let text = string_bytes c.in_ok-text.text in
+    let events = c.in_ok-events.events.items in
+    let said : string_bytes c.output.result.text ≡ text = ap string_bytes c.output.ensures.text in
+    let read : TextIsRead text (Ok events) = subst (λ (events : List Event). TextIsRead text (Ok events)) c.as_slice.ensures.value c.in_ok-text.ensures.said in
     record {
-      events = c.in_ok-events.events.items;
+      events = events;
       made = c.in_ok-events.ensures;
-      written = subst (λ (events : List Event). text ≡ text_of events) c.as_slice.ensures.value c.in_ok-text.ensures.text;
-      read = subst (λ (events : List Event). TextIsRead text (Ok events)) c.as_slice.ensures.value c.in_ok-text.ensures.said;
-      ended = refl;
+      written = said ∙ subst (λ (events : List Event). text ≡ text_of events) c.as_slice.ensures.value c.in_ok-text.ensures.text;
+      read = subst (λ (text : List ℕ). TextIsRead text (Ok events)) (sym said) read;
+      ended = c.output.ensures.status;
     }
