@@ -1,89 +1,8 @@
 //! The boards that stories are told of.
 use cfg_records::{BoardFile, sample_board};
 use std::alloc::{AllocError, Global};
+use story_lines::SAMPLE;
 use text_board::{FileFault, TOP, read_board};
-
-/// The sample board's own fields.
-const SAMPLE_FIELDS: &str = "tid = 5
-clock = 0
-log = 2
-enables = 0x08
-policy = 1
-users = [\"\", \"admin\"]
-watchdog = [0, 0, 0, 0]
-sdr = [\"010051C00100\"]
-boot3 = 0
-boot4 = 0
-boot5 = [0, 0, 0, 0, 0]";
-
-/// The sample board's tables.
-const SAMPLE_TABLES: &str = "[device]
-id = 0x20
-revision = 1
-major = 1
-minor = 0x05
-support = 0x07
-manufacturer = 0xABCD
-product = 0x1234
-
-[[sensor]]
-number = 5
-type = 1
-readable = 0x3F
-settable = 0x3F
-thresholds = [0x14, 0x0A, 0x05, 0x50, 0x5F, 0x6E]
-hysteresis = [2, 2]
-supported = 0xFFF
-flags = 0xC0
-assert = 0x200
-deassert = 0
-
-[[sensor]]
-number = 7
-type = 4
-readable = 0x18
-settable = 0x38
-thresholds = [0, 0, 0, 0x90, 0xA0, 0xB0]
-hysteresis = [0, 0]
-supported = 0xFC0
-flags = 0
-assert = 0
-deassert = 0
-
-[[channel]]
-number = 1
-sessions = true
-access = [2, 2]
-limit = [4, 4]
-users = [0x14, 0x14]
-
-[[attribute]]
-name = \"Quiet\"
-kind = \"enumeration\"
-values = [\"off\", \"on\"]
-default = [0]
-current = [0]
-readonly = false
-
-[[attribute]]
-name = \"Asset\"
-kind = \"string\"
-string_type = 1
-least = 0
-most = 200
-default = \"\"
-current = \"rack-1\"
-readonly = false
-
-[[attribute]]
-name = \"Delay\"
-kind = \"integer\"
-lower = 0
-upper = 300
-increment = 10
-default = 30
-current = 30
-readonly = false";
 
 /// What stands behind a line's word, where the line is one of the board's.
 fn board_line(line: &str) -> Option<&str> {
@@ -135,7 +54,8 @@ fn push_given(file: &mut String, story: &str) -> Result<bool, AllocError> {
 
 /// Appends the sample board's own fields but those that the story gives.
 fn push_fields(file: &mut String, story: &str) -> Result<(), AllocError> {
-    for line in SAMPLE_FIELDS.lines() {
+    let (fields, _) = SAMPLE.split_once("\n[").unwrap_or((SAMPLE, ""));
+    for line in fields.lines() {
         let (field, _) = line.split_once(" = ").unwrap_or((line, ""));
         if !is_given(story, field) {
             file.push_str(line)?;
@@ -145,7 +65,7 @@ fn push_fields(file: &mut String, story: &str) -> Result<(), AllocError> {
     Ok(())
 }
 
-/// The field that the table is of: `[[sensor]]` and what follows is of `sensor`.
+/// The field that the table is of: `[sensor]]` and what follows, behind its first bracket, is of `sensor`.
 fn field_of(table: &str) -> &str {
     let (head, _) = table.split_once(']').unwrap_or((table, ""));
     head.trim_start_matches('[')
@@ -153,8 +73,10 @@ fn field_of(table: &str) -> &str {
 
 /// Appends the sample board's tables but those of fields that the story gives.
 fn push_tables(file: &mut String, story: &str) -> Result<(), AllocError> {
-    for table in SAMPLE_TABLES.split("\n\n") {
+    let (_, tables) = SAMPLE.split_once("\n[").unwrap_or((SAMPLE, ""));
+    for table in tables.split("\n[") {
         if !is_given(story, field_of(table)) {
+            file.push_str("[")?;
             file.push_str(table)?;
             file.push_str("\n")?;
         }

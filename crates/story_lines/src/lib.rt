@@ -2,8 +2,10 @@
 #![tactic(auto)]
 
 mod player;
+mod sample;
 mod scene;
 mod words;
 
 pub use player::report_of;
+pub use sample::SAMPLE;
 pub use scene::{NoOutcome, NoScene, Scene};

@@ -16,55 +16,8 @@ part texts
   [[step]] / kind = \"bios-attribute\" / handle = 0 / text = \"{400*b}\"
   [[step]] / kind = \"bios-attribute\" / handle = 0 / text = \"{400*c}\"
 
-# The sample board with this only attribute.
-part text-board
-  tid = 5
-  clock = 0
-  log = 2
-  enables = 0x08
-  policy = 1
-  users = [\"\", \"admin\"]
-  watchdog = [0, 0, 0, 0]
-  sdr = [\"010051C00100\"]
-  boot3 = 0
-  boot4 = 0
-  boot5 = [0, 0, 0, 0, 0]
-  [device]
-  id = 0x20
-  revision = 1
-  major = 1
-  minor = 0x05
-  support = 0x07
-  manufacturer = 0xABCD
-  product = 0x1234
-  [[sensor]]
-  number = 5
-  type = 1
-  readable = 0x3F
-  settable = 0x3F
-  thresholds = [0x14, 0x0A, 0x05, 0x50, 0x5F, 0x6E]
-  hysteresis = [2, 2]
-  supported = 0xFFF
-  flags = 0xC0
-  assert = 0x200
-  deassert = 0
-  [[sensor]]
-  number = 7
-  type = 4
-  readable = 0x18
-  settable = 0x38
-  thresholds = [0, 0, 0, 0x90, 0xA0, 0xB0]
-  hysteresis = [0, 0]
-  supported = 0xFC0
-  flags = 0
-  assert = 0
-  deassert = 0
-  [[channel]]
-  number = 1
-  sessions = true
-  access = [2, 2]
-  limit = [4, 4]
-  users = [0x14, 0x14]
+# The sample board's only attribute.
+part text
   [[attribute]] / name = \"A\" / kind = \"string\" / string_type = 1 / least = 0 / most = 1024 / default = \"\" / current = \"\" / readonly = false
 
 story a plan is undone where packets may join late and none does
@@ -74,7 +27,7 @@ make late 4
 premises -> 0 out: phase Undone / ..records same / premises kept
 make late 5
 premises -> 0 out: phase Undone / ..records same / premises kept
-board text-board
+board rack text
 plan texts
 make late 4
 premises -> 0 out: phase Undone / ..records same / premises kept
@@ -90,7 +43,7 @@ make late 30
 premises -> 0 out: ..premise broken 453
 make bmclab schedule --lose 10 --repeat 30 --delay 50 --others 5 --seed 30 --undo board.toml plan.toml
 premises -> 0 out: phase Undone / ..records same / premises kept
-board text-board
+board rack text
 plan texts
 make late 13
 premises -> 0 out: ..premise broken 385

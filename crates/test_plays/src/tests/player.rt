@@ -6,7 +6,7 @@ use super::text::{parted, push_lines};
 use app_base::UnreadFile;
 use std::alloc::{AllocError, Global};
 use std::process::Abort;
-use story_lines::NoOutcome;
+use story_lines::{NoOutcome, SAMPLE};
 
 /// What of a text was played, and what came otherwise than told.
 ///
@@ -36,7 +36,8 @@ use story_lines::NoOutcome;
 /// - `late SEED`: the schedule that is drawn from the seed where packets may join late ones;
 /// - `call NAME`, `refuse WHAT`: a call over these files, and a refusal by itself.
 ///
-/// `plan events fan` begins with the lines of these parts. Behind `: ` the first of the lines may stand. In a line ` / ` separates several; `3 x
+/// `plan events fan` begins with the lines of these parts; the part `sample` is the sample board, and `rack` is it without attributes.
+/// Behind `: ` the first of the lines may stand. In a line ` / ` separates several; `3 x
 /// tick` is three lines; `{3*00}` is `000000`; in the copies that are made so, `{5+2}` is 5, then 7, and `{x5-1}` is `05`, then `04`. Of what is
 /// written, `..` stands for anything.
 #[derive(Drop)]
@@ -166,6 +167,15 @@ impl<'s> Player<'s> {
         }
     }
 
+    /// The sample board's lines, and those of it without its attributes, have names.
+    fn put_sample(&mut self) -> Result<(), NoOutcome> {
+        let (rack, _) = SAMPLE.split_once("[[attribute]]").unwrap_or((SAMPLE, ""));
+        self.body.push_str(SAMPLE)?;
+        self.put_part("sample")?;
+        self.body.push_str(rack)?;
+        self.put_part("rack")
+    }
+
     /// The schedule goes on with the lines.
     fn go_on(&mut self) -> Result<(), NoOutcome> {
         self.scene.go_on(self.body.as_str())?;
@@ -271,6 +281,7 @@ impl<'s> Player<'s> {
 
     /// The lines of the stories are played, behind those of the parts. A text in which nothing is played came otherwise too.
     fn take_both(&mut self, parts: &'s str, stories: &'s str) -> Result<(), NoOutcome> {
+        self.put_sample()?;
         self.take_all(parts)?;
         self.take_all(stories)?;
         if self.is_played {

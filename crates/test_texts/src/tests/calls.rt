@@ -1,6 +1,5 @@
 //! Calls of each reader and writer of texts, one by one.
 use super::came::{Came, Form, came_of, shown};
-use super::files::SAMPLE;
 use super::story::expect_equal;
 use app_play::{Account, Stopped};
 use cfg_records::{BoardFile, sample_board};
@@ -8,6 +7,7 @@ use lab_run::Fault;
 use plan_file::read_plan;
 use std::alloc::Global;
 use std::process::Abort;
+use story_lines::SAMPLE;
 use text_schedule::read_schedule;
 use text_undo::{read_undo, write_undo};
 use two_wire::code::NODE_BUSY;

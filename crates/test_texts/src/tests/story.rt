@@ -1,9 +1,10 @@
 //! Stories of texts: files, and what comes of each with other lines.
 use super::came::{Form, came_of};
-use super::files::{BARE, SAMPLE};
+use super::files::BARE;
 use std::alloc::Global;
 use std::fmt::Debug;
 use std::process::Abort;
+use story_lines::SAMPLE;
 
 /// Where the other lines of a story stand.
 #[derive(Clone, Copy)]
