@@ -1,6 +1,5 @@
 //! The lines of a text of readings.
-ghost use Rattle.std.specs.Prelude.{◌≡◌, ◌∷◌, [], map, IfOk};
-ghost use Rattle.text_schedule.specs.Text.{words_of};
+ghost use Rattle.std.specs.Prelude.{◌∷◌, [], map, IfOk};
 ghost use Rattle.text_schedule.specs.Reads.{FindsOne};
 ghost use Rattle.app_serve.specs.ReadingsLine.{IsTime, AreWordsOf, SayTimed, IsLineOf};
 
@@ -8,6 +7,7 @@ use bmc_board::Bench;
 use bmc_ports::Timed;
 use std::alloc::{AllocError, Global};
 use text_lines::byte;
+use text_schedule::words;
 use two_wire::Below;
 
 /// The first number that has another bit set than bits 4:0.
@@ -83,13 +83,6 @@ fn timed(words: &[&str]) -> Option<Timed>
         return None;
     };
     Some(Timed { at_ms, event })
-}
-
-/// The words of a line.
-fn words(alloc: Global, line: &str) -> Result<Vec<&str>, AllocError>
-    ensures { IfOk result (λ words. map (λ x. x.now) words.items ≡ words_of line.now) }
-{
-    line.split(' ').collect(alloc)
 }
 
 /// What the line says.

@@ -1,13 +1,13 @@
 //! Texts of readings.
-ghost use Rattle.std.specs.Prelude.{◌≡◌, ◌++◌, ◌∷◌, [], ◌↔◌, IfOk, IsTrue, map};
-ghost use Rattle.text_schedule.specs.Text.{lines_of};
+ghost use Rattle.std.specs.Prelude.{◌≡◌, ◌++◌, ◌∷◌, [], ◌↔◌, IsTrue, map};
 ghost use Rattle.text_schedule.specs.Schedule.{is_skipped};
 ghost use Rattle.app_serve.specs.ReadingsText.{LinesAreRead, TextIsRead, NeverFalls};
 
 use crate::readings_line::read_line;
 use bmc_ports::Timed;
-use std::alloc::{AllocError, Global};
+use std::alloc::Global;
 use std::fmt;
+use text_schedule::lines;
 
 /// Why a text is no text of readings.
 #[derive(Clone, Copy, Debug, PartialEq, Eq)]
@@ -59,13 +59,6 @@ fn read_lines(alloc: Global, lines: &[&str]) -> Result<Vec<Timed>, ReadingsFault
         }
     }
     Ok(list)
-}
-
-/// The lines of a text.
-fn lines(alloc: Global, text: &str) -> Result<Vec<&str>, AllocError>
-    ensures { IfOk result (λ lines. map (λ x. x.now) lines.items ≡ lines_of text.now) }
-{
-    text.split('\n').collect(alloc)
 }
 
 /// The list that the text stands for, of what happens on a board and when, or its first bad line. A line whose time is before that of a

@@ -6,7 +6,7 @@ ghost use Rattle.record_base.specs.Distinct.{NamesDiffer};
 ghost use Rattle.cfg_records.specs.BoardChannels.{channel_numbers, is_channel, are_listed, on_numbers, each_user_on};
 
 use record_base::{
-    Attributes, BootOptions, BootParameter, Channels, Device, GlobalEnables, Key, Lans,
+    AtOnce, Attributes, BootOptions, BootParameter, Channels, Device, GlobalEnables, Key, Lans,
     LogCapacity, NumericEffecters, PowerPolicy, SdrRecords, Sensors, SessionlessChannels,
     StartValue, StateEffecters, UserAccesses, Users, Watchdog,
 };
@@ -92,9 +92,9 @@ impl BoardFile {
     ghost use Rattle.cfg_records.specs.Boards.{joined, effecter_kinds, access_kinds, item_kinds, attribute_pairs, kinds_of, pairs_of, sensor_kinds};
 
     /// The records of its sensors: a line for each kind.
-    fn sensor_records(&self, alloc: Global) -> Result<Vec<(Key, StartValue)>, AllocError>
+    fn sensor_records(&self, alloc: Global) -> Result<AtOnce<(Key, StartValue)>, AllocError>
         ensures { IfOk result
-            (λ pairs. pairs.items ≡ joined [] (sensor_kinds self.now.sensors.items)) }
+            (λ pairs. pairs.items.items ≡ joined [] (sensor_kinds self.now.sensors.items)) }
     {
         let sensors = self.sensors.items.as_slice();
         let thresholds = sensors.iter().map(|s| s.thresholds.pair(s.number));
@@ -105,8 +105,8 @@ impl BoardFile {
     }
 
     /// The records of its effecters: a line for each kind.
-    fn effecter_records(&self, alloc: Global) -> Result<Vec<(Key, StartValue)>, AllocError>
-        ensures { IfOk result (λ pairs. pairs.items ≡ joined [] (effecter_kinds self.now)) }
+    fn effecter_records(&self, alloc: Global) -> Result<AtOnce<(Key, StartValue)>, AllocError>
+        ensures { IfOk result (λ pairs. pairs.items.items ≡ joined [] (effecter_kinds self.now)) }
     {
         let numeric = self.numeric_effecters.items.as_slice();
         let numeric = numeric.iter().map(|e| e.pair());
@@ -116,8 +116,8 @@ impl BoardFile {
     }
 
     /// The records of its users: a line for each kind.
-    fn user_records(&self, alloc: Global) -> Result<Vec<(Key, StartValue)>, AllocError>
-        ensures { IfOk result (λ pairs. pairs.items ≡ joined [] (take 2 (access_kinds self.now))) }
+    fn user_records(&self, alloc: Global) -> Result<AtOnce<(Key, StartValue)>, AllocError>
+        ensures { IfOk result (λ pairs. pairs.items.items ≡ joined [] (take 2 (access_kinds self.now))) }
     {
         let names = self.users.items.as_slice().iter().map(|u| u.pair());
         let accesses = self.user_accesses.items.as_slice();
@@ -126,8 +126,8 @@ impl BoardFile {
     }
 
     /// The records of its channels: a line for each store.
-    fn channel_records(&self, alloc: Global) -> Result<Vec<(Key, StartValue)>, AllocError>
-        ensures { IfOk result (λ pairs. pairs.items ≡ joined [] (drop 2 (access_kinds self.now))) }
+    fn channel_records(&self, alloc: Global) -> Result<AtOnce<(Key, StartValue)>, AllocError>
+        ensures { IfOk result (λ pairs. pairs.items.items ≡ joined [] (drop 2 (access_kinds self.now))) }
     {
         let channels = self.channels.items.as_slice();
         let non_volatile = channels.iter().map(|c| c.non_volatile_pair());
@@ -139,8 +139,8 @@ impl BoardFile {
     fn access_records(&self, alloc: Global) -> Result<Vec<(Key, StartValue)>, AllocError>
         ensures { IfOk result (λ pairs. pairs.items ≡ joined [] (access_kinds self.now)) }
     {
-        let mut pairs = self.user_records(alloc)?;
-        let mut more = self.channel_records(alloc)?;
+        let mut pairs = self.user_records(alloc)?.items;
+        let mut more = self.channel_records(alloc)?.items;
         pairs.append(&mut more)?;
         Ok(pairs)
     }
@@ -149,8 +149,8 @@ impl BoardFile {
     fn item_records(&self, alloc: Global) -> Result<Vec<(Key, StartValue)>, AllocError>
         ensures { IfOk result (λ pairs. pairs.items ≡ joined [] (item_kinds self.now)) }
     {
-        let mut pairs = self.sensor_records(alloc)?;
-        let mut effecters = self.effecter_records(alloc)?;
+        let mut pairs = self.sensor_records(alloc)?.items;
+        let mut effecters = self.effecter_records(alloc)?.items;
         pairs.append(&mut effecters)?;
         let mut more = self.access_records(alloc)?;
         pairs.append(&mut more)?;

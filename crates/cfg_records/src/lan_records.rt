@@ -1,6 +1,6 @@
 //! The records of a board file's LAN parameters.
 use crate::board_file::BoardFile;
-use record_base::{Key, LanAddress, LanParameter, StartValue};
+use record_base::{AtOnce, Key, LanAddress, LanParameter, StartValue};
 use std::alloc::{AllocError, Global};
 
 impl BoardFile {
@@ -13,8 +13,8 @@ impl BoardFile {
         &self,
         alloc: Global,
         parameter: LanParameter,
-    ) -> Result<Vec<(Key, StartValue)>, AllocError>
-        ensures { IfOk result (λ pairs. pairs.items ≡ lan_pairs self.now parameter) }
+    ) -> Result<AtOnce<(Key, StartValue)>, AllocError>
+        ensures { IfOk result (λ pairs. pairs.items.items ≡ lan_pairs self.now parameter) }
     {
         let lans = self.lans.items.as_slice();
         lans.iter().map(|l| l.pair(parameter)).collect(alloc)
@@ -29,7 +29,7 @@ impl BoardFile {
     ) -> Result<(), AllocError>
         ensures { OnOk result (pairs.new.items ≡ pairs.old.items ++ lan_pairs self.now parameter) }
     {
-        let mut more = self.lan_pairs(alloc, parameter)?;
+        let mut more = self.lan_pairs(alloc, parameter)?.items;
         pairs.append(&mut more)
     }
 

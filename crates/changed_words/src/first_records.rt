@@ -7,6 +7,7 @@ ghost use Rattle.cfg_records.specs.Changed.{is_value};
 ghost use Rattle.changed_words.specs.Changes.{AreFirstOf, change_line, changed_lines, held, lines_over, type_at, type_of, types_of};
 
 use cfg_records::{BoardFile, Key, StartValue, Store};
+use record_base::AtOnce;
 use record_words::change_in_words;
 use std::alloc::{AllocError, Global};
 
@@ -19,8 +20,8 @@ pub(crate) struct FirstRecords {
 }
 
 /// Of each attribute of the board its handle and its type.
-fn types_of(alloc: Global, file: &BoardFile) -> Result<Vec<(u16, u8)>, AllocError>
-    ensures { IfOk result (λ types. types.items ≡ types_of file.now) }
+fn types_of(alloc: Global, file: &BoardFile) -> Result<AtOnce<(u16, u8)>, AllocError>
+    ensures { IfOk result (λ types. types.items.items ≡ types_of file.now) }
 {
     let attributes = file.attributes.items.as_slice();
     attributes
@@ -130,7 +131,7 @@ impl FirstRecords {
         ensures { IfOk result (AreFirstOf file.now) }
     {
         let start = file.records(alloc)?;
-        let types = types_of(alloc, file)?;
+        let types = types_of(alloc, file)?.items;
         Ok(FirstRecords { start, types })
     }
 

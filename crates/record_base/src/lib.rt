@@ -2,6 +2,7 @@
 //! replies without their frames, and the trait of a kind of record.
 #![tactic(auto)]
 
+pub mod at_once;
 pub mod attribute;
 pub mod attribute_range;
 pub mod attribute_sizes;
@@ -47,6 +48,7 @@ pub mod users;
 pub mod value;
 pub mod watchdog;
 
+pub use at_once::AtOnce;
 pub use attribute::{
     Attribute, AttributeKind, EnumerationAttribute, Indexes, IntegerAttribute, StringAttribute,
     Text,

@@ -5,7 +5,7 @@ ghost use Rattle.sel_log.specs.Reservations.{next_number, is_present};
 ghost use Rattle.record_base.specs.Sdr.{sdr_id};
 ghost use Rattle.sensor_recs.specs.Sdr.{repository_of, place_for, asked_for, id_or_none, id_behind};
 
-use record_base::{Numbered, SdrRecord, SdrRecords};
+use record_base::{AtOnce, Numbered, SdrRecord, SdrRecords};
 use sel_log::{FIRST_RECORD, LAST_RECORD, Reservations};
 use std::alloc::{AllocError, Global};
 use std::marker::Model;
@@ -86,8 +86,9 @@ impl Sdr {
         ensures { IfOk result (λ s. s ≡ repository_of records.now.items) }
     {
         let records = records.items.as_slice().iter();
+        let kept: AtOnce<SdrRecord> = records.map(|kept| kept.copy()).collect(alloc)?;
         Ok(Sdr {
-            records: records.map(|kept| kept.copy()).collect(alloc)?,
+            records: kept.items,
             reservations: Reservations::new(),
         })
     }

@@ -3,12 +3,12 @@ ghost use Rattle.std.specs.Prelude.{IfOk, IfSome};
 ghost use Rattle.text_check.specs.BadLines.{IsLineAt};
 
 use crate::line_forms::{JOURNAL_LINES, UNDO_HEAD};
-use crate::text_form::lines;
 use file_faults::{Sheet, Source};
 use file_words::{
     LineForm, READING_LINES, SCHEDULE_LINES, UNDO_LINES, push_form, push_line, push_reason, slip_of,
 };
 use std::alloc::{AllocError, Global};
+use text_schedule::lines;
 use undo_plans::MOST_STEPS;
 use undo_version::{first_version, head_lines};
 

@@ -1,10 +1,10 @@
 //! What a text looks like, by its first line that says something.
 ghost use Rattle.std.specs.Prelude.{◌≡◌, ◌≤◌, IsTrue, IfOk, length, map, not, option_map};
 ghost use Rattle.std.specs.List.{list_all, list_any, find};
-ghost use Rattle.text_schedule.specs.Text.{lines_of};
 ghost use Rattle.text_check.specs.Looks.{begins, form_named, form_or, is_digit, is_silent, is_number, is_undo, is_journal, is_toml, begins_with_digit, begins_board, first_spoken, looks_by, looks_of};
 
 use std::alloc::{AllocError, Global};
+use text_schedule::lines;
 
 /// What a text looks like.
 #[derive(Clone, Copy, PartialEq, Eq)]
@@ -119,13 +119,6 @@ fn begins_board(line: &str) -> bool
 {
     let line = line.trim();
     begins("tid ", line) || begins("tid=", line) || begins("[device]", line)
-}
-
-/// The lines of a text.
-pub(crate) fn lines(alloc: Global, text: &str) -> Result<Vec<&str>, AllocError>
-    ensures { IfOk result (λ lines. map (λ line. line.now) lines.items ≡ lines_of text.now) }
-{
-    text.split('\n').collect(alloc)
 }
 
 /// The first of the lines that isn't silent.

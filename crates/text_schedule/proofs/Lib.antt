@@ -1,3 +1,4 @@
 pub mod Once
-pub mod Lines
+pub mod TextLines
 pub mod Written
+pub mod Drained

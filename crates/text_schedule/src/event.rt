@@ -2,8 +2,8 @@
 ghost use Rattle.std.specs.Prelude.{◌≡◌};
 ghost use Rattle.text_schedule.specs.Line.{event_name};
 
+use crate::cuts::call_name;
 use crate::octets::Octets;
-use crate::words::call_name;
 use ipmb_frame::{Party, Sequence};
 use model_undo::Call;
 use two_wire::size::{MOST_FRAME_BYTES, MOST_IPMI_REQUEST_DATA, MOST_MESSAGE_BYTES};

@@ -1,17 +1,17 @@
 //! Schedules of a lab: what happens there, a line an event.
 #![tactic(auto)]
 
+mod cuts;
 mod event;
 mod laws;
 mod line;
 mod octets;
 mod schedule;
-mod words;
 mod write;
 
+pub use cuts::{call_name, lines, words};
 pub use event::{BenchEvent, Event, MOST_NOISE, OtherMessage, OtherRequest};
 pub use laws::{one_schedule, refused_or_told};
 pub use octets::Octets;
 pub use schedule::{Schedule, ScheduleFault, read_schedule};
-pub use words::call_name;
 pub use write::{has_line, push_event, write_schedule};

@@ -4,9 +4,9 @@ ghost use Rattle.text_schedule.specs.Text.{IsByte};
 ghost use Rattle.text_schedule.specs.Line.{IsOtherRequest, AreWordsOf, IsLineOf};
 ghost use Rattle.text_schedule.specs.Reads.{FindsOne, ReadsLine, ReadsBytes};
 
+use crate::cuts::{find_call, frame_number, words};
 use crate::event::{BenchEvent, Event, OtherMessage, OtherRequest};
 use crate::octets::Octets;
-use crate::words::{find_call, frame_number, words};
 use ipmb_frame::Party;
 use std::alloc::Global;
 use text_lines::{byte, bytes};

@@ -2,9 +2,9 @@
 ghost use Rattle.std.specs.Prelude.{◌≡◌, map};
 ghost use Rattle.text_schedule.specs.Schedule.{LinesAreRead, TextIsRead, is_skipped};
 
+use crate::cuts::lines;
 use crate::event::Event;
 use crate::line::{LineFault, read_line};
-use crate::words::lines;
 use std::alloc::Global;
 use std::fmt;
 use std::marker::Model;

@@ -1,6 +1,6 @@
 use Rattle.text_schedule.specs.Text.{lines_of}
 use Rattle.text_schedule.specs.Schedule.{spoken}
-use Rattle.text_schedule.proofs.Lines.{one_list}
+use Rattle.text_schedule.proofs.TextLines.{one_list}
 use Rattle.text_schedule.proofs.laws.one_schedule.Goals as goal
 
 pub returns : goal.returns

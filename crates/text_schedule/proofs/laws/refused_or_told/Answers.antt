@@ -1,5 +1,5 @@
 use Rattle.text_schedule.specs.Text.{lines_of}
-use Rattle.text_schedule.proofs.Lines.{said_at, one_first}
+use Rattle.text_schedule.proofs.TextLines.{said_at, one_first}
 use Rattle.text_schedule.proofs.laws.refused_or_told.Goals as goal
 
 pub returns-clause-refused : goal.returns-clause-refused

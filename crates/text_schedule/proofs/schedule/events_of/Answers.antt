@@ -2,7 +2,7 @@ use Rattle.std.proofs.Common.{◌+◌, ℕ, List, [], get_or, sym, ◌∙◌, su
 use Rattle.std.specs.Borrow.{Bor}
 use Rattle.text_schedule.specs.Line.{IsLineOf}
 use Rattle.text_schedule.specs.Schedule.{AreLinesOf}
-use Rattle.text_schedule.proofs.Lines.{pushed, refused, next_said, bad_first}
+use Rattle.text_schedule.proofs.TextLines.{pushed, refused, next_said, bad_first}
 use Rattle.text_schedule.proofs.schedule.events_of.Goals as goal
 
 -- what stands where there is no line

@@ -10,18 +10,22 @@ use std::alloc::{AllocError, Global};
 /// The most digits of a frame's number.
 const MOST_DIGITS: usize = 9;
 
-/// The lines of a text.
+/// The lines of a text: as many as line feeds, and one. Their room is asked for once.
 pub fn lines(alloc: Global, text: &str) -> Result<Vec<&str>, AllocError>
     ensures { IfOk result (λ lines. map (λ x. x.now) lines.items ≡ lines_of text.now) }
 {
-    text.split('\n').collect(alloc)
+    let mut lines = Vec::with_capacity(alloc, text.split('\n').count())?;
+    lines.extend(text.split('\n'))?;
+    Ok(lines)
 }
 
-/// The words of a line.
+/// The words of a line: what stands between two spaces, also where that is nothing. Their room is asked for once.
 pub fn words(alloc: Global, line: &str) -> Result<Vec<&str>, AllocError>
     ensures { IfOk result (λ words. map (λ x. x.now) words.items ≡ words_of line.now) }
 {
-    line.split(' ').collect(alloc)
+    let mut words = Vec::with_capacity(alloc, line.split(' ').count())?;
+    words.extend(line.split(' '))?;
+    Ok(words)
 }
 
 /// The call's name.

@@ -1,0 +1,8 @@
+use Rattle.std.proofs.Common.{rules, ◌≡◌, ◌∙◌}
+use Rattle.std.proofs.lemmas.Iterator.{YieldsList-from_slice, YieldsList-from_map}
+use Rattle.std.proofs.lemmas.Iterator.Consumers.{YieldsList-at}
+use Rattle.std.proofs.lemmas.Iterator.Adapters.{fact_from_collect}
+use Rattle.cfg_records.proofs.board_file.BoardFile.lan_pairs.Goals as goal
+
+pub returns : goal.returns
+returns c = fact_from_collect (λ xs v. v.items.items ≡ xs) c.collect.result c.collect.ensures.ran (YieldsList-from_map _ _ (YieldsList-at c.map.ensures.source (YieldsList-from_slice c.args.self.now.lans.items (c.iter.ensures.rest ∙ c.as_slice-lans.ensures))) c.map.ensures.closure (λ x r q k. search rules))
