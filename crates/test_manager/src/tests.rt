@@ -1,6 +1,7 @@
-//! A manager, and a greeting, against the frames of a controller.
+//! A manager, a greeting and a looker against the frames of a controller.
 mod calls;
 mod greeting;
+mod look;
 mod packets;
 mod parts;
 mod player;

@@ -1,0 +1,58 @@
+-- The looks of a session: what was called of its links, and which record was looked at.
+use Rattle.std.specs.Prelude.{◌≡◌, ◌≢◌, ◌≤◌, ◌⊎◌, ℕ, zero, suc, None}
+use Rattle.wire_links.specs.contracts.udp_link.UdpLinkLink.TheImpl as udp
+use Rattle.record_base.specs.declared.key.Key.{Key}
+use Rattle.undo_look.specs.declared.stage.Stage.{Stage}
+use Rattle.undo_look.specs.declared.stage.Stage.TheVariants.{AtStart, Opened, Found, Refused}
+use Rattle.undo_look.specs.Looks.{StepResult, again_at, awaited_on, begin_at, state_of}
+use Rattle.look_links.specs.declared.driver.LookEnd.{LookEnd}
+use Rattle.look_links.specs.declared.driver.LookEnd.TheVariants.{Silent}
+use Rattle.look_links.specs.Driven.{LooksOver, or_rests}
+use Rattle.app_look.specs.declared.session.Session.{Session}
+use Rattle.app_look.specs.Opened.{most_turns}
+
+-- a call had the effect of the step on the looker, drove it over the session's links, and ended so
+pub record CallsOnce (step : StepResult) (old : Session) (end : LookEnd) (new : Session) : Type 0 where
+  pub over : LooksOver udp.ghosts udp.ghosts most_turns step old.ipmb old.smbus new.looker end new.ipmb new.smbus
+  pub same_again : new.again ≡ old.again
+
+-- the Get of a record is begun
+abbrev pub begins : Session → Key → StepResult
+begins old key = or_rests old.looker (begin_at (state_of old.looker) key old.looker.stage)
+
+-- the request that wasn't answered is sent again
+abbrev pub sends_again : Session → StepResult
+sends_again old = or_rests old.looker (again_at (state_of old.looker) old.looker.stage)
+
+-- Behind a call that ended so, so many others sent the request again, each behind one that wasn't answered. The last ended so.
+abbrev pub CallsAgain : (count : ℕ) → (first : LookEnd) → (begun : Session) → (end : LookEnd) → (new : Session) → Type 0
+CallsAgain zero first begun end new = (end ≡ first) × (new ≡ begun)
+CallsAgain (suc count) first begun end new = (mid : Session) × CallsAgain count first begun Silent mid × CallsOnce (sends_again mid) mid end new
+
+-- as many calls did as the session makes, or fewer, and then the Get was answered or refused
+pub record GoesOn (first : LookEnd) (begun : Session) (end : LookEnd) (new : Session) : Type 0 where
+  pub count : ℕ
+  pub few : count ≤ begun.again
+  pub calls : CallsAgain count first begun end new
+  pub ended : (count ≡ begun.again) ⊎ (end ≢ Silent)
+
+-- the look is at this record
+abbrev pub IsAt : Key → Stage → Type 0
+IsAt key (Opened heeded of parts asked) = of ≡ key
+IsAt key (Found of) = of ≡ key
+IsAt key (Refused of code) = of ≡ key
+IsAt key AtStart = ⊥
+
+-- the record was looked at
+pub record Looks (old : Session) (key : Key) (end : LookEnd) (new : Session) : Type 0 where
+  pub first : LookEnd
+  pub begun : Session
+  pub begins_get : CallsOnce (begins old key) old first begun
+  pub goes_on : GoesOn first begun end new
+  pub at : IsAt key new.looker.stage
+
+-- Or nothing was called: an answer to the look before is still awaited, whose last call had as many turns as it may have.
+abbrev pub LooksAt : (old : Session) → Key → (end : LookEnd) → (new : Session) → Type 0
+LooksAt old key end new =
+    ((awaited_on old.looker.stage ≡ None) × Looks old key end new)
+    ⊎ ((awaited_on old.looker.stage ≢ None) × (end ≡ Silent) × (new ≡ old))
