@@ -146,7 +146,7 @@ fn may_go(standing: Standing) -> bool
 }
 
 /// Whether this word names no file.
-fn is_free<F: WritesFiles>(files: &F, word: &str) -> Result<bool, AllocError>
+pub fn is_free<F: WritesFiles>(files: &F, word: &str) -> Result<bool, AllocError>
     ensures { IfOk result (IsFreeAt (F.leads files.now) word.now) }
 {
     match files.place(word) {
@@ -157,7 +157,7 @@ fn is_free<F: WritesFiles>(files: &F, word: &str) -> Result<bool, AllocError>
 }
 
 /// The first of the words with a number behind this one that names no file.
-fn free_name<F: WritesFiles>(
+pub fn free_name<F: WritesFiles>(
     alloc: Global,
     files: &F,
     word: &str,
@@ -221,8 +221,8 @@ fn claim_held<F: TextFiles + WritesFiles>(
     put_aside(alloc, files, beside)
 }
 
-/// Claims the files of the undo text to which this word leads: they are held first. Where the journal's file has something to take back which the undo text
-/// hasn't, or is no journal, they aren't to be touched, unless it is to be replaced. Then it is put aside, under a free name.
+/// Claims the files of the undo text to which this word leads: they are held first. Where the journal's file has something to take back which the
+/// undo text hasn't, or is no journal, they aren't to be touched, unless it is to be replaced. Then it is put aside, under a free name.
 pub fn claim_files<F: TextFiles + WritesFiles>(
     alloc: Global,
     files: &mut F,

@@ -55,8 +55,8 @@ impl JournalTexts {
 
     /// Has the journal's file get the text that was written, unless it has it.
     fn put<F: WritesFiles>(&mut self, beside: &UndoFiles, files: &mut F) -> Result<(), WriteFault>
-        ensures { PutsWhereOther F.takes F.renames beside.now (string_bytes self.old.written) result
-            (string_bytes self.old.last) (string_bytes self.new.last) files.old files.new }
+        ensures { PutsWhereOther F.takes F.renames beside.now (string_bytes self.old.written)
+            result (string_bytes self.old.last) (string_bytes self.new.last) files.old files.new }
     {
         if self.last.as_str() == self.written.as_str() {
             return Ok(());

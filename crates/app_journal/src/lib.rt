@@ -9,7 +9,7 @@ mod reviving;
 mod standing;
 mod undo_files;
 
-pub use claiming::{Claim, Taken, claim_files, hold_files};
+pub use claiming::{Claim, Taken, claim_files, free_name, hold_files, is_free};
 pub use files::{HoldFault, Place, PlaceFault, WriteFault, WritesFiles};
 pub use keeper::{JournalKeeper, JournalTexts};
 pub use laws::{journals_are_kept, kept_texts_revive};

@@ -112,8 +112,8 @@ fn is_finished(alloc: Global, text: &str, undo: &str) -> Result<bool, AllocError
     Ok(is_same(undo, list.as_str()))
 }
 
-/// What the text of a journal, or an undo text, says that there is to take back, beside this undo text: nothing where that has the list of a journal whose
-/// plan is over.
+/// What the text of a journal, or an undo text, says that there is to take back, beside this undo text: nothing where that has the list of a
+/// journal whose plan is over.
 pub(crate) fn standing_beside(alloc: Global, text: &str, undo: &str) -> Result<Standing, AllocError>
     ensures { IfOk result (StandsBeside text.now undo.now) }
 {

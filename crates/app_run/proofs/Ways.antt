@@ -39,13 +39,13 @@ carried holds a b it same = subst holds same it
 -- ---- a line that isn't written
 
 module _ {P : Type 0} (out : P → Option (List ℕ)) where
-  untold_looks : (kinds : List Kind) (steps : ℕ) (looks : List Look) (old new : Progress P) → old.on ≡ false → TellsLooks out kinds steps looks old new → new ≡ old
+  pub untold_looks : (kinds : List Kind) (steps : ℕ) (looks : List Look) (old new : Progress P) → old.on ≡ false → TellsLooks out kinds steps looks old new → new ≡ old
   untold_looks kinds steps [] old new off same = same
   untold_looks kinds steps (look ∷ later) old new off (mid, (now, is, inl same), rest) =
       untold_looks kinds steps later mid new (ap (λ (p : Progress P). p.on) same ∙ off) rest ∙ same
   untold_looks kinds steps (look ∷ later) old new off (mid, (now, is, inr (on, lined, other, told)), rest) = cc (sym on ∙ off)
 
-  untold_end : (old new : Progress P) → old.on ≡ false → EndsLine out old new → new ≡ old
+  pub untold_end : (old new : Progress P) → old.on ≡ false → EndsLine out old new → new ≡ old
   untold_end old new off (inl (same, why)) = same
   untold_end old new off (inr (on, said, ends)) = cc (sym on ∙ off)
 

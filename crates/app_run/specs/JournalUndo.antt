@@ -21,6 +21,7 @@ use Rattle.app_run.specs.Driven.{DriveEnd}
 use Rattle.app_run.specs.Ends.{EndsUngreeted, PrintsNothing, SaysFile, SaysPhase}
 use Rattle.app_run.specs.Lines.{others_line}
 use Rattle.app_run.specs.Reverting.{RevertsText}
+use Rattle.app_run.specs.Strict.{undone_status}
 
 -- the text begins as that of a journal does
 abbrev pub IsJournal : (text : List ℕ) → Type 0
@@ -40,10 +41,10 @@ abbrev pub SaysJournalFault : ReviveFault → Saying
 SaysJournalFault fault.Memory stream said status = ⊥
 SaysJournalFault why stream said status = (stream ≡ Error) × (said ≡ journal_line why) × (status ≡ RefusedFile)
 
--- of a manager that came to this end: its phase, or the file of this word, which didn't take the journal
-abbrev pub SaysEnd : (word : List ℕ) → DriveEnd → Saying
-SaysEnd word (Ok phase) = SaysPhase phase
-SaysEnd word (Err kept) = SaysFile word
+-- of a manager that came to this end: its phase, or the file that the words name, which didn't take the journal
+abbrev pub SaysEnd : UndoWords → DriveEnd → Saying
+SaysEnd words (Ok phase) = SaysPhase phase (undone_status words.strict phase)
+SaysEnd words (Err kept) = SaysFile (string_bytes words.undo)
 
 -- the words are those beside a journal's own file, which is one of the files that are held
 abbrev pub IsOwnOf : (held beside : UndoFiles) → Type 0
@@ -54,11 +55,11 @@ IsOwnOf held beside =
 
 module _ {Stdout Stderr : Type 0} (out : Stdout → Option (List ℕ)) (err : Stderr → Option (List ℕ)) where
   -- what came of a manager is said; or that a greeting wasn't answered; or nothing, where a link couldn't be had
-  abbrev pub EndsReverted : (word : List ℕ) → Result Reverted ReportFault → (old new : Console Stdout Stderr) → ℕ → Type 0
-  EndsReverted word (Ok (Ended end)) old new result = RunEnds out err (SaysEnd word end) old new result
-  EndsReverted word (Ok (Ungreeted phase why)) old new result =
-      RunEnds out err PrintsNothing old new result ⊎ EndsUngreeted out err phase why old new result
-  EndsReverted word (Err why) old new result = RunEnds out err (SaysReport (Err why)) old new result
+  abbrev pub EndsReverted : UndoWords → Result Reverted ReportFault → (old new : Console Stdout Stderr) → ℕ → Type 0
+  EndsReverted words (Ok (Ended end)) old new result = RunEnds out err (SaysEnd words end) old new result
+  EndsReverted words (Ok (Ungreeted phase why)) old new result =
+      RunEnds out err PrintsNothing old new result ⊎ EndsUngreeted out err phase why words.strict old new result
+  EndsReverted words (Err why) old new result = RunEnds out err (SaysReport (Err why)) old new result
 
 module _ {Files Stdout Stderr : Type 0} (out : Stdout → Option (List ℕ)) (err : Stderr → Option (List ℕ)) (takes : Writings Files) (renames : Renamings Files) where
   -- a manager takes back what it did, whose journal has the text, in the file that is held, and that is said by the word of that
@@ -67,7 +68,7 @@ module _ {Files Stdout Stderr : Type 0} (out : Stdout → Option (List ℕ)) (er
     pub own : IsOwnOf held beside
     pub came : Result Reverted ReportFault
     pub reverts : RevertsText takes renames beside words manager came text before after
-    pub said : EndsReverted out err (string_bytes words.undo) came old new result
+    pub said : EndsReverted out err words came old new result
 
   -- So ends the undo of the text of a journal in a file that is held. No manager is made of it, and that is said. Or memory was refused then. Or a manager is made,
   -- takes back what it did, and keeps its journal in that file.

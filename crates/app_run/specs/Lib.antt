@@ -5,6 +5,7 @@ pub mod Ways
 pub mod Buses
 pub mod Greeted
 pub mod Lines
+pub mod Strict
 pub mod Ends
 pub mod Outcome
 pub mod Run

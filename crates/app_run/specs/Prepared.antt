@@ -1,5 +1,5 @@
 -- What is ready before a manager runs its plan.
-use Rattle.std.specs.Prelude.{◌≡◌, ◌⊎◌, ℕ, List, Option, IsSome, Ok, Err, map, string_bytes}
+use Rattle.std.specs.Prelude.{◌≡◌, ◌⊎◌, ℕ, false, List, Option, IsSome, Ok, Err, map, string_bytes}
 use Rattle.std.specs.declared.alloc.AllocError.{AllocError}
 use Rattle.undo_plans.specs.declared.plan.Plan.{Plan}
 use Rattle.plan_file.specs.Kinds.{kind_of}
@@ -21,17 +21,19 @@ use Rattle.app_run.specs.Ends.{PrintsNothing, SaysFile}
 use Rattle.app_run.specs.Greeted.{greetings_before_run}
 use Rattle.app_run.specs.Outcome.{MakesPart}
 use Rattle.app_run.specs.Run.{ClaimsFor, SaysFault, SaysUnread, TellsAside}
+use Rattle.app_run.specs.Strict.{is_refused}
 
--- the file has the text of this plan
-abbrev pub HasPlan : Readings → (named : List ℕ) → Plan → Type 0
-HasPlan gives named plan = (text : List ℕ) × gives named (Ok text) × ReadsPlan text (Ok plan)
+-- the plan's file has the text of this plan, which isn't refused strictly
+abbrev pub HasPlan : Readings → RunWords → Plan → Type 0
+HasPlan gives words plan =
+    (text : List ℕ) × gives (string_bytes words.plan) (Ok text) × ReadsPlan text (Ok plan) × (is_refused words.strict text plan ≡ false)
 
--- it can't be read, or its text is no plan: standard error says why
-abbrev pub EndsPlanless : {Stdout Stderr : Type 0} → (out : Stdout → Option (List ℕ)) → (err : Stderr → Option (List ℕ)) → Readings → (named : List ℕ)
+-- it can't be read, or its text is no plan, or is refused strictly: standard error says why
+abbrev pub EndsPlanless : {Stdout Stderr : Type 0} → (out : Stdout → Option (List ℕ)) → (err : Stderr → Option (List ℕ)) → Readings → RunWords
     → (old new : Console Stdout Stderr) → ℕ → Type 0
-EndsPlanless out err gives named old new result =
-    ((text : List ℕ) × gives named (Ok text) × RunEnds out err (SaysFault text) old new result)
-    ⊎ RunEnds out err (SaysUnread gives named) old new result
+EndsPlanless out err gives words old new result =
+    ((text : List ℕ) × gives (string_bytes words.plan) (Ok text) × RunEnds out err (SaysFault words.strict text) old new result)
+    ⊎ RunEnds out err (SaysUnread gives (string_bytes words.plan)) old new result
 
 -- The files of the word UNDO are refused, and standard error names the file; or memory was refused; or it couldn't be said what was put aside.
 abbrev pub EndsUnclaimed : {Files Stdout Stderr : Type 0} → (out : Stdout → Option (List ℕ)) → (err : Stderr → Option (List ℕ)) → texts.Ghosts Files → Ghosts Files → RunWords
@@ -53,7 +55,7 @@ pub record IsMade {Files : Type 0} (files : Ghosts Files) (plan : Plan) (beside 
 pub record IsPrepared {Files Stdout Stderr : Type 0} (out : Stdout → Option (List ℕ)) (err : Stderr → Option (List ℕ)) (read : texts.Ghosts Files) (files : Ghosts Files) (words : RunWords)
     (prepared : Prepared) (before after : Files) (old new : Console Stdout Stderr) : Type 0 where
   pub plan : Plan
-  pub has : HasPlan (read.gives before) (string_bytes words.plan) plan
+  pub has : HasPlan (read.gives before) words plan
   pub taken : Taken
   pub held : Files
   pub claims : ClaimsFor read files words (Ok (claim.Taken taken)) before held

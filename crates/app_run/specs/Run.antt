@@ -1,5 +1,5 @@
 -- How a run of `bmcnet run` ends: what it says, and what it leaves of the files.
-use Rattle.std.specs.Prelude.{◌≡◌, ◌≢◌, ◌⊎◌, ℕ, List, Option, IsSome, Some, None, Result, Ok, Err, String, string_bytes}
+use Rattle.std.specs.Prelude.{◌≡◌, ◌≢◌, ◌⊎◌, ℕ, Bool, false, List, Option, IsSome, Some, None, Result, Ok, Err, String, string_bytes}
 use Rattle.std.specs.declared.alloc.Global.{Global}
 use Rattle.std.specs.declared.alloc.AllocError.{AllocError}
 use Rattle.undo_plans.specs.declared.plan.Plan.{Plan}
@@ -28,6 +28,7 @@ use Rattle.app_journal.specs.Claiming.{Claims}
 use Rattle.app_run.specs.Ends.{EndsUngreeted, PrintsNothing, SaysFile, SaysPhase, TellsBoth}
 use Rattle.app_run.specs.Lines.{aside_line, phase_line, plan_line}
 use Rattle.app_run.specs.Outcome.{RunEnd}
+use Rattle.app_run.specs.Strict.{SaysRefused, is_refused, ran_status}
 
 -- standard output has the phase's line, standard error names the file, and the status is 3
 abbrev pub EndsUnkept : {Stdout Stderr : Type 0} → (out : Stdout → Option (List ℕ)) → (err : Stderr → Option (List ℕ)) → Phase → (word : List ℕ) → (old new : Console Stdout Stderr) → ℕ → Type 0
@@ -35,14 +36,15 @@ EndsUnkept out err phase word = TellsBoth out err (phase_line phase) (file_line 
 
 -- So a run ends of which that came: it says the phase, and behind it the file that isn't kept, or which greeting wasn't answered; or the file
 -- that can't be made; or nothing, where a link can't be had.
-abbrev pub EndsBy : {Stdout Stderr : Type 0} → (out : Stdout → Option (List ℕ)) → (err : Stderr → Option (List ℕ)) → (word : List ℕ) → Result Outcome ReportFault → (old new : Console Stdout Stderr) → ℕ → Type 0
-EndsBy out err word (Ok (Ran phase (Ok kept))) old new result = RunEnds out err (SaysPhase phase) old new result
-EndsBy out err word (Ok (Ran phase (Err why))) old new result =
-    RunEnds out err PrintsNothing old new result ⊎ EndsUnkept out err phase word old new result
-EndsBy out err word (Ok Unmade) old new result = RunEnds out err (SaysFile word) old new result
-EndsBy out err word (Ok (Ungreeted phase why)) old new result =
-    RunEnds out err PrintsNothing old new result ⊎ EndsUngreeted out err phase why old new result
-EndsBy out err word (Err why) old new result = RunEnds out err (SaysReport (Err why)) old new result
+abbrev pub EndsBy : {Stdout Stderr : Type 0} → (out : Stdout → Option (List ℕ)) → (err : Stderr → Option (List ℕ)) → RunWords → Result Outcome ReportFault → (old new : Console Stdout Stderr) → ℕ → Type 0
+EndsBy out err words (Ok (Ran phase (Ok kept))) old new result =
+    RunEnds out err (SaysPhase phase (ran_status words.strict phase)) old new result
+EndsBy out err words (Ok (Ran phase (Err why))) old new result =
+    RunEnds out err PrintsNothing old new result ⊎ EndsUnkept out err phase (string_bytes words.undo) old new result
+EndsBy out err words (Ok Unmade) old new result = RunEnds out err (SaysFile (string_bytes words.undo)) old new result
+EndsBy out err words (Ok (Ungreeted phase why)) old new result =
+    RunEnds out err PrintsNothing old new result ⊎ EndsUngreeted out err phase why words.strict old new result
+EndsBy out err words (Err why) old new result = RunEnds out err (SaysReport (Err why)) old new result
 
 -- the files of the word UNDO are claimed
 abbrev pub ClaimsFor : {Files : Type 0} → texts.Ghosts Files → Ghosts Files → RunWords → Result Claim AllocError → (old new : Files) → Type 0
@@ -63,7 +65,7 @@ abbrev pub RunEndsWith : {Files Stdout Stderr : Type 0} → (out : Stdout → Op
     → (before after : Files) → (old new : Console Stdout Stderr) → ℕ → Type 0
 RunEndsWith {Files} {Stdout} {Stderr} out err files plan taken words before after old new result =
     ((mid : Console Stdout Stderr) × (outcome : Result Outcome ReportFault) × TellsAside out err taken.aside old mid
-    × RunEnd files plan taken.beside words outcome before after × EndsBy out err (string_bytes words.undo) outcome mid new result)
+    × RunEnd files plan taken.beside words outcome before after × EndsBy out err words outcome mid new result)
     ⊎ (IsSome taken.aside × (after ≡ before) × RunEnds out err PrintsNothing old new result)
 
 -- so a run of a plan ends: its files are claimed first. Where they are refused, standard error names the file, and nothing is sent.
@@ -74,16 +76,18 @@ RunEndsOver {Files} out err read files plan words before after old new result =
     ⊎ ((ClaimsFor read files words (Ok claim.Refused) before after × RunEnds out err (SaysFile (string_bytes words.undo)) old new result)
     ⊎ ((refused : AllocError) × ClaimsFor read files words (Err refused) before after × RunEnds out err PrintsNothing old new result))
 
--- why a text is no plan, as standard error says it
-abbrev pub SaysFault : (text : List ℕ) → Saying
-SaysFault text stream said status = (why : PlanFault) × ReadsPlan text (Err why) × (stream ≡ Error) × (said ≡ plan_line why) × (status ≡ RefusedFile)
+-- why a text is no plan, as standard error says it; or that a strict run refuses its plan
+abbrev pub SaysFault : (strict : Bool) → (text : List ℕ) → Saying
+SaysFault strict text stream said status =
+    ((why : PlanFault) × ReadsPlan text (Err why) × (stream ≡ Error) × (said ≡ plan_line why) × (status ≡ RefusedFile))
+    ⊎ ((plan : Plan) × ReadsPlan text (Ok plan) × SaysRefused (is_refused strict text plan) stream said status)
 
--- so a run of a plan's text ends: as one of the plan; or it says why the text is none, and writes no file
+-- so a run of a plan's text ends: as one of the plan; or it says why the text is none, or is refused strictly, and writes no file
 abbrev pub RunEndsOn : {Files Stdout Stderr : Type 0} → (out : Stdout → Option (List ℕ)) → (err : Stderr → Option (List ℕ)) → texts.Ghosts Files → Ghosts Files → (text : List ℕ) → RunWords
     → (before after : Files) → (old new : Console Stdout Stderr) → ℕ → Type 0
 RunEndsOn out err read files text words before after old new result =
-    ((plan : Plan) × ReadsPlan text (Ok plan) × RunEndsOver out err read files plan words before after old new result)
-    ⊎ ((after ≡ before) × RunEnds out err (SaysFault text) old new result)
+    ((plan : Plan) × ReadsPlan text (Ok plan) × (is_refused words.strict text plan ≡ false) × RunEndsOver out err read files plan words before after old new result)
+    ⊎ ((after ≡ before) × RunEnds out err (SaysFault words.strict text) old new result)
 
 -- why the file of a plan isn't read, as standard error says it
 abbrev pub SaysUnread : Readings → (named : List ℕ) → Saying

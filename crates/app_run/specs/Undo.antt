@@ -109,13 +109,13 @@ IsFault (fault.Line line) text = IsFirstBad text line
 
 -- So an undo of a list ends that came to this: it says the phase, and behind it the file whose journal isn't removed, or which greeting wasn't answered; or that the
 -- list has other names; or the file that is barred or doesn't take the journal; or nothing, where a link can't be had.
-abbrev pub EndsListed : {Stdout Stderr : Type 0} → (out : Stdout → Option (List ℕ)) → (err : Stderr → Option (List ℕ)) → (word : List ℕ) → Result ListEnd ReportFault → (old new : Console Stdout Stderr) → ℕ → Type 0
-EndsListed out err word (Ok end.OtherNames) old new result = RunEnds out err SaysOthers old new result
-EndsListed out err word (Ok end.Barred) old new result = RunEnds out err (SaysFile word) old new result
-EndsListed out err word (Ok (end.Reverted came (Ok gone))) old new result = EndsReverted out err word (Ok came) old new result
-EndsListed out err word (Ok (end.Reverted came (Err why))) old new result =
-    RunEnds out err PrintsNothing old new result ⊎ EndsUnkept out err Undone word old new result
-EndsListed out err word (Err why) old new result = RunEnds out err (SaysReport (Err why)) old new result
+abbrev pub EndsListed : {Stdout Stderr : Type 0} → (out : Stdout → Option (List ℕ)) → (err : Stderr → Option (List ℕ)) → UndoWords → Result ListEnd ReportFault → (old new : Console Stdout Stderr) → ℕ → Type 0
+EndsListed out err words (Ok end.OtherNames) old new result = RunEnds out err SaysOthers old new result
+EndsListed out err words (Ok end.Barred) old new result = RunEnds out err (SaysFile (string_bytes words.undo)) old new result
+EndsListed out err words (Ok (end.Reverted came (Ok gone))) old new result = EndsReverted out err words (Ok came) old new result
+EndsListed out err words (Ok (end.Reverted came (Err why))) old new result =
+    RunEnds out err PrintsNothing old new result ⊎ EndsUnkept out err Undone (string_bytes words.undo) old new result
+EndsListed out err words (Err why) old new result = RunEnds out err (SaysReport (Err why)) old new result
 
 -- ---- how it ends
 
@@ -126,7 +126,7 @@ module _ {Files Stdout Stderr : Type 0} (out : Stdout → Option (List ℕ)) (er
       (IsJournal text × JournalEnds out err files.takes files.renames held text words before after old new result)
       ⊎ ((¬ IsJournal text)
       × (((list : UndoList) × (came : Result ListEnd ReportFault) × IsTextOf text list × ListEnds read files held text list words came before after
-      × EndsListed out err (string_bytes words.undo) came old new result)
+      × EndsListed out err words came old new result)
       ⊎ ((why : UndoFault) × IsFault why text × (after ≡ before) × RunEnds out err (SaysLine why) old new result)))
 
   -- one of a file that is held: its text is undone, or it can't be read

@@ -55,7 +55,7 @@ fn bus_of_undo(request: &UndoRequest<'_>) -> Bus
 }
 
 /// Whether requests of the steps go on this bus.
-pub(crate) fn steps_use(steps: &Steps, bus: Bus) -> bool
+pub fn steps_use(steps: &Steps, bus: Bus) -> bool
     ensures { result ≡ is_used bus (map bus_of_step steps.now) }
 {
     let mut used = false;
@@ -67,7 +67,7 @@ pub(crate) fn steps_use(steps: &Steps, bus: Bus) -> bool
 }
 
 /// Whether one of the requests goes on this bus.
-pub(crate) fn requests_use(requests: &Requests, bus: Bus) -> bool
+pub fn requests_use(requests: &Requests, bus: Bus) -> bool
     ensures { result ≡ is_used bus (map bus_of_request requests.now.members) }
 {
     let mut used = false;

@@ -28,7 +28,7 @@ pub struct Unanswered {
 
 impl Unanswered {
     /// What came in place of an answer.
-    pub(crate) fn word(self) -> &'static str
+    pub fn word(self) -> &'static str
         ensures { result.now ≡ answer_word self.busy }
     {
         if self.busy { "busy" } else { "no answer" }
@@ -37,7 +37,7 @@ impl Unanswered {
 
 /// Why nothing is begun behind the greetings.
 #[derive(Clone, Copy, Debug, PartialEq, Eq)]
-pub(crate) enum GreetFault {
+pub enum GreetFault {
     /// A link couldn't be had.
     NoLink,
     /// A greeting wasn't answered.
@@ -46,7 +46,7 @@ pub(crate) enum GreetFault {
 
 /// Which buses are greeted before a manager is called.
 #[derive(Clone, Copy)]
-pub(crate) struct Greetings {
+pub struct Greetings {
     /// The number with which the manager's requests on IPMB go on, where that is greeted.
     pub ipmb: Option<u8>,
     /// The same of SMBus.
@@ -153,7 +153,7 @@ pub(crate) fn greet_both<A: Link, B: Link>(
 
 /// Greets so over links of its own to these ports, which wait so many milliseconds for a frame.
 /// Where no bus is to be greeted, it opens none.
-pub(crate) fn greet_first<R: Net>(
+pub fn greet_first<R: Net>(
     rt: &R,
     greetings: &Greetings,
     ipmb_port: u16,

@@ -30,7 +30,7 @@ pub(crate) struct Ran {
 }
 
 /// The manager that is made again of the last text that the journal's file was given.
-fn revive_last<F: WritesFiles>(
+pub fn revive_last<F: WritesFiles>(
     alloc: Global,
     keeper: &JournalKeeper<F>,
 ) -> Result<Manager, ReviveFault>
@@ -92,7 +92,8 @@ pub(crate) fn run_over<F: WritesFiles, P: io::Write>(
     requires smbus { ends.smbus.counts ≡ none_counted }
     ensures runs { RunsBeside F.takes F.renames beside.now ready.manager words.now result
         (string_bytes ready.texts.last) files.old files.new }
-    ensures told { MayTellWay P.contents ready.kinds.items ready.manager progress.old progress.new }
+    ensures told { MayTellWay P.contents ready.kinds.items ready.manager
+        progress.old progress.new }
 {
     let Ready {
         mut manager,

@@ -10,18 +10,13 @@ pub const WAIT_MS: u32 = 200;
 
 /// The manager's ends of both buses.
 #[derive(Drop)]
-pub(crate) struct BusLinks {
+pub struct BusLinks {
     pub ipmb: UdpLink,
     pub smbus: UdpLink,
 }
 
 /// Links to these ports of the controller, which wait so many milliseconds for a frame; or nothing where one can't be had.
-pub(crate) fn open_ends<R: Net>(
-    rt: &R,
-    ipmb_port: u16,
-    smbus_port: u16,
-    wait_ms: u32,
-) -> Option<BusLinks>
+pub fn open_ends<R: Net>(rt: &R, ipmb_port: u16, smbus_port: u16, wait_ms: u32) -> Option<BusLinks>
     ensures ipmb { IfSome result (λ ends. ends.ipmb.counts ≡ none_counted) }
     ensures smbus { IfSome result (λ ends. ends.smbus.counts ≡ none_counted) }
 {

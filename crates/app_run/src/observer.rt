@@ -11,7 +11,7 @@ use undo_core::Manager;
 
 /// Tells where a manager is, on a line of its own.
 #[derive(Drop)]
-pub(crate) struct ProgressWriter<'a, P: io::Write> {
+pub struct ProgressWriter<'a, P: io::Write> {
     pub alloc: Global,
     pub progress: &'a mut Progress<P>,
     pub course: PlanOutline<'a>,
@@ -48,7 +48,7 @@ impl<P: io::Write> Observer for ProgressWriter<'_, P> {
 
 /// Looks at a manager that runs its plan: its journal is kept, and then the line of its progress is written, whether frames go out or not.
 #[derive(Drop)]
-pub(crate) struct RunWatch<'a, 'b, F: WritesFiles, P: io::Write> {
+pub struct RunWatch<'a, 'b, F: WritesFiles, P: io::Write> {
     pub keeper: JournalKeeper<'a, F>,
     pub teller: ProgressWriter<'b, P>,
 }

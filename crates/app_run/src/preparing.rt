@@ -1,12 +1,12 @@
 //! What is ready before a manager runs its plan: the plan, the files, and the first journal.
-ghost use Rattle.std.specs.Prelude.{◌≡◌, ℕ, List, IfOk, IfErr, OnOk, Ok, Err, map, string_bytes};
+ghost use Rattle.std.specs.Prelude.{◌≡◌, ℕ, Bool, false, List, IfOk, IfErr, OnOk, Ok, Err, map, string_bytes};
 ghost use Rattle.plan_file.specs.Kinds.{kind_of};
 ghost use Rattle.plan_file.specs.PlanHolds.{ReadsPlan};
 ghost use Rattle.model_lab.specs.Meaning.{lab_names};
 ghost use Rattle.undo_core.specs.Shown.{Represents};
 ghost use Rattle.app_base.specs.declared.console.Stream.TheVariants.{Error};
 ghost use Rattle.app_base.specs.declared.status.Status.TheVariants.{Success};
-ghost use Rattle.app_base.specs.Ending.{ReportTells};
+ghost use Rattle.app_base.specs.Ending.{ReportTells, RunEnds};
 ghost use Rattle.app_journal.specs.declared.claiming.Claim.TheVariants as claim;
 ghost use Rattle.app_journal.specs.Keeping.{IsJournalText};
 ghost use Rattle.app_run.specs.Driven.{opened_with};
@@ -15,6 +15,7 @@ ghost use Rattle.app_run.specs.Lines.{aside_line};
 ghost use Rattle.app_run.specs.Outcome.{RunEnd};
 ghost use Rattle.app_run.specs.Prepared.{EndsPlanless, EndsUnclaimed, HasPlan, IsMade, IsPrepared};
 ghost use Rattle.app_run.specs.Run.{AsideIsTold, ClaimsFor, RunEndsOf, SaysFault, TellsAside};
+ghost use Rattle.app_run.specs.Strict.{SaysRefused, is_refused};
 
 use crate::driven::open_manager;
 use crate::greeting::Greetings;
@@ -22,6 +23,7 @@ use crate::lines::plan_refusal;
 use crate::links::sit_out;
 use crate::progress::kinds_of;
 use crate::running::{Outcome, RunWords, say_outcome, unmade};
+use crate::strict::refusal_of;
 use app_base::files::refuse;
 use app_base::{Console, Ending, Report, ReportFault, Status, TextFiles, end_run, text_of};
 use app_journal::{Claim, JournalTexts, Taken, UndoFiles, WriteFault, WritesFiles, claim_files};
@@ -34,7 +36,7 @@ use undo_plans::Plan;
 
 /// A manager of a plan, the kinds of the plan's steps, the greetings before it is called, and the texts of its journal.
 #[derive(Drop)]
-pub(crate) struct Ready {
+pub struct Ready {
     pub manager: Manager,
     pub kinds: Vec<Kind>,
     pub greetings: Greetings,
@@ -52,29 +54,57 @@ pub(crate) struct Prepared {
 
 /// What is said of a text that is no plan.
 fn refusal(alloc: Global, why: PlanFault) -> Result<Report, ReportFault>
-    ensures { (text : List ℕ) → ReadsPlan text (Err why) → ReportTells (SaysFault text) result }
+    ensures { (strict : Bool) (text : List ℕ) → ReadsPlan text (Err why)
+        → ReportTells (SaysFault strict text) result }
 {
     Ok(plan_refusal(alloc, why)?)
 }
 
-/// The plan of the file that the words name; or the status of a run that has none, once that is said.
+/// A plan that was read of this text; or the status of a strict run that refuses it, once that is said.
+fn fit_plan<W: io::Write, E: io::Write>(
+    alloc: Global,
+    words: &RunWords,
+    text: &str,
+    plan: Plan,
+    console: &mut Console<W, E>,
+) -> Result<Plan, u8>
+    ensures same { IfOk result (λ fit. fit ≡ plan) }
+    ensures fits { OnOk result (is_refused words.now.strict text.now plan ≡ false) }
+    ensures untold { OnOk result (console.new ≡ console.old) }
+    ensures refused { IfErr result (RunEnds W.contents E.contents
+        (SaysRefused (is_refused words.now.strict text.now plan)) console.old console.new) }
+{
+    match refusal_of(alloc, words, text, &plan) {
+        Ok(None) => Ok(plan),
+        Ok(Some(report)) => {
+            drop(plan);
+            Err(end_run(&Ok(report), console))
+        }
+        Err(AllocError) => {
+            drop(plan);
+            Err(end_run(&Err(ReportFault::Memory), console))
+        }
+    }
+}
+
+/// The plan of the file that the words name; or the status of a run that has none, or refuses it strictly, once that is said.
 fn plan_in<F: TextFiles, W: io::Write, E: io::Write>(
     alloc: Global,
     files: &F,
     words: &RunWords,
     console: &mut Console<W, E>,
 ) -> Result<Plan, u8>
-    ensures has { IfOk result (HasPlan (F.gives files.now) (string_bytes words.now.plan)) }
+    ensures has { IfOk result (HasPlan (F.gives files.now) words.now) }
     ensures untold { OnOk result (console.new ≡ console.old) }
     ensures planless { IfErr result (EndsPlanless W.contents E.contents (F.gives files.now)
-        (string_bytes words.now.plan) console.old console.new) }
+        words.now console.old console.new) }
 {
     let text = match text_of(files, words.plan.as_str()) {
         Ok(text) => text,
         Err(unread) => return Err(refuse(alloc, &unread, console)),
     };
     match read_plan(alloc, text.as_str()) {
-        Ok(plan) => Ok(plan),
+        Ok(plan) => fit_plan(alloc, words, text.as_str(), plan, console),
         Err(PlanFault::Memory) => Err(end_run(&Err(ReportFault::Memory), console)),
         Err(why) => Err(end_run(&refusal(alloc, why), console)),
     }
@@ -139,8 +169,9 @@ fn claimed<F: TextFiles + WritesFiles, W: io::Write, E: io::Write>(
 // ---- the first journal
 
 /// A manager of this plan, that is ready to begin, and whether the controller is greeted before.
-fn make_ready(alloc: Global, plan: Plan, greet: bool) -> Result<Ready, AllocError>
-    ensures manager { IfOk result (λ ready. Represents lab_names ready.manager (opened_with plan)) }
+pub fn make_ready(alloc: Global, plan: Plan, greet: bool) -> Result<Ready, AllocError>
+    ensures manager { IfOk result (λ ready.
+        Represents lab_names ready.manager (opened_with plan)) }
     ensures kinds { IfOk result (λ ready. ready.kinds.items ≡ map kind_of plan.steps) }
     ensures greetings { IfOk result (λ ready. ready.greetings ≡ greetings_before_run greet plan) }
     ensures text { IfOk result (λ ready.
@@ -241,14 +272,13 @@ pub(crate) fn prepare<F: TextFiles + WritesFiles, W: io::Write, E: io::Write, R:
     };
     let Taken { beside, aside } = taken;
     drop(aside);
-    let word = words.undo.as_str();
     let prepared = match made(alloc, files, plan, beside, words) {
         Ok(prepared) => prepared,
-        Err(outcome) => return Err(say_outcome(alloc, word, outcome, console)),
+        Err(outcome) => return Err(say_outcome(alloc, words, outcome, console)),
     };
     if !wait_first(rt, words) {
         drop(prepared);
-        return Err(say_outcome(alloc, word, Err(ReportFault::Stopped), console));
+        return Err(say_outcome(alloc, words, Err(ReportFault::Stopped), console));
     }
     Ok(prepared)
 }

@@ -20,7 +20,7 @@ pub struct Snapshot {
 
 /// What lies before a manager.
 #[derive(Clone, Copy)]
-pub(crate) struct PlanOutline<'a> {
+pub struct PlanOutline<'a> {
     /// How many steps it does, or undoes.
     pub steps: usize,
     /// The kinds of a plan's steps. Of a list that undoes one none is known.

@@ -17,15 +17,19 @@ ghost use Rattle.app_run.specs.Course.{RunCourse};
 ghost use Rattle.app_run.specs.Driven.{DrivenState, GoesAgain, is_over as over_in};
 ghost use Rattle.app_run.specs.Reverting.{GoesOn, MayRevert, Reverts, RunsKept, Undoes};
 ghost use Rattle.app_run.specs.Reverting.{call_for, left_ungreeted};
+ghost use Rattle.app_run.specs.Ends.{SaysPhase};
 ghost use Rattle.app_run.specs.JournalUndo.{EndsReverted, IsJournal, IsOwnOf, JournalEnds};
 ghost use Rattle.app_run.specs.Told.{LooksOnRecall, LooksOnRevert, MayLookOn, MayTellRevert, TellsJournal, steps_of};
 ghost use Rattle.app_run.specs.JournalUndo.{SaysEnd, SaysJournalFault, journal_line};
+ghost use Rattle.app_run.specs.Strict.{undone_status};
 
 use crate::greeting::{GreetFault, Greetings, Unanswered, greet_first};
 use crate::lines::{names_refusal, phase_report, tell_ungreeted};
 use crate::links::{BusLinks, open_ends};
 use crate::observer::{ProgressWriter, RunWatch};
 use crate::progress::{PlanOutline, Progress, kinds_of};
+use crate::running::unmade;
+use crate::strict::undone_status;
 use crate::undoing::UndoWords;
 use app_base::{Console, Report, ReportFault, Status, end_run};
 use app_journal::{JournalKeeper, JournalTexts, ReviveFault, UndoFiles, WritesFiles, revive_text};
@@ -316,7 +320,7 @@ fn revert<F: WritesFiles, P: io::Write, R: Net>(
 // ---- what is said
 
 /// Whether the text begins as that of a journal does.
-pub(crate) fn is_journal(text: &str) -> bool
+pub fn is_journal(text: &str) -> bool
     ensures { (result ≡ true) ↔ IsJournal text.now }
 {
     behind("journal 1\n", text).is_some()
@@ -364,32 +368,37 @@ fn journal_refusal(alloc: Global, why: ReviveFault) -> Result<Report, ReportFaul
     }
 }
 
-/// What is said of a manager that came to this end, with the file of its journal: its phase, or the file that didn't take the journal.
-fn end_report(alloc: Global, word: &str, end: DriveEnd) -> Result<Report, ReportFault>
-    ensures { ReportTells (SaysEnd word.now end) result }
+/// What is said of a manager that came to this phase.
+fn reached(alloc: Global, strict: bool, phase: Phase) -> Result<Report, ReportFault>
+    ensures { ReportTells (SaysPhase phase (undone_status strict phase)) result }
 {
-    let report = match end {
-        Ok(phase) => phase_report(alloc, phase),
-        Err(KeptBack) => Report::of_file(alloc, word),
-    };
-    match report {
-        Ok(report) => Ok(report),
-        Err(AllocError) => Err(ReportFault::Memory),
+    Ok(phase_report(alloc, phase, undone_status(strict, phase))?)
+}
+
+/// What is said of a manager that came to this end: its phase, or the file that didn't take the journal.
+fn end_report(alloc: Global, words: &UndoWords, end: DriveEnd) -> Result<Report, ReportFault>
+    ensures { ReportTells (SaysEnd words.now end) result }
+{
+    match end {
+        Ok(phase) => reached(alloc, words.strict, phase),
+        Err(KeptBack) => unmade(alloc, words.undo.as_str()),
     }
 }
 
-/// Says what came of a manager whose journal is kept for the file of this word.
+/// Says what came of a manager whose journal is kept for the file that the words name.
 pub(crate) fn say_reverted<W: io::Write, E: io::Write>(
     alloc: Global,
-    word: &str,
+    words: &UndoWords,
     reverted: Result<Reverted, ReportFault>,
     console: &mut Console<W, E>,
 ) -> u8
-    ensures { EndsReverted W.contents E.contents word.now reverted console.old console.new result }
+    ensures { EndsReverted W.contents E.contents words.now reverted console.old console.new result }
 {
     match reverted {
-        Ok(Reverted::Ended(end)) => end_run(&end_report(alloc, word, end), console),
-        Ok(Reverted::Ungreeted(phase, why)) => tell_ungreeted(alloc, phase, why, console),
+        Ok(Reverted::Ended(end)) => end_run(&end_report(alloc, words, end), console),
+        Ok(Reverted::Ungreeted(phase, why)) => {
+            tell_ungreeted(alloc, phase, why, words.strict, console)
+        }
         Err(why) => end_run(&Err(why), console),
     }
 }
@@ -497,7 +506,6 @@ pub(crate) fn undo_journal<F: WritesFiles, W: io::Write, E: io::Write, P: io::Wr
         files.old files.new console.old console.new result }
     ensures told { TellsJournal P.contents text.now progress.old progress.new }
 {
-    let word = words.undo.as_str();
     let manager = match revive_text(alloc, text) {
         Ok(manager) => manager,
         Err(why) => return end_run(&journal_refusal(alloc, why), console),
@@ -505,7 +513,7 @@ pub(crate) fn undo_journal<F: WritesFiles, W: io::Write, E: io::Write, P: io::Wr
     match kept_of(alloc, held, text, &manager) {
         Ok(kept) => {
             let reverted = revert_told(rt, alloc, files, manager, kept, words, progress);
-            say_reverted(alloc, word, reverted, console)
+            say_reverted(alloc, words, reverted, console)
         }
         Err(AllocError) => {
             drop(manager);

@@ -6,6 +6,7 @@ ghost use Rattle.app_run.specs.Ends.{PrintsNothing, SaysFile, SaysPhase};
 ghost use Rattle.app_run.specs.Outcome.{KeepsRan, StaysGreeted, first_fault};
 ghost use Rattle.app_run.specs.Told.{TellsFile};
 ghost use Rattle.app_run.specs.Run.{EndsBy, EndsUnkept, RunEndsOf};
+ghost use Rattle.app_run.specs.Strict.{ran_status};
 
 use crate::greeting::{GreetFault, Unanswered, greet_first};
 use crate::kept_run::{Ran, keep, run_over};
@@ -13,7 +14,8 @@ use crate::lines::{phase_report, tell_both, tell_ungreeted};
 use crate::links::open_ends;
 use crate::preparing::{Prepared, Ready, prepare};
 use crate::progress::Progress;
-use app_base::{Console, Report, ReportFault, TextFiles, end_run};
+use crate::strict::ran_status;
+use app_base::{Console, Report, ReportFault, Status, TextFiles, end_run};
 use app_journal::{ReviveFault, UndoFiles, WriteFault, WritesFiles};
 use std::alloc::Global;
 use std::io;
@@ -43,6 +45,8 @@ pub struct RunWords {
     pub greet: bool,
     /// Whether a journal that has something to take back is put aside.
     pub replace: bool,
+    /// Whether the status says what came of the plan, and a plan with a key that nothing reads, or without a step, is refused.
+    pub strict: bool,
 }
 
 /// What came of a run.
@@ -93,7 +97,7 @@ pub(crate) fn tell_unkept<W: io::Write, E: io::Write>(
     ensures { RunEnds W.contents E.contents PrintsNothing console.old console.new result
         ⊎ EndsUnkept W.contents E.contents phase word.now console.old console.new result }
 {
-    let line = phase_report(alloc, phase);
+    let line = phase_report(alloc, phase, Status::Success);
     let complaint = Report::of_file(alloc, word);
     match (line, complaint) {
         (Ok(line), Ok(complaint)) => tell_both(&line, &complaint, console),
@@ -102,10 +106,10 @@ pub(crate) fn tell_unkept<W: io::Write, E: io::Write>(
 }
 
 /// What is said of a run that left the manager in this phase.
-fn reached(alloc: Global, phase: Phase) -> Result<Report, ReportFault>
-    ensures { ReportTells (SaysPhase phase) result }
+fn reached(alloc: Global, strict: bool, phase: Phase) -> Result<Report, ReportFault>
+    ensures { ReportTells (SaysPhase phase (ran_status strict phase)) result }
 {
-    Ok(phase_report(alloc, phase)?)
+    Ok(phase_report(alloc, phase, ran_status(strict, phase))?)
 }
 
 /// What is said of a file that can't be made, by the word that names the one beside it.
@@ -118,47 +122,49 @@ pub(crate) fn unmade(alloc: Global, word: &str) -> Result<Report, ReportFault>
 /// Says in which phase a run left the manager, and of its list where that isn't kept, and gives the status.
 fn say_ran<W: io::Write, E: io::Write>(
     alloc: Global,
-    word: &str,
+    words: &RunWords,
     phase: Phase,
     kept: Result<(), WriteFault>,
     console: &mut Console<W, E>,
 ) -> u8
-    ensures { EndsBy W.contents E.contents word.now (Ok (HasRun phase kept))
+    ensures { EndsBy W.contents E.contents words.now (Ok (HasRun phase kept))
         console.old console.new result }
 {
     match kept {
-        Ok(()) => end_run(&reached(alloc, phase), console),
-        Err(WriteFault) => tell_unkept(alloc, phase, word, console),
+        Ok(()) => end_run(&reached(alloc, words.strict, phase), console),
+        Err(WriteFault) => tell_unkept(alloc, phase, words.undo.as_str(), console),
     }
 }
 
 /// Says what came of a run, and gives the status.
 fn say<W: io::Write, E: io::Write>(
     alloc: Global,
-    word: &str,
+    words: &RunWords,
     outcome: Outcome,
     console: &mut Console<W, E>,
 ) -> u8
-    ensures { EndsBy W.contents E.contents word.now (Ok outcome) console.old console.new result }
+    ensures { EndsBy W.contents E.contents words.now (Ok outcome) console.old console.new result }
 {
     match outcome {
-        Outcome::Ran(phase, kept) => say_ran(alloc, word, phase, kept, console),
-        Outcome::Unmade => end_run(&unmade(alloc, word), console),
-        Outcome::Ungreeted(phase, why) => tell_ungreeted(alloc, phase, why, console),
+        Outcome::Ran(phase, kept) => say_ran(alloc, words, phase, kept, console),
+        Outcome::Unmade => end_run(&unmade(alloc, words.undo.as_str()), console),
+        Outcome::Ungreeted(phase, why) => {
+            tell_ungreeted(alloc, phase, why, words.strict, console)
+        }
     }
 }
 
 /// Says what came of a run, or that nothing can be said of that, and gives the status.
 pub(crate) fn say_outcome<W: io::Write, E: io::Write>(
     alloc: Global,
-    word: &str,
+    words: &RunWords,
     outcome: Result<Outcome, ReportFault>,
     console: &mut Console<W, E>,
 ) -> u8
-    ensures { EndsBy W.contents E.contents word.now outcome console.old console.new result }
+    ensures { EndsBy W.contents E.contents words.now outcome console.old console.new result }
 {
     match outcome {
-        Ok(outcome) => say(alloc, word, outcome, console),
+        Ok(outcome) => say(alloc, words, outcome, console),
         Err(why) => end_run(&Err(why), console),
     }
 }
@@ -211,6 +217,10 @@ fn outcome_of<F: WritesFiles>(
 /// with `file` and the word UNDO on standard error where the file can't be claimed, or `.part` can't be made, and behind the phase on standard output
 /// where the journal or the undo text can't be kept, or `.part` can't be removed, 4 and no line where a link can't be had, 5 with `memory` on
 /// standard error where memory was refused, and 6 where a write to either stream failed.
+///
+/// With `strict` it is 10 in place of 0 where the plan halted, and 11 where a request is open or unsettled, or a greeting wasn't answered; and 3, with
+/// what `bmclab check` tells of it on standard error, where the plan has a key that nothing reads, or no step: then no file is held, and nothing sent.
+/// Which records are changed behind it a run can't know, and it undoes nothing, so 12 and 13 are never its status.
 pub fn run<F: TextFiles + WritesFiles, W: io::Write, E: io::Write, P: io::Write, R: Net>(
     rt: &R,
     alloc: Global,
@@ -230,7 +240,6 @@ pub fn run<F: TextFiles + WritesFiles, W: io::Write, E: io::Write, P: io::Write,
         Err(status) => return status,
     };
     let Prepared { ready, beside } = prepared;
-    let word = words.undo.as_str();
     let greeted = greet_first(
         rt,
         &ready.greetings,
@@ -241,14 +250,14 @@ pub fn run<F: TextFiles + WritesFiles, W: io::Write, E: io::Write, P: io::Write,
     );
     if let Err(fault) = greeted {
         let outcome = leave_ungreeted(ready, fault);
-        return say_outcome(alloc, word, outcome, console);
+        return say_outcome(alloc, words, outcome, console);
     }
     let ends = open_ends(rt, words.ipmb_port, words.smbus_port, words.wait_ms);
     let Some(ends) = ends else {
         drop(ready);
-        return say_outcome(alloc, word, Err(ReportFault::Stopped), console);
+        return say_outcome(alloc, words, Err(ReportFault::Stopped), console);
     };
     let came = run_over(alloc, files, &beside, ready, ends, words, progress);
     let outcome = outcome_of(alloc, files, &beside, came);
-    say_outcome(alloc, word, outcome, console)
+    say_outcome(alloc, words, outcome, console)
 }

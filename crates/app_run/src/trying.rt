@@ -23,7 +23,7 @@ fn is_unsettled(phase: Phase) -> bool
 
 /// Drives a manager as `drive_observed` does, but no further than to a turn that leaves it unsettled while others are left. It gives how many,
 /// if that came.
-fn drive_heeded<A: Link, B: Link, T: Observer>(
+pub fn drive_heeded<A: Link, B: Link, T: Observer>(
     manager: &mut Manager,
     first: Option<Sent>,
     ipmb: &mut A,

@@ -43,6 +43,8 @@ pub struct UndoWords {
     pub wait_ms: u32,
     /// Whether the buses that are used are greeted before the undo begins.
     pub greet: bool,
+    /// Whether the status says what came of the undo.
+    pub strict: bool,
 }
 
 /// What came of the undo of a list.
@@ -247,33 +249,33 @@ fn others_report(alloc: Global) -> Result<Report, ReportFault>
 /// Says what came of a manager that goes on from a list, and of the file of its journal.
 fn say_undone<W: io::Write, E: io::Write>(
     alloc: Global,
-    word: &str,
+    words: &UndoWords,
     came: Reverted,
     gone: Result<(), WriteFault>,
     console: &mut Console<W, E>,
 ) -> u8
-    ensures { EndsListed W.contents E.contents word.now (Ok (HasReverted came gone))
+    ensures { EndsListed W.contents E.contents words.now (Ok (HasReverted came gone))
         console.old console.new result }
 {
     match gone {
-        Ok(()) => say_reverted(alloc, word, Ok(came), console),
-        Err(WriteFault) => tell_unkept(alloc, Phase::Undone, word, console),
+        Ok(()) => say_reverted(alloc, words, Ok(came), console),
+        Err(WriteFault) => tell_unkept(alloc, Phase::Undone, words.undo.as_str(), console),
     }
 }
 
-/// Says what came of the undo of a list in the file of this word.
+/// Says what came of the undo of a list in the file that the words name.
 fn say_listed<W: io::Write, E: io::Write>(
     alloc: Global,
-    word: &str,
+    words: &UndoWords,
     end: Result<ListEnd, ReportFault>,
     console: &mut Console<W, E>,
 ) -> u8
-    ensures { EndsListed W.contents E.contents word.now end console.old console.new result }
+    ensures { EndsListed W.contents E.contents words.now end console.old console.new result }
 {
     match end {
-        Ok(ListEnd::Reverted(came, gone)) => say_undone(alloc, word, came, gone, console),
+        Ok(ListEnd::Reverted(came, gone)) => say_undone(alloc, words, came, gone, console),
         Ok(ListEnd::OtherNames) => end_run(&others_report(alloc), console),
-        Ok(ListEnd::Barred) => end_run(&unmade(alloc, word), console),
+        Ok(ListEnd::Barred) => end_run(&unmade(alloc, words.undo.as_str()), console),
         Err(why) => end_run(&Err(why), console),
     }
 }
@@ -309,7 +311,7 @@ fn undo_text<F: TextFiles + WritesFiles, W: io::Write, E: io::Write, P: io::Writ
     match read_undo(alloc, text) {
         Ok(list) => {
             let end = undo_list(rt, alloc, files, held, text, list, words, progress);
-            say_listed(alloc, words.undo.as_str(), end, console)
+            say_listed(alloc, words, end, console)
         }
         Err(why) => end_run(&line_report(alloc, why), console),
     }
@@ -360,6 +362,10 @@ fn undo_held<F: TextFiles + WritesFiles, W: io::Write, E: io::Write, P: io::Writ
 /// where `.part` is in the way or can't be made, or doesn't take the journal while a request is open; `undo OtherNames` where its list has names that
 /// aren't the lab's; 3 with the phase and `file` behind it where `.part` can't be removed; 4 and no line where a link can't be had, 5 with `memory`
 /// on standard error where memory was refused, and 6 where a write of these failed.
+///
+/// With `strict` it is 11 in place of 0 where a request is open or unsettled, or a greeting wasn't answered, and 12 where a request that undoes was
+/// refused. Of a journal whose manager began nothing there is nothing to take back, and it stays 0. Which records are changed behind it an undo can't
+/// know, so 13 is never its status.
 ///
 /// Of a journal, the open request is settled first, if one is open: it is sent again, for as many turns. Where the plan is over then, it is greeted,
 /// where the words ask for it, and taken back. Before frames go out, the journal's own file gets the journal by its name alone. Where it doesn't,

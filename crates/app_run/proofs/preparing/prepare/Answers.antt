@@ -1,7 +1,7 @@
-use Rattle.std.proofs.Common.{List, ℕ, Err, inr, refl, subst}
+use Rattle.std.proofs.Common.{Err, inr, refl, subst}
 use Rattle.app_base.specs.declared.ending.ReportFault.TheVariants.{Stopped}
 use Rattle.app_run.specs.Prepared.{EndsUnclaimed}
-use Rattle.app_run.specs.Run.{EndsBy, TellsAside}
+use Rattle.app_run.specs.Run.{TellsAside}
 use Rattle.app_run.proofs.Readied.{ends_ready, ends_so, planless, unclaimed}
 use Rattle.app_run.proofs.preparing.prepare.Goals as goal
 
@@ -22,8 +22,7 @@ returns-in-Err-made-clause-ends g c =
     c.made.new.files c.claimed.new.console c.say_outcome.new.console c.in-Err-made.outcome c.say_outcome.result c.in-Ok.ensures.has c.in-Ok-claimed.ensures.claims
     (subst (λ old. TellsAside g.W.Write.contents g.E.Write.contents c.in-Ok-claimed.taken.aside old c.claimed.new.console) c.in-Ok.ensures.untold c.in-Ok-claimed.ensures.told)
     c.in-Err-made.ensures.unmade
-    (subst (λ (word : List ℕ). EndsBy g.W.Write.contents g.E.Write.contents word c.in-Err-made.outcome c.claimed.new.console c.say_outcome.new.console c.say_outcome.result)
-    c.as_str-word.ensures.value c.say_outcome.ensures)
+    c.say_outcome.ensures
 
 pub returns-then-not-wait_first-clause-ends : goal.returns-then-not-wait_first-clause-ends
 returns-then-not-wait_first-clause-ends g c =
@@ -39,8 +38,7 @@ returns-then-not-wait_first-clause-ends g c =
       made = c.in-Ok-made.ensures.made;
     })
     (λ before shows. inr (inr (refl, refl)))
-    (subst (λ (word : List ℕ). EndsBy g.W.Write.contents g.E.Write.contents word (Err Stopped) c.claimed.new.console c.say_outcome-then-not-wait_first.new.console c.say_outcome-then-not-wait_first.result)
-    c.as_str-word.ensures.value c.say_outcome-then-not-wait_first.ensures)
+    c.say_outcome-then-not-wait_first.ensures
 
 pub returns-clause-prepared : goal.returns-clause-prepared
 returns-clause-prepared g c = record {

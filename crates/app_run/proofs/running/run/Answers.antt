@@ -1,6 +1,5 @@
-use Rattle.std.proofs.Common.{List, ℕ, Err, inl, inr, refl, string_bytes, subst}
+use Rattle.std.proofs.Common.{Err, inl, inr, refl, string_bytes}
 use Rattle.app_base.specs.declared.ending.ReportFault.TheVariants.{Stopped}
-use Rattle.app_run.specs.Run.{EndsBy}
 use Rattle.app_run.proofs.Going.{comes_of}
 use Rattle.app_run.proofs.Greets.{left_run}
 use Rattle.app_run.proofs.Readied.{ends_ready, tells_ready}
@@ -15,16 +14,14 @@ returns-in-Err-greeted-clause-ends g c =
     (λ before shows.
     left_run g.F.WritesFiles ready.greetings c.in-Ok.prepared.beside before c.args.words.now (string_bytes ready.texts.last) ready.manager c.in-Err-greeted.fault c.leave_ungreeted-outcome.result
     c.prepare.new.files shows c.in-Err-greeted.ensures c.leave_ungreeted-outcome.ensures)
-    (subst (λ (word : List ℕ). EndsBy g.W.Write.contents g.E.Write.contents word c.leave_ungreeted-outcome.result c.prepare.new.console c.say_outcome.new.console c.say_outcome.result)
-    c.as_str-word.ensures.value c.say_outcome.ensures)
+    c.say_outcome.ensures
 
 pub returns-in_default-ends-clause-ends : goal.returns-in_default-ends-clause-ends
 returns-in_default-ends-clause-ends g c =
     ends_ready g.W.Write.contents g.E.Write.contents g.F.TextFiles g.F.WritesFiles c.args.words.now c.args.files.now c.args.console.now c.in-Ok.prepared c.prepare.new.files
     c.prepare.new.files c.prepare.new.console c.say_outcome-in_default-ends.new.console (Err Stopped) c.say_outcome-in_default-ends.result c.in-Ok.ensures.prepared
     (λ before shows. inr (inr (refl, refl)))
-    (subst (λ (word : List ℕ). EndsBy g.W.Write.contents g.E.Write.contents word (Err Stopped) c.prepare.new.console c.say_outcome-in_default-ends.new.console c.say_outcome-in_default-ends.result)
-    c.as_str-word.ensures.value c.say_outcome-in_default-ends.ensures)
+    c.say_outcome-in_default-ends.ensures
 
 pub returns-clause-ends : goal.returns-clause-ends
 returns-clause-ends g c =
@@ -36,8 +33,7 @@ returns-clause-ends g c =
       comes_of g.F.WritesFiles c.in-Ok.prepared.beside ready.manager c.args.words.now (string_bytes ready.texts.last) c.prepare.new.files c.run_over-came.new.files c.outcome_of-outcome.new.files
           c.run_over-came.result c.outcome_of-outcome.result c.run_over-came.ensures.runs c.outcome_of-outcome.ensures before shows,
     ))
-    (subst (λ (word : List ℕ). EndsBy g.W.Write.contents g.E.Write.contents word c.outcome_of-outcome.result c.prepare.new.console c.say_outcome-2.new.console c.say_outcome-2.result)
-    c.as_str-word.ensures.value c.say_outcome-2.ensures)
+    c.say_outcome-2.ensures
 
 pub returns-clause-told : goal.returns-clause-told
 returns-clause-told g c =

@@ -1,6 +1,6 @@
-use Rattle.std.proofs.Common.{List, ℕ, inl, inr, refl, subst}
+use Rattle.std.proofs.Common.{inl, inr, refl}
 use Rattle.app_base.specs.EndingLaws.{run_reports}
-use Rattle.app_run.specs.Undo.{EndsListed, SaysLine}
+use Rattle.app_run.specs.Undo.{SaysLine}
 use Rattle.app_run.proofs.Listing.{fault_of}
 use Rattle.app_run.proofs.Ways.{told_of_journal}
 use Rattle.app_run.proofs.undoing.undo_text.Goals as goal
@@ -17,8 +17,7 @@ returns-in-Ok-clause-ends g c =
         c.undo_list-end.result,
         c.in-Ok.ensures.list,
         c.undo_list-end.ensures.ends,
-        subst (λ (word : List ℕ). EndsListed g.W.Write.contents g.E.Write.contents word c.undo_list-end.result c.args.console.now c.say_listed.new.console c.say_listed.result)
-            c.as_str.ensures.value c.say_listed.ensures,
+        c.say_listed.ensures,
       ),
     )
 
