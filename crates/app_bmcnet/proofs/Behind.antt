@@ -6,10 +6,12 @@ use Rattle.app_base.proofs.Readings.{alike, apart, unnamed}
 use Rattle.app_serve.specs.declared.run.ServeWords.{ServeWords}
 use Rattle.app_run.specs.declared.running.RunWords.{RunWords}
 use Rattle.app_run.specs.declared.undoing.UndoWords.{UndoWords}
-use Rattle.app_bmcnet.specs.declared.pairing.PairWords.{PairWords}
+use Rattle.app_apply.specs.declared.applying.ApplyWords.{ApplyWords}
+use Rattle.app_apply.specs.declared.reverting.RevertWords.{RevertWords}
+use Rattle.app_pair.specs.declared.pairing.PairWords.{PairWords}
 use Rattle.app_bmcnet.specs.declared.words.Words.{Words}
-use Rattle.app_bmcnet.specs.declared.words.Words.TheVariants.{Serve, Run, Undo, Pair, Version}
-use Rattle.app_bmcnet.specs.Asked.{AsksBy, AsksServe, AsksRun, AsksUndo, AsksPair}
+use Rattle.app_bmcnet.specs.declared.words.Words.TheVariants.{Serve, Run, Undo, Pair, Apply, Revert, Version}
+use Rattle.app_bmcnet.specs.Asked.{AsksBy, AsksServe, AsksRun, AsksUndo, AsksPair, AsksApply, AsksRevert}
 
 -- what asks for anything behind `serve` asks for a serving
 pub serve_behind : (met : Option (Text × List Row)) (rows : List Row) → met ≡ Some (codes "serve", rows) → (asked : Words) → AsksBy met asked
@@ -35,12 +37,27 @@ pub pair_behind : (met : Option (Text × List Row)) (rows : List Row) → met �
 pair_behind met rows is (Pair words) asks = (words, subst (λ (r : List Row). AsksPair r words) (alike met (codes "pair") asks.0 rows asks.1 is) asks.2)
 pair_behind met rows is _ asks = absurd (apart met (codes "pair") _ rows asks.0 refl is asks.1)
 
+-- what asks for anything behind `apply` asks for a plan to be applied
+pub apply_behind : (met : Option (Text × List Row)) (rows : List Row) → met ≡ Some (codes "apply", rows) → (asked : Words) → AsksBy met asked
+    → (words : ApplyWords) × AsksApply rows words
+apply_behind met rows is (Apply words) asks = (words, subst (λ (r : List Row). AsksApply r words) (alike met (codes "apply") asks.0 rows asks.1 is) asks.2)
+apply_behind met rows is _ asks = absurd (apart met (codes "apply") _ rows asks.0 refl is asks.1)
+
+-- what asks for anything behind `revert` asks for a plan to be taken back
+pub revert_behind : (met : Option (Text × List Row)) (rows : List Row) → met ≡ Some (codes "revert", rows) → (asked : Words) → AsksBy met asked
+    → (words : RevertWords) × AsksRevert rows words
+revert_behind met rows is (Revert words) asks = (words, subst (λ (r : List Row). AsksRevert r words) (alike met (codes "revert") asks.0 rows asks.1 is) asks.2)
+revert_behind met rows is _ asks = absurd (apart met (codes "revert") _ rows asks.0 refl is asks.1)
+
 -- where none of the subcommands was met, nothing is asked for
 pub none_behind : (m : ArgMatches) → (subcommand_name_of m ≡ Some (codes "serve") → false ≡ true) → (subcommand_name_of m ≡ Some (codes "run") → false ≡ true)
     → (subcommand_name_of m ≡ Some (codes "undo") → false ≡ true) → (subcommand_name_of m ≡ Some (codes "pair") → false ≡ true)
+    → (subcommand_name_of m ≡ Some (codes "apply") → false ≡ true) → (subcommand_name_of m ≡ Some (codes "revert") → false ≡ true)
     → (subcommand_name_of m ≡ Some (codes "version") → false ≡ true) → (asked : Words) → AsksBy (subcommand_rows_of m) asked → ⊥
-none_behind m serve run undo pair version (Serve words) asks = unnamed m (codes "serve") serve asks.0 asks.1
-none_behind m serve run undo pair version (Run words) asks = unnamed m (codes "run") run asks.0 asks.1
-none_behind m serve run undo pair version (Undo words) asks = unnamed m (codes "undo") undo asks.0 asks.1
-none_behind m serve run undo pair version (Pair words) asks = unnamed m (codes "pair") pair asks.0 asks.1
-none_behind m serve run undo pair version Version asks = unnamed m (codes "version") version asks.0 asks.1
+none_behind m serve run undo pair apply revert version (Serve words) asks = unnamed m (codes "serve") serve asks.0 asks.1
+none_behind m serve run undo pair apply revert version (Run words) asks = unnamed m (codes "run") run asks.0 asks.1
+none_behind m serve run undo pair apply revert version (Undo words) asks = unnamed m (codes "undo") undo asks.0 asks.1
+none_behind m serve run undo pair apply revert version (Pair words) asks = unnamed m (codes "pair") pair asks.0 asks.1
+none_behind m serve run undo pair apply revert version (Apply words) asks = unnamed m (codes "apply") apply asks.0 asks.1
+none_behind m serve run undo pair apply revert version (Revert words) asks = unnamed m (codes "revert") revert asks.0 asks.1
+none_behind m serve run undo pair apply revert version Version asks = unnamed m (codes "version") version asks.0 asks.1

@@ -1,5 +1,3 @@
-pub mod Telling
-pub mod Counting
 pub mod Readings
 pub mod Options
 pub mod Endings

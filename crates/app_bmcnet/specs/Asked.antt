@@ -1,14 +1,17 @@
 -- What the words of the command line ask for.
-use Rattle.std.specs.Prelude.{◌≡◌, ◌≤◌, ◌<◌, ◌^◌, ◌⊎◌, ℕ, Bool, true, false, List, Option, None, Some, option_map, is_some, codes, string_bytes}
+use Rattle.std.specs.Prelude.{◌≡◌, ◌≢◌, ◌++◌, ◌≤◌, ◌^◌, ◌⊎◌, ℕ, Bool, true, false, List, Option, None, Some, option_map, is_some, codes, string_bytes}
 use Rattle.clap.specs.Words.{Row, Text, first_of}
 use Rattle.app_base.specs.Asked.{AsksOf, is_given}
 use Rattle.app_base.specs.Numbers.{NamesBelow}
 use Rattle.app_serve.specs.declared.run.ServeWords.{ServeWords}
 use Rattle.app_run.specs.declared.running.RunWords.{RunWords}
 use Rattle.app_run.specs.declared.undoing.UndoWords.{UndoWords}
-use Rattle.app_bmcnet.specs.declared.pairing.PairWords.{PairWords}
+use Rattle.app_apply.specs.declared.applying.ApplyWords.{ApplyWords}
+use Rattle.app_apply.specs.declared.kept_calls.Reach.{Reach}
+use Rattle.app_apply.specs.declared.reverting.RevertWords.{RevertWords}
+use Rattle.app_pair.specs.declared.pairing.PairWords.{PairWords}
 use Rattle.app_bmcnet.specs.declared.words.Words.{Words}
-use Rattle.app_bmcnet.specs.declared.words.Words.TheVariants.{Serve, Run, Undo, Pair, Version}
+use Rattle.app_bmcnet.specs.declared.words.Words.TheVariants.{Serve, Run, Undo, Pair, Apply, Revert, Version}
 use Rattle.app_bmcnet.specs.Line.{program}
 
 -- the word of this name is this port
@@ -74,6 +77,7 @@ pub record AsksRun (rows : List Row) (asked : RunWords) : Type 0 where
   pub forget : NamesOption 1 rows (codes "forget") asked.forget
   pub greet : is_given (codes "greet") rows ≡ asked.greet
   pub replace : is_given (codes "replace") rows ≡ asked.replace
+  pub strict : is_given (codes "strict") rows ≡ asked.strict
 
 -- what was matched behind `undo` asks for this
 pub record AsksUndo (rows : List Row) (asked : UndoWords) : Type 0 where
@@ -83,6 +87,7 @@ pub record AsksUndo (rows : List Row) (asked : UndoWords) : Type 0 where
   pub turns : NamesTurns rows asked.turns
   pub wait : NamesWait rows asked.wait_ms
   pub greet : is_given (codes "greet") rows ≡ asked.greet
+  pub strict : is_given (codes "strict") rows ≡ asked.strict
 
 -- what was matched behind `pair` asks for this
 pub record AsksPair (rows : List Row) (asked : PairWords) : Type 0 where
@@ -92,12 +97,50 @@ pub record AsksPair (rows : List Row) (asked : PairWords) : Type 0 where
   pub strict : is_given (codes "strict") rows ≡ asked.options.strict
   pub list : is_given (codes "list") rows ≡ asked.options.list
 
+-- the word of this name is this port, or it isn't given, and there is none
+abbrev pub NamesPortOr : List Row → (name : Text) → Option ℕ → Type 0
+NamesPortOr rows name port = NamesBelow (2 ^ 16) (first_of name rows) port
+
+-- where a controller is, and how long it is listened to, by `[--wait MS] [--again N] P0 [P1]`
+pub record NamesReach (rows : List Row) (reach : Reach) : Type 0 where
+  pub ipmb : NamesPort rows (codes "P0") reach.ipmb_port
+  pub smbus : NamesPortOr rows (codes "P1") reach.smbus_port
+  pub wait : NamesWait rows reach.wait_ms
+  pub again : NamesOr 0 0 rows (codes "again") reach.again
+
+-- the word of the file that gets what takes back a plan of this word: that, with `.undo` for `.toml` at its end, or behind it
+abbrev pub IsFileOf : (plan file : List ℕ) → Type 0
+IsFileOf plan file =
+    ((stem : List ℕ) × (plan ≡ stem ++ codes ".toml") × (file ≡ stem ++ codes ".undo"))
+    ⊎ (((stem : List ℕ) → plan ≢ stem ++ codes ".toml") × (file ≡ plan ++ codes ".undo"))
+
+-- the file is that of the option `--undo`, or else that of the plan
+abbrev pub NamesFile : List Row → (plan file : List ℕ) → Type 0
+NamesFile rows plan file =
+    (first_of (codes "undo") rows ≡ Some file) ⊎ ((first_of (codes "undo") rows ≡ None) × IsFileOf plan file)
+
+-- what was matched behind `apply` asks for this
+pub record AsksApply (rows : List Row) (asked : ApplyWords) : Type 0 where
+  pub plan : first_of (codes "PLAN") rows ≡ Some (string_bytes asked.plan)
+  pub file : NamesFile rows (string_bytes asked.plan) (string_bytes asked.file)
+  pub replace : is_given (codes "replace") rows ≡ asked.replace
+  pub reach : NamesReach rows asked.reach
+  pub json : is_given (codes "json") rows ≡ asked.json
+
+-- what was matched behind `revert` asks for this
+pub record AsksRevert (rows : List Row) (asked : RevertWords) : Type 0 where
+  pub file : first_of (codes "FILE") rows ≡ Some (string_bytes asked.file)
+  pub reach : NamesReach rows asked.reach
+  pub json : is_given (codes "json") rows ≡ asked.json
+
 -- the subcommand, with what was matched behind it, asks for this
 abbrev pub AsksBy : Option (Text × List Row) → Words → Type 0
 AsksBy met (Serve asked) = (rows : List Row) × (met ≡ Some (codes "serve", rows)) × AsksServe rows asked
 AsksBy met (Run asked) = (rows : List Row) × (met ≡ Some (codes "run", rows)) × AsksRun rows asked
 AsksBy met (Undo asked) = (rows : List Row) × (met ≡ Some (codes "undo", rows)) × AsksUndo rows asked
 AsksBy met (Pair asked) = (rows : List Row) × (met ≡ Some (codes "pair", rows)) × AsksPair rows asked
+AsksBy met (Apply asked) = (rows : List Row) × (met ≡ Some (codes "apply", rows)) × AsksApply rows asked
+AsksBy met (Revert asked) = (rows : List Row) × (met ≡ Some (codes "revert", rows)) × AsksRevert rows asked
 AsksBy met Version = (rows : List Row) × (met ≡ Some (codes "version", rows))
 
 -- the words, the program's own name first among them, are of its command line, and ask for this

@@ -1,10 +1,10 @@
 -- The program's command line, as clap has it.
 use Rattle.std.specs.Prelude.{[], ◌∷◌, ◌++◌, List, codes, fold, map}
-use Rattle.clap.specs.Words.{App, Rule, Text, new_app, with_rule, with_subcommand}
+use Rattle.clap.specs.Words.{App, Rule, Text, new_app, new_rule, with_rule, with_subcommand}
 use Rattle.app_base.specs.Line.{flag_rule, needed_rule, needing_subcommand, option_rule}
 use Rattle.app_base.specs.Version.{version_app}
 use Rattle.app_bmcnet.specs.declared.tasks.Task.{Task}
-use Rattle.app_bmcnet.specs.declared.tasks.Task.TheVariants.{Serve, Run, Undo, Pair}
+use Rattle.app_bmcnet.specs.declared.tasks.Task.TheVariants.{Serve, Run, Undo, Pair, Apply, Revert}
 
 -- a command of this name, with these options, and with words each of which must be there
 abbrev pub taking : (name : Text) → (options : List Rule) → (words : List Text) → App
@@ -17,29 +17,55 @@ serve_options =
     ∷ option_rule (codes "readings") ∷ flag_rule (codes "repeat-readings") ∷ flag_rule (codes "clock")
     ∷ flag_rule (codes "strict") ∷ flag_rule (codes "list") ∷ []
 
--- those of `run`: `[--wait MS] [--again N] [--forget N] [--greet] [--replace]`
+-- those of `run`: `[--wait MS] [--again N] [--forget N] [--greet] [--replace] [--strict]`
 abbrev pub run_options : List Rule
-run_options = option_rule (codes "wait") ∷ option_rule (codes "again") ∷ option_rule (codes "forget") ∷ flag_rule (codes "greet") ∷ flag_rule (codes "replace") ∷ []
+run_options =
+    option_rule (codes "wait") ∷ option_rule (codes "again") ∷ option_rule (codes "forget") ∷ flag_rule (codes "greet") ∷ flag_rule (codes "replace")
+    ∷ flag_rule (codes "strict") ∷ []
 
--- those of `undo`: `[--wait MS] [--greet]`
+-- those of `undo`: `[--wait MS] [--greet] [--strict]`
 abbrev pub undo_options : List Rule
-undo_options = option_rule (codes "wait") ∷ flag_rule (codes "greet") ∷ []
+undo_options = option_rule (codes "wait") ∷ flag_rule (codes "greet") ∷ flag_rule (codes "strict") ∷ []
 
 -- those of `pair`: `[--strict] [--list]`
 abbrev pub pair_options : List Rule
 pair_options = flag_rule (codes "strict") ∷ flag_rule (codes "list") ∷ []
 
--- behind their options, `serve BOARD P0 P1 TURNS`, `run PLAN P0 P1 TURNS UNDO`, `undo UNDO P0 P1 TURNS`, and `pair BOARD PLAN TURNS`
+-- those of `apply`: `[--undo FILE] [--replace] [--wait MS] [--again N] [--json]`
+abbrev pub apply_options : List Rule
+apply_options =
+    option_rule (codes "undo") ∷ flag_rule (codes "replace") ∷ option_rule (codes "wait") ∷ option_rule (codes "again") ∷ flag_rule (codes "json") ∷ []
+
+-- those of `revert`: `[--wait MS] [--again N] [--json]`
+abbrev pub revert_options : List Rule
+revert_options = option_rule (codes "wait") ∷ option_rule (codes "again") ∷ flag_rule (codes "json") ∷ []
+
+-- a word P1, which may be left out
+abbrev pub smbus_rule : Rule
+smbus_rule = new_rule (codes "P1")
+
+-- a command with that as its last word
+abbrev pub with_smbus_port : App → App
+with_smbus_port app = with_rule app smbus_rule
+
+-- behind their options, `serve BOARD P0 P1 TURNS`, `run PLAN P0 P1 TURNS UNDO`, `undo UNDO P0 P1 TURNS`, `pair BOARD PLAN TURNS`, `apply PLAN P0
+-- [P1]` and `revert FILE P0 [P1]`
 abbrev pub app_named : Task → App
 app_named Serve = taking (codes "serve") serve_options (codes "BOARD" ∷ codes "P0" ∷ codes "P1" ∷ codes "TURNS" ∷ [])
 app_named Run = taking (codes "run") run_options (codes "PLAN" ∷ codes "P0" ∷ codes "P1" ∷ codes "TURNS" ∷ codes "UNDO" ∷ [])
 app_named Undo = taking (codes "undo") undo_options (codes "UNDO" ∷ codes "P0" ∷ codes "P1" ∷ codes "TURNS" ∷ [])
 app_named Pair = taking (codes "pair") pair_options (codes "BOARD" ∷ codes "PLAN" ∷ codes "TURNS" ∷ [])
+app_named Apply = with_smbus_port (taking (codes "apply") apply_options (codes "PLAN" ∷ codes "P0" ∷ []))
+app_named Revert = with_smbus_port (taking (codes "revert") revert_options (codes "FILE" ∷ codes "P0" ∷ []))
 
 -- `bmcnet`, and what it does with one side
 abbrev pub serves : App
 serves = with_subcommand (with_subcommand (needing_subcommand (new_app (codes "bmcnet"))) (app_named Serve).top) (app_named Run).top
 
+-- `bmcnet`, and what it does in one process, and with a file beside it
+abbrev pub pairs : App
+pairs = with_subcommand (with_subcommand serves (app_named Undo).top) (app_named Pair).top
+
 -- `bmcnet`, and what it can do
 abbrev pub program : App
-program = with_subcommand (with_subcommand (with_subcommand serves (app_named Undo).top) (app_named Pair).top) version_app.top
+program = with_subcommand (with_subcommand (with_subcommand pairs (app_named Apply).top) (app_named Revert).top) version_app.top

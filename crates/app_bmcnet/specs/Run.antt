@@ -1,5 +1,5 @@
 -- How a run of a command line ends.
-use Rattle.std.specs.Prelude.{◌≡◌, ◌⊎◌, ℕ, List, Option, string_bytes}
+use Rattle.std.specs.Prelude.{◌≡◌, ◌⊎◌, ℕ, false, List, Option, string_bytes}
 use Rattle.clap.specs.Words.{Text}
 use Rattle.app_base.specs.declared.console.Console.{Console}
 use Rattle.app_base.specs.declared.console.Stream.TheVariants.{Error}
@@ -13,12 +13,15 @@ use Rattle.app_run.specs.Run.{RunEndsOf}
 use Rattle.app_run.specs.Undo.{UndoEndsOf}
 use Rattle.app_run.specs.declared.progress.Progress.{Progress}
 use Rattle.app_run.specs.Told.{TellsFile, TellsUndoOf}
-use Rattle.app_bmcnet.specs.PairRun.{PrintsPairOfFiles, words_of}
+use Rattle.app_apply.specs.Ends.{ApplyEndsOf}
+use Rattle.app_apply.specs.Revert.{RevertEndsOf}
+use Rattle.app_pair.specs.PairRun.{PrintsPairOfFiles, words_of}
 use Rattle.app_bmcnet.specs.declared.words.Words.{Words}
-use Rattle.app_bmcnet.specs.declared.words.Words.TheVariants.{Serve, Run, Undo, Pair, Version}
+use Rattle.app_bmcnet.specs.declared.words.Words.TheVariants.{Serve, Run, Undo, Pair, Apply, Revert, Version}
 use Rattle.app_bmcnet.specs.Asked.{AsksFor}
 
--- So a run ends that does what words ask for: as `serve`, `run`, `undo` or `pair` does with the files that they name, or by the version. Only `run` and `undo` write files.
+-- So a run ends that does what words ask for: as `serve`, `run`, `undo`, `pair`, `apply` or `revert` does with the files that they name, or by the
+-- version.
 abbrev pub EndsAsAsked : {Files Stdout Stderr : Type 0} → (out : Stdout → Option (List ℕ)) → (err : Stderr → Option (List ℕ)) → texts.Ghosts Files → Ghosts Files → Words → (before after : Files)
     → (old new : Console Stdout Stderr) → ℕ → Type 0
 EndsAsAsked out err read files (Serve asked) before after old new result =
@@ -29,13 +32,19 @@ EndsAsAsked out err read files (Undo asked) before after old new result =
     UndoEndsOf out err read files asked before after old new result
 EndsAsAsked out err read files (Pair asked) before after old new result =
     (after ≡ before) × RunEnds out err (PrintsPairOfFiles (read.gives before) (words_of asked) asked.options) old new result
+EndsAsAsked out err read files (Apply asked) before after old new result =
+    ApplyEndsOf out err read files (string_bytes asked.plan) asked before after old new result
+EndsAsAsked out err read files (Revert asked) before after old new result =
+    RevertEndsOf out err read files (string_bytes asked.file) asked before after old new result
 EndsAsAsked out err read files Version before after old new result =
     (after ≡ before) × RunEnds out err SaysVersion old new result
 
--- so is told of how far that is: `run` and `undo` tell it alone
+-- So is told of how far that is: `run` and `undo` tell it, and `apply` and `revert`, of which is known that nothing is told where no line is written.
 abbrev pub MayTellAsAsked : {Files Writer : Type 0} → (out : Writer → Option (List ℕ)) → texts.Ghosts Files → Ghosts Files → Words → (before : Files) → (old new : Progress Writer) → Type 0
 MayTellAsAsked out read files (Run asked) before old new = TellsFile out (read.gives before) (string_bytes asked.plan) old new
 MayTellAsAsked out read files (Undo asked) before old new = TellsUndoOf out read files (string_bytes asked.undo) before old new
+MayTellAsAsked out read files (Apply asked) before old new = old.on ≡ false → new ≡ old
+MayTellAsAsked out read files (Revert asked) before old new = old.on ≡ false → new ≡ old
 MayTellAsAsked out read files asked before old new = new ≡ old
 
 -- what a run says of words that ask for nothing: any text on standard error, with the status of refused words

@@ -2,10 +2,11 @@
 ghost use Rattle.std.specs.Prelude.{map, string_bytes};
 ghost use Rattle.app_bmcnet.specs.Run.{EndsAsAsked, LineEnds, LineTells, MayTellAsAsked};
 
-use crate::pairing::pair;
 use crate::words::{Words, read};
+use app_apply::{apply, revert};
 use app_base::{Console, TextFiles, refuse, tell_version};
 use app_journal::WritesFiles;
+use app_pair::pair;
 use app_run::{Progress, run, undo};
 use app_serve::serve;
 use std::alloc::Global;
@@ -40,6 +41,8 @@ fn carry_out<
         Words::Run(words) => run(rt, alloc, files, words, progress, console),
         Words::Undo(words) => undo(rt, alloc, files, words, progress, console),
         Words::Pair(words) => pair(rt, alloc, &*files, words, console),
+        Words::Apply(words) => apply(rt, alloc, files, words, progress, console),
+        Words::Revert(words) => revert(rt, alloc, files, words, progress, console),
         Words::Version => tell_version(console),
     }
 }

@@ -1,11 +1,11 @@
 //! What the program can do, and its command line.
 ghost use Rattle.std.specs.Prelude.{◌≡◌, IfOk};
-ghost use Rattle.clap.specs.Words.{app_of};
-ghost use Rattle.app_base.specs.Line.{IsCommand};
-ghost use Rattle.app_bmcnet.specs.Line.{app_named, program};
+ghost use Rattle.clap.specs.Words.{App, app_of};
+ghost use Rattle.app_base.specs.Line.{IsArg, IsCommand};
+ghost use Rattle.app_bmcnet.specs.Line.{app_named, program, smbus_rule, with_smbus_port};
 
 use app_base::{Argument, new_command, new_program, version_command, with_command};
-use clap::Command;
+use clap::{Arg, Command};
 use std::alloc::{AllocError, Global};
 
 /// What `bmcnet` can do.
@@ -15,6 +15,8 @@ pub enum Task {
     Run,
     Undo,
     Pair,
+    Apply,
+    Revert,
 }
 
 const BOARD_HELP: &str = "The board file, as sample.toml";
@@ -118,19 +120,24 @@ as in --greet; where it doesn't answer, nothing is begun";
 const REPLACE_HELP: &str =
     "Puts a journal aside, under a free name, that an earlier run left and that has something to take back, as in --replace";
 
+const RUN_STRICT_HELP: &str =
+    "Ends with 10 where the plan halted, and with 11 where a request or a greeting isn't answered, and refuses a plan with a key \
+that nothing reads, or without a step, as in --strict";
+
 const RUN_EXAMPLES: &str = "Examples:
   bmcnet run examples/clean/plan.toml 9620 9621 1000 undo.txt
-  bmcnet run --greet examples/clean/plan.toml 9620 9621 1000 undo.txt
+  bmcnet run --greet --strict examples/clean/plan.toml 9620 9621 1000 undo.txt
   bmcnet run --wait 500 --again 3 examples/clean/plan.toml 9620 9621 1000 undo.txt
   bmcnet run --forget 50 examples/clean/plan.toml 9620 9621 1000 undo.txt
   bmcnet run --replace examples/clean/plan.toml 9620 9621 1000 undo.txt";
 
-const RUN_ARGUMENTS: [Argument<'static>; 10] = [
+const RUN_ARGUMENTS: [Argument<'static>; 11] = [
     Argument::Option("wait", "MS", WAIT_HELP),
     Argument::Option("again", "N", AGAIN_HELP),
     Argument::Option("forget", "N", FORGETTING_HELP),
     Argument::Flag("greet", GREET_HELP),
     Argument::Flag("replace", REPLACE_HELP),
+    Argument::Flag("strict", RUN_STRICT_HELP),
     Argument::Needed("PLAN", PLAN_HELP),
     Argument::Needed("P0", P0_HELP),
     Argument::Needed("P1", P1_HELP),
@@ -138,7 +145,7 @@ const RUN_ARGUMENTS: [Argument<'static>; 10] = [
     Argument::Needed("UNDO", UNDO_FILE_HELP),
 ];
 
-/// `run [--wait MS] [--again N] [--forget N] [--greet] [--replace] PLAN P0 P1 TURNS UNDO`.
+/// `run [--wait MS] [--again N] [--forget N] [--greet] [--replace] [--strict] PLAN P0 P1 TURNS UNDO`.
 fn run_command<'a>(alloc: Global) -> Result<Command<'a>, AllocError>
     ensures { IfOk result (IsCommand (app_named Task.Run)) }
 {
@@ -149,21 +156,25 @@ const UNDO_ABOUT: &str = "Takes back what a run did on a controller that is serv
 
 const UNDO_TEXT_HELP: &str = "The undo text that the run wrote, as undo.txt";
 
+const UNDO_STRICT_HELP: &str =
+    "Ends with 11 where a request or a greeting isn't answered, and with 12 where a request that undoes was refused, as in --strict";
+
 const UNDO_EXAMPLES: &str = "Examples:
   bmcnet undo undo.txt 9620 9621 1000
-  bmcnet undo --greet undo.txt 9620 9621 1000
+  bmcnet undo --greet --strict undo.txt 9620 9621 1000
   bmcnet undo --wait 500 undo.txt 9620 9621 1000";
 
-const UNDO_ARGUMENTS: [Argument<'static>; 6] = [
+const UNDO_ARGUMENTS: [Argument<'static>; 7] = [
     Argument::Option("wait", "MS", WAIT_HELP),
     Argument::Flag("greet", GREET_HELP),
+    Argument::Flag("strict", UNDO_STRICT_HELP),
     Argument::Needed("UNDO", UNDO_TEXT_HELP),
     Argument::Needed("P0", P0_HELP),
     Argument::Needed("P1", P1_HELP),
     Argument::Needed("TURNS", TURNS_HELP),
 ];
 
-/// `undo [--wait MS] [--greet] UNDO P0 P1 TURNS`.
+/// `undo [--wait MS] [--greet] [--strict] UNDO P0 P1 TURNS`.
 fn undo_command<'a>(alloc: Global) -> Result<Command<'a>, AllocError>
     ensures { IfOk result (IsCommand (app_named Task.Undo)) }
 {
@@ -196,6 +207,102 @@ fn pair_command<'a>(alloc: Global) -> Result<Command<'a>, AllocError>
     new_command(alloc, "pair", PAIR_ABOUT, PAIR_EXAMPLES, &PAIR_ARGUMENTS)
 }
 
+const APPLY_ABOUT: &str =
+    "Changes a controller by a plan, and keeps in a file at each moment what takes that back";
+
+const FILE_HELP: &str =
+    "The file that gets what takes the plan back, as in --undo fans.undo; else the plan's name with .undo for .toml";
+
+const FILE_REPLACE_HELP: &str =
+    "Puts that file aside, under a free name, where it has something to take back, as in --replace";
+
+const REACH_AGAIN_HELP: &str =
+    "How often to begin anew with a request that no retry brought a reply to, as in --again 3; \
+0 where none is given: a decimal number from 0 to 4294967295";
+
+const JSON_HELP: &str =
+    "Says what came of it as one object in a line of standard output, in place of the sentences, as in --json";
+
+const P1_MAYBE_HELP: &str =
+    "The UDP port of SMBus on 127.0.0.1, as 9621, where requests go on SMBus: a decimal number up to 65535";
+
+/// A word that may be left out: the port of SMBus.
+fn smbus_port<'a>(alloc: Global) -> Arg<'a>
+    ensures { IsArg smbus_rule result }
+{
+    Arg::new(alloc, "P1").help(P1_MAYBE_HELP)
+}
+
+/// The command with that as its last word.
+fn with_smbus_port<'a>(alloc: Global, command: Command<'a>) -> Result<Command<'a>, AllocError>
+    ensures { (app : App) → IsCommand app command.entry
+        → IfOk result (IsCommand (with_smbus_port app)) }
+{
+    command.arg(smbus_port(alloc))
+}
+
+const APPLY_EXAMPLES: &str = "Examples:
+  bmcnet apply examples/clean/plan.toml 9620 9621
+  bmcnet apply --undo fans.undo examples/clean/plan.toml 9620 9621
+  bmcnet apply --undo fans.undo --replace examples/clean/plan.toml 9620 9621
+  bmcnet apply --wait 500 --again 3 --json examples/clean/plan.toml 9620 9621";
+
+const APPLY_ARGUMENTS: [Argument<'static>; 7] = [
+    Argument::Option("undo", "FILE", FILE_HELP),
+    Argument::Flag("replace", FILE_REPLACE_HELP),
+    Argument::Option("wait", "MS", WAIT_HELP),
+    Argument::Option("again", "N", REACH_AGAIN_HELP),
+    Argument::Flag("json", JSON_HELP),
+    Argument::Needed("PLAN", PLAN_HELP),
+    Argument::Needed("P0", P0_HELP),
+];
+
+/// `apply [--undo FILE] [--replace] [--wait MS] [--again N] [--json] PLAN P0 [P1]`.
+fn apply_command<'a>(alloc: Global) -> Result<Command<'a>, AllocError>
+    ensures { IfOk result (IsCommand (app_named Task.Apply)) }
+{
+    let command = new_command(
+        alloc,
+        "apply",
+        APPLY_ABOUT,
+        APPLY_EXAMPLES,
+        &APPLY_ARGUMENTS,
+    )?;
+    with_smbus_port(alloc, command)
+}
+
+const REVERT_ABOUT: &str =
+    "Takes back on a controller what a file says, to which a plan was applied";
+
+const REVERT_FILE_HELP: &str =
+    "The file that apply kept, as fans.undo: a journal or an undo text. Meanwhile it is the journal of the way back";
+
+const REVERT_EXAMPLES: &str = "Examples:
+  bmcnet revert examples/clean/plan.undo 9620 9621
+  bmcnet revert --wait 500 --again 3 --json fans.undo 9620";
+
+const REVERT_ARGUMENTS: [Argument<'static>; 5] = [
+    Argument::Option("wait", "MS", WAIT_HELP),
+    Argument::Option("again", "N", REACH_AGAIN_HELP),
+    Argument::Flag("json", JSON_HELP),
+    Argument::Needed("FILE", REVERT_FILE_HELP),
+    Argument::Needed("P0", P0_HELP),
+];
+
+/// `revert [--wait MS] [--again N] [--json] FILE P0 [P1]`.
+fn revert_command<'a>(alloc: Global) -> Result<Command<'a>, AllocError>
+    ensures { IfOk result (IsCommand (app_named Task.Revert)) }
+{
+    let command = new_command(
+        alloc,
+        "revert",
+        REVERT_ABOUT,
+        REVERT_EXAMPLES,
+        &REVERT_ARGUMENTS,
+    )?;
+    with_smbus_port(alloc, command)
+}
+
 impl Task {
     /// The command that does it.
     pub fn command<'a>(self, alloc: Global) -> Result<Command<'a>, AllocError>
@@ -206,6 +313,8 @@ impl Task {
             Task::Run => run_command(alloc),
             Task::Undo => undo_command(alloc),
             Task::Pair => pair_command(alloc),
+            Task::Apply => apply_command(alloc),
+            Task::Revert => revert_command(alloc),
         }
     }
 
@@ -216,6 +325,8 @@ impl Task {
             Task::Run => "bmcnet run",
             Task::Undo => "bmcnet undo",
             Task::Pair => "bmcnet pair",
+            Task::Apply => "bmcnet apply",
+            Task::Revert => "bmcnet revert",
         }
     }
 }
@@ -230,7 +341,9 @@ const EXAMPLES: &str = "Examples:
   bmcnet serve --periods sample.toml 9620 9621 1000
   bmcnet run examples/clean/plan.toml 9620 9621 1000 undo.txt
   bmcnet undo undo.txt 9620 9621 1000
-  bmcnet pair sample.toml examples/reply_lost/plan.toml 20";
+  bmcnet pair sample.toml examples/reply_lost/plan.toml 20
+  bmcnet apply examples/clean/plan.toml 9620 9621
+  bmcnet revert examples/clean/plan.undo 9620 9621";
 
 /// `bmcnet`, and what it can do.
 pub fn command<'a>(alloc: Global) -> Result<Command<'a>, AllocError>
@@ -241,5 +354,7 @@ pub fn command<'a>(alloc: Global) -> Result<Command<'a>, AllocError>
     let program = with_command(program, run_command(alloc))?;
     let program = with_command(program, undo_command(alloc))?;
     let program = with_command(program, pair_command(alloc))?;
+    let program = with_command(program, apply_command(alloc))?;
+    let program = with_command(program, revert_command(alloc))?;
     with_command(program, version_command(alloc, VERSION_EXAMPLES))
 }

@@ -1,14 +1,16 @@
 //! The words of the command line.
-ghost use Rattle.std.specs.Prelude.{IfOk, IfErr, IfSome, IfNone, map, string_bytes};
+ghost use Rattle.std.specs.Prelude.{◌≡◌, IfOk, IfErr, IfSome, IfNone, map, string_bytes};
 ghost use Rattle.clap.specs.Words.{found_of, rows_of, subcommand_rows_of};
 ghost use Rattle.app_base.specs.Asked.{RefusesWords};
 ghost use Rattle.app_bmcnet.specs.Asked.{AsksBy, AsksFor, AsksPair, AsksRun, AsksServe, AsksUndo};
+ghost use Rattle.app_bmcnet.specs.Asked.{AsksApply, AsksRevert, IsFileOf, NamesFile, NamesPortOr, NamesReach};
 ghost use Rattle.app_bmcnet.specs.Asked.{NamesOption, NamesOr, NamesPort, NamesTurns, NamesWait, OptionsStand, StandBeside};
 
 use crate::number::{number_from, number_of, port_of};
-use crate::pairing::{PairOptions, PairWords};
 use crate::tasks::{Task, command};
+use app_apply::{ApplyWords, Reach, RevertWords};
 use app_base::{Refusal, given, has_flag, lacking, named, refusal_by, refusal_of, word_of};
+use app_pair::{PairOptions, PairWords};
 use app_run::{RunWords, UndoWords, WAIT_MS};
 use app_serve::ServeWords;
 use clap::ArgMatches;
@@ -22,6 +24,8 @@ pub enum Words {
     Run(RunWords),
     Undo(UndoWords),
     Pair(PairWords),
+    Apply(ApplyWords),
+    Revert(RevertWords),
     Version,
 }
 
@@ -222,6 +226,7 @@ fn run_words(alloc: Global, matches: &ArgMatches) -> Result<RunWords, Refusal>
         forget: number_given(alloc, matches, Task::Run, "forget", "N", 1)?,
         greet: has_flag(matches, "greet"),
         replace: has_flag(matches, "replace"),
+        strict: has_flag(matches, "strict"),
     })
 }
 
@@ -237,6 +242,7 @@ fn undo_words(alloc: Global, matches: &ArgMatches) -> Result<UndoWords, Refusal>
         turns: turns(alloc, matches, Task::Undo)?,
         wait_ms: wait(alloc, matches, Task::Undo)?,
         greet: has_flag(matches, "greet"),
+        strict: has_flag(matches, "strict"),
     })
 }
 
@@ -256,6 +262,95 @@ fn pair_words(alloc: Global, matches: &ArgMatches) -> Result<PairWords, Refusal>
     })
 }
 
+/// The port that the word of this name is, where one is given.
+fn port_given(
+    alloc: Global,
+    matches: &ArgMatches,
+    task: Task,
+    name: &str,
+) -> Result<Option<u16>, Refusal>
+    ensures port { IfOk result (NamesPortOr (rows_of (found_of matches.now)) name.now) }
+    ensures refused { IfErr result
+        (RefusesWords (NamesPortOr (rows_of (found_of matches.now)) name.now)) }
+{
+    let Some(word) = word_of(matches, name) else {
+        return Ok(None);
+    };
+    match port_of(word) {
+        Some(port) => Ok(Some(port)),
+        None => Err(number_refusal(alloc, task, name, word, u32::from(u16::MAX))),
+    }
+}
+
+/// Where the controller is, and how long it is listened to, by the words behind `apply` or `revert`.
+fn reach(alloc: Global, matches: &ArgMatches, task: Task) -> Result<Reach, Refusal>
+    ensures reach { IfOk result (NamesReach (rows_of (found_of matches.now))) }
+    ensures refused { IfErr result (RefusesWords (NamesReach (rows_of (found_of matches.now)))) }
+{
+    Ok(Reach {
+        ipmb_port: port(alloc, matches, task, "P0")?,
+        smbus_port: port_given(alloc, matches, task, "P1")?,
+        wait_ms: wait(alloc, matches, task)?,
+        again: number_or(alloc, matches, task, "again", "N", 0, 0)?,
+    })
+}
+
+/// The word of the file that gets what takes back a plan of this word, where none is given.
+fn file_of(alloc: Global, plan: &str) -> Result<String, AllocError>
+    ensures { IfOk result (λ file. IsFileOf plan.now (string_bytes file)) }
+{
+    match plan.strip_suffix(".toml") {
+        Some(stem) => format!(in alloc; "{stem}.undo"),
+        None => format!(in alloc; "{plan}.undo"),
+    }
+}
+
+/// The word of the file that gets what takes back a plan of this word.
+fn file_given(alloc: Global, matches: &ArgMatches, plan: &str) -> Result<String, Refusal>
+    ensures file { IfOk result
+        (λ file. NamesFile (rows_of (found_of matches.now)) plan.now (string_bytes file)) }
+    ensures memory { IfErr result (λ refusal. refusal ≡ Refusal.Memory) }
+{
+    let file = match given(alloc, matches, "undo")? {
+        Some(file) => Ok(file),
+        None => file_of(alloc, plan),
+    };
+    match file {
+        Ok(file) => Ok(file),
+        Err(AllocError) => Err(Refusal::Memory),
+    }
+}
+
+/// What the words behind `apply` ask for.
+fn apply_words(alloc: Global, matches: &ArgMatches) -> Result<ApplyWords, Refusal>
+    ensures asked { IfOk result (AsksApply (rows_of (found_of matches.now))) }
+    ensures refused { IfErr result (RefusesWords (AsksApply (rows_of (found_of matches.now)))) }
+{
+    let plan = named(alloc, matches, "PLAN")?;
+    let file = file_given(alloc, matches, plan.as_str())?;
+    let replace = has_flag(matches, "replace");
+    let json = has_flag(matches, "json");
+    Ok(ApplyWords {
+        plan,
+        file,
+        replace,
+        reach: reach(alloc, matches, Task::Apply)?,
+        json,
+    })
+}
+
+/// What the words behind `revert` ask for.
+fn revert_words(alloc: Global, matches: &ArgMatches) -> Result<RevertWords, Refusal>
+    ensures asked { IfOk result (AsksRevert (rows_of (found_of matches.now))) }
+    ensures refused { IfErr result (RefusesWords (AsksRevert (rows_of (found_of matches.now)))) }
+{
+    Ok(RevertWords {
+        file: named(alloc, matches, "FILE")?,
+        reach: reach(alloc, matches, Task::Revert)?,
+        json: has_flag(matches, "json"),
+    })
+}
+
 /// What the words that were matched ask for.
 fn matched_words(alloc: Global, matches: &ArgMatches) -> Result<Words, Refusal>
     ensures asked { IfOk result (AsksBy (subcommand_rows_of matches.now)) }
@@ -272,6 +367,12 @@ fn matched_words(alloc: Global, matches: &ArgMatches) -> Result<Words, Refusal>
     }
     if let Some(pair) = matches.subcommand_matches("pair") {
         return Ok(Words::Pair(pair_words(alloc, pair)?));
+    }
+    if let Some(apply) = matches.subcommand_matches("apply") {
+        return Ok(Words::Apply(apply_words(alloc, apply)?));
+    }
+    if let Some(revert) = matches.subcommand_matches("revert") {
+        return Ok(Words::Revert(revert_words(alloc, revert)?));
     }
     let Some(_version) = matches.subcommand_matches("version") else {
         return Err(lacking(alloc));

@@ -46,4 +46,5 @@ returns-clause-asked c = record {
   forget = c.in_ok-number_given.ensures.number;
   greet = sym c.has_flag.ensures;
   replace = sym c.has_flag-2.ensures;
+  strict = sym c.has_flag-3.ensures;
 }

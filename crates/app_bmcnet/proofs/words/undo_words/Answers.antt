@@ -30,4 +30,5 @@ returns-clause-asked c = record {
   turns = c.in_ok-turns.ensures.turns;
   wait = c.in_ok-wait.ensures.wait;
   greet = sym c.has_flag.ensures;
+  strict = sym c.has_flag-2.ensures;
 }

@@ -19,6 +19,7 @@ fn run_words(rt: &impl Abort, alloc: Global, replace: bool) -> RunWords {
         forget: None,
         greet: false,
         replace,
+        strict: false,
     }
 }
 
@@ -54,6 +55,7 @@ fn expect_undo(
         turns: 5,
         wait_ms: 1,
         greet: false,
+        strict: false,
     };
     let mut paper = new_paper(alloc);
     let mut line = new_line(alloc, true);

@@ -2,7 +2,7 @@
 use super::files::FakeFiles;
 use super::texts::{BOARD, PLAN, UNREADABLE};
 use super::{End, expect_end, new_paper};
-use app_bmcnet::{PairOptions, PairWords, pair};
+use app_pair::{PairOptions, PairWords, pair};
 use std::alloc::{AllocError, Global};
 use std::net::Net;
 use std::process::Abort;

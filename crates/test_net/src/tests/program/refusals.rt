@@ -49,6 +49,7 @@ fn run_words(alloc: Global, plan: &str) -> Result<RunWords, AllocError> {
         forget: None,
         greet: false,
         replace: false,
+        strict: false,
     })
 }
 
@@ -61,6 +62,7 @@ fn undo_words(alloc: Global, undo: &str, greet: bool) -> Result<UndoWords, Alloc
         turns: 0,
         wait_ms: 200,
         greet,
+        strict: false,
     })
 }
 

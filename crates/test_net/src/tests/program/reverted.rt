@@ -22,6 +22,7 @@ fn expect_reverted(
         turns,
         wait_ms: 1,
         greet: true,
+        strict: false,
     };
     let texts = [("out.txt.part", text)];
     let mut files = FakeFiles::new(alloc, &texts);

@@ -20,6 +20,7 @@ fn run_words(alloc: Global, plan: &str, turns: u32) -> Result<RunWords, AllocErr
         forget: None,
         greet: false,
         replace: false,
+        strict: false,
     })
 }
 
@@ -32,6 +33,7 @@ fn undo_words(alloc: Global, undo: &str, turns: u32) -> Result<UndoWords, AllocE
         turns,
         wait_ms: 1,
         greet: false,
+        strict: false,
     })
 }
 
