@@ -22,6 +22,7 @@ mod undo;
 mod users;
 mod worded;
 mod words;
+mod written_plan;
 mod wrong;
 
 use std::alloc::Global;

@@ -32,6 +32,22 @@ plan texts
 make late 4
 premises -> 0 out: phase Undone / ..records same / premises kept
 
+story another seed draws another schedule, and the same seed the same
+board sample
+plan labels
+make bmclab schedule --lose 10 --repeat 30 --delay 50 --others 5 --seed 1 --undo board.toml plan.toml
+same bmclab schedule --lose 10 --repeat 30 --delay 50 --others 5 --seed 1 --undo board.toml plan.toml
+other bmclab schedule --lose 10 --repeat 30 --delay 50 --others 5 --seed 2 --undo board.toml plan.toml
+other bmclab schedule --lose 10 --repeat 30 --delay 50 --others 5 --seed 4294967297 --undo board.toml plan.toml
+
+story what never happens needs no seed
+board sample
+plan labels
+make bmclab schedule --lose 0 --repeat 0 --delay 0 --others 0 --seed 1 --undo board.toml plan.toml
+same bmclab schedule --lose 0 --repeat 0 --delay 0 --others 0 --seed 2 --undo board.toml plan.toml
+other bmclab schedule --repeat 100 --seed 1 --undo board.toml plan.toml
+premises -> 0 out: phase Undone / ..records same / premises kept
+
 story packets join late only where they may
 board sample
 plan labels

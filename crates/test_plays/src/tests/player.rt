@@ -18,6 +18,7 @@ use story_lines::{NoOutcome, SAMPLE};
 /// - `board`, `plan`, `schedule`: the lines are this text of the story;
 /// - `then`: with these lines the schedule goes on;
 /// - `make RUN`: the schedule is what this run writes, which ends with 0;
+/// - `same RUN`: this run writes the schedule, too, and ends with 0; `other RUN` is one that writes another;
 /// - `swap OLD => NEW`: in the board NEW stands in the place of the first OLD;
 /// - `unreadable plan`, `memory plan`: the file of the plan can't be read, or memory for it is refused;
 /// - `fails out 3`: the writer of standard output, or of `err`, fails once, behind three calls, in each run from here on;
@@ -80,6 +81,14 @@ fn part_of<'p>(parts: &'p [(&str, String)], name: &str) -> Option<&'p str> {
     None
 }
 
+/// Whether a run of which this came wrote the schedule of the scene, or another where that is asked for.
+fn writes(scene: &Scene, came: &str, is_same: bool) -> bool {
+    match (came.strip_prefix("0 out\n"), scene.file("schedule.txt")) {
+        (Some(written), Ok(schedule)) => (written == schedule) == is_same,
+        _ => false,
+    }
+}
+
 /// The words that name lines of a story, which may begin with those of parts.
 const TAKE_PARTS: [&str; 4] = ["board", "plan", "schedule", "then"];
 
@@ -136,6 +145,16 @@ impl<'s> Player<'s> {
             }
             None => Ok(self.tell_came()?),
         }
+    }
+
+    /// The run writes the schedule, or another.
+    fn compare(&mut self, run: &str, is_same: bool) -> Result<(), NoOutcome> {
+        self.is_played = true;
+        push_came(self.alloc, &self.scene, run, &mut self.came)?;
+        if !writes(&self.scene, self.came.as_str(), is_same) {
+            self.tell_came()?;
+        }
+        Ok(())
     }
 
     /// A story begins. Of the one before, if there was one, something was played.
@@ -199,6 +218,8 @@ impl<'s> Player<'s> {
             "board" | "plan" | "schedule" => self.put_text(word),
             "then" => self.go_on(),
             "make" => self.make(rest),
+            "same" => self.compare(rest, true),
+            "other" => self.compare(rest, false),
             "swap" => self.scene.swap(rest),
             "fails" => self.scene.fail(rest),
             "unreadable" => self.scene.put(rest, Err(UnreadFile::NoText)),

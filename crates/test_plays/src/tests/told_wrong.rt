@@ -19,6 +19,10 @@ asks bmclab frame 2018 -> smbus 2018
 names ipmb 2018 -> smbus 2018
 show -> 0 out: event
 call schedule_of_files -> 0 out: start
+make bmclab schedule board.toml plan.toml
+other bmclab schedule board.toml plan.toml
+same bmclab schedule --undo board.toml plan.toml
+same refuse memory
 refuse memory -> 5 out: memory
 fails out 1
 ipmb 2018C82C0001D3 -> 6 out: 2C1CB82
@@ -105,37 +109,44 @@ event mgr  |comes             sends            |bmc     phase
 every run is told wrong, line 17: came 0 out
 start
 undo
-every run is told wrong, line 18: came 5 err
+every run is told wrong, line 19: came 0 out
+start
+every run is told wrong, line 20: came 0 out
+start
+undo
+every run is told wrong, line 21: came 5 err
 memory
-every run is told wrong, line 20: came 6 out cut
+every run is told wrong, line 22: came 5 err
+memory
+every run is told wrong, line 24: came 6 out cut
 2C1CB82
-every run is told wrong, line 21: came 6 out cut
+every run is told wrong, line 25: came 6 out cut
 start
 u
-every run is told wrong, line 23: can't be read
-every run is told wrong, line 24: came 3 err
+every run is told wrong, line 27: can't be read
+every run is told wrong, line 28: came 3 err
 file plan.toml
-every run is told wrong, line 26: came 5 err
+every run is told wrong, line 30: came 5 err
 memory
-a story's texts are told wrong, line 29: can't be read
-a story's texts are told wrong, line 30: can't be read
 a story's texts are told wrong, line 33: can't be read
 a story's texts are told wrong, line 34: can't be read
-a story's texts are told wrong, line 35: can't be read
-a story's texts are told wrong, line 36: can't be read
 a story's texts are told wrong, line 37: can't be read
 a story's texts are told wrong, line 38: can't be read
-a story's texts are told wrong, line 39: came 5 err
-memory
+a story's texts are told wrong, line 39: can't be read
 a story's texts are told wrong, line 40: can't be read
 a story's texts are told wrong, line 41: can't be read
 a story's texts are told wrong, line 42: can't be read
-a story's texts are told wrong, line 43: can't be read
+a story's texts are told wrong, line 43: came 5 err
+memory
 a story's texts are told wrong, line 44: can't be read
-a story's texts are told wrong, line 45: came 0 out
-2C1CB820000100200101050207CDAB003412F1
+a story's texts are told wrong, line 45: can't be read
 a story's texts are told wrong, line 46: can't be read
-nothing is played of this one, line 50: nothing was played
+a story's texts are told wrong, line 47: can't be read
+a story's texts are told wrong, line 48: can't be read
+a story's texts are told wrong, line 49: came 0 out
+2C1CB820000100200101050207CDAB003412F1
+a story's texts are told wrong, line 50: can't be read
+nothing is played of this one, line 54: nothing was played
 ";
 
 #[test]

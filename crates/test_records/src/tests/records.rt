@@ -165,6 +165,34 @@ fn a_packed_store_has_its_pairs(rt: HostRuntime) {
     expect_equal(&rt, put, Err(NoKey));
 }
 
+/// The values of so many effecters, of two bytes each.
+fn effecter_values(rt: &impl Abort, alloc: Global, count: u16) -> Vec<(Key, StartValue)> {
+    let mut pairs = Vec::new(alloc);
+    for id in 0..count {
+        let [low, high] = id.to_le_bytes();
+        let pair = (Key::NumericEffecter(id), StartValue::few(&[low, high]));
+        let is_kept = pairs.push(pair).is_ok();
+        expect(rt, is_kept, "memory");
+    }
+    pairs
+}
+
+/// A packed store of a thousand records, more than any board file has.
+fn large(rt: &impl Abort, alloc: Global) -> PackedStore {
+    let pairs = effecter_values(rt, alloc, 1000);
+    let store = PackedStore::new(alloc, pairs.as_slice());
+    drop(pairs);
+    store.ok().expect(rt, "keys that differ, with a value each")
+}
+
+#[test]
+fn a_packed_store_has_a_thousand_pairs(rt: HostRuntime) {
+    let store = large(&rt, rt.alloc());
+    expect_record(&rt, &store, &Key::NumericEffecter(0), &[0, 0]);
+    expect_record(&rt, &store, &Key::NumericEffecter(999), &[0xE7, 0x03]);
+    drop(store);
+}
+
 /// No event.
 const NO_EVENTS: EventMasks = EventMasks {
     assertions: 0,

@@ -73,6 +73,8 @@ tick => Line 1
 7 tick\n6 tick\nhalt => Line 2
 <300:# tick\n>299 tick => holds 301 Tick
 <300:# tick\n>298 tick => Line 301
+<5000:7 tick\n> => holds 5000 Tick
+<5000:7 tick\n>6 tick => Line 5001
 behind # a comment\n\n
 7 tick\n\n6 tick => Line 5
 7 tick\nhalt\n6 tick => Line 4
