@@ -1,5 +1,6 @@
-"""The program of tools/text_reads, compiled, and the texts that it has."""
+"""The program of tools/text_reads, compiled, the texts that it has, how long another program takes to check one, and the lines of a table."""
 import os
+import subprocess
 
 from trial import compiled, copied_program, literal
 
@@ -70,3 +71,47 @@ def readers_program(room):
     crate = copied_program(f"{room}/tree", "text_reads", BELOW, [("files.rt", files), ("dice.rt", dice)])
     compiled(crate, f"{room}/reads", ["prefixes", "undo", "1"])
     return f"{room}/reads"
+
+
+class NotChecked(Exception):
+    pass
+
+
+# A check of a text ends so: it is read as a value, with something to be told or with nothing, or has a fault.
+CHECKED = (0, 1, 3)
+# How often a text is checked, of which the fastest counts.
+TIMES = 3
+
+
+def check(program, form, file):
+    """Returns how many seconds of processor time `bmclab check` of this file takes."""
+    with subprocess.Popen([program, "check", "--as", form, file], stdin=subprocess.DEVNULL, stdout=subprocess.DEVNULL, stderr=subprocess.PIPE, text=True, errors="replace") as ran:
+        said = ran.stderr.read()
+        _, status, used = os.wait4(ran.pid, 0)
+        ran.returncode = os.waitstatus_to_exitcode(status)
+    if ran.returncode not in CHECKED:
+        raise NotChecked(f"{program} check --as {form}: status {ran.returncode}, and this: {said[-2000:]}")
+    return used.ru_utime + used.ru_stime
+
+
+def check_time(reads, words, program, form, room):
+    """Returns how many seconds the check of a text takes with a proved program, beyond that of an empty one. The program of tools/text_reads writes the text."""
+    whole, empty = f"{room}/{form}.txt", f"{room}/empty.txt"
+    with open(whole, "wb") as file:
+        subprocess.run([reads, "text", *map(str, words)], stdin=subprocess.DEVNULL, stdout=file, check=True)
+    with open(empty, "wb"):
+        pass
+    taken, nothing = (min(check(program, form, file) for _ in range(TIMES)) for file in (whole, empty))
+    return max(taken - nothing, 0)
+
+
+def table_line(cells, widths, is_page):
+    """Returns a line of a table: as wide as this, or in Markdown."""
+    if is_page:
+        return f"| {' | '.join(cell.strip() for cell in cells)} |"
+    return f"{cells[0]:{widths[0]}}" + "".join(f"{cell:>{width}}" for cell, width in zip(cells[1:], widths[1:]))
+
+
+def table_head(cells, widths, is_page):
+    """Returns the lines with which a table begins."""
+    return table_line(cells, widths, is_page) + (f"\n|---|{'---:|' * (len(cells) - 1)}" if is_page else "")

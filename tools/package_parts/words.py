@@ -4,7 +4,7 @@
 BOARD, PLAN, SCHEDULE, UNDO, READINGS, LIST = "board", "plan", "schedule", "undo", "readings", "list"
 FILE, COMMAND, FLAG = "file", "command", "flag"
 # The endings of each kind of file.
-ENDINGS = {BOARD: ("toml",), PLAN: ("toml",), SCHEDULE: ("txt",), UNDO: ("txt", "part"), READINGS: ("txt",), LIST: ("txt",), FILE: ()}
+ENDINGS = {BOARD: ("toml",), PLAN: ("toml",), SCHEDULE: ("txt",), UNDO: ("undo", "txt", "part"), READINGS: ("txt",), LIST: ("txt",), FILE: ()}
 HELP = {"--help": FLAG}
 BRIDGED = {"--listen": None}
 # Program, command (none where the program has none): its options with what their values are, and its words in order. A last word that comes
@@ -39,9 +39,15 @@ WORDS = {
             },
             [("BOARD", BOARD), ("P0", None), ("P1", None), ("TURNS", None)],
         ),
-        "run": ({"--wait": None, "--again": None, "--forget": None, "--greet": FLAG, "--replace": FLAG}, [("PLAN", PLAN), ("P0", None), ("P1", None), ("TURNS", None), ("UNDO", UNDO)]),
-        "undo": ({"--wait": None, "--greet": FLAG}, [("UNDO", UNDO), ("P0", None), ("P1", None), ("TURNS", None)]),
+        "run": ({"--wait": None, "--again": None, "--forget": None, "--greet": FLAG, "--replace": FLAG, "--strict": FLAG}, [("PLAN", PLAN), ("P0", None), ("P1", None), ("TURNS", None), ("UNDO", UNDO)]),
+        "undo": ({"--wait": None, "--greet": FLAG, "--strict": FLAG}, [("UNDO", UNDO), ("P0", None), ("P1", None), ("TURNS", None)]),
         "pair": ({"--strict": FLAG, "--list": FLAG}, [("BOARD", BOARD), ("PLAN", PLAN), ("TURNS", None)]),
+        "apply": (
+            {"--undo": UNDO, "--replace": FLAG, "--wait": None, "--again": None, "--json": FLAG},
+            # A last word P1 may be left out, so it is none of these.
+            [("PLAN", PLAN), ("P0", None)],
+        ),
+        "revert": ({"--wait": None, "--again": None, "--json": FLAG}, [("FILE", UNDO), ("P0", None)]),
         "version": ({}, []),
     },
     "lan-bridge": {

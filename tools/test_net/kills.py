@@ -64,12 +64,6 @@ def greet_for_manager(ports):
             asker.ask(SMBUS, frames.split(message, *names, 1, number % TAGS)[0])
 
 
-def expect_taken_back(what, said):
-    """Tests that an undo ended as one that took everything back."""
-    if said not in [(0, phase, "") for phase in TAKEN_BACK]:
-        raise Failed(f"{what}: {said!r}")
-
-
 class Place:
     """A server with a plan, and the folder of the plan's files; nothing is left there between two trials."""
 
@@ -98,15 +92,32 @@ class Place:
         os.mkdir(self.room)
         greet_for_manager(self.server.ports)
 
+    # The options with which calls are tried, the turns that one is given, and whether it tells on standard error what came of it.
+    OPTIONS = ((), ("--greet",))
+    RUN, UNDO, GIVEN = "run", "undo", (TURNS,)
+    TELLS = False
+
     def run_words(self, *options):
         return [self.program, "run", "--wait", LONG_WAIT, *options, self.plan, *self.server.ports, TURNS, self.undo]
 
     def undo_words(self, file, *options):
         return [self.program, "undo", "--wait", LONG_WAIT, *options, file, *self.server.ports, TURNS]
 
+    def expect_taken_back(self, what, said):
+        """Tests that an undo ended as one that took everything back."""
+        if said not in [(0, phase, "") for phase in TAKEN_BACK]:
+            raise Failed(f"{what}: {said!r}")
+
     def run_whole(self):
         """Runs the plan, which nothing disturbs."""
         expect("the run", called(self.run_words()), (0, "phase Done\n", ""))
+
+    def over(self, at, fate, task, file, *others):
+        """Makes a call over a lossy way."""
+        return called_over(self.program, self.server.ports, at, LOSSY, fate, task, file, *others, turns=self.GIVEN)
+
+    def run_over(self, at, fate, *options):
+        return self.over(at, fate, "run", self.plan, self.undo, *options)
 
     def left(self):
         """Returns the file that has what is to be taken back, or None."""
@@ -122,7 +133,7 @@ class Place:
     def points(self, words):
         """Returns the points of a call: from the first on that names a file of the room, or sends."""
         said, calls = self.traced(words)
-        expect("a call that is traced", (said[0], said[2]), (0, ""))
+        expect("a call that is traced", (said[0], self.TELLS or said[2]), (0, self.TELLS or ""))
         counts, points = collections.Counter(), []
         for name, line in calls:
             counts[name] += 1
@@ -145,11 +156,11 @@ class Place:
             if self.left():
                 said = self.killed(self.undo_words(self.left(), *options), self.draw.choice(points))
                 if said[0] != -signal.SIGKILL:
-                    expect_taken_back("an undo that ends before it is killed", said)
+                    self.expect_taken_back("an undo that ends before it is killed", said)
         file = self.left()
         if file:
             said = called(self.undo_words(file, *options))
-            expect_taken_back(f"the undo of {os.path.basename(file)}", said)
+            self.expect_taken_back(f"the undo of {os.path.basename(file)}", said)
             self.ask_nobody(file, said)
         others = differences(read_records(self.asker), self.before)
         expect("the records that are others (as they are, and as they have to be)", others, {})
@@ -178,8 +189,49 @@ class Place:
         try:
             self.take_back(kills, undo_points, *options)
         except Failed as why:
-            raise Failed(f"{'undo' if is_undo else 'run'} {' '.join(options)} at {point.name} {point.number}, which ended so: {said}: {why}") from why
+            raise Failed(f"{self.UNDO if is_undo else self.RUN} {' '.join(options)} at {point.name} {point.number}, which ended so: {said}: {why}") from why
         return said
+
+
+class Applied(Place):
+    """The same of `apply` and `revert`: one file has what is to be taken back."""
+
+    OPTIONS = ((),)
+    RUN, UNDO, GIVEN = "apply", "revert", ()
+    TELLS = True
+
+    def run_words(self, *options):
+        return [self.program, "apply", "--wait", LONG_WAIT, "--undo", self.undo, *options, self.plan, *self.server.ports]
+
+    def undo_words(self, file, *options):
+        return [self.program, "revert", "--wait", LONG_WAIT, *options, file, *self.server.ports]
+
+    def run_over(self, at, fate, *options):
+        return self.over(at, fate, "apply", self.plan, "--undo", self.undo, *options)
+
+    def left(self):
+        return self.undo if os.path.exists(self.undo) else None
+
+    def run_whole(self):
+        expect("the plan", called(self.run_words())[:2], (0, ""))
+
+    def expect_taken_back(self, what, said):
+        """Tests that a revert took everything back, or had nothing to take back."""
+        if said[0] or not any(words in said[1] + said[2] for words in ("taken back: ", "has nothing to take back")):
+            raise Failed(f"{what}: {said!r}")
+
+    def ask_nobody(self, file, said):
+        """A further revert has nothing to take back, and sends nothing."""
+        with socket.socket(socket.AF_INET, socket.SOCK_DGRAM) as nobody:
+            nobody.bind((HOST, 0))
+            nobody.settimeout(0)
+            port = nobody.getsockname()[1]
+            wanted = (0, "", f"{file} has nothing to take back; nothing was sent\n")
+            expect("a further revert", called([self.program, "revert", file, port, port]), wanted)
+            try:
+                raise Failed(f"a further revert sends {nobody.recv(100).hex()}")
+            except BlockingIOError:
+                pass
 
 
 def trials(place, every, is_undo, options):
@@ -189,7 +241,7 @@ def trials(place, every, is_undo, options):
         place.run_whole()
     points = place.points(words)
     undo_points = points if is_undo else place.points(place.undo_words(place.undo))
-    task = f"{'undo' if is_undo else 'run'}{''.join(f' {it}' for it in options)}"
+    task = f"{place.UNDO if is_undo else place.RUN}{''.join(f' {it}' for it in options)}"
     first = place.draw.randrange(every)
     for at, point in enumerate(points[first::every]):
         yield f"{task} killed at {point.name} {point.number}", place.killed, point, at % (MOST_KILLS + 1), undo_points
@@ -199,11 +251,11 @@ def trials(place, every, is_undo, options):
             yield f"{task}, {point.name} {point.number}{' and later ones' if goes_on else ''} failing", how, point, 0, undo_points
 
 
-def tries_calls(program, folder, seed, every, is_undo, options, told):
-    """Tries the points of a run, or of an undo, on one server. Returns why some failed."""
+def tries_calls(kind, program, folder, seed, every, is_undo, options, told):
+    """Tries the points of a run, or of an undo, at a place of this kind. Returns why some failed."""
     need("strace", "-qq", "-o", "/dev/null", "-e", "inject=fsync:error=EIO", "true")
     failed = []
-    with Place(program, folder, f"{seed} {is_undo} {options}") as place:
+    with kind(program, folder, f"{seed} {is_undo} {options}") as place:
         for name, how, point, kills, undo_points in trials(place, every, is_undo, options):
             try:
                 told(name, place.try_point(is_undo, how, point, kills, options, undo_points))
@@ -225,26 +277,22 @@ def moment(place, at):
     """Runs the plan over a lossy way, kills it at a moment that is drawn, and takes back what is left, killed again up to three times. Returns how often it
     was killed."""
     place.clear()
-    options = place.draw.choice([(), ("--greet",)])
-
-    def over(fate, *words):
-        return called_over(place.program, place.server.ports, at, LOSSY, fate, *words, *options)
-
-    killed = int(over(fate_by(place.draw, RUN_ENDS), "run", place.plan, place.undo)[0] is None)
+    options = place.draw.choice(place.OPTIONS)
+    killed = int(place.run_over(at, fate_by(place.draw, RUN_ENDS), *options)[0] is None)
     for _ in range(place.draw.randint(0, MOST_KILLS)):
         if place.left():
-            killed += over(fate_by(place.draw, UNDO_ENDS), "undo", place.left())[0] is None
+            killed += place.over(at, fate_by(place.draw, UNDO_ENDS), place.UNDO, place.left(), *options)[0] is None
     if place.left():
-        expect_taken_back("the undo", (*over(Fate(), "undo", place.left()), ""))
+        place.expect_taken_back("the undo", (*place.over(at, Fate(), place.UNDO, place.left(), *options), ""))
     others = differences(read_records(place.asker), place.before)
     expect("the records that are others (as they are, and as they have to be)", others, {})
     return killed
 
 
-def tries_moments(program, folder, seed, moments, told):
-    """Kills runs and undos at moments that are drawn, on one server. Returns why some failed."""
+def tries_moments(kind, program, folder, seed, moments, told):
+    """Kills runs and undos at moments that are drawn, at a place of this kind. Returns why some failed."""
     failed = []
-    with Place(program, folder, f"moments {seed}") as place:
+    with kind(program, folder, f"moments {seed}") as place:
         for at in moments:
             try:
                 told(f"killed {moment(place, f'{seed} {at}')} times", (0, "", ""))

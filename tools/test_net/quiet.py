@@ -10,8 +10,8 @@ WAIT = 100
 QUIET_TURNS = 30
 # More turns than any of these servers makes.
 MOST_TURNS = 4294967295
-# How often a run and its undo listen.
-TURNS = 300
+# How often a run and its undo listen, and how many milliseconds they wait for a reply, however busy the machine is.
+TURNS, PATIENT = 300, 5000
 # A Get of the power restore policy (Get Chassis Status), and one of a BIOS attribute.
 GETS = {IPMB: (0x00, 0x01), SMBUS: (0x03, 0x08, bytes([0, 0, 0, 0, 1, 1, 0]))}
 
@@ -24,8 +24,8 @@ def ends_once_quiet(program, folder, board, plan, requests, options):
     """A plan runs and is undone, and the server ends though it has turns: not before it was quiet for so long."""
     undo = f"{folder}/undo.txt"
     with quiet_server(program, board, *options) as server:
-        expect("run", call(program, "run", plan, *server.ports, TURNS, undo), (0, "phase Done\n", ""))
-        expect("undo", call(program, "undo", undo, *server.ports, TURNS), (0, "phase Undone\n", ""))
+        expect("run", call(program, "run", "--wait", PATIENT, plan, *server.ports, TURNS, undo), (0, "phase Done\n", ""))
+        expect("undo", call(program, "undo", "--wait", PATIENT, undo, *server.ports, TURNS), (0, "phase Undone\n", ""))
         begun = time.monotonic()
         expect("serve", server.told(), (0, f"served {requests}\nrecords same\n", ""))
         took = time.monotonic() - begun

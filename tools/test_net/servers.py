@@ -13,9 +13,10 @@ import frames
 TOP = os.path.dirname(os.path.dirname(os.path.dirname(os.path.realpath(__file__))))
 BOARD = f"{TOP}/sample.toml"
 HOST = "127.0.0.1"
-# How long a call, the start of a server and its end may take, in seconds.
-CALL = 120
-START = 60
+# How long a call, the start of a server and its end may take, in seconds. Where each processor has six processes to run, the program with the
+# sanitizers takes minutes for a call of seconds.
+CALL = 300
+START = 120
 END = 60
 # How long one quiet turn of the program lasts.
 QUIET = 0.2

@@ -81,14 +81,15 @@ class Way(Proxy):
                 self.hold(seen, self.draw.uniform(0, LATE))
 
 
-def called(program, ports, seed, troubles, fate, task, file, *others):
-    """Makes a call over ways of its own, and returns its status and what it printed; the status is None where it was killed. What is held of it is lost."""
+def called(program, ports, seed, troubles, fate, task, file, *others, turns=(TURNS,)):
+    """Makes a call over ways of its own, and returns its status and what it printed; the status is None where it was killed. What is held of it is lost.
+    A call that takes no turns is given none."""
     ways = [Way(bus, port, f"{seed} {task} {file}", fate) for bus, port in enumerate(ports)]
     for way in ways:
         way.troubles = troubles
     wait = SHORT_WAIT if troubles.lose else LONG_WAIT
     with ways[0], ways[1]:
-        words = [program, task, "--wait", wait, file, ways[0].port, ways[1].port, TURNS, *others]
+        words = [program, task, "--wait", wait, file, ways[0].port, ways[1].port, *turns, *others]
         process = subprocess.Popen([*map(str, words)], stdin=subprocess.DEVNULL, stdout=subprocess.PIPE, stderr=subprocess.STDOUT, text=True)
         fate.begin(process)
         try:

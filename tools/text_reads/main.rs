@@ -1,5 +1,5 @@
 //! Readers of texts, on texts that are cut off, edited at random, or long. tools/random-texts and tools/read-time add this program to a copy of
-//! the tree.
+//! the tree. It writes such a text, too, so that they have another program read it.
 #![tactic(auto)]
 
 mod dice;
@@ -30,7 +30,7 @@ fn read_prefixes<R: Clock + Print>(
             continue;
         }
         if let Some(prefix) = text.get(..end) {
-            tally.count(read_timed(rt, alloc, form, prefix)?, prefix.len());
+            tally.count(read_timed(rt, alloc, form, prefix)?, prefix.len(), end as u64);
         }
     }
     tally.tell(rt)
@@ -47,7 +47,7 @@ fn read_edits<R: Clock + Print>(
     for place in 0..many {
         let seed = first.wrapping_add(place);
         let text = edits::edited(alloc, text_of(form), seed)?;
-        tally.count(read_timed(rt, alloc, form, text.as_str())?, text.len());
+        tally.count(read_timed(rt, alloc, form, text.as_str())?, text.len(), seed);
     }
     tally.tell(rt)
 }
@@ -68,6 +68,32 @@ fn read_long<R: Print>(
     Ok(())
 }
 
+/// Writes a text: the prefix that ends here, the edit of this seed, or the long text of so many parts.
+fn write_text<R: Print>(
+    rt: &R,
+    alloc: Global,
+    sort: &str,
+    name: &str,
+    which: u64,
+) -> Result<(), Unwell> {
+    match sort {
+        "prefixes" => {
+            let text = text_of(Form::of(name)?);
+            print!(rt; "{}", text.get(..which as usize).ok_or(Unwell::Words)?)?;
+        }
+        "edits" => {
+            let text = edits::edited(alloc, text_of(Form::of(name)?), which)?;
+            print!(rt; "{}", text.as_str())?;
+        }
+        "long" => {
+            let (_, text) = long::text_called(alloc, name, which as usize)?;
+            print!(rt; "{}", text.as_str())?;
+        }
+        _ => return Err(Unwell::Words),
+    }
+    Ok(())
+}
+
 fn word_at(words: &[String], place: usize) -> Result<&str, Unwell> {
     match words.get(place) {
         Some(word) => Ok(word.as_str()),
@@ -79,7 +105,7 @@ fn number_at(words: &[String], place: usize) -> Result<u64, Unwell> {
     word_at(words, place)?.parse().ok().ok_or(Unwell::Words)
 }
 
-/// `prefixes FORM EVERY`, `edits FORM SEED MANY` or `long NAME MANY TIMES`.
+/// `prefixes FORM EVERY`, `edits FORM SEED MANY`, `long NAME MANY TIMES`, or `text` with `prefixes FORM END`, `edits FORM SEED` or `long NAME MANY`.
 fn run<R: Clock + Print>(rt: &R, alloc: Global, words: &[String]) -> Result<(), Unwell> {
     let name = word_at(words, 2)?;
     let mut tally = Tally::NOTHING;
@@ -93,6 +119,7 @@ fn run<R: Clock + Print>(rt: &R, alloc: Global, words: &[String]) -> Result<(), 
             read_edits(rt, alloc, Form::of(name)?, seeds, &mut tally)
         }
         "long" => read_long(rt, alloc, name, (number_at(words, 3)?, number_at(words, 4)?)),
+        "text" => write_text(rt, alloc, name, word_at(words, 3)?, number_at(words, 4)?),
         _ => Err(Unwell::Words),
     }
 }

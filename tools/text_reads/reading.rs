@@ -132,7 +132,7 @@ pub fn read_timed<C: Clock>(
     Ok((taken.as_nanos() as u64, read))
 }
 
-/// How many texts were read as values and how many had a fault, how many bytes the longest had, and how long the slowest took.
+/// How many texts were read as values and how many had a fault, how many bytes the longest had, how long the slowest took, and which that was.
 #[derive(Clone, Copy, Debug)]
 pub struct Tally {
     values: u64,
@@ -140,6 +140,8 @@ pub struct Tally {
     bytes: usize,
     slowest: u64,
     of: usize,
+    /// The number of the slowest: its seed, or where the prefix ends.
+    which: u64,
 }
 
 impl Tally {
@@ -149,10 +151,11 @@ impl Tally {
         bytes: 0,
         slowest: 0,
         of: 0,
+        which: 0,
     };
 
-    /// A text of so many bytes was read in so many nanoseconds.
-    pub fn count(&mut self, (nanos, read): (u64, bool), bytes: usize) {
+    /// The text of this number, with so many bytes, was read in so many nanoseconds.
+    pub fn count(&mut self, (nanos, read): (u64, bool), bytes: usize, which: u64) {
         if read {
             self.values = self.values.wrapping_add(1);
         } else {
@@ -162,11 +165,13 @@ impl Tally {
         if nanos > self.slowest {
             self.slowest = nanos;
             self.of = bytes;
+            self.which = which;
         }
     }
 
     pub fn tell<R: Print>(&self, rt: &R) -> Result<(), Unwell> {
-        println!(rt; "{} {} {} {} {}", self.values, self.faults, self.bytes, self.slowest, self.of)?;
+        println!(rt; "{} {} {} {}", self.values, self.faults, self.bytes, self.slowest)?;
+        println!(rt; "{} {}", self.of, self.which)?;
         Ok(())
     }
 }
