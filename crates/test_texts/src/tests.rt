@@ -7,6 +7,7 @@ mod channels;
 mod checks;
 mod faulty;
 mod files;
+mod foreseen;
 mod journal;
 mod lan;
 mod lines;

@@ -148,7 +148,7 @@ ipmb 30010103C0A80001 => LAN parameter 3 of channel 1
 "#;
 
 /// The list of one request: a bus, and the digits behind it.
-fn list_of(rt: &impl Abort, alloc: Global, bus: &str, digits: &str) -> UndoList {
+pub(super) fn list_of(rt: &impl Abort, alloc: Global, bus: &str, digits: &str) -> UndoList {
     let text = format!(in alloc; "undo 1\nnext ipmb 4 smbus 0\n{bus} {digits}\n");
     let text = text.expect(rt, "memory");
     let list = read_undo(alloc, text.as_str());
@@ -157,7 +157,7 @@ fn list_of(rt: &impl Abort, alloc: Global, bus: &str, digits: &str) -> UndoList 
 }
 
 /// The bytes of hexadecimal digits.
-fn bytes_of(rt: &impl Abort, alloc: Global, digits: &str) -> Vec<u8> {
+pub(super) fn bytes_of(rt: &impl Abort, alloc: Global, digits: &str) -> Vec<u8> {
     let bytes = text_lines::bytes(alloc, digits).expect(rt, "memory");
     bytes.expect(rt, "digits")
 }
