@@ -1,0 +1,2 @@
+pub mod Foreseeing
+pub mod Runs

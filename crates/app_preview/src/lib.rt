@@ -1,0 +1,7 @@
+//! What a plan would make of a controller's records, by what their Gets showed.
+#![tactic(auto)]
+
+mod foreseeing;
+pub mod laws;
+
+pub use foreseeing::{Foreseen, foresee};
