@@ -1,8 +1,3 @@
 mod Out
 mod Untold
 mod Begun
-mod Records
-mod Eyes
-mod Greets
-mod Unfits
-mod Reverts

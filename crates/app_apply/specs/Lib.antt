@@ -5,5 +5,3 @@ pub mod Statuses
 pub mod Guard
 pub mod Apply
 pub mod Ends
-pub mod Revert
-pub mod Looks

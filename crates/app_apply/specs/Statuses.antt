@@ -1,5 +1,5 @@
 -- How calls end.
-use Rattle.std.specs.Prelude.{Bool, true, false, Result, Ok, Err}
+use Rattle.std.specs.Prelude.{Result, Ok, Err}
 use Rattle.model_undo.specs.declared.phase.Phase.{Phase}
 use Rattle.model_undo.specs.declared.phase.Phase.TheVariants as phase
 use Rattle.app_base.specs.declared.status.Status.{Status}
@@ -28,9 +28,3 @@ status_of outcome.Unkept = status.RefusedFile
 status_of (outcome.Ungreeted why) = status.Unsettled
 status_of outcome.NoLink = status.Stopped
 status_of (outcome.Ended phase kept) = status_at phase kept
-
--- and by what the looks told behind it: that a record isn't as before, or that one couldn't be looked at
-abbrev pub status_behind : Outcome → (differs unseen : Bool) → Status
-status_behind came true unseen = status.Halted
-status_behind came false true = status.Unsettled
-status_behind came false false = status_of came

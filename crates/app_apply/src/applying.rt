@@ -231,7 +231,7 @@ fn run_kept<F: WritesFiles, P: io::Write, R: Net>(
 }
 
 /// What comes of a greeting that failed.
-pub(crate) fn ungreeted(fault: GreetFault) -> Outcome
+pub fn ungreeted(fault: GreetFault) -> Outcome
     ensures { result ≡ ungreeted_by fault }
 {
     match fault {
@@ -361,7 +361,7 @@ fn carry_out<F: TextFiles + WritesFiles, P: io::Write, R: Net>(
 }
 
 /// Says this on the stream, and gives this status.
-pub(crate) fn say_on<W: io::Write, E: io::Write>(
+pub fn say_on<W: io::Write, E: io::Write>(
     text: Result<String, AllocError>,
     stream: Stream,
     status: Status,
@@ -384,7 +384,7 @@ pub(crate) fn say_on<W: io::Write, E: io::Write>(
 }
 
 /// Says on standard error this, and gives this status.
-pub(crate) fn say<W: io::Write, E: io::Write>(
+pub fn say<W: io::Write, E: io::Write>(
     text: Result<String, AllocError>,
     status: Status,
     console: &mut Console<W, E>,
@@ -395,7 +395,7 @@ pub(crate) fn say<W: io::Write, E: io::Write>(
 }
 
 /// Where it is said what came of a plan: on standard output as an object, or else on standard error.
-pub(crate) fn stream_for(json: bool) -> Stream
+pub fn stream_for(json: bool) -> Stream
     ensures { result ≡ stream_for json }
 {
     if json { Stream::Output } else { Stream::Error }

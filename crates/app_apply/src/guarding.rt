@@ -48,7 +48,7 @@ fn own_files<F: WritesFiles>(
 }
 
 /// Holds the file to which this word leads, before anything else is done with it. It gives nothing where that can't be held.
-pub(crate) fn hold_own<F: WritesFiles>(
+pub fn hold_own<F: WritesFiles>(
     alloc: Global,
     files: &mut F,
     word: &str,
@@ -100,7 +100,7 @@ fn standing_own<F: TextFiles + WritesFiles>(
 }
 
 /// Puts the file of this word aside, under the first free name. It gives that, or nothing where none is free or the file can't be renamed.
-pub(crate) fn put_aside<F: WritesFiles>(
+pub fn put_aside<F: WritesFiles>(
     alloc: Global,
     files: &mut F,
     word: &str,
@@ -120,7 +120,7 @@ pub(crate) fn put_aside<F: WritesFiles>(
 }
 
 /// Whether there is nothing to take back.
-pub(crate) fn is_nothing(standing: Standing) -> bool
+pub fn is_nothing(standing: Standing) -> bool
     ensures { result ≡ is_nothing standing }
 {
     matches!(standing, Standing::Nothing)

@@ -33,7 +33,7 @@ impl Reach {
 }
 
 /// The most turns of a manager for one call.
-pub(crate) const MOST_TURNS: u32 = u32::MAX;
+pub const MOST_TURNS: u32 = u32::MAX;
 
 /// Calls a manager so over these links, and drives it, while its journal is kept and the line of its progress is written.
 fn call_over<F: WritesFiles, P: io::Write>(
@@ -68,7 +68,7 @@ fn call_over<F: WritesFiles, P: io::Write>(
 
 /// Calls a manager so over links of its own to the controller, and drives it until no request of it is open or one has no answer. Meanwhile its
 /// journal is kept, and the line of its progress is written, which is ended then. Where a link can't be had, nothing is done.
-pub(crate) fn call_on<F: WritesFiles, P: io::Write, R: Net>(
+pub fn call_on<F: WritesFiles, P: io::Write, R: Net>(
     rt: &R,
     manager: &mut Manager,
     calling: Calling,

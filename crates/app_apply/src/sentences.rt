@@ -11,7 +11,7 @@ use undo_core::Manager;
 use undo_journal::{KeptStage, KeptTask};
 
 /// Adds a code of a reply on this bus, as `(CCh, invalid data field)`.
-pub(crate) fn push_code(text: &mut String, bus: Bus, code: Code) -> Result<(), AllocError> {
+pub fn push_code(text: &mut String, bus: Bus, code: Code) -> Result<(), AllocError> {
     let byte = code.value();
     match code_row(bus, byte) {
         Some(row) => write!(text, "({byte:02X}h, {})", row.name),
@@ -33,7 +33,7 @@ pub(crate) fn push_record(text: &mut String, op: &Op<'_>) -> Result<(), AllocErr
 }
 
 /// Adds the call that takes back what FILE says, on the controller.
-pub(crate) fn push_revert(text: &mut String, file: &str, reach: &Reach) -> Result<(), AllocError> {
+pub fn push_revert(text: &mut String, file: &str, reach: &Reach) -> Result<(), AllocError> {
     write!(text, "bmcnet revert {file} {}", reach.ipmb_port)?;
     match reach.smbus_port {
         Some(port) => write!(text, " {port}"),
@@ -42,7 +42,7 @@ pub(crate) fn push_revert(text: &mut String, file: &str, reach: &Reach) -> Resul
 }
 
 /// Adds which steps stand: so many, from the first on.
-pub(crate) fn push_standing(text: &mut String, done: usize) -> Result<(), AllocError> {
+pub fn push_standing(text: &mut String, done: usize) -> Result<(), AllocError> {
     match done {
         0 => text.push_str("no step was done"),
         1 => text.push_str("step 1 stands"),
@@ -115,7 +115,7 @@ fn push_open(text: &mut String, manager: &Manager) -> Result<(), AllocError> {
 }
 
 /// Adds that a request of the manager has no answer, and the call that settles it.
-pub(crate) fn push_unsettled(
+pub fn push_unsettled(
     text: &mut String,
     manager: &Manager,
     file: &str,
@@ -128,7 +128,7 @@ pub(crate) fn push_unsettled(
 }
 
 /// Adds which greeting wasn't answered.
-pub(crate) fn push_unanswered(
+pub fn push_unanswered(
     text: &mut String,
     why: Unanswered,
     reach: &Reach,
@@ -154,14 +154,14 @@ pub(crate) fn push_held(text: &mut String, file: &str) -> Result<(), AllocError>
 }
 
 /// What is said of a file that can't be held.
-pub(crate) fn held_text(alloc: Global, file: &str) -> Result<String, AllocError> {
+pub fn held_text(alloc: Global, file: &str) -> Result<String, AllocError> {
     let mut text = String::new(alloc);
     push_held(&mut text, file)?;
     Ok(text)
 }
 
 /// What is said where a request goes on SMBus, and no port of that is known.
-pub(crate) fn port_text(alloc: Global, what: &str) -> Result<String, AllocError> {
+pub fn port_text(alloc: Global, what: &str) -> Result<String, AllocError> {
     format!(in alloc;
         "{what} has a request on smbus, and no port of smbus is given: P1; nothing was sent\n"
     )

@@ -7,7 +7,7 @@ use Rattle.app_serve.specs.declared.run.ServeWords.{ServeWords}
 use Rattle.app_run.specs.declared.running.RunWords.{RunWords}
 use Rattle.app_run.specs.declared.undoing.UndoWords.{UndoWords}
 use Rattle.app_apply.specs.declared.applying.ApplyWords.{ApplyWords}
-use Rattle.app_apply.specs.declared.reverting.RevertWords.{RevertWords}
+use Rattle.app_revert.specs.declared.reverting.RevertWords.{RevertWords}
 use Rattle.app_pair.specs.declared.pairing.PairWords.{PairWords}
 use Rattle.app_bmcnet.specs.declared.words.Words.{Words}
 use Rattle.app_bmcnet.specs.declared.words.Words.TheVariants.{Serve, Run, Undo, Pair, Apply, Revert, Version}

@@ -14,7 +14,7 @@ use Rattle.app_run.specs.Undo.{UndoEndsOf}
 use Rattle.app_run.specs.declared.progress.Progress.{Progress}
 use Rattle.app_run.specs.Told.{TellsFile, TellsUndoOf}
 use Rattle.app_apply.specs.Ends.{ApplyEndsOf}
-use Rattle.app_apply.specs.Revert.{RevertEndsOf}
+use Rattle.app_revert.specs.Revert.{RevertEndsOf}
 use Rattle.app_pair.specs.PairRun.{PrintsPairOfFiles, words_of}
 use Rattle.app_bmcnet.specs.declared.words.Words.{Words}
 use Rattle.app_bmcnet.specs.declared.words.Words.TheVariants.{Serve, Run, Undo, Pair, Apply, Revert, Version}

@@ -3,10 +3,11 @@ ghost use Rattle.std.specs.Prelude.{map, string_bytes};
 ghost use Rattle.app_bmcnet.specs.Run.{EndsAsAsked, LineEnds, LineTells, MayTellAsAsked};
 
 use crate::words::{Words, read};
-use app_apply::{apply, revert};
+use app_apply::apply;
 use app_base::{Console, TextFiles, refuse, tell_version};
 use app_journal::WritesFiles;
 use app_pair::pair;
+use app_revert::revert;
 use app_run::{Progress, run, undo};
 use app_serve::serve;
 use std::alloc::Global;

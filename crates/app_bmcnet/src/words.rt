@@ -8,9 +8,10 @@ ghost use Rattle.app_bmcnet.specs.Asked.{NamesOption, NamesOr, NamesPort, NamesT
 
 use crate::number::{number_from, number_of, port_of};
 use crate::tasks::{Task, command};
-use app_apply::{ApplyWords, Reach, RevertWords};
+use app_apply::{ApplyWords, Reach};
 use app_base::{Refusal, given, has_flag, lacking, named, refusal_by, refusal_of, word_of};
 use app_pair::{PairOptions, PairWords};
+use app_revert::RevertWords;
 use app_run::{RunWords, UndoWords, WAIT_MS};
 use app_serve::ServeWords;
 use clap::ArgMatches;

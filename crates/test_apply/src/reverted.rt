@@ -1,8 +1,7 @@
 //! The sentences and the objects of what was taken back. The managers are made of the texts of journals.
-use app_apply::{
-    Looked, Outcome, Reach, RevertWords, Reverted, Sight, Sighting, revert_json, revert_text,
-};
+use app_apply::{Outcome, Reach};
 use app_journal::{WriteFault, revive_text};
+use app_revert::{Looked, RevertWords, Reverted, Sight, Sighting, revert_json, revert_text};
 use app_run::Unanswered;
 use record_base::Key;
 use std::alloc::Global;

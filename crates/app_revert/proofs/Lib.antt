@@ -1,0 +1,5 @@
+mod Records
+mod Eyes
+mod Greets
+mod Unfits
+mod Reverts

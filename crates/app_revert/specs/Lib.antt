@@ -1,0 +1,3 @@
+pub mod Statuses
+pub mod Revert
+pub mod Looks
