@@ -1,4 +1,4 @@
-"""A plan on OpenIPMI's simulator, through clients/controller-bridge and a lossy link."""
+"""Plans on OpenIPMI's simulator, through clients/controller-bridge and a lossy link: run and undone, and applied and reverted."""
 import contextlib
 import shlex
 import subprocess
@@ -44,9 +44,14 @@ mc_enable 0x20
 PLAN = f"{TOP}/examples/six_kinds.toml"
 # What the link between the manager and the bridge does.
 HARSH = Troubles(lose=8, repeat=15, delay=15)
+LOSING = Troubles(lose=8)
 # A step behind those that the simulator refuses over LAN, and where the plan halts then.
 REFUSED_STEP = '\n[[step]]\nkind = "global-enables"\nvalue = 0\n'
 HALTED = "Halted 6 Refused D4"
+# How the calls that greet end of the same two plans, and how long a quiet turn of theirs is, in milliseconds.
+APPLIED = 0, "done: 6 steps; to take them back:"
+APPLIED_HALTED = 10, "halted at step 7 of 7: BMC global enables refused (D4h, insufficient privilege): nothing of it was set; steps 1 to 6 stand:"
+WAIT = "500"
 # What shows the six records: Get commands, each with the bytes of its reply that are configuration.
 SETTINGS = [
     ("0x04 0x27 5", slice(1, 7)),
@@ -110,6 +115,27 @@ def test_plan(tests, bmcnet, ask, port, plan, wanted, room):
     tests.expect(before == after, f"the settings were {before} and are {after}")
 
 
+def expect_said(tests, words, room, status, lines):
+    """Makes a call of `bmcnet`, and tests its status, and the last line that it prints."""
+    ended, text = called(words, room, LONGEST_RUN)
+    is_right = ended == status and text.endswith(f"{lines}\n")
+    tests.expect(is_right, f"{shlex.join(words)} ends with {ended} and prints {text!r}, and not {status} and {lines!r}")
+
+
+def test_applied(tests, bmcnet, ask, port, plan, ends, room):
+    """Applies a plan and reverts it by calls that greet, and compares what the simulator shows."""
+    undo = f"{room}/applied.undo"
+    status, said = ends
+    before = settings(ask, room)
+    expect_said(tests, [bmcnet, "apply", "--wait", WAIT, "--undo", undo, plan, port], room, status, f"{said} bmcnet revert {undo} {port}")
+    changed = settings(ask, room)
+    tests.expect(all(old != new for old, new in zip(before, changed)), f"the plan changed {before} to {changed}")
+    back = f"taken back: 6 steps; {undo}.done has the requests that did it, and {undo} is empty"
+    expect_said(tests, [bmcnet, "revert", "--wait", WAIT, undo, port], room, 0, back)
+    after = settings(ask, room)
+    tests.expect(before == after, f"the settings were {before} and are {after}")
+
+
 def halting_plan(room):
     """Writes the plan with a last step that the simulator refuses."""
     halting = f"{room}/halting.toml"
@@ -128,6 +154,10 @@ def test_simulator(tests, bmcnet, seeds, room):
         with started(bridge, r"ipmb on [0-9.]+:([0-9]+)") as told:
             for seed in seeds:
                 test_over_link(tests, bmcnet, ask, plans, LossyLink(int(told[1]), seed, HARSH), room)
+        # No copy of a request comes late here, and the bridge forgets nobody.
+        with started([*bridge[:3], "0", "--", *ask], r"ipmb on [0-9.]+:([0-9]+)") as told, LossyLink(int(told[1]), 0, LOSING) as link:
+            for (plan, _), ends in zip(plans, (APPLIED, APPLIED_HALTED)):
+                test_applied(tests, bmcnet, ask, str(link.port), plan, ends, room)
 
 
 def test_over_link(tests, bmcnet, ask, plans, link, room):
