@@ -1,6 +1,8 @@
 //! What a Get shows behind an operation of each kind, and what the operation makes of it.
 use super::story::expect_equal;
 use super::words::{bytes_of, list_of};
+use app_preview::foresee;
+use plan_file::read_plan;
 use record_base::Op;
 use record_words::undone_op;
 use shown_after::{Meaning, meaning_of, shown_after};
@@ -36,20 +38,26 @@ ipmb 30010103C0A80001 110A000001 => 11C0A80001 Changes
 smbus 030700000000050200032800000000000000 00000000050200031E00000000000000 => 00000000050200032800000000000000 Changes
 "#;
 
-/// Behind the operation the Get shows these bytes, and this is what the operation makes of it.
-fn expect_foreseen<'a>(rt: &impl Abort, alloc: Global, op: &Op<'a>, shown: &'a [u8], wanted: &str) {
-    let after = shown_after(alloc, op, shown).expect(rt, "memory");
-    let meaning: Meaning = meaning_of(op, shown, after.as_slice());
+/// What a Get shows, and what an operation makes of it, in words.
+fn said_of(rt: &impl Abort, alloc: Global, shown: &[u8], meaning: Meaning) -> String {
     let mut said = String::new(alloc);
-    for byte in after.as_slice() {
+    for byte in shown {
         let digits = format!(in alloc; "{byte:02X}").expect(rt, "memory");
         said.push_str(digits.as_str()).expect(rt, "memory");
         drop(digits);
     }
     let meant = format!(in alloc; " {meaning:?}").expect(rt, "memory");
     said.push_str(meant.as_str()).expect(rt, "memory");
-    expect_equal(rt, said.as_str(), wanted);
     drop(meant);
+    said
+}
+
+/// Behind the operation the Get shows these bytes, and this is what the operation makes of it.
+fn expect_foreseen<'a>(rt: &impl Abort, alloc: Global, op: &Op<'a>, shown: &'a [u8], wanted: &str) {
+    let after = shown_after(alloc, op, shown).expect(rt, "memory");
+    let meaning = meaning_of(op, shown, after.as_slice());
+    let said = said_of(rt, alloc, after.as_slice(), meaning);
+    expect_equal(rt, said.as_str(), wanted);
     drop(said);
     drop(after);
 }
@@ -76,4 +84,48 @@ fn gets_are_foreseen(rt: HostRuntime) {
             expect_of(&rt, rt.alloc(), words, wanted);
         }
     }
+}
+
+/// A plan of four steps on the power restore policy, and one on another record between them.
+const PLAN: &str = r#"retries = 2
+[[step]]
+kind = "power-policy"
+policy = 2
+[[step]]
+kind = "power-policy"
+policy = 2
+[[step]]
+kind = "global-enables"
+value = 8
+[[step]]
+kind = "power-policy"
+policy = 0
+[[step]]
+kind = "power-policy"
+policy = 1
+"#;
+
+/// The step of this place finds these bytes where the Get showed those before the first step, and makes this of them.
+fn expect_step(rt: &impl Abort, alloc: Global, place: usize, shown: &str, wanted: &str) {
+    let plan = read_plan(alloc, PLAN).expect(rt, "a plan");
+    assert!(rt; place < plan.steps.len());
+    let shown = bytes_of(rt, alloc, shown);
+    let foreseen = foresee(alloc, &plan.steps, place, shown.as_slice());
+    let foreseen = foreseen.expect(rt, "memory");
+    let said = said_of(rt, alloc, foreseen.before.as_slice(), foreseen.meaning);
+    expect_equal(rt, said.as_str(), wanted);
+    drop(said);
+    drop(foreseen);
+    drop(shown);
+    drop(plan);
+}
+
+#[test]
+fn steps_are_foreseen_behind_those_before(rt: HostRuntime) {
+    expect_step(&rt, rt.alloc(), 0, "210000", "210000 Changes");
+    expect_step(&rt, rt.alloc(), 1, "210000", "410000 Same");
+    expect_step(&rt, rt.alloc(), 2, "00", "00 Changes");
+    expect_step(&rt, rt.alloc(), 3, "210000", "410000 Changes");
+    expect_step(&rt, rt.alloc(), 4, "210000", "010000 Changes");
+    expect_step(&rt, rt.alloc(), 4, "610000", "610000 NotRestorable");
 }
