@@ -3,5 +3,7 @@
 
 mod foreseeing;
 pub mod laws;
+mod outlooks;
 
 pub use foreseeing::{Foreseen, foresee};
+pub use outlooks::{Outlook, foresee_all};
