@@ -13,8 +13,8 @@ from .servers import Server, call, expect
 
 # How long a process waits for an answer that doesn't come, in milliseconds.
 LONG = 60000
-# What is at once, in seconds, on a busy machine: a twelfth of a turn of those that wait so long.
-AT_ONCE = 5
+# What is at once, in seconds, on a busy machine: a third of a turn of those that wait so long.
+AT_ONCE = 20
 # The sockets of both links are one file more than a process of this limit may have.
 FEW_FILES = 5
 

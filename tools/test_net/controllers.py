@@ -7,7 +7,7 @@ import frames
 from lossy_link import Link, forged_reply
 
 from . import servers
-from .applies import LONG_WAIT, RETRIES, SERVED_TURNS, SHORT_WAIT, apply, is_empty, revert, words_of
+from .applies import LONG_WAIT, RETRIES, SERVED_TURNS, apply, is_empty, revert, words_of
 from .greetings import ATTRIBUTE, HYSTERESIS, NOBODY, ON_IPMB, POLICY, critical, critical_now
 from .plans import IPMB, SMBUS, Step, steps_by, text_of
 from .proxy import MOST_HELD, Proxy, Troubles
@@ -18,8 +18,10 @@ from .servers import Asker, Failed, Server, call, expect, number_of
 ON_THE_WAY = Troubles(lose=8, repeat=10, hold=10, most_tries=2)
 # How long one quiet turn lasts over such a link, in milliseconds, and how often a request has all its retries again.
 LINK_WAIT, AGAIN = 200, 2
+# The same where some replies don't come and others have to, however busy the machine is.
+SOME_WAIT = 300
 # How long a slow controller takes for a request, in seconds; a quiet turn of those who wait for it, and of those whose four tries end before.
-SLOW, SLOW_WAIT, HASTY_WAIT = 1.2, 500, 200
+SLOW, SLOW_WAIT, HASTY_WAIT = 1.2, 700, 100
 # The commands of the thresholds.
 GET_THRESHOLDS, SET_THRESHOLDS = 0x27, 0x26
 # The call that a sentence names.
@@ -150,13 +152,13 @@ def is_silent(program, folder, board, command, loses_requests, doubt, steps):
     plan, file = servers.write(f"{folder}/plan.toml", text_of([POLICY, critical(0x5A)], 1)), f"{folder}/plan.undo"
     with Server(program, board, SERVED_TURNS) as server, Asker(server.ports) as asker, Mute(server.ports[IPMB], command, loses_requests) as link:
         before = asker.get_all([POLICY.get, critical(0).get])
-        status, out, err = apply(program, [link.port], plan, wait=SHORT_WAIT)
+        status, out, err = apply(program, [link.port], plan, wait=SOME_WAIT)
         expect("apply", (status, out, err), (11, "", f"{FIRST_DID}{doubt}; {SETTLES} {file} {link.port}\n"))
         expect("the journal", servers.read(file).split("\n")[0], "journal 1")
         is_set = command == SET_THRESHOLDS and not loses_requests
         expect("the threshold", critical_now(asker), 0x5A if is_set else 0x5F)
         said = f"{file} has something to take back, and isn't written over: bmcnet revert {file} {link.port}, or --replace puts it aside\n"
-        expect("apply again", apply(program, [link.port], plan, wait=SHORT_WAIT), (3, "", said))
+        expect("apply again", apply(program, [link.port], plan, wait=SOME_WAIT), (3, "", said))
         link.speaks = True
         expect("the call that it names", call_named(program, err, LONG_WAIT), taken_back(file, steps))
         expect("the records", asker.get_all(before), before)
@@ -170,7 +172,7 @@ def silent_back(program, folder, board):
         before = asker.get_all([POLICY.get, critical(0).get])
         expect("apply", apply(program, [server.ports[IPMB]], plan)[0], 0)
         doubt = "no answer to what takes step 2 back, sensor 5 upper critical <- 95 (5Fh): whether it was taken back isn't known"
-        status, out, err = revert(program, [link.port], file, wait=SHORT_WAIT)
+        status, out, err = revert(program, [link.port], file, wait=SOME_WAIT)
         expect("revert", (status, out, err), (11, "", f"{doubt}; {SETTLES} {file} {link.port}\n"))
         expect("the policy still stands", asker.get(*POLICY.get).hex() != before[POLICY.get], True)
         link.speaks = True
@@ -191,7 +193,7 @@ def silent_smbus(program, folder, board):
     plan = servers.write(f"{folder}/plan.toml", text_of([POLICY, ATTRIBUTE], 1))
     with Server(program, board, SERVED_TURNS) as server, Silent(server.ports[SMBUS]) as link:
         said = f"no answer on smbus, port {link.port}; nothing was set\n"
-        expect("apply", apply(program, (server.ports[IPMB], link.port), plan, wait=SHORT_WAIT), (11, "", said))
+        expect("apply", apply(program, (server.ports[IPMB], link.port), plan, wait=SOME_WAIT), (11, "", said))
         expect("serve", server.ended(), (0, f"served {ON_IPMB}\nrecords same\n", ""))
 
 
@@ -222,10 +224,10 @@ def is_busy_first(program, folder, board):
     plan, file = servers.write(f"{folder}/plan.toml", text_of([POLICY, critical(0x5A)], RETRIES)), f"{folder}/plan.undo"
     with Server(program, board, SERVED_TURNS) as server, Asker(server.ports) as asker, Busy(server.ports[IPMB], RETRIES) as link:
         before = asker.get_all([POLICY.get, critical(0).get])
-        status, out, err = apply(program, [link.port], plan, wait=SHORT_WAIT)
+        status, out, err = apply(program, [link.port], plan, wait=LINK_WAIT)
         said = f"{FIRST_DID}step 2: sensor 5 upper critical: 95 (5Fh) -> 90 (5Ah)\ndone: 2 steps; to take them back: bmcnet revert {file} {link.port}\n"
         expect("apply", (status, out, err), (0, "", said))
-        expect("revert", revert(program, [link.port], file, wait=SHORT_WAIT), taken_back(file, 2))
+        expect("revert", revert(program, [link.port], file, wait=LINK_WAIT), taken_back(file, 2))
         expect("the records", asker.get_all(before), before)
         # The greeting, Gets and Sets; the greeting and what takes back; and a greeting and the Gets of both records.
         carried = (ON_IPMB + 4) + (ON_IPMB + 2) + (ON_IPMB + 2)
@@ -239,7 +241,7 @@ def is_busy_at_set(program, folder, board):
     with Server(program, board, SERVED_TURNS) as server, Asker(server.ports) as asker, Busy(server.ports[IPMB], command=SET_THRESHOLDS) as link:
         before = asker.get_all([POLICY.get, critical(0).get])
         doubt = "no answer to the Set of step 2, sensor 5 thresholds: whether it was set isn't known"
-        status, out, err = apply(program, [link.port], plan, wait=SHORT_WAIT)
+        status, out, err = apply(program, [link.port], plan, wait=SOME_WAIT)
         expect("apply", (status, out, err), (11, "", f"{FIRST_DID}{doubt}; {SETTLES} {file} {link.port}\n"))
         expect("the threshold", critical_now(asker), 0x5F)
         link.is_free = True

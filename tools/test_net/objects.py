@@ -3,9 +3,9 @@ import json
 import os
 
 from . import servers
-from .applies import LISTED, LONG_WAIT, SERVED_TURNS, SHORT_WAIT, Meddler, Silence, apply, revert
+from .applies import LISTED, LONG_WAIT, SERVED_TURNS, Meddler, Silence, apply, revert
 from .at_once import FEW_FILES, waiting
-from .controllers import GET_THRESHOLDS, SET_THRESHOLDS, TWELVE, WATCHDOG, Mute, Silent
+from .controllers import GET_THRESHOLDS, SET_THRESHOLDS, SOME_WAIT, TWELVE, WATCHDOG, Mute, Silent
 from .greetings import NOBODY, POLICY, WINDOWS, critical, set_critical
 from .plans import IPMB, text_of
 from .servers import Asker, Server, call, expect
@@ -29,13 +29,13 @@ class Trial:
         self.program, self.plan, self.file = program, servers.write(f"{folder}/{name}.toml", text_of(steps, retries)), f"{folder}/{name}.undo"
         self.steps = len(steps)
 
-    def apply(self, what, port, status, *options, stands=0, did=(), stop=None, kept=True, aside=None, has_next=False, bus=None, outcome, wait=SHORT_WAIT):
+    def apply(self, what, port, status, *options, stands=0, did=(), stop=None, kept=True, aside=None, has_next=False, bus=None, outcome, wait=SOME_WAIT):
         """Tests what `apply` says."""
         members = {"outcome": outcome, "bus": bus, "steps": self.steps, "stands": stands, "did": list(did), "stop": stop, "file": self.file, "kept": kept}
         members.update(aside=aside, next=f"bmcnet revert {self.file} {port}" if has_next else None)
         expect_object(what, apply(self.program, [port], self.plan, "--json", *options, wait=wait), status, **without_none(members))
 
-    def revert(self, what, port, status, outcome, steps, wait=SHORT_WAIT, records=(), looked=False, kept=True, has_next=False, **others):
+    def revert(self, what, port, status, outcome, steps, wait=SOME_WAIT, records=(), looked=False, kept=True, has_next=False, **others):
         """Tests what `revert` says."""
         members = {"outcome": outcome, "bus": others.get("bus"), "steps": steps, **{name: others.get(name) for name in ("stands", "refused", "open")}}
         members.update(records=list(records), looked=looked, file=self.file, kept=kept)
@@ -105,7 +105,7 @@ def of_reverts(program, folder, board):
             if not os.path.exists(trial.file):
                 expect("apply", apply(program, [ipmb], trial.plan)[0], 0)
             with link:
-                trial.revert("a revert", link.port, *says[:2], 2, wait=200, **says[2])
+                trial.revert("a revert", link.port, *says[:2], 2, **says[2])
         set_critical(asker, 0x5F)
         silent = Trial(program, folder, [critical(0x5A)], "silent")
         expect("apply", apply(program, [ipmb], silent.plan)[0], 0)
@@ -144,7 +144,7 @@ def of_nothing_begun(program, folder, board):
         askers = [Asker(server.ports, 0x42 + 2 * place, 0x0C + place) for place in range(WINDOWS)]
         for asker in askers:
             asker.get(*POLICY.get)
-        busy.apply("an apply of a busy controller", ipmb, 11, outcome="busy", bus="ipmb", wait=200)
+        busy.apply("an apply of a busy controller", ipmb, 11, outcome="busy", bus="ipmb")
         for asker in askers:
             asker.__exit__()
         expect("serve", server.ended(), (0, f"served {WINDOWS}\nrecords same\n", ""))
