@@ -1,5 +1,4 @@
 mod Records
 mod Eyes
-mod Greets
 mod Unfits
 mod Reverts

@@ -1,7 +1,6 @@
 -- The look behind a revert: each record is asked for by its Get, and what that shows is compared with what the list's request sets.
-use Rattle.std.specs.Prelude.{◌≡◌, ◌≢◌, ◌⊎◌, ◌++◌, ◌&&◌, ◌==◌, ℕ, suc, Bool, true, false, Contains, List, [], ◌∷◌, Option, Some, None, map}
+use Rattle.std.specs.Prelude.{◌≡◌, ◌≢◌, ◌⊎◌, ◌++◌, ◌&&◌, ◌==◌, ℕ, suc, Bool, true, false, Contains, List, [], ◌∷◌, Option, Some, None}
 use Rattle.std.specs.Option.{option_to_list}
-use Rattle.two_wire.specs.declared.Bus.TheVariants.{Ipmb, Smbus}
 use Rattle.wire_links.specs.Counted.{none_counted}
 use Rattle.wire_links.specs.contracts.udp_link.UdpLinkLink.TheImpl as udp
 use Rattle.record_base.specs.declared.event_enable.EventChange.{EventChange}
@@ -14,7 +13,6 @@ use Rattle.record_base.specs.declared.op.Op.TheVariants.{EventEnable}
 use Rattle.record_kinds.specs.Limits.{inverse, key_of, words}
 use Rattle.record_kinds.specs.Series.{set_whole}
 use Rattle.undo_plans.specs.declared.undo_list.UndoList.{UndoList}
-use Rattle.model_ports.specs.Wires.{bus_of}
 use Rattle.model_lab.specs.Meaning.{lab_names}
 use Rattle.undo_core.specs.declared.manager.Manager.{Manager}
 use Rattle.undo_core.specs.Journals.{kept_by}
@@ -25,9 +23,7 @@ use Rattle.undo_look.specs.Looks.{StepResult, again_at, begin_at, opened_at, sta
 use Rattle.look_links.specs.declared.driver.LookEnd.{LookEnd}
 use Rattle.look_links.specs.declared.driver.LookEnd.TheVariants.{Silent}
 use Rattle.look_links.specs.Driven as driven
-use Rattle.app_run.specs.declared.greeting.Greetings.{Greetings}
 use Rattle.app_run.specs.Driven.{undo_retries}
-use Rattle.app_run.specs.Greeted.{AreGreeted, number_on}
 use Rattle.app_revert.specs.declared.looking.Eye.{Eye}
 use Rattle.app_revert.specs.declared.looking.Looked.{Looked}
 use Rattle.app_revert.specs.declared.looking.Sight.{Sight}
@@ -168,20 +164,7 @@ pub record LooksOver (agains : ℕ) (list : UndoList) (doubt : List Asked) (told
 abbrev pub doubts : Manager → List Asked
 doubts manager = option_to_list ((kept_by manager).waiting)
 
--- the greetings before: of each bus on which one of these requests goes
-abbrev pub greetings_behind : UndoList → (doubt : List Asked) → Greetings
-greetings_behind list doubt = record {
-  ipmb = number_on true Ipmb (map bus_of (list.requests.members ++ doubt)) list.next.ipmb;
-  smbus = number_on true Smbus (map bus_of (list.requests.members ++ doubt)) list.next.smbus;
-  retries = undo_retries;
-}
-
--- each was looked at, or no link could be had, and that is told
-abbrev pub MayLookOver : (agains : ℕ) → UndoList → (doubt : List Asked) → Looked → Type 0
-MayLookOver agains list doubt told = LooksOver agains list doubt told ⊎ TellsNoAnswer told
-
--- The controller was greeted, and each record was looked at. Or a greeting wasn't answered, or no link could be had: none was, and that is told.
+-- Each record was looked at, by requests that go on with the list's next numbers; or no link could be had, and that is told. No greeting comes
+-- before: a controller that is greeted carries out late copies of what it answered.
 abbrev pub LooksBehind : (agains : ℕ) → UndoList → (doubt : List Asked) → Looked → Type 0
-LooksBehind agains list doubt told =
-    (AreGreeted (greetings_behind list doubt) most_turns None × LooksOver agains list doubt told)
-    ⊎ TellsNoAnswer told
+LooksBehind agains list doubt told = LooksOver agains list doubt told ⊎ TellsNoAnswer told

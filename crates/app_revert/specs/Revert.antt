@@ -1,5 +1,5 @@
 -- What comes of taking back, and what it leaves of FILE.
-use Rattle.std.specs.Prelude.{String, ◌≡◌, ◌⊎◌, ◌++◌, ◌||◌, ℕ, suc, List, [], Bool, true, false, None, Some, Option, Result, Ok, Err, codes, is_none, map, take, string_bytes}
+use Rattle.std.specs.Prelude.{String, ◌≡◌, ◌⊎◌, ◌++◌, ◌||◌, ℕ, suc, List, [], Bool, true, false, None, Some, Option, Result, Ok, Err, codes, is_none, map, not, take, string_bytes}
 use Rattle.std.specs.declared.alloc.Global.{Global}
 use Rattle.std.specs.declared.alloc.AllocError.{AllocError}
 use Rattle.two_wire.specs.declared.Bus.{Bus}
@@ -24,7 +24,7 @@ use Rattle.app_journal.specs.declared.files.WritesFiles as written
 use Rattle.app_journal.specs.declared.undo_files.UndoFiles.{UndoFiles}
 use Rattle.app_journal.specs.Beside.{GivesUndo, IsOwn}
 use Rattle.app_journal.specs.Claiming.{IsFreeAt}
-use Rattle.app_journal.specs.Keeping.{IsJournalText, PutsJournal}
+use Rattle.app_journal.specs.Keeping.{IsJournalText, PutsJournal, has_open}
 use Rattle.undo_core.specs.Journals.{kept_by}
 use Rattle.app_journal.specs.Reviving.{IsFault, IsMadeOf}
 use Rattle.app_journal.specs.Standing.{IsStanding}
@@ -61,6 +61,10 @@ use Rattle.app_revert.specs.Statuses.{status_behind}
 abbrev pub is_undone : KeptStage → Bool
 is_undone stage.Undone = true
 is_undone _ = false
+
+-- no request of the manager is open, so that nothing is settled
+abbrev pub settles_none : Manager → Bool
+settles_none manager = not (has_open (kept_by manager).stage)
 
 -- the phase of a manager that came to an end, and whose journal was kept
 abbrev pub kept_phase : Outcome → Option Phase
@@ -114,24 +118,25 @@ module _ {Files : Type 0} (files : written.Ghosts Files) (beside : UndoFiles) wh
       ⊎ (((why : Unanswered) × AreGreeted greetings most_turns (Some why) × StaysWith (Ungreeted why) before after came had has old new)
       ⊎ StaysWith NoLink before after came had has old new)
 
-  -- A manager whose plan is over was told to undo, once each bus that its list uses was greeted for the next numbers.
-  abbrev pub UndoesOver : (agains : ℕ) → Reverting
-  UndoesOver agains before after came had has old new =
-      (list : UndoList) × HasList before list × UndoesGreeted (greetings_before_undo true list) agains before after came had has old new
+  -- A manager whose plan is over was told to undo, where it is to be greeted once each bus that its list uses was greeted for the next numbers.
+  abbrev pub UndoesOver : (greet : Bool) → (agains : ℕ) → Reverting
+  UndoesOver greet agains before after came had has old new =
+      (list : UndoList) × HasList before list × UndoesGreeted (greetings_before_undo greet list) agains before after came had has old new
 
   -- its open request was settled to this end: it is told to undo only where its plan is over then
-  abbrev pub GoesOn : (agains : ℕ) → DriveEnd → Reverting
-  GoesOn agains (Ok phase) before after came had has old new =
-      ((is_over phase ≡ true) × UndoesOver agains before after came had has old new)
+  abbrev pub GoesOn : (greet : Bool) → (agains : ℕ) → DriveEnd → Reverting
+  GoesOn greet agains (Ok phase) before after came had has old new =
+      ((is_over phase ≡ true) × UndoesOver greet agains before after came had has old new)
       ⊎ ((is_over phase ≡ false) × StaysWith (Ended phase (Ok tt)) before after came had has old new)
-  GoesOn agains (Err kept) before after came had has old new = StaysWith Unkept before after came had has old new
+  GoesOn greet agains (Err kept) before after came had has old new = StaysWith Unkept before after came had has old new
 
-  -- a manager's open request is settled, where it has one, and it goes on; or no link could be had
+  -- A manager's open request is settled, where it has one, and it goes on; or no link could be had. Where it had one the controller isn't greeted: it
+  -- would forget what it answered, and carry out a late copy of that.
   abbrev pub TakesBack : (agains : ℕ) → Reverting
   TakesBack agains before after came had has old new =
       ((settled : Manager) × (end : DriveEnd) × (text : List ℕ) × (mid : Files)
       × KeepsWay files.takes files.renames beside agains Again before settled end had text old mid
-      × GoesOn agains end settled after came text has mid new)
+      × GoesOn (settles_none before) agains end settled after came text has mid new)
       ⊎ StaysWith NoLink before after came had has old new
 
   -- the same, whatever text FILE has then

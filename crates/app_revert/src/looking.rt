@@ -1,20 +1,17 @@
 //! The look behind a revert: the record of each request that took back is read once more, and nothing is set.
-ghost use Rattle.std.specs.Prelude.{◌≡◌, ◌≤◌, ◌↔◌, ◌++◌, ◌||◌, IfOk, None, OnOk};
-ghost use Rattle.std.specs.Prelude.{Some, [], false, if◌then◌else◌, length, map, slice_get, take, true};
+ghost use Rattle.std.specs.Prelude.{◌≡◌, ◌≤◌, ◌↔◌, ◌++◌, IfOk, None, OnOk};
+ghost use Rattle.std.specs.Prelude.{Some, [], false, length, slice_get, take, true};
 ghost use Rattle.wire_links.specs.Counted.{none_counted};
 ghost use Rattle.record_base.specs.Keys.{same_key};
 ghost use Rattle.undo_plans.specs.Requests.{meant};
-ghost use Rattle.model_ports.specs.Wires.{bus_of};
-ghost use Rattle.app_run.specs.Buses.{is_used};
-ghost use Rattle.app_run.specs.Greeted.{number_on};
 ghost use Rattle.app_revert.specs.Looks.{IsAmong, IsBroughtBackBy, IsLeft, IsNewEye, IsOf};
 ghost use Rattle.app_revert.specs.Looks.{IsOfSome, IsSight, LooksAt, LooksBehind, LooksBy};
-ghost use Rattle.app_revert.specs.Looks.{LooksEach, LooksOnce, LooksOnceAt, LooksOver, MayLookOver};
+ghost use Rattle.app_revert.specs.Looks.{LooksEach, LooksOnce, LooksOnceAt, LooksOver};
 ghost use Rattle.app_revert.specs.Looks.{ShowsSo, Tells, TellsNoAnswer, TellsNothing, begun_at, doubts, goes_on_at};
-ghost use Rattle.app_revert.specs.Looks.{greetings_behind, leaves_alone, selects_none};
+ghost use Rattle.app_revert.specs.Looks.{leaves_alone, selects_none};
 
 use app_apply::{MOST_TURNS, Reach};
-use app_run::{BusLinks, Greetings, greet_first, open_ends, requests_use};
+use app_run::{BusLinks, open_ends};
 use look_links::{LookEnd, drive_again, drive_look};
 use model_lab::lab_names;
 use record_base::{EventChange, EventMasks, Key, Op, RecordKind, SetEventEnable};
@@ -22,7 +19,7 @@ use record_kinds::Limits;
 use record_words::undone_op;
 use std::alloc::{AllocError, Global};
 use std::net::Net;
-use two_wire::{Bus, Retries};
+use two_wire::Retries;
 use undo_core::Manager;
 use undo_look::{Looker, Seen};
 use undo_plans::{Requests, UndoList, UndoRequest};
@@ -386,60 +383,8 @@ pub(crate) fn doubt_of(alloc: Global, manager: &Manager) -> Result<Requests, All
     Ok(doubt)
 }
 
-/// Whether requests of one of both go on this bus.
-fn uses(list: &UndoList, doubt: &Requests, bus: Bus) -> bool
-    ensures { result ≡ (is_used bus (map bus_of list.now.requests.members)
-        || is_used bus (map bus_of doubt.now.members)) }
-{
-    requests_use(&list.requests, bus) || requests_use(doubt, bus)
-}
-
-/// The number, where the bus is used.
-fn number_for(used: bool, next: u8) -> Option<u8>
-    ensures { result ≡ (if used then Some next else None) }
-{
-    used.then_some(next)
-}
-
-/// The number with which a bus is greeted, where one of these requests goes on it.
-fn greeted_on(list: &UndoList, doubt: &Requests, bus: Bus, next: u8) -> Option<u8>
-    ensures { result ≡ number_on true bus
-        (map bus_of (list.now.requests.members ++ doubt.now.members)) next }
-{
-    number_for(uses(list, doubt, bus), next)
-}
-
-/// The greetings before the looks: of each bus on which a request went that took back, or that of the step in doubt.
-fn greetings_of(list: &UndoList, doubt: &Requests) -> Greetings
-    ensures { result ≡ greetings_behind list.now doubt.now.members }
-{
-    let next = list.next;
-    Greetings {
-        ipmb: greeted_on(list, doubt, Bus::Ipmb, next.ipmb.number()),
-        smbus: greeted_on(list, doubt, Bus::Smbus, next.smbus.number()),
-        retries: Retries::new(LOOK_RETRIES),
-    }
-}
-
-/// Looks over links of its own, once the controller was greeted.
-fn look_greeted<R: Net>(
-    rt: &R,
-    alloc: Global,
-    list: &UndoList,
-    doubt: &Requests,
-    reach: &Reach,
-) -> Result<Looked, AllocError>
-    requires { length doubt.now.members ≤ 1 }
-    ensures { IfOk result (MayLookOver reach.now.again list.now doubt.now.members) }
-{
-    let ends = open_ends(rt, reach.ipmb_port, reach.smbus_or_none(), reach.wait_ms);
-    match ends {
-        Some(ends) => look_over(alloc, list, doubt, ends, reach.again),
-        None => Ok(Looked::unanswered(alloc)),
-    }
-}
-
-/// Greets the controller, and looks at the record of each request that took back, and at that of the step that was in doubt.
+/// Looks over links of its own at the record of each request that took back, and at that of the step that was in doubt. The Gets go on with the list's
+/// next numbers, and no greeting comes before them: a controller that is greeted forgets what it answered, and carries out a late copy of that.
 pub(crate) fn look_behind<R: Net>(
     rt: &R,
     alloc: Global,
@@ -450,17 +395,9 @@ pub(crate) fn look_behind<R: Net>(
     requires { length doubt.now.members ≤ 1 }
     ensures { IfOk result (LooksBehind reach.now.again list.now doubt.now.members) }
 {
-    let greetings = greetings_of(list, doubt);
-    let greeted = greet_first(
-        rt,
-        &greetings,
-        reach.ipmb_port,
-        reach.smbus_or_none(),
-        reach.wait_ms,
-        MOST_TURNS,
-    );
-    match greeted {
-        Ok(()) => look_greeted(rt, alloc, list, doubt, reach),
-        Err(_) => Ok(Looked::unanswered(alloc)),
+    let ends = open_ends(rt, reach.ipmb_port, reach.smbus_or_none(), reach.wait_ms);
+    match ends {
+        Some(ends) => look_over(alloc, list, doubt, ends, reach.again),
+        None => Ok(Looked::unanswered(alloc)),
     }
 }

@@ -1,9 +1,10 @@
-//! A manager that takes back what it did: its open request is settled, the controller is greeted, and each step is undone.
-ghost use Rattle.std.specs.Prelude.{◌≡◌, Ok, false, true, string_bytes};
+//! A manager that takes back what it did: its open request is settled, or else the controller is greeted, and each step is undone.
+ghost use Rattle.std.specs.Prelude.{◌≡◌, Ok, false, string_bytes};
 ghost use Rattle.app_run.specs.Driven.{is_over as over_in};
 ghost use Rattle.app_revert.specs.Revert.{GoesOn, IsEnd};
 ghost use Rattle.app_revert.specs.Revert.{MayUndo};
 ghost use Rattle.app_revert.specs.Revert.{TakesBack, TakesBackFrom, UndoesGreeted, UndoesOver};
+ghost use Rattle.app_revert.specs.Revert.{settles_none};
 
 use app_apply::applying::ungreeted;
 use app_apply::{Calling, MOST_TURNS, Outcome, Reach, call_on};
@@ -14,6 +15,7 @@ use std::alloc::Global;
 use std::io;
 use std::net::Net;
 use undo_core::{Manager, Phase};
+use undo_journal::KeptStage;
 
 /// What came of a call that ended so.
 fn came_by(end: DriveEnd) -> Outcome
@@ -84,14 +86,15 @@ fn greet_and_undo<F: WritesFiles, P: io::Write, R: Net>(
     }
 }
 
-/// Greets the controller, and has a manager take back what it did, whose plan is over.
+/// Greets the controller, where it is to be greeted, and has a manager take back what it did, whose plan is over.
 fn undo_over<F: WritesFiles, P: io::Write, R: Net>(
     rt: &R,
     manager: &mut Manager,
+    greet: bool,
     reach: &Reach,
     watch: &mut RunWatch<F, P>,
 ) -> Outcome
-    ensures undoes { UndoesOver F.WritesFiles watch.old.keeper.beside.now reach.now.again
+    ensures undoes { UndoesOver F.WritesFiles watch.old.keeper.beside.now greet reach.now.again
         manager.old manager.new result
         (string_bytes watch.old.keeper.texts.now.last)
         (string_bytes watch.new.keeper.texts.now.last)
@@ -103,7 +106,7 @@ fn undo_over<F: WritesFiles, P: io::Write, R: Net>(
     ensures same_line { watch.new.teller.progress.ghost_name
         ≡ watch.old.teller.progress.ghost_name }
 {
-    let greetings = Greetings::before_undo(true, manager.undo_list());
+    let greetings = Greetings::before_undo(greet, manager.undo_list());
     greet_and_undo(rt, manager, &greetings, reach, watch)
 }
 
@@ -125,11 +128,13 @@ fn ended_in(phase: Phase) -> Outcome
 fn go_on_in<F: WritesFiles, P: io::Write, R: Net>(
     rt: &R,
     manager: &mut Manager,
+    greet: bool,
     phase: Phase,
     reach: &Reach,
     watch: &mut RunWatch<F, P>,
 ) -> Outcome
-    ensures goes { GoesOn F.WritesFiles watch.old.keeper.beside.now reach.now.again (Ok phase)
+    ensures goes { GoesOn F.WritesFiles watch.old.keeper.beside.now greet reach.now.again
+        (Ok phase)
         manager.old manager.new result
         (string_bytes watch.old.keeper.texts.now.last)
         (string_bytes watch.new.keeper.texts.now.last)
@@ -144,18 +149,19 @@ fn go_on_in<F: WritesFiles, P: io::Write, R: Net>(
     if !can_be_undone(&phase) {
         return ended_in(phase);
     }
-    undo_over(rt, manager, reach, watch)
+    undo_over(rt, manager, greet, reach, watch)
 }
 
 /// Goes on with a manager whose open request was settled to this end.
 fn go_on<F: WritesFiles, P: io::Write, R: Net>(
     rt: &R,
     manager: &mut Manager,
+    greet: bool,
     end: DriveEnd,
     reach: &Reach,
     watch: &mut RunWatch<F, P>,
 ) -> Outcome
-    ensures goes { GoesOn F.WritesFiles watch.old.keeper.beside.now reach.now.again end
+    ensures goes { GoesOn F.WritesFiles watch.old.keeper.beside.now greet reach.now.again end
         manager.old manager.new result
         (string_bytes watch.old.keeper.texts.now.last)
         (string_bytes watch.new.keeper.texts.now.last)
@@ -168,12 +174,20 @@ fn go_on<F: WritesFiles, P: io::Write, R: Net>(
         ≡ watch.old.teller.progress.ghost_name }
 {
     match end {
-        Ok(phase) => go_on_in(rt, manager, phase, reach, watch),
+        Ok(phase) => go_on_in(rt, manager, greet, phase, reach, watch),
         Err(KeptBack) => Outcome::Unkept,
     }
 }
 
-/// Settles the open request of a manager, where it has one, and has it take back what it did.
+/// Whether no request of a manager is open, so that nothing is settled.
+fn settles_none(manager: &Manager) -> bool
+    ensures { result ≡ settles_none manager.now }
+{
+    !matches!(manager.journal().stage, KeptStage::Open { .. })
+}
+
+/// Settles the open request of a manager, where it has one, and has it take back what it did. Where it had one the controller isn't greeted: it would
+/// forget what it answered, and carry out a late copy of that.
 fn take_back<F: WritesFiles, P: io::Write, R: Net>(
     rt: &R,
     manager: &mut Manager,
@@ -192,9 +206,10 @@ fn take_back<F: WritesFiles, P: io::Write, R: Net>(
     ensures same_line { watch.new.teller.progress.ghost_name
         ≡ watch.old.teller.progress.ghost_name }
 {
+    let greet = settles_none(manager);
     match call_on(rt, manager, Calling::Settle, reach, watch) {
         None => Outcome::NoLink,
-        Some(end) => go_on(rt, manager, end, reach, watch),
+        Some(end) => go_on(rt, manager, greet, end, reach, watch),
     }
 }
 
