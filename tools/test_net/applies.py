@@ -63,8 +63,8 @@ def applied_twice(program, folder, board):
             said = f"{file} has nothing to take back; nothing was sent\n"
             expect("revert again", revert(program, server.ports, file), (0, "", said))
         expect("an older list", os.path.exists(f"{file}.done.1"), True)
-        # Each revert looks at each record behind it, and greets before each look.
-        carried = 4 * (ON_IPMB + ON_SMBUS) + 2 * 3 * len(steps) + 2 * (ON_IPMB + 1 + ON_SMBUS + 1)
+        # Each apply and each revert greets once, and each revert looks at each record behind it, without another greeting.
+        carried = 4 * (ON_IPMB + ON_SMBUS) + 2 * 3 * len(steps) + 2 * 2
         expect("serve", server.ended(), (0, f"served {carried + sum(asker.asked)}\nrecords same\n", ""))
 
 
@@ -265,7 +265,7 @@ def until_silent(program, folder, board):
     with Server(program, board, SERVED_TURNS) as server, Asker(server.ports) as asker, Silence(server.ports[IPMB]) as link:
         expect("apply", apply(program, [server.ports[IPMB]], plan)[0], 0)
         link.hears_set = True
-        said = f"taken back: 1 step; {file}.done has the requests that did it, and {file} is empty\nno record could be looked at: no answer\n"
+        said = f"taken back: 1 step; {file}.done has the requests that did it, and {file} is empty\nsensor 5 thresholds couldn't be looked at: no answer\n"
         expect("revert", revert(program, [link.port], file, wait=200), (11, "", said))
         expect("the file", (is_empty(file), critical_now(asker)), (True, 0x5F))
         server.ended()

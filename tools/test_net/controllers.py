@@ -102,6 +102,54 @@ def over_links(program, folder, board, seed, is_prompt=True):
     return {name: met[name] for name in ("lost", "repeated", "held")}
 
 
+class Mute(Link):
+    """A link that loses the replies to a command of IPMB, or the requests, until it is to speak."""
+
+    def __init__(self, server, command, loses_requests=False):
+        super().__init__(server)
+        self.command, self.loses_requests, self.speaks = command, loses_requests, False
+
+    def hear(self, seen):
+        if self.speaks or seen.data[5:6] != bytes([self.command]) or seen.to_server != self.loses_requests:
+            self.hand_on(seen)
+
+
+class Copying(Mute):
+    """A link over which, once it speaks, the first Set of a threshold comes once more, behind the reply to the next one."""
+
+    def hear(self, seen):
+        if self.speaks and seen.data[5:6] == bytes([SET_THRESHOLDS]):
+            self.counts["to the server" if seen.to_server else "back"] += 1
+            if seen.to_server and self.counts["to the server"] == 1:
+                self.hold(seen, 3600, lambda: self.counts["back"] > 1)
+        super().hear(seen)
+
+
+def late_copy_of_settled(program, folder, board):
+    """A Set that a revert settles comes once more behind what takes it back, which is the next request but the greeting's: the record is as before."""
+    plan, file = servers.write(f"{folder}/plan.toml", text_of([POLICY, critical(0x5A)], 1)), f"{folder}/plan.undo"
+    with Server(program, board, SERVED_TURNS) as server, Asker(server.ports) as asker, Copying(server.ports[IPMB], SET_THRESHOLDS) as link:
+        expect("apply", apply(program, [link.port], plan, wait=SOME_WAIT)[0], 11)
+        link.speaks = True
+        expect("revert", revert(program, [link.port], file), taken_back(file, 2))
+        expect("the copies", link.counts["back"] > 1, True)
+        expect("the threshold", critical_now(asker), 0x5F)
+        server.ended()
+
+
+def late_copies(program, folder, board, seed):
+    """Requests that take back come once more within half a second, and within six newer requests, over a link that does nothing else: each record is as
+    before. No request of a greeting comes so, and none of the plan."""
+    plan, file = servers.write(f"{folder}/plan.toml", text_of([critical(0x52 + place) for place in range(6)], RETRIES)), f"{folder}/plan.undo"
+    with Server(program, board, SERVED_TURNS) as server, Asker(server.ports) as asker, Troubled(IPMB, server.ports[IPMB], seed, False) as link:
+        link.troubles = Troubles(repeat=40, most_tries=2)
+        expect("apply", apply(program, server.ports[:1], plan)[0], 0)
+        said = revert(program, [link.port], file)
+        time.sleep(MOST_HELD)
+        expect("revert, and the threshold", (said, critical_now(asker)), (taken_back(file, 6), 0x5F))
+        server.ended()
+
+
 class Slow(Link):
     """A link to a controller that takes its time for each request."""
 
@@ -124,22 +172,9 @@ def is_slow(program, folder, board):
         expect("the threshold", critical_now(asker), 0x5A)
         expect("revert", revert(program, [link.port], file, wait=SLOW_WAIT), taken_back(file, 1))
         expect("the threshold behind it", critical_now(asker), 0x5F)
-        # A greeting, whose first request the hasty call asked, the Get and the Set; a greeting and the request that takes back; a greeting and the Get of
-        # the look.
-        carried = (ON_IPMB + 2) + (ON_IPMB + 1) + (ON_IPMB + 1)
+        # A greeting, whose first request the hasty call asked, the Get and the Set; a greeting and the request that takes back; and the Get of the look.
+        carried = (ON_IPMB + 2) + (ON_IPMB + 1) + 1
         expect("serve", server.ended(), (0, f"served {carried + sum(asker.asked)}\nrecords same\n", ""))
-
-
-class Mute(Link):
-    """A link that loses the replies to a command of IPMB, or the requests, until it is to speak."""
-
-    def __init__(self, server, command, loses_requests=False):
-        super().__init__(server)
-        self.command, self.loses_requests, self.speaks = command, loses_requests, False
-
-    def hear(self, seen):
-        if self.speaks or seen.data[5:6] != bytes([self.command]) or seen.to_server != self.loses_requests:
-            self.hand_on(seen)
 
 
 FIRST_DID = "step 1: power restore policy: previous -> always on\n"
@@ -229,8 +264,8 @@ def is_busy_first(program, folder, board):
         expect("apply", (status, out, err), (0, "", said))
         expect("revert", revert(program, [link.port], file, wait=LINK_WAIT), taken_back(file, 2))
         expect("the records", asker.get_all(before), before)
-        # The greeting, Gets and Sets; the greeting and what takes back; and a greeting and the Gets of both records.
-        carried = (ON_IPMB + 4) + (ON_IPMB + 2) + (ON_IPMB + 2)
+        # The greeting, Gets and Sets; the greeting and what takes back; and the Gets of both records.
+        carried = (ON_IPMB + 4) + (ON_IPMB + 2) + 2
         expect("busy", link.counts["busy"], RETRIES * carried)
         expect("serve", server.ended(), (0, f"served {carried + sum(asker.asked)}\nrecords same\n", ""))
 
@@ -338,6 +373,8 @@ def tests(board):
     put = "no answer to the Set of step 2, sensor 5 thresholds: whether it was set isn't known"
     return [
         *((f"apply and revert over links {seed}", over_links, (board, seed)) for seed in range(6)),
+        *((f"a revert over a link that repeats late {seed}", late_copies, (board, seed)) for seed in range(12)),
+        ("a revert over a link that repeats what it settles", late_copy_of_settled, (board,)),
         ("apply and revert of a slow controller", is_slow, (board,)),
         ("an apply of which a Get has no answer", is_silent, (board, GET_THRESHOLDS, False, get, 1)),
         ("an apply of which a Set has no answer, carried out", is_silent, (board, SET_THRESHOLDS, False, put, 2)),

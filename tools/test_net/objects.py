@@ -111,7 +111,7 @@ def of_reverts(program, folder, board):
         expect("apply", apply(program, [ipmb], silent.plan)[0], 0)
         with Silence(ipmb) as link:
             link.hears_set = True
-            silent.revert("a revert behind which nobody answers", link.port, 11, "undone", 1, stands=0)
+            silent.revert("a revert behind which nobody answers", link.port, 11, "undone", 1, stands=0, records=[record(THRESHOLDS, "unanswered")])
         refused = Trial(program, folder, [POLICY], "refused")
         servers.write(refused.file, LISTED.replace("ipmb 000600", "ipmb 000607"))
         says = {"step": 1, "undo": "power restore policy <- 07h", "code": 0xCC, "meaning": "invalid data field"}
