@@ -4,6 +4,7 @@ mod forgotten;
 mod greeted;
 mod journals;
 mod lent;
+mod looked;
 mod program;
 mod served;
 mod shared;
