@@ -150,12 +150,15 @@ def of_nothing_begun(program, folder, board):
         expect("serve", server.ended(), (0, f"served {WINDOWS}\nrecords same\n", ""))
 
 
-def of_held(program, folder):
-    """FILE is held by another process."""
+def of_held(program, folder, task):
+    """FILE is held by another process: this is the object of a task then."""
     trial = Trial(program, folder, [POLICY])
     servers.write(trial.file, LISTED)
     with Silent(servers.PORTS.take()) as link, waiting(program, link, "revert", trial.file):
-        trial.apply("an apply whose FILE is held", link.port, 3, outcome="held")
+        if task == "apply":
+            trial.apply("an apply whose FILE is held", link.port, 3, outcome="held")
+        else:
+            trial.revert("a revert whose FILE is held", link.port, 3, "held", 0, has_next=True)
 
 
 def tests(board):
@@ -166,5 +169,5 @@ def tests(board):
         ("the objects of a Set without an answer", of_silence, (board, SET_THRESHOLDS, "set unanswered", "set", 2)),
         ("the objects of reverts", of_reverts, (board,)),
         ("the objects of calls that begin nothing", of_nothing_begun, (board,)),
-        ("the object of an apply whose FILE is held", of_held, ()),
+        *((f"the object of {task} whose FILE is held", of_held, (task,)) for task in ("apply", "revert")),
     ]
