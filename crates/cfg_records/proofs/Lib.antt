@@ -1,5 +1,6 @@
 pub mod Searches
 pub mod Nowhere
+pub mod Tables
 pub mod Pairs
 pub mod LanPlaces
 pub mod BoardPairs

@@ -10,11 +10,11 @@ use Rattle.record_base.specs.Keys.{key_cmp, slot}
 abbrev pub place_at : SensorPlaces → (ℕ × ℕ) → Option ℕ
 place_at places at = slice_index_or (slice_index_or places.tables at.0 []) at.1 None
 
--- the place in the tables for a key that has a slot, and in the map for any other
-abbrev pub place_in : Index → Option (ℕ × ℕ) → Key → Option ℕ
-place_in index (Some at) key = place_at index.sensors.value at
-place_in index None key = btree.get key_cmp index.others key
+-- the place in the tables for a key that has a slot, and for any other the one that is found elsewhere
+abbrev pub place_or : SensorPlaces → Option (ℕ × ℕ) → Option ℕ → Option ℕ
+place_or places (Some at) elsewhere = place_at places at
+place_or places None elsewhere = elsewhere
 
--- the place of the key's record
+-- the place of the key's record: in the tables, else in the map
 abbrev pub place_of : Index → Key → Option ℕ
-place_of index key = place_in index (slot key) key
+place_of index key = place_or index.sensors.places.value (slot key) (btree.get key_cmp index.others key)

@@ -1,6 +1,7 @@
 pub mod Records
 pub mod Places
 pub mod Index
+pub mod IndexLaws
 pub mod PlacesLaws
 pub mod RecordLaws
 pub mod Changed

@@ -1,5 +1,5 @@
 //! The place of each record, found by its key.
-ghost use Rattle.std.specs.Prelude.{◌≡◌, ℕ, Some, None, IfOk, slice_index_or, slice_set, if◌then◌else◌};
+ghost use Rattle.std.specs.Prelude.{◌≡◌, ◌<◌, ◌==◌, ◌&&◌, ℕ, Some, None, IfOk, slice_index_or, slice_set, if◌then◌else◌};
 ghost use Rattle.record_base.specs.declared.key.Key.{Key as AnyKey};
 ghost use Rattle.record_base.specs.Keys.{same_key};
 ghost use Rattle.cfg_records.specs.Index.{place_at, place_of};
@@ -15,10 +15,23 @@ struct SensorPlaces {
     tables: [[Option<usize>; 256]; SENSOR_KINDS],
 }
 
-/// For each key, the place of its record in a list. A sensor's records are found by its number, in one step. Their tables lie in
-/// memory of their own, so that a board is moved without them.
+/// The places of sensors' records, each found by the sensor's number, in one step. The tables lie in memory of their own, so that a board
+/// is moved without them.
+pub struct SensorIndex {
+    places: Box<SensorPlaces>,
+}
+
+// Written out: the crates above would prove a derived one anew.
+impl Drop for SensorIndex {
+    fn drop(self) {
+        let SensorIndex { places } = self;
+        drop(places);
+    }
+}
+
+/// For each key, the place of its record in a list.
 pub struct Index {
-    sensors: Box<SensorPlaces>,
+    sensors: SensorIndex,
     others: BTreeMap<Key, usize>,
 }
 
@@ -53,18 +66,47 @@ fn put(table: &mut [Option<usize>; 256], sensor: u8, place: usize) -> Option<usi
     old
 }
 
+impl SensorIndex {
+    /// No record has a place.
+    pub fn new(alloc: Global) -> Result<SensorIndex, AllocError>
+        ensures { IfOk result (λ index. (table number : ℕ)
+            → place_at index.places.value (table, number) ≡ None) }
+    {
+        match Box::new(alloc, SensorPlaces::new()) {
+            Ok(places) => Ok(SensorIndex { places }),
+            Err(_) => Err(AllocError),
+        }
+    }
+
+    /// The place that this table has for this sensor.
+    pub fn place_at(&self, table: usize, sensor: u8) -> Option<usize>
+        requires { table < SENSOR_KINDS }
+        ensures { result ≡ place_at self.now.places.value (table, sensor) }
+    {
+        self.places.tables[table][usize::from(sensor)]
+    }
+
+    /// Puts the sensor's record of this table at this place, and gives the place that it had.
+    pub fn put(&mut self, table: usize, sensor: u8, place: usize) -> Option<usize>
+        requires { table < SENSOR_KINDS }
+        ensures old { result ≡ place_at self.old.places.value (table, sensor) }
+        ensures new { (other number : ℕ) → place_at self.new.places.value (other, number)
+            ≡ (if (other == table) && (number == sensor) then Some place
+            else place_at self.old.places.value (other, number)) }
+    {
+        put(&mut self.places.tables[table], sensor, place)
+    }
+}
+
 impl Index {
     /// No key has a place.
     pub fn new(alloc: Global) -> Result<Index, AllocError>
         ensures { IfOk result (λ index. (key : AnyKey) → place_of index key ≡ None) }
     {
-        match Box::new(alloc, SensorPlaces::new()) {
-            Ok(sensors) => Ok(Index {
-                sensors,
-                others: BTreeMap::new(alloc),
-            }),
-            Err(_) => Err(AllocError),
-        }
+        Ok(Index {
+            sensors: SensorIndex::new(alloc)?,
+            others: BTreeMap::new(alloc),
+        })
     }
 
     /// The place of the key's record.
@@ -72,7 +114,7 @@ impl Index {
         ensures { result ≡ place_of self.now key.now }
     {
         match key.slot() {
-            Some((table, sensor)) => self.sensors.tables[table][usize::from(sensor)],
+            Some((table, sensor)) => self.sensors.place_at(table, sensor),
             None => self.others.get(key).copied(),
         }
     }
@@ -84,7 +126,7 @@ impl Index {
             ≡ (if same_key key k then Some place else place_of self.old k)) }
     {
         if let Some((table, sensor)) = key.slot() {
-            return Ok(put(&mut self.sensors.tables[table], sensor, place));
+            return Ok(self.sensors.put(table, sensor, place));
         }
         match self.others.insert(key, place) {
             Ok(old) => Ok(old),

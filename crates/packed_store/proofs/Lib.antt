@@ -1,4 +1,3 @@
 pub mod Entries
-pub mod Offsets
 pub mod Images
 pub mod Packs

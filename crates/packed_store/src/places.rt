@@ -6,12 +6,12 @@ ghost use Rattle.packed_store.specs.Places.{offset_of};
 
 use crate::sorted_keys::SortedKeys;
 use cfg_records::Key;
-use cfg_records::index::Index;
+use cfg_records::index::SensorIndex;
 use std::alloc::{AllocError, Global};
 
 /// The offset of each key's record. A sensor's is found by the sensor's number, in one step, and any other's in the sorted list.
 pub(crate) struct Places {
-    sensors: Index,
+    sensors: SensorIndex,
     others: SortedKeys,
 }
 
@@ -29,7 +29,7 @@ impl Places {
     pub fn new(alloc: Global) -> Result<Places, AllocError>
         ensures { IfOk result (λ places. (key : AnyKey) → offset_of places key ≡ None) }
     {
-        let sensors = Index::new(alloc)?;
+        let sensors = SensorIndex::new(alloc)?;
         Ok(Places {
             sensors,
             others: SortedKeys::new(alloc),
@@ -40,8 +40,8 @@ impl Places {
     pub fn find(&self, key: &Key) -> Option<usize>
         ensures { result ≡ offset_of self.now key.now }
     {
-        match self.sensors.place_of(key) {
-            Some(offset) => Some(offset),
+        match key.slot() {
+            Some((table, sensor)) => self.sensors.place_at(table, sensor),
             None => self.others.find(key),
         }
     }
@@ -53,8 +53,8 @@ impl Places {
             ≡ (if same_key key k then Some offset else offset_of self.old k)) }
     {
         match key.slot() {
-            Some(_) => {
-                self.sensors.insert(key, offset)?;
+            Some((table, sensor)) => {
+                self.sensors.put(table, sensor, offset);
                 Ok(())
             }
             None => {
