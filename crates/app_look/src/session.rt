@@ -58,7 +58,8 @@ pub struct Session {
 
 /// A looker whose requests begin with the number 0 on each bus.
 fn new_looker(alloc: Global, retries: Retries) -> Result<Looker, AllocError>
-    ensures { IfOk result (λ looker. state_of looker ≡ opened_at the_names first_numbers retries) }
+    ensures { IfOk result (λ looker. state_of looker
+        ≡ opened_at the_names first_numbers retries) }
 {
     let next = NextNumbers {
         ipmb: Below::new(0),

@@ -117,7 +117,8 @@ impl BoardFile {
 
     /// The records of its users: a line for each kind.
     fn user_records(&self, alloc: Global) -> Result<AtOnce<(Key, StartValue)>, AllocError>
-        ensures { IfOk result (λ pairs. pairs.items.items ≡ joined [] (take 2 (access_kinds self.now))) }
+        ensures { IfOk result
+            (λ pairs. pairs.items.items ≡ joined [] (take 2 (access_kinds self.now))) }
     {
         let names = self.users.items.as_slice().iter().map(|u| u.pair());
         let accesses = self.user_accesses.items.as_slice();
@@ -127,7 +128,8 @@ impl BoardFile {
 
     /// The records of its channels: a line for each store.
     fn channel_records(&self, alloc: Global) -> Result<AtOnce<(Key, StartValue)>, AllocError>
-        ensures { IfOk result (λ pairs. pairs.items.items ≡ joined [] (drop 2 (access_kinds self.now))) }
+        ensures { IfOk result
+            (λ pairs. pairs.items.items ≡ joined [] (drop 2 (access_kinds self.now))) }
     {
         let channels = self.channels.items.as_slice();
         let non_volatile = channels.iter().map(|c| c.non_volatile_pair());
