@@ -8,7 +8,7 @@ from lossy_link import Link, forged_reply
 
 from . import servers
 from .applies import LONG_WAIT, RETRIES, SERVED_TURNS, apply, is_empty, revert, words_of
-from .greetings import ATTRIBUTE, HYSTERESIS, NOBODY, ON_IPMB, POLICY, critical, critical_now
+from .greetings import ATTRIBUTE, HYSTERESIS, NOBODY, ON_IPMB, POLICY, critical, critical_now, run, undo_of
 from .plans import IPMB, SMBUS, Step, steps_by, text_of
 from .proxy import MOST_HELD, Proxy, Troubles
 from .records import MOST_ASSET, WHOLE, read_record
@@ -135,6 +135,20 @@ def late_copy_of_settled(program, folder, board):
         expect("the copies", link.counts["back"] > 1, True)
         expect("the threshold", critical_now(asker), 0x5F)
         server.ended()
+
+
+def late_copy_to_undo(program, folder, board):
+    """The same of a Set that `undo --greet` settles: nobody greets behind it, so that the controller still knows it."""
+    plan, undo = servers.write(f"{folder}/plan.toml", text_of([POLICY, critical(0x5A)], 1)), f"{folder}/undo.txt"
+    with Server(program, board, SERVED_TURNS) as server, Asker(server.ports) as asker, Copying(server.ports[IPMB], SET_THRESHOLDS) as link:
+        ports = link.port, server.ports[SMBUS]
+        expect("run", run(program, ports, plan, undo, "--greet", wait=SOME_WAIT), (0, "phase Unsettled 1\n", ""))
+        link.speaks = True
+        expect("undo", undo_of(program, ports, f"{undo}.part", "--greet"), (0, "phase Undone\n", ""))
+        expect("the copies", link.counts["back"] > 1, True)
+        expect("the threshold", critical_now(asker), 0x5F)
+        # The greeting of the run, its Gets and Sets, and what takes both steps back; and the look at the threshold.
+        expect("serve", server.ended(), (0, f"served {ON_IPMB + 2 * 2 + 2 + sum(asker.asked)}\nrecords same\n", ""))
 
 
 def late_copies(program, folder, board, seed):
@@ -375,6 +389,7 @@ def tests(board):
         *((f"apply and revert over links {seed}", over_links, (board, seed)) for seed in range(6)),
         *((f"a revert over a link that repeats late {seed}", late_copies, (board, seed)) for seed in range(12)),
         ("a revert over a link that repeats what it settles", late_copy_of_settled, (board,)),
+        ("an undo that is to greet, over a link that repeats what it settles", late_copy_to_undo, (board,)),
         ("apply and revert of a slow controller", is_slow, (board,)),
         ("an apply of which a Get has no answer", is_silent, (board, GET_THRESHOLDS, False, get, 1)),
         ("an apply of which a Set has no answer, carried out", is_silent, (board, SET_THRESHOLDS, False, put, 2)),

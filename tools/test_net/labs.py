@@ -118,7 +118,8 @@ class Lab:
         what = f"{earlier}{'' if self.halt is None else ', halted'}"
         if earlier == "ended":
             self.expect_records("the first run", self.made_of(before))
-        undoes_first = self.draw.random() < 0.5
+        # While a request of an undo is open, the controller serves no other run.
+        undoes_first = self.draw.random() < 0.5 or earlier == "undo killed"
         if earlier != "killed" and undoes_first:
             self.undo_again(what, before, options)
         if earlier == "killed" or not undoes_first or self.draw.random() < 0.5:

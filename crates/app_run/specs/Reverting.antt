@@ -1,11 +1,12 @@
 -- What becomes of a manager that was made of a journal, and of the journal's file meanwhile.
-use Rattle.std.specs.Prelude.{◌≡◌, ◌⊎◌, ℕ, List, true, false, None, Some, Result, Ok, Err}
+use Rattle.std.specs.Prelude.{◌≡◌, ◌⊎◌, ◌&&◌, ℕ, List, Bool, true, false, not, None, Some, Result, Ok, Err}
 use Rattle.undo_plans.specs.declared.undo_list.UndoList.{UndoList}
 use Rattle.model_undo.specs.declared.call.Call.{Call}
 use Rattle.model_undo.specs.declared.call.Call.TheVariants.{Undo, Again}
 use Rattle.model_undo.specs.declared.phase.Phase.{Phase}
 use Rattle.model_lab.specs.Meaning.{lab_names}
 use Rattle.undo_core.specs.declared.manager.Manager.{Manager}
+use Rattle.undo_core.specs.Journals.{kept_by}
 use Rattle.undo_core.specs.Shown.{Represents}
 use Rattle.bmc_ports.specs.Driving.{Links}
 use Rattle.bmc_ports.specs.Observing.{Look}
@@ -13,7 +14,7 @@ use Rattle.app_base.specs.declared.ending.ReportFault.{ReportFault}
 use Rattle.app_base.specs.declared.ending.ReportFault.TheVariants.{Memory, Stopped}
 use Rattle.app_journal.specs.declared.undo_files.UndoFiles.{UndoFiles}
 use Rattle.app_journal.specs.Beside.{Writings, Renamings}
-use Rattle.app_journal.specs.Keeping.{KeepsLooks}
+use Rattle.app_journal.specs.Keeping.{KeepsLooks, has_open}
 use Rattle.app_run.specs.declared.greeting.GreetFault.{GreetFault}
 use Rattle.app_run.specs.declared.greeting.GreetFault.TheVariants as fault
 use Rattle.app_run.specs.declared.greeting.Greetings.{Greetings}
@@ -31,6 +32,15 @@ use Rattle.app_run.specs.Greeted.{AreGreeted, greetings_before_undo}
 abbrev pub call_for : Recall → Call
 call_for recall.Settle = Again
 call_for recall.Undo = Undo
+
+-- no request of the manager is open, so that nothing is settled
+abbrev pub settles_none : Manager → Bool
+settles_none manager = not (has_open (kept_by manager).stage)
+
+-- The controller is greeted where the words ask for it, unless a request is settled first: it would forget what it answered, and carry out a late copy
+-- of that.
+abbrev pub greets_behind : UndoWords → Manager → Bool
+greets_behind words manager = words.greet && settles_none manager
 
 -- what comes of a greeting that failed, in this phase
 abbrev pub left_ungreeted : Phase → GreetFault → Result Reverted ReportFault
@@ -66,19 +76,20 @@ module _ {Files : Type 0} (takes : Writings Files) (renames : Renamings Files) (
       ⊎ (((why : Unanswered) × AreGreeted greetings turns (Some why) × ComesTo (Ok (Ungreeted phase why)) came had has old new)
       ⊎ ComesTo (Err Stopped) came had has old new)
 
-  -- Its open request was settled to this end: it is told to undo only where its plan is over then, and greeted before for the next numbers of its list.
-  abbrev pub GoesOn : UndoWords → Manager → DriveEnd → Reverting Files
-  GoesOn words manager (Ok phase) came had has old new =
+  -- Its open request was settled to this end: it is told to undo only where its plan is over then. Where it is to be greeted, that is before, for the
+  -- next numbers of its list.
+  abbrev pub GoesOn : (greet : Bool) → (turns : ℕ) → Manager → DriveEnd → Reverting Files
+  GoesOn greet turns manager (Ok phase) came had has old new =
       ((is_over phase ≡ false) × ComesTo (Ok (Ended (Ok phase))) came had has old new)
       ⊎ ((is_over phase ≡ true)
-      × ((list : UndoList) × HasList manager list × Undoes (greetings_before_undo words.greet list) words.turns manager phase came had has old new))
-  GoesOn words manager (Err kept) came had has old new = ComesTo (Ok (Ended (Err kept))) came had has old new
+      × ((list : UndoList) × HasList manager list × Undoes (greetings_before_undo greet list) turns manager phase came had has old new))
+  GoesOn greet turns manager (Err kept) came had has old new = ComesTo (Ok (Ended (Err kept))) came had has old new
 
-  -- A manager's open request is settled, where it has one, and the manager goes on. Or no link could be had.
+  -- A manager's open request is settled, where it has one, and the manager goes on: behind a greeting only where it had none. Or no link could be had.
   abbrev pub Reverts : UndoWords → Manager → Reverting Files
   Reverts words manager came had has old new =
       ((settled : Manager) × (end : DriveEnd) × (text : List ℕ) × (mid : Files) × RunsKept Again words.turns manager settled end had text old mid
-      × GoesOn words settled end came text has mid new)
+      × GoesOn (greets_behind words manager) words.turns settled end came text has mid new)
       ⊎ ComesTo (Err Stopped) came had has old new
 
   -- the same, whatever text the journal's file has then

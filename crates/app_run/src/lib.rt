@@ -26,7 +26,7 @@ pub use links::{BusLinks, WAIT_MS, open_ends};
 pub use observer::{ProgressWriter, RunWatch};
 pub use preparing::{Ready, make_ready};
 pub use progress::{PlanOutline, Progress};
-pub use reverting::is_journal;
+pub use reverting::{is_journal, settles_none};
 pub use running::{RunWords, run};
 pub use trying::{drive_heeded, try_plan};
 pub use undoing::{UndoWords, undo};

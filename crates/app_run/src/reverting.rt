@@ -16,7 +16,7 @@ ghost use Rattle.bmc_ports.specs.Observing.{permit_at};
 ghost use Rattle.app_run.specs.Course.{RunCourse};
 ghost use Rattle.app_run.specs.Driven.{DrivenState, GoesAgain, is_over as over_in};
 ghost use Rattle.app_run.specs.Reverting.{GoesOn, MayRevert, Reverts, RunsKept, Undoes};
-ghost use Rattle.app_run.specs.Reverting.{call_for, left_ungreeted};
+ghost use Rattle.app_run.specs.Reverting.{call_for, greets_behind, left_ungreeted, settles_none};
 ghost use Rattle.app_run.specs.Ends.{SaysPhase};
 ghost use Rattle.app_run.specs.JournalUndo.{EndsReverted, IsJournal, IsOwnOf, JournalEnds};
 ghost use Rattle.app_run.specs.Told.{LooksOnRecall, LooksOnRevert, MayLookOn, MayTellRevert, TellsJournal, steps_of};
@@ -40,7 +40,7 @@ use std::net::Net;
 use text_journal::JournalTextFault;
 use text_lines::behind;
 use undo_core::{Manager, Phase, Sent, WrongPhase};
-use undo_journal::JournalView;
+use undo_journal::{JournalView, KeptStage};
 use wire_links::Link;
 
 /// What the manager of a journal is called for.
@@ -236,12 +236,13 @@ fn ended_in(phase: Phase) -> Result<Reverted, ReportFault>
 fn go_on_in<F: WritesFiles, P: io::Write, R: Net>(
     rt: &R,
     manager: &mut Manager,
+    greet: bool,
     phase: Phase,
     words: &UndoWords,
     watch: &mut RunWatch<F, P>,
 ) -> Result<Reverted, ReportFault>
-    ensures goes { GoesOn F.takes F.renames watch.old.keeper.beside.now words.now manager.old
-        (Ok phase) result (string_bytes watch.old.keeper.texts.now.last)
+    ensures goes { GoesOn F.takes F.renames watch.old.keeper.beside.now greet words.now.turns
+        manager.old (Ok phase) result (string_bytes watch.old.keeper.texts.now.last)
         (string_bytes watch.new.keeper.texts.now.last)
         watch.old.keeper.files.now watch.new.keeper.files.now }
     ensures told { MayLookOn P.contents watch.old.teller.course.kinds.now
@@ -257,7 +258,7 @@ fn go_on_in<F: WritesFiles, P: io::Write, R: Net>(
     if !is_over(&phase) {
         return ended_in(phase);
     }
-    let greetings = Greetings::before_undo(words.greet, manager.undo_list());
+    let greetings = Greetings::before_undo(greet, manager.undo_list());
     undo_over(rt, manager, phase, words, &greetings, watch)
 }
 
@@ -265,12 +266,13 @@ fn go_on_in<F: WritesFiles, P: io::Write, R: Net>(
 fn go_on<F: WritesFiles, P: io::Write, R: Net>(
     rt: &R,
     manager: &mut Manager,
+    greet: bool,
     end: DriveEnd,
     words: &UndoWords,
     watch: &mut RunWatch<F, P>,
 ) -> Result<Reverted, ReportFault>
-    ensures goes { GoesOn F.takes F.renames watch.old.keeper.beside.now words.now manager.old
-        end result (string_bytes watch.old.keeper.texts.now.last)
+    ensures goes { GoesOn F.takes F.renames watch.old.keeper.beside.now greet words.now.turns
+        manager.old end result (string_bytes watch.old.keeper.texts.now.last)
         (string_bytes watch.new.keeper.texts.now.last)
         watch.old.keeper.files.now watch.new.keeper.files.now }
     ensures told { MayLookOn P.contents watch.old.teller.course.kinds.now
@@ -284,13 +286,27 @@ fn go_on<F: WritesFiles, P: io::Write, R: Net>(
         ≡ watch.old.teller.progress.ghost_name }
 {
     match end {
-        Ok(phase) => go_on_in(rt, manager, phase, words, watch),
+        Ok(phase) => go_on_in(rt, manager, greet, phase, words, watch),
         Err(kept) => Ok(Reverted::Ended(Err(kept))),
     }
 }
 
-/// Settles the open request of a manager that was made of a journal, and has it take back what it did. Meanwhile its journal is kept, and the line of
-/// its progress is written.
+/// Whether no request of a manager is open, so that nothing is settled.
+pub fn settles_none(manager: &Manager) -> bool
+    ensures { result ≡ settles_none manager.now }
+{
+    !matches!(manager.journal().stage, KeptStage::Open { .. })
+}
+
+/// Whether the controller is greeted before a manager that was made of a journal takes back what it did.
+fn greets_behind(words: &UndoWords, manager: &Manager) -> bool
+    ensures { result ≡ greets_behind words.now manager.now }
+{
+    words.greet && settles_none(manager)
+}
+
+/// Settles the open request of a manager that was made of a journal, and has it take back what it did. Where it had one the controller isn't greeted:
+/// it would forget what it answered, and carry out a late copy of that. Meanwhile its journal is kept, and the line of its progress is written.
 fn revert<F: WritesFiles, P: io::Write, R: Net>(
     rt: &R,
     mut manager: Manager,
@@ -311,8 +327,9 @@ fn revert<F: WritesFiles, P: io::Write, R: Net>(
     ensures same_line { watch.new.teller.progress.ghost_name
         ≡ watch.old.teller.progress.ghost_name }
 {
+    let greet = greets_behind(words, &manager);
     match recall_on(rt, &mut manager, Recall::Settle, words, watch) {
-        Ok(end) => go_on(rt, &mut manager, end, words, watch),
+        Ok(end) => go_on(rt, &mut manager, greet, end, words, watch),
         Err(why) => Err(why),
     }
 }
@@ -392,7 +409,8 @@ pub(crate) fn say_reverted<W: io::Write, E: io::Write>(
     reverted: Result<Reverted, ReportFault>,
     console: &mut Console<W, E>,
 ) -> u8
-    ensures { EndsReverted W.contents E.contents words.now reverted console.old console.new result }
+    ensures { EndsReverted W.contents E.contents words.now reverted
+        console.old console.new result }
 {
     match reverted {
         Ok(Reverted::Ended(end)) => end_run(&end_report(alloc, words, end), console),

@@ -41,7 +41,7 @@ pub struct UndoWords {
     pub turns: u32,
     /// How many milliseconds of quiet end a turn.
     pub wait_ms: u32,
-    /// Whether the buses that are used are greeted before the undo begins.
+    /// Whether the buses that are used are greeted before the undo begins. Behind a request that is settled they never are.
     pub greet: bool,
     /// Whether the status says what came of the undo.
     pub strict: bool,
@@ -367,8 +367,8 @@ fn undo_held<F: TextFiles + WritesFiles, W: io::Write, E: io::Write, P: io::Writ
 /// refused. Of a journal whose manager began nothing there is nothing to take back, and it stays 0. Which records are changed behind it an undo can't
 /// know, so 13 is never its status.
 ///
-/// Of a journal, the open request is settled first, if one is open: it is sent again, for as many turns. Where the plan is over then, it is greeted,
-/// where the words ask for it, and taken back. Before frames go out, the journal's own file gets the journal by its name alone. Where it doesn't,
+/// Of a journal, the open request is settled first, if one is open: it is sent again, for as many turns. Where the plan is over then, it is taken back:
+/// behind a greeting, where the words ask for it and no request was open. Before frames go out, the journal's own file gets the journal by its name alone. Where it doesn't,
 /// while a request is open, nothing is sent any more, and standard error has `file` and the word, with the status 3. A journal with a bad line is
 /// refused with 3 and `journal` and the line.
 pub fn undo<F: TextFiles + WritesFiles, W: io::Write, E: io::Write, P: io::Write, R: Net>(
