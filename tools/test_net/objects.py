@@ -6,7 +6,7 @@ from . import servers
 from .applies import LISTED, LONG_WAIT, SERVED_TURNS, Meddler, Silence, apply, revert
 from .at_once import FEW_FILES, waiting
 from .controllers import GET_THRESHOLDS, SET_THRESHOLDS, SOME_WAIT, TWELVE, WATCHDOG, Mute, Silent
-from .greetings import NOBODY, POLICY, WINDOWS, critical, set_critical
+from .greetings import ATTRIBUTE, NOBODY, POLICY, WINDOWS, critical, set_critical
 from .plans import IPMB, text_of
 from .servers import Asker, Server, call, expect
 
@@ -150,12 +150,35 @@ def of_nothing_begun(program, folder, board):
         expect("serve", server.ended(), (0, f"served {WINDOWS}\nrecords same\n", ""))
 
 
-def of_held(program, folder):
-    """FILE is held by another process."""
+def of_held(program, folder, task):
+    """FILE is held by another process: this is the object of a task then. Of a FILE that isn't read nobody knows how many steps it has."""
     trial = Trial(program, folder, [POLICY])
     servers.write(trial.file, LISTED)
     with Silent(servers.PORTS.take()) as link, waiting(program, link, "revert", trial.file):
-        trial.apply("an apply whose FILE is held", link.port, 3, outcome="held")
+        if task == "apply":
+            trial.apply("an apply whose FILE is held", link.port, 3, outcome="held")
+        else:
+            trial.revert("a revert whose FILE is held", link.port, 3, "held", None, has_next=True)
+
+
+def of_refusals(program, folder):
+    """A file that isn't there, a text that is no plan, a list or that of others, and a port that isn't given: the object has the lines of the sentence."""
+    key = text_of([POLICY], 1).replace("policy = 2", "policy = 2\npolice = 3")
+    with Silent(servers.PORTS.take()) as link:
+        for task, name, text, status, why in [
+            (apply, "none.toml", None, 3, "file {}"),
+            (apply, "smbus.toml", text_of([ATTRIBUTE], 1), 2, "the plan has a request on smbus, and no port of smbus is given: P1; nothing was sent"),
+            (apply, "key.toml", key, 3, None),
+            (apply, "board.toml", servers.read(servers.BOARD), 3, None),
+            (revert, "none.undo", None, 3, "file {}"),
+            (revert, "bad.undo", "undo 2\nnext\n", 3, "{}: line 2 is none of a journal or an undo text; nothing was sent"),
+            (revert, "other.undo", LISTED.replace("0A\n", "0B\n", 1), 3, "{} is of a manager or a controller at other addresses; nothing was sent"),
+        ]:
+            word = f"{folder}/{name}" if text is None else servers.write(f"{folder}/{name}", text)
+            said, out, err = task(program, [link.port], word, wait=SOME_WAIT)
+            expect(f"the sentence of {name}", (said, out, err), (status, "", err if why is None else why.format(word) + "\n"))
+            expect_object(name, task(program, [link.port], word, "--json", wait=SOME_WAIT), status, outcome="refused", why=err.split("\n")[:-1])
+            expect(f"whether {name} is named", why is not None or err.startswith(word), True)
 
 
 def tests(board):
@@ -166,5 +189,6 @@ def tests(board):
         ("the objects of a Set without an answer", of_silence, (board, SET_THRESHOLDS, "set unanswered", "set", 2)),
         ("the objects of reverts", of_reverts, (board,)),
         ("the objects of calls that begin nothing", of_nothing_begun, (board,)),
-        ("the object of an apply whose FILE is held", of_held, ()),
+        *((f"the object of {task} whose FILE is held", of_held, (task,)) for task in ("apply", "revert")),
+        ("the objects of calls that are refused", of_refusals, ()),
     ]

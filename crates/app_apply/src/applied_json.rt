@@ -2,6 +2,7 @@
 use crate::applied_words::push_did;
 use crate::applying::{Applied, ApplyWords};
 use crate::kept_calls::Reach;
+use crate::objects::object_line;
 use crate::outcome::Outcome;
 use crate::sentences::{bus_of_op, push_record, push_revert};
 use app_journal::Standing;
@@ -300,9 +301,5 @@ pub fn apply_json(
     applied: &Applied,
 ) -> Result<String, AllocError> {
     let object = object_of(alloc, words, applied)?;
-    let Ok(mut text) = serde_json::to_string(alloc, &object) else {
-        return Err(AllocError);
-    };
-    text.push_str("\n")?;
-    Ok(text)
+    object_line(alloc, &object)
 }

@@ -14,9 +14,9 @@ use crate::driving::Calling;
 use crate::guarding::{Guard, Guarded, take_file};
 use crate::kept_calls::{MOST_TURNS, Reach, call_on};
 use crate::outcome::Outcome;
+use crate::refusing::{say_refused, say_unread};
 use crate::sentences::port_text;
 use crate::strict::{StrictFault, strict_plan};
-use app_base::files::refuse;
 use app_base::{Console, Report, ReportFault, Status, Stream, TextFiles, end_run, text_of};
 use app_journal::{JournalKeeper, UndoFiles, WriteFault, WritesFiles};
 use app_run::{
@@ -333,7 +333,7 @@ fn begin_ready<F: WritesFiles, P: io::Write, R: Net>(
 }
 
 /// Takes FILE, and has a manager run the plan.
-fn carry_out<F: TextFiles + WritesFiles, P: io::Write, R: Net>(
+pub fn carry_out<F: TextFiles + WritesFiles, P: io::Write, R: Net>(
     rt: &R,
     alloc: Global,
     files: &mut F,
@@ -402,7 +402,11 @@ pub fn stream_for(json: bool) -> Stream
 }
 
 /// What is said of a plan: an object, or else a sentence.
-fn text_for(alloc: Global, words: &ApplyWords, applied: &Applied) -> Result<String, AllocError> {
+pub fn text_for(
+    alloc: Global,
+    words: &ApplyWords,
+    applied: &Applied,
+) -> Result<String, AllocError> {
     if words.json {
         apply_json(alloc, words, applied)
     } else {
@@ -411,7 +415,7 @@ fn text_for(alloc: Global, words: &ApplyWords, applied: &Applied) -> Result<Stri
 }
 
 /// Runs the plan, and says what came of it.
-fn apply_over<F: TextFiles + WritesFiles, W: io::Write, E: io::Write, P: io::Write, R: Net>(
+pub fn apply_over<F: TextFiles + WritesFiles, W: io::Write, E: io::Write, P: io::Write, R: Net>(
     rt: &R,
     alloc: Global,
     files: &mut F,
@@ -435,7 +439,7 @@ fn apply_over<F: TextFiles + WritesFiles, W: io::Write, E: io::Write, P: io::Wri
 }
 
 /// Whether requests of the plan go on SMBus, and no port of that is known.
-fn lacks_port(plan: &Plan, reach: &Reach) -> bool
+pub fn lacks_port(plan: &Plan, reach: &Reach) -> bool
     ensures { result ≡ lacks_port plan.now reach.now }
 {
     reach.smbus_port.is_none() && steps_use(&plan.steps, Bus::Smbus)
@@ -457,8 +461,8 @@ fn apply_plan<F: TextFiles + WritesFiles, W: io::Write, E: io::Write, P: io::Wri
 {
     if lacks_port(&plan, &words.reach) {
         drop(plan);
-        let text = port_text(alloc, "the plan");
-        return say(text, Status::RefusedWords, console);
+        let why = port_text(alloc, "the plan");
+        return say_refused(alloc, words.json, why, Status::RefusedWords, console);
     }
     apply_over(rt, alloc, files, plan, words, progress, console)
 }
@@ -480,7 +484,9 @@ fn apply_on<F: TextFiles + WritesFiles, W: io::Write, E: io::Write, P: io::Write
     match strict_plan(alloc, words.plan.as_str(), text) {
         Ok(plan) => apply_plan(rt, alloc, files, plan, words, progress, console),
         Err(StrictFault::Memory) => end_run(&Err(ReportFault::Memory), console),
-        Err(StrictFault::Refused(why)) => say(Ok(why), Status::RefusedFile, console),
+        Err(StrictFault::Refused(why)) => {
+            say_refused(alloc, words.json, Ok(why), Status::RefusedFile, console)
+        }
     }
 }
 
@@ -500,6 +506,6 @@ pub fn apply<F: TextFiles + WritesFiles, W: io::Write, E: io::Write, P: io::Writ
 {
     match text_of(&*files, words.plan.as_str()) {
         Ok(text) => apply_on(rt, alloc, files, text.as_str(), words, progress, console),
-        Err(unread) => refuse(alloc, &unread, console),
+        Err(unread) => say_unread(alloc, words.json, &unread, console),
     }
 }

@@ -8,7 +8,9 @@ pub mod applying;
 mod driving;
 pub mod guarding;
 mod kept_calls;
+pub mod objects;
 mod outcome;
+pub mod refusing;
 pub mod sentences;
 mod strict;
 

@@ -105,7 +105,7 @@ fn doubt_words(task: &KeptTask) -> &'static str {
 }
 
 /// Adds which request of the manager has no answer, and what that leaves in doubt.
-fn push_open(text: &mut String, manager: &Manager) -> Result<(), AllocError> {
+pub fn push_open(text: &mut String, manager: &Manager) -> Result<(), AllocError> {
     let KeptStage::Open { task, .. } = manager.journal().stage else {
         return text.push_str("no answer");
     };

@@ -1,5 +1,5 @@
 -- What comes of taking back, and what it leaves of FILE.
-use Rattle.std.specs.Prelude.{String, ◌≡◌, ◌⊎◌, ◌++◌, ◌||◌, ℕ, suc, List, [], Bool, true, false, None, Some, Option, Result, Ok, Err, codes, is_none, map, not, take, string_bytes}
+use Rattle.std.specs.Prelude.{String, ◌≡◌, ◌⊎◌, ◌++◌, ◌||◌, ℕ, suc, List, [], Bool, true, false, None, Some, Option, Result, Ok, Err, codes, is_none, map, take, string_bytes}
 use Rattle.std.specs.declared.alloc.Global.{Global}
 use Rattle.std.specs.declared.alloc.AllocError.{AllocError}
 use Rattle.two_wire.specs.declared.Bus.{Bus}
@@ -24,7 +24,7 @@ use Rattle.app_journal.specs.declared.files.WritesFiles as written
 use Rattle.app_journal.specs.declared.undo_files.UndoFiles.{UndoFiles}
 use Rattle.app_journal.specs.Beside.{GivesUndo, IsOwn}
 use Rattle.app_journal.specs.Claiming.{IsFreeAt}
-use Rattle.app_journal.specs.Keeping.{IsJournalText, PutsJournal, has_open}
+use Rattle.app_journal.specs.Keeping.{IsJournalText, PutsJournal}
 use Rattle.undo_core.specs.Journals.{kept_by}
 use Rattle.app_journal.specs.Reviving.{IsFault, IsMadeOf}
 use Rattle.app_journal.specs.Standing.{IsStanding}
@@ -41,8 +41,8 @@ use Rattle.app_run.specs.Buses.{is_used}
 use Rattle.app_run.specs.Driven.{DriveEnd, DrivenState, HasList, is_over, resumed_from}
 use Rattle.app_run.specs.Ends.{PrintsNothing}
 use Rattle.app_run.specs.JournalUndo.{IsJournal}
-use Rattle.app_run.specs.Run.{SaysUnread}
 use Rattle.app_run.specs.Greeted.{AreGreeted, greetings_before_undo}
+use Rattle.app_run.specs.Reverting.{settles_none}
 use Rattle.app_apply.specs.declared.outcome.Outcome.{Outcome}
 use Rattle.app_apply.specs.declared.outcome.Outcome.TheVariants.{Empty, Unmade, Unkept, Ungreeted, NoLink, Ended}
 use Rattle.app_apply.specs.declared.kept_calls.Reach.{Reach}
@@ -51,7 +51,7 @@ use Rattle.app_revert.specs.declared.reverting.RevertWords.{RevertWords}
 use Rattle.app_revert.specs.declared.reverting.Reverted.{Reverted}
 use Rattle.app_revert.specs.declared.reading.Unfit.{Unfit}
 use Rattle.app_revert.specs.declared.reading.Unfit.TheVariants as unfit
-use Rattle.app_apply.specs.Ends.{SaysOn, SaysWith, stream_for}
+use Rattle.app_apply.specs.Ends.{SaysOn, SaysUnreadOn, stream_for}
 use Rattle.app_apply.specs.Guard.{HoldsOwn, PutsOwnAside, is_nothing}
 use Rattle.app_apply.specs.Kept.{KeepsWay, most_turns}
 use Rattle.app_revert.specs.Looks.{LooksBehind, TellsNothing, doubts}
@@ -61,10 +61,6 @@ use Rattle.app_revert.specs.Statuses.{status_behind}
 abbrev pub is_undone : KeptStage → Bool
 is_undone stage.Undone = true
 is_undone _ = false
-
--- no request of the manager is open, so that nothing is settled
-abbrev pub settles_none : Manager → Bool
-settles_none manager = not (has_open (kept_by manager).stage)
 
 -- the phase of a manager that came to an end, and whose journal was kept
 abbrev pub kept_phase : Outcome → Option Phase
@@ -289,7 +285,7 @@ module _ {Files Stdout Stderr : Type 0} (out : Stdout → Option (List ℕ)) (er
   -- What the manager did is taken back. Where it needs a port that isn't known, that is said, and nothing is done.
   abbrev pub RevertEndsOver : UndoFiles → Standing → Manager → RevertWords → (before after : Files) → (old new : Console Stdout Stderr) → ℕ → Type 0
   RevertEndsOver beside standing manager words before after old new result =
-      (LacksPort manager words.reach true × (after ≡ before) × RunEnds out err (SaysWith RefusedWords) old new result)
+      (LacksPort manager words.reach true × (after ≡ before) × RunEnds out err (SaysOn (stream_for words.json) RefusedWords) old new result)
       ⊎ (LacksPort manager words.reach false
       × (came : Result Reverted AllocError) × RevertCome files beside words.reach.again standing manager came before after × EndsBy words.json came old new result)
 
@@ -298,17 +294,17 @@ module _ {Files Stdout Stderr : Type 0} (out : Stdout → Option (List ℕ)) (er
   RevertEndsOn beside text words before after old new result =
       ((standing : Standing) × (manager : Manager) × IsStanding standing text × IsManagerOf text manager
       × RevertEndsOver beside standing manager words before after old new result)
-      ⊎ ((after ≡ before) × (((why : Unfit) × IsUnfit why text × RunEnds out err (SaysWith RefusedFile) old new result) ⊎ RunEnds out err PrintsNothing old new result))
+      ⊎ ((after ≡ before) × (((why : Unfit) × IsUnfit why text × RunEnds out err (SaysOn (stream_for words.json) RefusedFile) old new result) ⊎ RunEnds out err PrintsNothing old new result))
 
   -- so ends that of FILE, which is held
   abbrev pub RevertEndsIn : UndoFiles → RevertWords → (before after : Files) → (old new : Console Stdout Stderr) → ℕ → Type 0
   RevertEndsIn beside words before after old new result =
       ((text : List ℕ) × read.gives before (string_bytes beside.undo) (Ok text) × RevertEndsOn beside text words before after old new result)
-      ⊎ ((after ≡ before) × RunEnds out err (SaysUnread (read.gives before) (string_bytes beside.undo)) old new result)
+      ⊎ ((after ≡ before) × RunEnds out err (SaysUnreadOn words.json (read.gives before) (string_bytes beside.undo)) old new result)
 
   -- FILE is held first. Where it can't be held, that is said, and nothing else is done.
   abbrev pub RevertEndsOf : (word : List ℕ) → RevertWords → (before after : Files) → (old new : Console Stdout Stderr) → ℕ → Type 0
   RevertEndsOf word words before after old new result =
       ((beside : UndoFiles) × (held : Files) × HoldsOwn {Refused = AllocError} files word (Ok (Some beside)) before held × RevertEndsIn beside words held after old new result)
-      ⊎ ((HoldsOwn {Refused = AllocError} files word (Ok None) before after × RunEnds out err (SaysWith RefusedFile) old new result)
+      ⊎ ((HoldsOwn {Refused = AllocError} files word (Ok None) before after × RunEnds out err (SaysOn (stream_for words.json) RefusedFile) old new result)
       ⊎ ((after ≡ before) × RunEnds out err PrintsNothing old new result))

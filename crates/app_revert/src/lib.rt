@@ -4,7 +4,7 @@
 
 mod leaving;
 mod looking;
-mod reading;
+pub mod reading;
 mod reverted_json;
 mod reverted_words;
 pub mod reverting;
@@ -12,5 +12,5 @@ mod taking;
 
 pub use looking::{Looked, Sight, Sighting};
 pub use reverted_json::revert_json;
-pub use reverted_words::revert_text;
+pub use reverted_words::{revert_text, unfit_text};
 pub use reverting::{RevertWords, Reverted, revert};

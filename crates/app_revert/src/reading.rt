@@ -19,7 +19,7 @@ use undo_plans::UndoList;
 
 /// Why no manager is made of a text.
 #[derive(Clone, Copy, Debug)]
-pub(crate) enum Unfit {
+pub enum Unfit {
     /// Memory was refused.
     Memory,
     /// Its first bad line, counted from 1.
@@ -90,7 +90,7 @@ fn resumed(alloc: Global, text: &str) -> Result<Manager, Unfit>
 }
 
 /// The manager that takes back what this text says.
-pub(crate) fn manager_of(alloc: Global, text: &str) -> Result<Manager, Unfit>
+pub fn manager_of(alloc: Global, text: &str) -> Result<Manager, Unfit>
     ensures manager { IfOk result (IsManagerOf text.now) }
     ensures fault { IfErr result (λ why. IsUnfit why text.now) }
 {

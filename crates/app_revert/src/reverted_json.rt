@@ -2,6 +2,7 @@
 use crate::looking::{Looked, Sight, Sighting};
 use crate::reverted_words::bus_of_request;
 use crate::reverting::{RevertWords, Reverted};
+use app_apply::objects::object_line;
 use app_apply::sentences::push_revert;
 use app_apply::{Outcome, Reach};
 use code_words::code_row;
@@ -52,8 +53,9 @@ struct RevertObject<'a> {
     /// The bus on which a greeting wasn't answered.
     #[serde(skip_serializing_if = "Option::is_none")]
     bus: Option<&'static str>,
-    /// How many steps there were to take back.
-    steps: usize,
+    /// How many steps there were to take back, where FILE was read.
+    #[serde(skip_serializing_if = "Option::is_none")]
+    steps: Option<usize>,
     /// How many of them stand, from the first on.
     #[serde(skip_serializing_if = "Option::is_none")]
     stands: Option<usize>,
@@ -242,7 +244,7 @@ fn object_of<'a>(
     let records = records_of(alloc, &reverted.looked)?;
     let next = next_call(alloc, outcome, file, &words.reach)?;
     let (word, bus) = (outcome_word(outcome), bus_word(outcome));
-    let steps = manager.undo_list().requests.len();
+    let steps = Some(manager.undo_list().requests.len());
     let stands = stands_of(outcome);
     let open = open_of(manager);
     let kept = is_kept(outcome);
@@ -270,9 +272,25 @@ pub fn revert_json(
     reverted: &Reverted,
 ) -> Result<String, AllocError> {
     let object = object_of(alloc, words, reverted)?;
-    let Ok(mut text) = serde_json::to_string(alloc, &object) else {
-        return Err(AllocError);
+    object_line(alloc, &object)
+}
+
+/// What is said of a FILE that can't be held, as an object in a line.
+pub(crate) fn held_json(alloc: Global, words: &RevertWords) -> Result<String, AllocError> {
+    let (held, file) = (Outcome::Held, words.file.as_str());
+    let next = next_call(alloc, &held, file, &words.reach)?;
+    let object = RevertObject {
+        outcome: outcome_word(&held),
+        bus: None,
+        steps: None,
+        stands: None,
+        refused: None,
+        open: None,
+        records: Vec::new(alloc),
+        looked: false,
+        file,
+        kept: is_kept(&held),
+        next,
     };
-    text.push_str("\n")?;
-    Ok(text)
+    object_line(alloc, &object)
 }

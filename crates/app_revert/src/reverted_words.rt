@@ -166,7 +166,7 @@ pub fn revert_text(
 }
 
 /// What is said of a file that nothing can be taken back by.
-pub(crate) fn unfit_text(alloc: Global, file: &str, why: Unfit) -> Result<String, AllocError> {
+pub fn unfit_text(alloc: Global, file: &str, why: Unfit) -> Result<String, AllocError> {
     match why {
         Unfit::Line(line) => format!(in alloc;
             "{file}: line {line} is none of a journal or an undo text; nothing was sent\n"

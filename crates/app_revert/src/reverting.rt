@@ -1,6 +1,8 @@
 //! `bmcnet revert`: what FILE says is taken back on a controller, and FILE keeps the journal of that meanwhile.
 ghost use Rattle.std.specs.Prelude.{◌≡◌, ◌≤◌, ◌||◌, IfOk, Ok, false, length, true, string_bytes};
 ghost use Rattle.text_undo.specs.UndoText.{text_of};
+ghost use Rattle.app_base.specs.Ending.{RunEnds};
+ghost use Rattle.app_apply.specs.Ends.{SaysOn, stream_for};
 ghost use Rattle.undo_core.specs.Journals.{kept_by};
 ghost use Rattle.app_journal.specs.Standing.{IsStanding};
 ghost use Rattle.app_revert.specs.Looks.{doubts};
@@ -14,15 +16,15 @@ ghost use Rattle.app_revert.specs.Statuses.{status_behind};
 use crate::leaving::{leave, leave_in};
 use crate::looking::{Looked, doubt_of, look_behind};
 use crate::reading::manager_of;
-use crate::reverted_json::revert_json;
+use crate::reverted_json::{held_json, revert_json};
 use crate::reverted_words::{revert_text, unfit_text};
 use crate::taking::take_back_kept;
 use app_apply::applying::{say, say_on, stream_for};
 use app_apply::guarding::{hold_own, is_nothing};
+use app_apply::refusing::{say_refused, say_unread};
 use app_apply::sentences::{held_text, port_text};
 use app_apply::{Outcome, Reach};
-use app_base::files::refuse;
-use app_base::{Console, ReportFault, Status, TextFiles, end_run, text_of};
+use app_base::{Console, ReportFault, Status, Stream, TextFiles, end_run, text_of};
 use app_journal::{JournalTexts, Standing, UndoFiles, WriteFault, WritesFiles, standing_in};
 use app_run::{Progress, requests_use};
 use std::alloc::{AllocError, Global};
@@ -309,8 +311,8 @@ fn revert_over<F: TextFiles + WritesFiles, W: io::Write, E: io::Write, P: io::Wr
     let reach = &words.reach;
     if lacks_port(&manager, reach) {
         drop(manager);
-        let text = port_text(alloc, words.file.as_str());
-        return say(text, Status::RefusedWords, console);
+        let why = port_text(alloc, words.file.as_str());
+        return say_refused(alloc, words.json, why, Status::RefusedWords, console);
     }
     match revert_looked(rt, alloc, files, beside, standing, manager, reach, progress) {
         Ok(reverted) => {
@@ -343,11 +345,10 @@ fn revert_by<F: TextFiles + WritesFiles, W: io::Write, E: io::Write, P: io::Writ
         Ok(manager) => revert_over(
             rt, alloc, files, beside, standing, manager, words, progress, console,
         ),
-        Err(why) => say(
-            unfit_text(alloc, words.file.as_str(), why),
-            Status::RefusedFile,
-            console,
-        ),
+        Err(unfit) => {
+            let why = unfit_text(alloc, words.file.as_str(), unfit);
+            say_refused(alloc, words.json, why, Status::RefusedFile, console)
+        }
     }
 }
 
@@ -399,7 +400,25 @@ fn revert_held<F: TextFiles + WritesFiles, W: io::Write, E: io::Write, P: io::Wr
             progress,
             console,
         ),
-        Err(unread) => refuse(alloc, &unread, console),
+        Err(unread) => say_unread(alloc, words.json, &unread, console),
+    }
+}
+
+/// Says that FILE can't be held, with an object or else a sentence, and gives the status.
+fn say_held<W: io::Write, E: io::Write>(
+    alloc: Global,
+    words: &RevertWords,
+    console: &mut Console<W, E>,
+) -> u8
+    ensures { RunEnds W.contents E.contents
+        (SaysOn (stream_for words.now.json) Status.RefusedFile) console.old console.new result }
+{
+    if words.json {
+        let object = held_json(alloc, words);
+        say_on(object, Stream::Output, Status::RefusedFile, console)
+    } else {
+        let text = held_text(alloc, words.file.as_str());
+        say(text, Status::RefusedFile, console)
     }
 }
 
@@ -419,11 +438,7 @@ pub fn revert<F: TextFiles + WritesFiles, W: io::Write, E: io::Write, P: io::Wri
 {
     match hold_own(alloc, files, words.file.as_str()) {
         Ok(Some(beside)) => revert_held(rt, alloc, files, &beside, words, progress, console),
-        Ok(None) => say(
-            held_text(alloc, words.file.as_str()),
-            Status::RefusedFile,
-            console,
-        ),
+        Ok(None) => say_held(alloc, words, console),
         Err(AllocError) => end_run(&Err(ReportFault::Memory), console),
     }
 }

@@ -4,18 +4,18 @@ ghost use Rattle.app_run.specs.Driven.{is_over as over_in};
 ghost use Rattle.app_revert.specs.Revert.{GoesOn, IsEnd};
 ghost use Rattle.app_revert.specs.Revert.{MayUndo};
 ghost use Rattle.app_revert.specs.Revert.{TakesBack, TakesBackFrom, UndoesGreeted, UndoesOver};
-ghost use Rattle.app_revert.specs.Revert.{settles_none};
 
 use app_apply::applying::ungreeted;
 use app_apply::{Calling, MOST_TURNS, Outcome, Reach, call_on};
 use app_journal::{JournalKeeper, JournalTexts, UndoFiles, WritesFiles};
-use app_run::{Greetings, PlanOutline, Progress, ProgressWriter, RunWatch, greet_first};
+use app_run::{
+    Greetings, PlanOutline, Progress, ProgressWriter, RunWatch, greet_first, settles_none,
+};
 use bmc_ports::{DriveEnd, KeptBack};
 use std::alloc::Global;
 use std::io;
 use std::net::Net;
 use undo_core::{Manager, Phase};
-use undo_journal::KeptStage;
 
 /// What came of a call that ended so.
 fn came_by(end: DriveEnd) -> Outcome
@@ -177,13 +177,6 @@ fn go_on<F: WritesFiles, P: io::Write, R: Net>(
         Ok(phase) => go_on_in(rt, manager, greet, phase, reach, watch),
         Err(KeptBack) => Outcome::Unkept,
     }
-}
-
-/// Whether no request of a manager is open, so that nothing is settled.
-fn settles_none(manager: &Manager) -> bool
-    ensures { result ≡ settles_none manager.now }
-{
-    !matches!(manager.journal().stage, KeptStage::Open { .. })
 }
 
 /// Settles the open request of a manager, where it has one, and has it take back what it did. Where it had one the controller isn't greeted: it would

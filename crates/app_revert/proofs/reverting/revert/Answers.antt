@@ -24,7 +24,7 @@ returns-in-Ok-None-clause-ends g c =
       subst (λ (word : List ℕ). HoldsOwn {Refused = AllocError} g.F.WritesFiles word (Ok None) c.args.files.now c.hold_own.new.files) c.as_str.ensures.value
           (subst (λ (came : Result (Option UndoFiles) AllocError). HoldsOwn g.F.WritesFiles c.as_str.result.now came c.args.files.now c.hold_own.new.files)
           (c.in-Ok-None.is ∙ ap (λ (held : Option UndoFiles). Ok held) c.in-Ok-None.field-0-is) c.hold_own.ensures),
-      c.say.ensures,
+      c.say_held.ensures,
     ))
 
 pub returns-in-Err-clause-ends : goal.returns-in-Err-clause-ends
