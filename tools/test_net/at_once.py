@@ -76,11 +76,13 @@ def no_socket(program, folder, board):
 
 
 def taken_ports(program, folder, board):
-    """A server whose port is taken ends at once (4), and another one's ports go on: a plan is applied there."""
+    """A server whose port is taken ends at once (4), and says which; another one's ports go on: a plan is applied there."""
     plan, file = servers.write(f"{folder}/plan.toml", text_of([critical(0x5A)], RETRIES)), f"{folder}/plan.undo"
     with Server(program, board, SERVED_TURNS) as server:
-        for ports in server.ports, (server.ports[0], 0), (0, server.ports[1]):
-            expect_at_once("serve", (4, ""), lambda ports=ports: call(program, "serve", board, *ports, SERVED_TURNS)[:2])
+        ipmb, smbus = server.ports
+        for ports, port, bus in ((ipmb, smbus), ipmb, "IPMB"), ((ipmb, 0), ipmb, "IPMB"), ((0, smbus), smbus, "SMBus"):
+            said = f"port {port} of {bus} can't be opened on 127.0.0.1: is it in use?\n"
+            expect_at_once("serve", (4, "", said), call, program, "serve", board, *ports, SERVED_TURNS)
         expect("apply", apply(program, server.ports, plan)[0], 0)
         expect("revert", revert(program, server.ports, file)[0], 0)
         expect("serve", server.ended()[1].split("\n")[1:], ["records same", ""])

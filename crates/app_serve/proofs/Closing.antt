@@ -1,10 +1,9 @@
 -- What a closed history makes a period.
-use Rattle.std.specs.Prelude.{IfOk, Result, Ok, Err}
 use Rattle.std.proofs.Common.{◌≡◌, ◌≤◌, ◌⊎◌, ◌∙◌, inl, inr, sym, subst, ℕ, Bool, List, [], Option, None, Some, length}
 use Rattle.cfg_records.specs.declared.board_file.BoardFile.{BoardFile}
 use Rattle.bmc_board.specs.State.{State, state_of}
-use Rattle.app_base.specs.declared.ending.ReportFault.{ReportFault}
 use Rattle.app_serve.specs.declared.periods.Period.{Period}
+use Rattle.app_serve.specs.declared.periods.PeriodState.{PeriodState}
 use Rattle.wire_links.specs.declared.link.Link.{Ghosts}
 use Rattle.bmc_history.specs.declared.event.Call.{Call}
 use Rattle.bmc_history.specs.declared.event.Event.{Event}
@@ -13,6 +12,7 @@ use Rattle.bmc_shared.specs.declared.seat.Seats.{Seats}
 use Rattle.bmc_shared.specs.Seated.{IsFreshSeat, calls_made}
 use Rattle.bmc_shared.specs.declared.worker.End.{End}
 use Rattle.bmc_shared.specs.declared.worker.End.TheVariants.{Full}
+use Rattle.bmc_ports.specs.declared.agenda.Agenda.{Agenda}
 use Rattle.bmc_ports.specs.declared.lane.Lane.{Lane}
 use Rattle.bmc_ports.specs.declared.lane.Lanes.{Lanes}
 use Rattle.bmc_ports.specs.declared.timetable.Timed.{Timed}
@@ -85,25 +85,39 @@ is_period one two periods quiet setup opening ending room fresh before repeats l
       done = is_done quiet (events_of_period periods) first_end second_end scanner_end after seats history closed.counted done;
     }
 
--- the same of what closing came to
-pub closes_period : {J : Type 0} {g h : _} {A B : Type 0} (one : Ghosts A) (two : Ghosts B) (periods : Bool) (quiet : Option ℕ) (setup : BoardFile) (opening : State) (room : ℕ)
-    (fresh : Seats J g) (before : Lanes A B) (repeats : Bool) (list : List Timed) (from to : ℕ) (seats : Seats J h) (after : Lanes A B) (first_end second_end : End) (scanner_end : TimedEnd)
-    (result : Result (Period A B) ReportFault)
-    → room ≡ most_events → IsFreshSeat fresh.first → IsFreshSeat fresh.second → IsFreshSeat fresh.scanner
-    → IsBack one fresh.first before.first seats.first after.first first_end
-    → IsBack two fresh.second before.second seats.second after.second second_end
-    → IsPlayed repeats list from to fresh.scanner seats.scanner scanner_end
-    → IsDone quiet first_end second_end scanner_end after ⊎ HaveCalledEnough (events_of_period periods) seats
-    → IfOk result (λ period. IsClosed setup opening (state_of period.board) room seats period.history)
-    → IfOk result (λ period. period.lanes ≡ after)
-    → IfOk result (λ period. period.next ≡ to)
-    → IfOk result (λ period. IsPeriod one two periods quiet setup opening (state_of period.board) before period.lanes repeats list from period.next period.history)
-closes_period one two periods quiet setup opening room fresh before repeats list from to seats after first_end second_end scanner_end (Ok period) most none_first none_second none_third
-    first second third done closed lanes next =
+-- the same of the board that was served so far, by what it was lent for and what closing gave
+pub closes_period : {J : Type 0} {g h : _} {A B : Type 0} (one : Ghosts A) (two : Ghosts B) (periods : Bool) (quiet silence events : Option ℕ) (course : PeriodState A B) (setup : BoardFile)
+    (opening : State) (room : ℕ) (fresh : Seats J g) (left : Agenda) (to : ℕ) (seats : Seats J h) (after : Lanes A B) (first_end second_end : End) (scanner_end : TimedEnd) (period : Period A B) (place : ℕ)
+    → course.board.setup ≡ setup → state_of course.board ≡ opening → room ≡ most_events
+    → left.repeats ≡ course.agenda.repeats → left.table.list.now ≡ course.agenda.table.list.now → left.table.next ≡ course.agenda.table.next
+    → silence ≡ quiet → events ≡ events_of_period periods
+    → IsFreshSeat fresh.first → IsFreshSeat fresh.second → IsFreshSeat fresh.scanner
+    → IsBack one fresh.first course.lanes.first seats.first after.first first_end
+    → IsBack two fresh.second course.lanes.second seats.second after.second second_end
+    → IsPlayed left.repeats left.table.list.now left.table.next to fresh.scanner seats.scanner scanner_end
+    → IsDone silence first_end second_end scanner_end after ⊎ HaveCalledEnough events seats
+    → IsClosed setup opening (state_of period.board) room seats period.history → period.lanes ≡ after → period.next ≡ to → place ≡ period.next
+    → IsPeriod one two periods quiet course.board.setup (state_of course.board) (state_of period.board) course.lanes period.lanes
+    course.agenda.repeats course.agenda.table.list.now course.agenda.table.next place period.history
+closes_period one two periods quiet silence events course setup opening room fresh left to seats after first_end second_end scanner_end period place is opens most same_rule same_list same_place
+    same_silence same_events none_first none_second none_third first second third done closed lanes next same_end =
+    let first_state : State = state_of course.board in
     let ending : State = state_of period.board in
-    subst (λ (n : ℕ). IsPeriod one two periods quiet setup opening ending before period.lanes repeats list from n period.history) (sym next)
-    (subst (λ (l : Lanes _ _). IsPeriod one two periods quiet setup opening ending before l repeats list from to period.history) (sym lanes)
-    (is_period one two periods quiet setup opening ending room fresh before repeats list from to seats after first_end second_end scanner_end period.history most none_first none_second
-    none_third first second third done closed))
-closes_period one two periods quiet setup opening room fresh before repeats list from to seats after first_end second_end scanner_end (Err why) most none_first none_second none_third
-    first second third done closed lanes next = tt
+    let history : List Event = period.history in
+    let repeats : Bool = course.agenda.repeats in
+    let list : List Timed = course.agenda.table.list.now in
+    let from : ℕ = course.agenda.table.next in
+    let played : IsPlayed repeats list from to fresh.scanner seats.scanner scanner_end =
+    subst (λ (n : ℕ). IsPlayed repeats list n to fresh.scanner seats.scanner scanner_end) same_place
+    (subst (λ (l : List Timed). IsPlayed repeats l left.table.next to fresh.scanner seats.scanner scanner_end) same_list
+    (subst (λ (r : Bool). IsPlayed r left.table.list.now left.table.next to fresh.scanner seats.scanner scanner_end) same_rule third)) in
+    let ends : IsDone quiet first_end second_end scanner_end after ⊎ HaveCalledEnough (events_of_period periods) seats =
+    subst (λ (q : Option ℕ). IsDone q first_end second_end scanner_end after ⊎ HaveCalledEnough (events_of_period periods) seats) same_silence
+    (subst (λ (m : Option ℕ). IsDone silence first_end second_end scanner_end after ⊎ HaveCalledEnough m seats) same_events done) in
+    let is_closed : IsClosed course.board.setup first_state ending room seats history =
+    subst (λ (s : BoardFile). IsClosed s first_state ending room seats history) (sym is)
+    (subst (λ (o : State). IsClosed setup o ending room seats history) (sym opens) closed) in
+    subst (λ (n : ℕ). IsPeriod one two periods quiet course.board.setup first_state ending course.lanes period.lanes repeats list from n history) (sym (same_end ∙ next))
+    (subst (λ (l : Lanes _ _). IsPeriod one two periods quiet course.board.setup first_state ending course.lanes l repeats list from to history) (sym lanes)
+    (is_period one two periods quiet course.board.setup first_state ending room fresh course.lanes repeats list from to seats after first_end second_end scanner_end history most none_first
+    none_second none_third first second played ends is_closed))

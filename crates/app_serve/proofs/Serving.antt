@@ -1,6 +1,6 @@
 -- What a served board is told of, and what is said of that.
 use Rattle.std.proofs.Common.{◌≡◌, ◌∙◌, ◌⊎◌, refl, inl, inr, sym, ap, subst, ℕ, Bool, List, [], Option, Some, Result, Ok, Err, string_bytes}
-use Rattle.std.specs.Prelude.{IfOk}
+use Rattle.std.specs.Prelude.{IfErr, IfOk}
 use Rattle.std.specs.List.{flat_map}
 use Rattle.cfg_records.specs.declared.board_file.BoardFile.{BoardFile}
 use Rattle.two_wire.specs.declared.Bus.TheVariants as bus
@@ -19,22 +19,25 @@ use Rattle.changed_words.specs.Changes.{IsListOf, listed}
 use Rattle.app_base.specs.declared.console.Console.{Console}
 use Rattle.app_base.specs.declared.report.Report.{Report}
 use Rattle.app_base.specs.declared.console.Stream.{Stream}
-use Rattle.app_base.specs.declared.console.Stream.TheVariants.{Error}
+use Rattle.app_base.specs.declared.console.Stream.TheVariants.{Output, Error}
+use Rattle.app_base.specs.declared.status.Status.{Status}
+use Rattle.app_base.specs.declared.status.Status.TheVariants.{Stopped}
 use Rattle.app_strict.specs.Refusals.{RefusedIf}
 use Rattle.app_base.specs.declared.ending.ReportFault.{ReportFault}
 use Rattle.app_base.specs.declared.ending.ReportFault.TheVariants as untold
-use Rattle.app_base.specs.Console.{IsWrittenTo}
 use Rattle.app_base.specs.Ending.{RunEnds, SaysReport, ReportTells}
 use Rattle.app_base.specs.EndingLaws.{run_ends_as, run_reports}
+use Rattle.app_base.specs.Files.{Readings}
 use Rattle.app_serve.specs.declared.periods.PeriodState.{PeriodState}
 use Rattle.app_serve.specs.declared.run.ServeWords.{ServeWords}
+use Rattle.app_serve.specs.declared.ends.EndFault.{EndFault}
 use Rattle.app_serve.specs.declared.inputs.ServeInputs.{ServeInputs}
 use Rattle.app_serve.specs.declared.tally.ListedBoard.{ListedBoard}
 use Rattle.app_serve.specs.declared.tally.ServeAccount.{ServeAccount}
 use Rattle.app_serve.specs.Served.{IsAsked, IsListedBoard, HistoriesLead, PlaysAgenda, TalliesOf, is_repeated, list_for, list_in}
 use Rattle.app_serve.specs.Periods.{EndsServing, RunsTo}
 use Rattle.app_serve.specs.Turns.{IsFreshLane}
-use Rattle.app_serve.specs.Run.{AreInputs, AreServable, IsServable, IsTakenPort, SaysNothing, SaysTally, SaysUnended, SaysUnserved, ServesBoard, TallyEnds, TellsRoom, TextEnds, is_refused_strictly, ports_line}
+use Rattle.app_serve.specs.Run.{AreInputs, HoldServable, IsEndOf, IsServable, SaysNothing, SaysTally, SaysUnended, SaysUnopened, SaysUnserved, ServeEnds, ServesBoard, TallyEnds, TellsEnd, TellsPorts, TellsRoom, TextEnds, is_refused_strictly}
 use Rattle.app_serve.proofs.Following.{follow_leads}
 use Rattle.app_serve.proofs.LaneTurns.{first_runs, ports_run, second_runs}
 
@@ -118,41 +121,69 @@ strict_told words board given inputs report reads (loose, to, ends) =
     subst (λ (s : Stream). SaysUnserved words board given s (string_bytes report.text) report.status) (sym to)
     (inr (inr (inl ((inputs.file, reads.0), (list_in inputs.readings, reads.1), loose, ends))))
 
--- a run that says nothing tells of no port
-pub ends_untold : {W E : Type 0} (out : W → Option (List ℕ)) (err : E → Option (List ℕ)) (words : ServeWords) (board : List ℕ) (given : Option (List ℕ)) (old new : Console W E) (result : ℕ)
-    → RunEnds out err SaysNothing old new result → TextEnds out err words board given old new result
-ends_untold out err words board given old new result ends =
-    inl (run_ends_as out err SaysNothing (SaysUnserved words board given) old new result (λ stream text status said. absurd said) ends)
+-- the report of an end that can't be had is told
+pub unopened_told : (words : ServeWords) (why : EndFault) (report : Report) → IsEndOf words why → report.stream ≡ Error → TellsEnd why (string_bytes report.text) → report.status ≡ Stopped
+    → ReportTells (SaysUnopened words) (Ok report)
+unopened_told words why report is to says ends =
+    subst (λ (s : Stream). SaysUnopened words s (string_bytes report.text) report.status) (sym to) (why, is, says, ends)
 
-module _ {W E : Type 0} (out : W → Option (List ℕ)) (err : E → Option (List ℕ)) (words : ServeWords) (board : List ℕ) (given : Option (List ℕ)) (inputs : ServeInputs)
-    (servable : AreServable words board given inputs) (old new : Console W E) (result : ℕ) where
+-- a run that says nothing says which end can't be had, where it says that
+pub nothing_unopened : {W E : Type 0} (out : W → Option (List ℕ)) (err : E → Option (List ℕ)) (words : ServeWords) (old new : Console W E) (result : ℕ)
+    → RunEnds out err SaysNothing old new result → RunEnds out err (SaysUnopened words) old new result
+nothing_unopened out err words old new result ends = run_ends_as out err SaysNothing (SaysUnopened words) old new result (λ stream text status said. absurd said) ends
+
+-- what is said of an end that can't be had is said of texts that can be served
+unopened_unserved : (words : ServeWords) (board : List ℕ) (given : Option (List ℕ)) → IsServable words board given → (stream : Stream) (text : List ℕ) (status : Status)
+    → SaysUnopened words stream text status → SaysUnserved words board given stream text status
+unopened_unserved words board given servable Output text status said = absurd said
+unopened_unserved words board given servable Error text status said = inr (inr (inr (servable, said)))
+
+-- and so is nothing, where the serving came to no end
+unended_tells : (words : ServeWords) (board : List ℕ) (given : Option (List ℕ)) → IsServable words board given → (why : ReportFault) → ReportTells (SaysUnended words board given) (Err why)
+unended_tells words board given servable untold.Memory = tt
+unended_tells words board given servable untold.Stopped = (servable, refl, refl)
+
+module _ {W E : Type 0} (out : W → Option (List ℕ)) (err : E → Option (List ℕ)) (gives : Readings) (words : ServeWords) (inputs : ServeInputs)
+    (hold : HoldServable gives words inputs) (start old new : Console W E) (same : old ≡ start) (result : ℕ) where
   -- so the texts can be served
-  is_servable : IsServable words board given
-  is_servable = ((inputs.file, servable.0.0), (list_in inputs.readings, servable.0.1), servable.1)
+  is_servable : IsServable words hold.0 hold.1
+  is_servable = ((inputs.file, hold.3.0.0), (list_in inputs.readings, hold.3.0.1), hold.3.1)
 
-  -- a link can't be had
-  pub ends_without_links : RunEnds out err (SaysReport (Err untold.Stopped)) old new result → TextEnds out err words board given old new result
-  ends_without_links ends =
-      inl (run_reports out err (SaysUnserved words board given) (Err untold.Stopped) old new result (inr (inr (inr (is_servable, refl, refl)))) ends)
+  -- the run ends as with these texts
+  with_texts : TextEnds out err words hold.0 hold.1 old new result → ServeEnds out err gives words start new result
+  with_texts ends = subst (λ (first : Console W E). ServeEnds out err gives words first new result) same (inl (hold.0, hold.1, hold.2, ends))
+
+  -- an end can't be had
+  pub ends_unopened : RunEnds out err (SaysUnopened words) old new result → ServeEnds out err gives words start new result
+  ends_unopened ends =
+      with_texts (inl (run_ends_as out err (SaysUnopened words) (SaysUnserved words hold.0 hold.1) old new result (unopened_unserved words hold.0 hold.1 is_servable) ends))
+
+  -- the ports are told of, and the serving came to no end
+  pub ends_unended : (told : Console W E) → TellsPorts out err words old told → (why : ReportFault) → RunEnds out err (SaysReport (Err why)) told new result
+      → ServeEnds out err gives words start new result
+  ends_unended told tells why ends =
+      let says : RunEnds out err (SaysUnended words hold.0 hold.1) told new result =
+      run_reports out err (SaysUnended words hold.0 hold.1) (Err why) told new result (unended_tells words hold.0 hold.1 is_servable why) ends in
+      with_texts (inr (told, tells, inr says))
 
   -- the ports are told of, the board is served, and that is told
-  pub ends_served : (told : Console W E) (ipmb smbus events changed : ℕ) (changes : List ℕ) → IsTakenPort words.ipmb_port ipmb → IsTakenPort words.smbus_port smbus
-      → IsWrittenTo Error (ports_line ipmb smbus) (out old.out) (out told.out) (err old.err) (err told.err)
+  ends_served : (told : Console W E) → TellsPorts out err words old told → (events changed : ℕ) (changes : List ℕ)
       → TalliesOf words (list_in inputs.readings) inputs.file events changed changes → TallyEnds out err words events changed changes told new result
-      → TextEnds out err words board given old new result
-  ends_served told ipmb smbus events changed changes is_ipmb is_smbus written tallies ends =
-      let serves : ServesBoard words board given events changed changes =
-      record { file = inputs.file; reads = servable.0.0; list = list_in inputs.readings; stands = servable.0.1; used = servable.1; tallies = tallies } in
-      inr (told, (ipmb, smbus, is_ipmb, is_smbus, written), inl (events, changed, changes, serves, ends))
+      → ServeEnds out err gives words start new result
+  ends_served told tells events changed changes tallies ends =
+      let serves : ServesBoard words hold.0 hold.1 events changed changes =
+      record { file = inputs.file; reads = hold.3.0.0; list = list_in inputs.readings; stands = hold.3.0.1; used = hold.3.1; tallies = tallies } in
+      with_texts (inr (told, tells, inl (events, changed, changes, serves, ends)))
 
-  -- they are told of, and the serving came to no end
-  pub ends_unended : (told : Console W E) (ipmb smbus : ℕ) (why : ReportFault) → IsTakenPort words.ipmb_port ipmb → IsTakenPort words.smbus_port smbus
-      → IsWrittenTo Error (ports_line ipmb smbus) (out old.out) (out told.out) (err old.err) (err told.err)
-      → RunEnds out err (SaysReport (Err why)) told new result → TextEnds out err words board given old new result
-  ends_unended told ipmb smbus untold.Memory is_ipmb is_smbus written ends =
-      inr (told, (ipmb, smbus, is_ipmb, is_smbus, written), inr (run_reports out err (SaysUnended words board given) (Err untold.Memory) told new result tt ends))
-  ends_unended told ipmb smbus untold.Stopped is_ipmb is_smbus written ends =
-      inr (told, (ipmb, smbus, is_ipmb, is_smbus, written), inr (run_reports out err (SaysUnended words board given) (Err untold.Stopped) told new result (is_servable, refl, refl) ends))
+  -- they are told of, and what came of the board is told
+  pub ends_told : (told : Console W E) → TellsPorts out err words old told → (account : Result ServeAccount ReportFault)
+      → IfOk account (λ account. TalliesOf words (list_in inputs.readings) inputs.file account.tally.events account.tally.changed (string_bytes account.changes))
+      → IfOk account (λ account. TallyEnds out err words account.tally.events account.tally.changed (string_bytes account.changes) told new result)
+      → IfErr account (λ why. RunEnds out err (SaysReport (Err why)) told new result)
+      → ServeEnds out err gives words start new result
+  ends_told told tells (Ok account) tallies ends unended =
+      ends_served told tells account.tally.events account.tally.changed (string_bytes account.changes) tallies ends
+  ends_told told tells (Err why) tallies ends unended = ends_unended told tells why unended
 
 -- a report of a served board is told, unless the room can't be
 pub account_told : {W E : Type 0} (out : W → Option (List ℕ)) (err : E → Option (List ℕ)) (words : ServeWords) (events changed : ℕ) (changes : List ℕ) (old mid new : Console W E)

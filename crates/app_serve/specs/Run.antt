@@ -22,6 +22,8 @@ use Rattle.app_base.specs.Files.{FilesGive, FirstUnread, Readings, PrintsRefusal
 use Rattle.app_base.specs.Report.{board_line}
 use Rattle.app_strict.specs.Refusals.{is_loose_board}
 use Rattle.app_strict.specs.Statuses.{records_status}
+use Rattle.app_serve.specs.declared.ends.EndFault.{EndFault}
+use Rattle.app_serve.specs.declared.ends.EndFault.TheVariants as end
 use Rattle.app_serve.specs.declared.inputs.InputFault.{InputFault}
 use Rattle.app_serve.specs.declared.inputs.InputFault.TheVariants as fault
 use Rattle.app_serve.specs.declared.inputs.ServeInputs.{ServeInputs}
@@ -82,6 +84,27 @@ TellsPorts out err words old new =
     (ipmb : ℕ) × (smbus : ℕ) × IsTakenPort words.ipmb_port ipmb × IsTakenPort words.smbus_port smbus
     × SaysPorts out err ipmb smbus old new
 
+-- the end is that of a bus at the port that the words name for it
+abbrev pub IsEndOf : ServeWords → EndFault → Type 0
+IsEndOf words (end.Ipmb port) = port ≡ words.ipmb_port
+IsEndOf words (end.Smbus port) = port ≡ words.smbus_port
+
+-- the line that says of the end of a bus that it can't be had at this port, or at any for 0
+abbrev pub TellsUnopened : (bus : List ℕ) → (port : ℕ) → (text : List ℕ) → Type 0
+TellsUnopened bus port text =
+    ((port ≡ 0) × (text ≡ codes "no port of " ++ bus ++ codes " can be opened on 127.0.0.1\n"))
+    ⊎ ((port ≢ 0) × (text ≡ codes "port " ++ decimal port ++ codes " of " ++ bus ++ codes " can't be opened on 127.0.0.1: is it in use?\n"))
+
+-- the text is that line of this end
+abbrev pub TellsEnd : EndFault → (text : List ℕ) → Type 0
+TellsEnd (end.Ipmb port) text = TellsUnopened (codes "IPMB") port text
+TellsEnd (end.Smbus port) text = TellsUnopened (codes "SMBus") port text
+
+-- what is said where an end can't be had: standard error has its line
+abbrev pub SaysUnopened : ServeWords → Saying
+SaysUnopened words Output text status = ⊥
+SaysUnopened words Error text status = (why : EndFault) × IsEndOf words why × TellsEnd why text × (status ≡ Stopped)
+
 -- ---- the board
 
 -- a strict run refuses this text of a board file for a key that is unknown or not used
@@ -93,14 +116,14 @@ abbrev pub IsServable : ServeWords → (board : List ℕ) → (given : Option (L
 IsServable words board given = IsBoard board × AreReadings given × (is_refused_strictly words board ≡ false)
 
 -- What is said of a board file's text, and of a text of readings, where there is one, that aren't served: why the first holds no board, or the
--- first bad line of the second; or what a strict run says of keys; or nothing, where a link can't be had.
+-- first bad line of the second; or what a strict run says of keys; or which end can't be had.
 abbrev pub SaysUnserved : ServeWords → (board : List ℕ) → (given : Option (List ℕ)) → Saying
 SaysUnserved words board given Output text status = ⊥
 SaysUnserved words board given Error text status =
     ((why : FileFault) × ReadsText board (Err why) × (text ≡ board_line why) × (status ≡ RefusedFile))
     ⊎ ((IsBoard board × (line : ℕ) × IsBadAt given line × (text ≡ readings_line (Line line)) × (status ≡ RefusedFile))
     ⊎ ((IsBoard board × AreReadings given × (is_refused_strictly words board ≡ true) × (status ≡ RefusedFile))
-    ⊎ (IsServable words board given × (text ≡ []) × (status ≡ Stopped))))
+    ⊎ (IsServable words board given × SaysUnopened words Error text status)))
 
 -- the line that tells that the room of the one history is over, and how to go on then
 abbrev pub room_line : List ℕ
@@ -177,6 +200,11 @@ AreInputs board given (Err (fault.Readings why)) = IsBoard board × IsRefused gi
 -- they hold this, and no strict run refuses them
 abbrev pub AreServable : ServeWords → (board : List ℕ) → (given : Option (List ℕ)) → ServeInputs → Type 0
 AreServable words board given inputs = AreInputs board given (Ok inputs) × (is_refused_strictly words board ≡ false)
+
+-- the files that the words name have texts that hold this, and no strict run refuses them
+abbrev pub HoldServable : Readings → ServeWords → ServeInputs → Type 0
+HoldServable gives words inputs =
+    (board : List ℕ) × (given : Option (List ℕ)) × FilesGive gives (files_of words) (board ∷ texts_in given) × AreServable words board given inputs
 
 -- So a run of `serve` ends: as it does with the texts of its files, or one of these isn't read, the first of them.
 abbrev pub ServeEnds : {Stdout Stderr : Type 0} → (out : Stdout → Option (List ℕ)) → (err : Stderr → Option (List ℕ)) → Readings → ServeWords → (old new : Console Stdout Stderr) → ℕ → Type 0

@@ -1,4 +1,4 @@
-//! The board of a file, served over two links, and what is told of it.
+//! The board of a file that is to be served over two links, and what is told of it once it was.
 ghost use Rattle.std.specs.Prelude.{◌≡◌, [], ◌∷◌, Bool, IfOk, string_bytes};
 ghost use Rattle.std.specs.List.{AllZip, flat_map};
 ghost use Rattle.text_lines.specs.Cuts.{ended};
@@ -8,24 +8,20 @@ ghost use Rattle.bmc_board.specs.State.{state_of};
 ghost use Rattle.bmc_lab.specs.Run.{IsFreshPort};
 ghost use Rattle.cfg_records.specs.Changed.{changed_in};
 ghost use Rattle.changed_words.specs.Changes.{IsListOf, listed};
-ghost use Rattle.app_serve.specs.Served.{TalliesOf, list_in};
+ghost use Rattle.app_serve.specs.Served.{IsListedBoard};
 ghost use Rattle.app_serve.specs.Turns.{IsFreshLane};
 
 use crate::board::controller_ports;
 use crate::ends::BusLinks;
-use crate::periods::{PeriodState, ServeRules, serve_periods};
-use crate::readings::{CLOCK, agenda_of};
+use crate::periods::PeriodState;
 use crate::run::ServeWords;
 use crate::tally::{FirstState, ListedBoard, ServeAccount, account, begin_listed};
 use crate::wakeful_link::WakefulLink;
 use app_base::ReportFault;
 use bmc_core::Port;
-use bmc_ports::{Lane, Lanes, Timed};
+use bmc_ports::{Lane, Lanes};
 use cfg_records::BoardFile;
-use std::alloc::Global;
-use std::sync::Wait;
-use std::sync::atomic::AtomicBool;
-use std::thread::Threads;
+use std::alloc::{AllocError, Global};
 use std::time::Clock;
 
 /// Both ports with their links and as many turns as the words have for each.
@@ -48,8 +44,43 @@ fn lanes_of<'a, R: Clock>(
     }
 }
 
+/// A board that begins to be served over two lanes.
+#[derive(Drop)]
+pub(crate) struct ReadyBoard<'a, R: Clock> {
+    pub begun: ListedBoard,
+    pub lanes: Lanes<WakefulLink<'a, R>, WakefulLink<'a, R>>,
+}
+
+/// The board of a file, as it begins, with both ports at these ends.
+pub(crate) fn ready_board<'a, R: Clock>(
+    alloc: Global,
+    file: BoardFile,
+    ends: BusLinks<'a, R>,
+    words: &ServeWords,
+) -> Result<ReadyBoard<'a, R>, ReportFault>
+    ensures begun { IfOk result (λ ready. IsListedBoard words.now.list file ready.begun) }
+    ensures ipmb { IfOk result (λ ready.
+        IsFreshLane bus.Ipmb words.now.turns words.now.forget ready.lanes.first) }
+    ensures smbus { IfOk result (λ ready.
+        IsFreshLane bus.Smbus words.now.turns words.now.forget ready.lanes.second) }
+{
+    let Ok(ports) = controller_ports(alloc) else {
+        drop(file);
+        drop(ends);
+        return Err(ReportFault::Memory);
+    };
+    let lanes = lanes_of(ports, ends, words);
+    match begin_listed(alloc, file, words.list) {
+        Ok(begun) => Ok(ReadyBoard { begun, lanes }),
+        Err(AllocError) => {
+            drop(lanes);
+            Err(ReportFault::Memory)
+        }
+    }
+}
+
 /// What is told of a board that was served, by what it began with. Both are let go.
-fn accounted<A: Drop, B: Drop>(
+pub(crate) fn accounted<A: Drop, B: Drop>(
     alloc: Global,
     first: FirstState,
     course: PeriodState<'_, A, B>,
@@ -65,56 +96,4 @@ fn accounted<A: Drop, B: Drop>(
     drop(first);
     drop(course);
     Ok(account?)
-}
-
-/// What is served: a board that begins, with what is to happen on it meanwhile, where there is a list, as the words say.
-#[derive(Clone, Copy)]
-pub(crate) struct Asked<'a> {
-    pub readings: &'a Option<Vec<Timed>>,
-    pub words: &'a ServeWords,
-    pub bell: &'a AtomicBool,
-}
-
-/// Serves the board of a file at these ends as the words say, and gives what is told of it.
-pub(crate) fn served<R: Threads + Wait + Clock + Sync>(
-    rt: &R,
-    alloc: Global,
-    file: BoardFile,
-    ends: BusLinks<'_, R>,
-    asked: Asked<'_>,
-) -> Result<ServeAccount, ReportFault>
-    ensures { IfOk result (λ account. TalliesOf asked.entry.words.now
-        (list_in asked.entry.readings.now) file account.tally.events account.tally.changed
-        (string_bytes account.changes)) }
-{
-    let Asked {
-        readings,
-        words,
-        bell,
-    } = asked;
-    let Ok(ports) = controller_ports(alloc) else {
-        drop(file);
-        drop(ends);
-        return Err(ReportFault::Memory);
-    };
-    let lanes = lanes_of(ports, ends, words);
-    let Ok(begun) = begin_listed(alloc, file, words.list) else {
-        drop(lanes);
-        return Err(ReportFault::Memory);
-    };
-    let ListedBoard { first, board } = begun;
-    let rules = ServeRules {
-        periods: words.periods,
-        quiet: words.quiet,
-        bell,
-    };
-    let clock = CLOCK;
-    let agenda = agenda_of(rt, &clock, readings, words);
-    match serve_periods(rt, alloc, board, lanes, agenda, rules) {
-        Ok(course) => accounted(alloc, first, course),
-        Err(why) => {
-            drop(first);
-            Err(why)
-        }
-    }
 }

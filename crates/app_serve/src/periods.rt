@@ -3,14 +3,13 @@ ghost use Rattle.std.specs.Prelude.{◌≡◌, ◌<◌, ◌+◌, ◌^◌, ◌↔
 ghost use Rattle.bmc_ports.specs.Slices.{EndsAt};
 ghost use Rattle.bmc_board.specs.State.{state_of};
 ghost use Rattle.app_serve.specs.Served.{most_events};
-ghost use Rattle.app_serve.specs.Periods.{EndsServing, IsPeriod, IsClosed, GoesToNext, RunsTo, events_of_period};
+ghost use Rattle.app_serve.specs.Periods.{EndsServing, IsClosed, GoesToNext, RunsTo, events_of_period};
 
 use crate::board::{OpenGate, open_board};
 use app_base::ReportFault;
 use bmc_board::{Board, Records};
 use bmc_ports::{
-    Agenda, History, Lanes, Link, MOST_EVENTS, NoThread, Opening, RunResult, Shared, StopRules,
-    run_agenda,
+    Agenda, History, Lanes, Link, MOST_EVENTS, Opening, RunResult, Shared, StopRules, run_agenda,
 };
 use std::alloc::Global;
 use std::marker::Brand;
@@ -107,53 +106,6 @@ fn close_period<J: Opening, A: Drop, B: Drop>(
     }
 }
 
-/// Serves a board for a period, with room for so many events, while what is left of the agenda happens on it: until both workers made their
-/// turns, until both links were quiet for so many turns in a row, where a number is given, or until its room is over.
-fn serve_period<J, A, B, R>(
-    rt: &R,
-    alloc: Global,
-    blank: Blank,
-    board: Board<Records>,
-    room: usize,
-    lanes: Lanes<A, B>,
-    agenda: Agenda<'_>,
-    rules: ServeRules<'_>,
-) -> Result<Period<A, B>, ReportFault>
-where
-    J: Opening + Send + Sync,
-    A: Link + Send + Drop,
-    B: Link + Send + Drop,
-    R: Threads + Wait + Clock + Sync,
-    requires name { blank.name ≡ J.name }
-    requires parts { blank.parts ≡ J.parts }
-    requires three { blank.parts ≡ 3 }
-    requires setup { board.setup ≡ J.setup }
-    requires opening { state_of board ≡ J.opening }
-    requires room { room ≡ J.room }
-    requires most { room ≡ most_events }
-    ensures period { IfOk result (λ period. IsPeriod A.Link B.Link rules.entry.periods
-        rules.entry.quiet J.setup J.opening (state_of period.board) lanes period.lanes
-        agenda.entry.repeats agenda.entry.table.list.now agenda.entry.table.next
-        period.next period.history) }
-    ensures setup { IfOk result (λ period. period.board.setup ≡ J.setup) }
-{
-    let (shared, seats) = match open_board::<J>(alloc, blank, board, room) {
-        Ok(opened) => opened,
-        Err(why) => {
-            drop(lanes);
-            return Err(why);
-        }
-    };
-    let rules = rules.stop_rules();
-    match run_agenda(rt, &shared, seats, lanes, agenda, &OpenGate, rules) {
-        Ok(sliced) => close_period(shared, sliced),
-        Err(NoThread) => {
-            drop(shared);
-            Err(ReportFault::Stopped)
-        }
-    }
-}
-
 impl<'a, A: Link + Send + Drop, B: Link + Send + Drop> PeriodState<'a, A, B> {
     /// A board that is to be served.
     pub fn new(board: Board<Records>, lanes: Lanes<A, B>, agenda: Agenda<'a>) -> Self
@@ -177,56 +129,68 @@ impl<'a, A: Link + Send + Drop, B: Link + Send + Drop> PeriodState<'a, A, B> {
     {
         self.lanes.are_over(quiet)
     }
+}
 
-    /// Serves the board for a period more, and counts its history. A period's room is taken anew, and the agenda goes on where it was.
-    pub fn go_on<R: Threads + Wait + Clock + Sync>(
-        self,
-        rt: &R,
-        alloc: Global,
-        rules: ServeRules<'_>,
-    ) -> Result<Self, ReportFault>
-        requires { self.events + most_events < 2 ^ 64 }
-        ensures { IfOk result (GoesToNext A.Link B.Link rules.entry.periods rules.entry.quiet
-            self.entry) }
-    {
-        let PeriodState {
-            board,
-            lanes,
-            agenda,
-            events,
-        } = self;
-        let next = agenda.table.next;
-        let blank = Blank::new(3);
-        match serve_period::<Brand, A, B, R>(
-            rt,
-            alloc,
-            blank,
-            board,
-            MOST_EVENTS,
-            lanes,
-            agenda.from(next),
-            rules,
-        ) {
-            Ok(
-                Period {
-                    board,
-                    lanes,
-                    next,
-                    history,
-                },
-            ) => {
-                let events = events + history.len();
-                drop(history);
-                Ok(PeriodState {
-                    board,
-                    lanes,
-                    agenda: agenda.from(next),
-                    events,
-                })
-            }
-            Err(why) => Err(why),
+/// Serves a board for a period more, and counts its history: until both workers made their turns, until both links were quiet for so many turns in
+/// a row, where a number is given, or until its room is over. A period's room is taken anew, and the agenda goes on where it was.
+fn serve_period<'a, J, A, B, R>(
+    rt: &R,
+    alloc: Global,
+    blank: Blank,
+    course: PeriodState<'a, A, B>,
+    rules: ServeRules<'_>,
+) -> Result<PeriodState<'a, A, B>, ReportFault>
+where
+    J: Opening + Send + Sync,
+    A: Link + Send + Drop,
+    B: Link + Send + Drop,
+    R: Threads + Wait + Clock + Sync,
+    requires name { blank.name ≡ J.name }
+    requires parts { blank.parts ≡ J.parts }
+    requires three { blank.parts ≡ 3 }
+    requires setup { course.board.setup ≡ J.setup }
+    requires opening { state_of course.board ≡ J.opening }
+    requires room { J.room ≡ most_events }
+    requires counted { course.events + most_events < 2 ^ 64 }
+    ensures { IfOk result (GoesToNext A.Link B.Link rules.entry.periods rules.entry.quiet
+        course.entry) }
+{
+    let PeriodState {
+        board,
+        lanes,
+        agenda,
+        events,
+    } = course;
+    let left = agenda.from(agenda.table.next);
+    let (shared, seats) = match open_board::<J>(alloc, blank, board, MOST_EVENTS) {
+        Ok(opened) => opened,
+        Err(why) => {
+            drop(lanes);
+            return Err(why);
         }
-    }
+    };
+    let stops = rules.stop_rules();
+    let Ok(sliced) = run_agenda(rt, &shared, seats, lanes, left, &OpenGate, stops) else {
+        drop(shared);
+        return Err(ReportFault::Stopped);
+    };
+    let Period {
+        board,
+        lanes,
+        next,
+        history,
+    } = match close_period(shared, sliced) {
+        Ok(period) => period,
+        Err(why) => return Err(why),
+    };
+    let events = events + history.len();
+    drop(history);
+    Ok(PeriodState {
+        board,
+        lanes,
+        agenda: agenda.from(next),
+        events,
+    })
 }
 
 /// Serves a board over two lanes until both workers made all their turns, or until nothing was heard over either link for so many turns in a
@@ -252,7 +216,7 @@ where
 {
     let most = u64::from(lanes.first.turns) + u64::from(lanes.second.turns);
     let begun = PeriodState::new(board, lanes, agenda);
-    let mut course = match begun.go_on(rt, alloc, rules) {
+    let mut course = match serve_period::<Brand, A, B, R>(rt, alloc, Blank::new(3), begun, rules) {
         Ok(course) => course,
         Err(why) => return Err(why),
     };
@@ -263,7 +227,7 @@ where
         if course.is_over(rules.quiet) {
             return Ok(course);
         }
-        match course.go_on(rt, alloc, rules) {
+        match serve_period::<Brand, A, B, R>(rt, alloc, Blank::new(3), course, rules) {
             Ok(next) => course = next,
             Err(why) => return Err(why),
         }

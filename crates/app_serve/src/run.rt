@@ -1,12 +1,14 @@
 //! `bmcnet serve`: a board's ports over UDP.
-ghost use Rattle.std.specs.Prelude.{ℕ, List, Option, IfErr, OnOk, string_bytes};
+ghost use Rattle.std.specs.Prelude.{◌≡◌, Err, IfErr, IfOk, OnOk, string_bytes};
 ghost use Rattle.app_base.specs.Ending.{RunEnds, SaysReport, ReportTells};
-ghost use Rattle.app_serve.specs.Run.{AreServable, SaysNothing, SaysPorts, SaysTally, ServeEnds, TallyEnds, TellsRoom, TextEnds};
+ghost use Rattle.app_serve.specs.Run.{HoldServable, SaysNothing, SaysPorts, SaysTally, SaysUnopened, ServeEnds, TallyEnds, TellsPorts, TellsRoom};
 
-use crate::counting::{Asked, served};
-use crate::ends::{open_ends, ports_text};
+use crate::counting::{ReadyBoard, accounted, ready_board};
+use crate::ends::{BusLinks, open_ends, ports_text, unopened_report};
 use crate::inputs::{ServeInputs, servable_inputs, texts_of};
-use crate::tally::{ROOM_LINE, ServeAccount, Tally, report};
+use crate::periods::{ServeRules, serve_periods};
+use crate::readings::{CLOCK, agenda_of};
+use crate::tally::{ListedBoard, ROOM_LINE, ServeAccount, Tally, report};
 use app_base::files::refuse;
 use app_base::{Console, Report, ReportFault, Status, Stream, TextFiles, end_run};
 use std::alloc::Global;
@@ -89,6 +91,33 @@ fn tell_ports<W: io::Write, E: io::Write>(
     }
 }
 
+/// The ends at the ports that the words name, once these are told; or the status of a run that has no ends, once it is said which can't be had, or
+/// that can't tell of them.
+fn told_ends<'a, W: io::Write, E: io::Write, R: Net + Clock>(
+    rt: &'a R,
+    alloc: Global,
+    bell: &'a AtomicBool,
+    words: &ServeWords,
+    console: &mut Console<W, E>,
+) -> Result<BusLinks<'a, R>, u8>
+    ensures told { OnOk result
+        (TellsPorts W.contents E.contents words.now console.old console.new) }
+    ensures untold { IfErr result
+        (RunEnds W.contents E.contents (SaysUnopened words.now) console.old console.new) }
+{
+    let ends = match open_ends(rt, bell, words) {
+        Ok(ends) => ends,
+        Err(why) => return Err(finish(unopened_report(alloc, why), console)),
+    };
+    match tell_ports(alloc, ends.ipmb.port, ends.smbus.port, console) {
+        Ok(()) => Ok(ends),
+        Err(status) => {
+            drop(ends);
+            Err(status)
+        }
+    }
+}
+
 /// Tells that the room of the one history is over, where it is, or gives the status of a run that can't tell it.
 fn tell_room<W: io::Write, E: io::Write>(
     tally: Tally,
@@ -141,37 +170,44 @@ fn tell_account<W: io::Write, E: io::Write>(
     }
 }
 
-/// Serves a board while on it happens what the list has, at the ports that the words name, and says what came of it. Where nothing can be told of
-/// these, nothing is served.
-fn serve_inputs<W: io::Write, E: io::Write, R: Net + Threads + Wait + Clock + Sync>(
-    rt: &R,
+/// Says what came of a board that was served, or that its serving came to no end.
+fn tell_served<W: io::Write, E: io::Write>(
     alloc: Global,
-    inputs: ServeInputs,
+    account: Result<ServeAccount, ReportFault>,
     words: &ServeWords,
     console: &mut Console<W, E>,
 ) -> u8
-    ensures { (board : List ℕ) (given : Option (List ℕ)) → AreServable words.now board given inputs
-        → TextEnds W.contents E.contents words.now board given console.old console.new result }
+    ensures tally { IfOk account (λ told. TallyEnds W.contents E.contents words.now
+        told.tally.events told.tally.changed (string_bytes told.changes)
+        console.old console.new result) }
+    ensures unended { IfErr account (λ why. RunEnds W.contents E.contents
+        (SaysReport (Err why)) console.old console.new result) }
 {
-    let ServeInputs { file, readings } = inputs;
-    let bell = AtomicBool::new(false);
-    let Some(ends) = open_ends(rt, &bell, words) else {
-        drop(file);
-        return finish(Err(ReportFault::Stopped), console);
-    };
-    if let Err(status) = tell_ports(alloc, ends.ipmb.port, ends.smbus.port, console) {
-        drop(file);
-        drop(ends);
-        return status;
-    }
-    let asked = Asked {
-        readings: &readings,
-        words,
-        bell: &bell,
-    };
-    match served(rt, alloc, file, ends, asked) {
+    match account {
         Ok(account) => tell_account(alloc, &account, words, console),
         Err(why) => finish(Err(why), console),
+    }
+}
+
+/// What the files hold that the words name, or the status of a run that serves nothing, once it is said why.
+fn told_inputs<F: TextFiles, W: io::Write, E: io::Write>(
+    alloc: Global,
+    files: &F,
+    words: &ServeWords,
+    console: &mut Console<W, E>,
+) -> Result<ServeInputs, u8>
+    ensures hold { IfOk result (HoldServable (F.gives files.now) words.now) }
+    ensures same { OnOk result (console.new ≡ console.old) }
+    ensures ends { IfErr result (ServeEnds W.contents E.contents (F.gives files.now) words.now
+        console.old console.new) }
+{
+    let texts = match texts_of(files, words) {
+        Ok(texts) => texts,
+        Err(unread) => return Err(refuse(alloc, &unread, console)),
+    };
+    match servable_inputs(alloc, words, &texts) {
+        Ok(inputs) => Ok(inputs),
+        Err(report) => Err(finish(report, console)),
     }
 }
 
@@ -181,10 +217,10 @@ fn serve_inputs<W: io::Write, E: io::Write, R: Net + Threads + Wait + Clock + Sy
 /// times of the readings count. At the end it writes to standard output how many events the board's history has, those of the readings among
 /// them, and whether records are changed, and with `list` which; where the room of the one history is over, standard error gets a line before
 /// that which says so. It gives the status: 0, or 3 with `file`, `board` or `readings` and the fault on standard error where a file can't be
-/// read, or the first holds no board, or the second no readings; 4 where a link or a thread can't be had or the board isn't closed, 5 with
-/// `memory` on standard error where memory was refused, and 6 where a write failed; where that of the ports' line fails, nothing is served.
-/// With `strict` it is 13 in place of 0 where records are changed, and 3 with what `bmclab check` tells of them on standard error where the
-/// board file has keys that nothing reads.
+/// read, or the first holds no board, or the second no readings; 4 where a port can't be opened, which standard error names, and 4 and no more where
+/// a thread can't be had or the board isn't closed; 5 with `memory` on standard error where memory was refused, and 6 where a write failed; where
+/// that of the ports' line fails, nothing is served. With `strict` it is 13 in place of 0 where records are changed, and 3 with what `bmclab check`
+/// tells of them on standard error where the board file has keys that nothing reads.
 pub fn serve<F: TextFiles, W: io::Write, E: io::Write, R: Net + Threads + Wait + Clock + Sync>(
     rt: &R,
     alloc: Global,
@@ -195,12 +231,37 @@ pub fn serve<F: TextFiles, W: io::Write, E: io::Write, R: Net + Threads + Wait +
     ensures { ServeEnds W.contents E.contents (F.gives files.now) words.now
         console.old console.new result }
 {
-    let texts = match texts_of(files, words) {
-        Ok(texts) => texts,
-        Err(unread) => return refuse(alloc, &unread, console),
+    let inputs = match told_inputs(alloc, files, words, console) {
+        Ok(inputs) => inputs,
+        Err(status) => return status,
     };
-    match servable_inputs(alloc, words, &texts) {
-        Ok(inputs) => serve_inputs(rt, alloc, inputs, words, console),
-        Err(report) => finish(report, console),
+    let ServeInputs { file, readings } = inputs;
+    let bell = AtomicBool::new(false);
+    let ends = match told_ends(rt, alloc, &bell, words, console) {
+        Ok(ends) => ends,
+        Err(status) => {
+            drop(file);
+            return status;
+        }
+    };
+    let ready = match ready_board(alloc, file, ends, words) {
+        Ok(ready) => ready,
+        Err(why) => return finish(Err(why), console),
+    };
+    let ReadyBoard { begun, lanes } = ready;
+    let ListedBoard { first, board } = begun;
+    let clock = CLOCK;
+    let agenda = agenda_of(rt, &clock, &readings, words);
+    let rules = ServeRules {
+        periods: words.periods,
+        quiet: words.quiet,
+        bell: &bell,
+    };
+    match serve_periods(rt, alloc, board, lanes, agenda, rules) {
+        Ok(course) => tell_served(alloc, accounted(alloc, first, course), words, console),
+        Err(why) => {
+            drop(first);
+            finish(Err(why), console)
+        }
     }
 }

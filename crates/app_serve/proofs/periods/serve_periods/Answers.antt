@@ -29,12 +29,12 @@ loop-init g c =
 pub loop-preserved : goal.loop-preserved
 loop-preserved g c =
     let inv = c.loop.invariant in
-    let goes = c.in-Ok-go_on.ensures in
+    let goes = c.in-Ok-serve_period.ensures in
     let some = has_turns c.loop.course.lanes.first.turns c.loop.course.lanes.second.turns (λ over. clash c.is_over.result c.if-is_over.false (c.is_over.ensures.1 (inl over))) in
     let takes = takes_turns g.A.Link g.B.Link goes.period.first_end goes.period.second_end [] (calls_of 0 goes.history) [] (calls_of 1 goes.history)
-    c.loop.course.lanes c.in-Ok-go_on.next.lanes goes.period.first goes.period.second some in (
-      runs_more g.A.Link g.B.Link c.args.rules.periods c.args.rules.quiet c.args.board.setup (state_of c.args.board) c.args.lanes c.args.agenda c.loop.course c.in-Ok-go_on.next inv.1 inv.0 goes,
+    c.loop.course.lanes c.in-Ok-serve_period.next.lanes goes.period.first goes.period.second some in (
+      runs_more g.A.Link g.B.Link c.args.rules.periods c.args.rules.quiet c.args.board.setup (state_of c.args.board) c.args.lanes c.args.agenda c.loop.course c.in-Ok-serve_period.next inv.1 inv.0 goes,
       inv.1,
-      fewer (turns_left c.loop.course.lanes) (turns_left c.in-Ok-go_on.next.lanes) c.loop.counter (turns_left c.args.lanes) inv.2 takes,
-      more_events c.loop.course.events (length goes.history) (c.loop.counter + 1) c.in-Ok-go_on.next.events goes.events goes.period.few inv.3,
+      fewer (turns_left c.loop.course.lanes) (turns_left c.in-Ok-serve_period.next.lanes) c.loop.counter (turns_left c.args.lanes) inv.2 takes,
+      more_events c.loop.course.events (length goes.history) (c.loop.counter + 1) c.in-Ok-serve_period.next.events goes.events goes.period.few inv.3,
     )

@@ -12,3 +12,9 @@ invariant-loop g l =
     × (l.fn.rules.periods ≡ true)
     × (turns_left l.course.lanes + l.counter ≤ turns_left l.fn.lanes)
     × (l.course.events ≤ most_events * (l.counter + 1))
+
+abbrev pub ghosts-serve_period-J-Opening : goal.ghosts-serve_period-J-Opening
+ghosts-serve_period-J-Opening g a = record { setup = a.course.board.setup; opening = state_of a.course.board; room = most_events }
+
+abbrev pub ghosts-serve_period-J-Ledger : goal.ghosts-serve_period-J-Ledger
+ghosts-serve_period-J-Ledger g a = record { name = a.blank.name; parts = a.blank.parts }

@@ -115,12 +115,18 @@ fn a_port_that_is_taken_can_not_be_served(rt: HostRuntime) {
         .ok()
         .expect(&rt, "a socket");
     let port = socket.local_addr().ok().expect(&rt, "an address").port();
+    let alloc = rt.alloc();
+    let told = format!(in alloc;
+        "port {port} of IPMB can't be opened on 127.0.0.1: is it in use?\n"
+    );
+    let told = told.expect(&rt, "memory");
     let end = End {
         status: 4,
         out: &[],
-        err: &[],
+        err: told.as_bytes(),
     };
-    expect_served(&rt, rt.alloc(), port, &[("board.toml", BOARD)], end);
+    expect_served(&rt, alloc, port, &[("board.toml", BOARD)], end);
+    drop(told);
 }
 
 /// A run of the file `plan.toml` of this text ends with status 3 and this on standard error, and writes no list.
