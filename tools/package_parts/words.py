@@ -48,6 +48,7 @@ WORDS = {
             [("PLAN", PLAN), ("P0", None)],
         ),
         "revert": ({"--wait": None, "--again": None, "--json": FLAG}, [("FILE", UNDO), ("P0", None)]),
+        "preview": ({"--wait": None, "--again": None, "--json": FLAG}, [("PLAN", PLAN), ("P0", None)]),
         "version": ({}, []),
     },
     "lan-bridge": {

@@ -9,9 +9,10 @@ use Rattle.app_run.specs.declared.undoing.UndoWords.{UndoWords}
 use Rattle.app_apply.specs.declared.applying.ApplyWords.{ApplyWords}
 use Rattle.app_revert.specs.declared.reverting.RevertWords.{RevertWords}
 use Rattle.app_pair.specs.declared.pairing.PairWords.{PairWords}
+use Rattle.app_preview.specs.declared.previewing.PreviewWords.{PreviewWords}
 use Rattle.app_bmcnet.specs.declared.words.Words.{Words}
-use Rattle.app_bmcnet.specs.declared.words.Words.TheVariants.{Serve, Run, Undo, Pair, Apply, Revert, Version}
-use Rattle.app_bmcnet.specs.Asked.{AsksBy, AsksServe, AsksRun, AsksUndo, AsksPair, AsksApply, AsksRevert}
+use Rattle.app_bmcnet.specs.declared.words.Words.TheVariants.{Serve, Run, Undo, Pair, Apply, Revert, Preview, Version}
+use Rattle.app_bmcnet.specs.Asked.{AsksBy, AsksServe, AsksRun, AsksUndo, AsksPair, AsksApply, AsksRevert, AsksPreview}
 
 -- what asks for anything behind `serve` asks for a serving
 pub serve_behind : (met : Option (Text × List Row)) (rows : List Row) → met ≡ Some (codes "serve", rows) → (asked : Words) → AsksBy met asked
@@ -49,15 +50,22 @@ pub revert_behind : (met : Option (Text × List Row)) (rows : List Row) → met 
 revert_behind met rows is (Revert words) asks = (words, subst (λ (r : List Row). AsksRevert r words) (alike met (codes "revert") asks.0 rows asks.1 is) asks.2)
 revert_behind met rows is _ asks = absurd (apart met (codes "revert") _ rows asks.0 refl is asks.1)
 
+-- what asks for anything behind `preview` asks for a plan to be previewed
+pub preview_behind : (met : Option (Text × List Row)) (rows : List Row) → met ≡ Some (codes "preview", rows) → (asked : Words) → AsksBy met asked
+    → (words : PreviewWords) × AsksPreview rows words
+preview_behind met rows is (Preview words) asks = (words, subst (λ (r : List Row). AsksPreview r words) (alike met (codes "preview") asks.0 rows asks.1 is) asks.2)
+preview_behind met rows is _ asks = absurd (apart met (codes "preview") _ rows asks.0 refl is asks.1)
+
 -- where none of the subcommands was met, nothing is asked for
 pub none_behind : (m : ArgMatches) → (subcommand_name_of m ≡ Some (codes "serve") → false ≡ true) → (subcommand_name_of m ≡ Some (codes "run") → false ≡ true)
     → (subcommand_name_of m ≡ Some (codes "undo") → false ≡ true) → (subcommand_name_of m ≡ Some (codes "pair") → false ≡ true)
     → (subcommand_name_of m ≡ Some (codes "apply") → false ≡ true) → (subcommand_name_of m ≡ Some (codes "revert") → false ≡ true)
-    → (subcommand_name_of m ≡ Some (codes "version") → false ≡ true) → (asked : Words) → AsksBy (subcommand_rows_of m) asked → ⊥
-none_behind m serve run undo pair apply revert version (Serve words) asks = unnamed m (codes "serve") serve asks.0 asks.1
-none_behind m serve run undo pair apply revert version (Run words) asks = unnamed m (codes "run") run asks.0 asks.1
-none_behind m serve run undo pair apply revert version (Undo words) asks = unnamed m (codes "undo") undo asks.0 asks.1
-none_behind m serve run undo pair apply revert version (Pair words) asks = unnamed m (codes "pair") pair asks.0 asks.1
-none_behind m serve run undo pair apply revert version (Apply words) asks = unnamed m (codes "apply") apply asks.0 asks.1
-none_behind m serve run undo pair apply revert version (Revert words) asks = unnamed m (codes "revert") revert asks.0 asks.1
-none_behind m serve run undo pair apply revert version Version asks = unnamed m (codes "version") version asks.0 asks.1
+    → (subcommand_name_of m ≡ Some (codes "preview") → false ≡ true) → (subcommand_name_of m ≡ Some (codes "version") → false ≡ true) → (asked : Words) → AsksBy (subcommand_rows_of m) asked → ⊥
+none_behind m serve run undo pair apply revert preview version (Serve words) asks = unnamed m (codes "serve") serve asks.0 asks.1
+none_behind m serve run undo pair apply revert preview version (Run words) asks = unnamed m (codes "run") run asks.0 asks.1
+none_behind m serve run undo pair apply revert preview version (Undo words) asks = unnamed m (codes "undo") undo asks.0 asks.1
+none_behind m serve run undo pair apply revert preview version (Pair words) asks = unnamed m (codes "pair") pair asks.0 asks.1
+none_behind m serve run undo pair apply revert preview version (Apply words) asks = unnamed m (codes "apply") apply asks.0 asks.1
+none_behind m serve run undo pair apply revert preview version (Revert words) asks = unnamed m (codes "revert") revert asks.0 asks.1
+none_behind m serve run undo pair apply revert preview version (Preview words) asks = unnamed m (codes "preview") preview asks.0 asks.1
+none_behind m serve run undo pair apply revert preview version Version asks = unnamed m (codes "version") version asks.0 asks.1

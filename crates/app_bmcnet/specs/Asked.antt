@@ -10,8 +10,9 @@ use Rattle.app_apply.specs.declared.applying.ApplyWords.{ApplyWords}
 use Rattle.app_apply.specs.declared.kept_calls.Reach.{Reach}
 use Rattle.app_revert.specs.declared.reverting.RevertWords.{RevertWords}
 use Rattle.app_pair.specs.declared.pairing.PairWords.{PairWords}
+use Rattle.app_preview.specs.declared.previewing.PreviewWords.{PreviewWords}
 use Rattle.app_bmcnet.specs.declared.words.Words.{Words}
-use Rattle.app_bmcnet.specs.declared.words.Words.TheVariants.{Serve, Run, Undo, Pair, Apply, Revert, Version}
+use Rattle.app_bmcnet.specs.declared.words.Words.TheVariants.{Serve, Run, Undo, Pair, Apply, Revert, Preview, Version}
 use Rattle.app_bmcnet.specs.Line.{program}
 
 -- the word of this name is this port
@@ -133,6 +134,12 @@ pub record AsksRevert (rows : List Row) (asked : RevertWords) : Type 0 where
   pub reach : NamesReach rows asked.reach
   pub json : is_given (codes "json") rows ≡ asked.json
 
+-- what was matched behind `preview` asks for this
+pub record AsksPreview (rows : List Row) (asked : PreviewWords) : Type 0 where
+  pub plan : first_of (codes "PLAN") rows ≡ Some (string_bytes asked.plan)
+  pub json : is_given (codes "json") rows ≡ asked.json
+  pub reach : NamesReach rows asked.reach
+
 -- the subcommand, with what was matched behind it, asks for this
 abbrev pub AsksBy : Option (Text × List Row) → Words → Type 0
 AsksBy met (Serve asked) = (rows : List Row) × (met ≡ Some (codes "serve", rows)) × AsksServe rows asked
@@ -141,6 +148,7 @@ AsksBy met (Undo asked) = (rows : List Row) × (met ≡ Some (codes "undo", rows
 AsksBy met (Pair asked) = (rows : List Row) × (met ≡ Some (codes "pair", rows)) × AsksPair rows asked
 AsksBy met (Apply asked) = (rows : List Row) × (met ≡ Some (codes "apply", rows)) × AsksApply rows asked
 AsksBy met (Revert asked) = (rows : List Row) × (met ≡ Some (codes "revert", rows)) × AsksRevert rows asked
+AsksBy met (Preview asked) = (rows : List Row) × (met ≡ Some (codes "preview", rows)) × AsksPreview rows asked
 AsksBy met Version = (rows : List Row) × (met ≡ Some (codes "version", rows))
 
 -- the words, the program's own name first among them, are of its command line, and ask for this

@@ -4,7 +4,7 @@ use Rattle.clap.specs.Words.{App, Rule, Text, new_app, new_rule, with_rule, with
 use Rattle.app_base.specs.Line.{flag_rule, needed_rule, needing_subcommand, option_rule}
 use Rattle.app_base.specs.Version.{version_app}
 use Rattle.app_bmcnet.specs.declared.tasks.Task.{Task}
-use Rattle.app_bmcnet.specs.declared.tasks.Task.TheVariants.{Serve, Run, Undo, Pair, Apply, Revert}
+use Rattle.app_bmcnet.specs.declared.tasks.Task.TheVariants.{Serve, Run, Undo, Pair, Apply, Revert, Preview}
 
 -- a command of this name, with these options, and with words each of which must be there
 abbrev pub taking : (name : Text) → (options : List Rule) → (words : List Text) → App
@@ -40,6 +40,10 @@ apply_options =
 abbrev pub revert_options : List Rule
 revert_options = option_rule (codes "wait") ∷ option_rule (codes "again") ∷ flag_rule (codes "json") ∷ []
 
+-- those of `preview`: `[--wait MS] [--again N] [--json]`
+abbrev pub preview_options : List Rule
+preview_options = option_rule (codes "wait") ∷ option_rule (codes "again") ∷ flag_rule (codes "json") ∷ []
+
 -- a word P1, which may be left out
 abbrev pub smbus_rule : Rule
 smbus_rule = new_rule (codes "P1")
@@ -49,7 +53,7 @@ abbrev pub with_smbus_port : App → App
 with_smbus_port app = with_rule app smbus_rule
 
 -- behind their options, `serve BOARD P0 P1 TURNS`, `run PLAN P0 P1 TURNS UNDO`, `undo UNDO P0 P1 TURNS`, `pair BOARD PLAN TURNS`, `apply PLAN P0
--- [P1]` and `revert FILE P0 [P1]`
+-- [P1]`, `revert FILE P0 [P1]` and `preview PLAN P0 [P1]`
 abbrev pub app_named : Task → App
 app_named Serve = taking (codes "serve") serve_options (codes "BOARD" ∷ codes "P0" ∷ codes "P1" ∷ codes "TURNS" ∷ [])
 app_named Run = taking (codes "run") run_options (codes "PLAN" ∷ codes "P0" ∷ codes "P1" ∷ codes "TURNS" ∷ codes "UNDO" ∷ [])
@@ -57,6 +61,7 @@ app_named Undo = taking (codes "undo") undo_options (codes "UNDO" ∷ codes "P0"
 app_named Pair = taking (codes "pair") pair_options (codes "BOARD" ∷ codes "PLAN" ∷ codes "TURNS" ∷ [])
 app_named Apply = with_smbus_port (taking (codes "apply") apply_options (codes "PLAN" ∷ codes "P0" ∷ []))
 app_named Revert = with_smbus_port (taking (codes "revert") revert_options (codes "FILE" ∷ codes "P0" ∷ []))
+app_named Preview = with_smbus_port (taking (codes "preview") preview_options (codes "PLAN" ∷ codes "P0" ∷ []))
 
 -- `bmcnet`, and what it does with one side
 abbrev pub serves : App
@@ -66,6 +71,10 @@ serves = with_subcommand (with_subcommand (needing_subcommand (new_app (codes "b
 abbrev pub pairs : App
 pairs = with_subcommand (with_subcommand serves (app_named Undo).top) (app_named Pair).top
 
+-- `bmcnet`, and what it does by a file that takes back at each moment what was done
+abbrev pub applies : App
+applies = with_subcommand (with_subcommand pairs (app_named Apply).top) (app_named Revert).top
+
 -- `bmcnet`, and what it can do
 abbrev pub program : App
-program = with_subcommand (with_subcommand (with_subcommand pairs (app_named Apply).top) (app_named Revert).top) version_app.top
+program = with_subcommand (with_subcommand applies (app_named Preview).top) version_app.top

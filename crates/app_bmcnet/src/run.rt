@@ -7,6 +7,7 @@ use app_apply::apply;
 use app_base::{Console, TextFiles, refuse, tell_version};
 use app_journal::WritesFiles;
 use app_pair::pair;
+use app_preview::preview;
 use app_revert::revert;
 use app_run::{Progress, run, undo};
 use app_serve::serve;
@@ -44,6 +45,7 @@ fn carry_out<
         Words::Pair(words) => pair(rt, alloc, &*files, words, console),
         Words::Apply(words) => apply(rt, alloc, files, words, progress, console),
         Words::Revert(words) => revert(rt, alloc, files, words, progress, console),
+        Words::Preview(words) => preview(rt, alloc, &*files, words, console),
         Words::Version => tell_version(console),
     }
 }

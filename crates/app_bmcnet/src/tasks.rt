@@ -17,6 +17,7 @@ pub enum Task {
     Pair,
     Apply,
     Revert,
+    Preview,
 }
 
 const BOARD_HELP: &str = "The board file, as sample.toml";
@@ -303,6 +304,38 @@ fn revert_command<'a>(alloc: Global) -> Result<Command<'a>, AllocError>
     with_smbus_port(alloc, command)
 }
 
+const PREVIEW_ABOUT: &str =
+    "Tells what each step of a plan would change on a controller, and sets nothing";
+
+const PREVIEW_JSON_HELP: &str =
+    "Says what each step would do as an object in a line, in place of the words, as in --json";
+
+const PREVIEW_EXAMPLES: &str = "Examples:
+  bmcnet preview examples/clean/plan.toml 9620 9621
+  bmcnet preview --wait 500 --again 3 --json examples/clean/plan.toml 9620";
+
+const PREVIEW_ARGUMENTS: [Argument<'static>; 5] = [
+    Argument::Option("wait", "MS", WAIT_HELP),
+    Argument::Option("again", "N", REACH_AGAIN_HELP),
+    Argument::Flag("json", PREVIEW_JSON_HELP),
+    Argument::Needed("PLAN", PLAN_HELP),
+    Argument::Needed("P0", P0_HELP),
+];
+
+/// `preview [--wait MS] [--again N] [--json] PLAN P0 [P1]`.
+fn preview_command<'a>(alloc: Global) -> Result<Command<'a>, AllocError>
+    ensures { IfOk result (IsCommand (app_named Task.Preview)) }
+{
+    let command = new_command(
+        alloc,
+        "preview",
+        PREVIEW_ABOUT,
+        PREVIEW_EXAMPLES,
+        &PREVIEW_ARGUMENTS,
+    )?;
+    with_smbus_port(alloc, command)
+}
+
 impl Task {
     /// The command that does it.
     pub fn command<'a>(self, alloc: Global) -> Result<Command<'a>, AllocError>
@@ -315,6 +348,7 @@ impl Task {
             Task::Pair => pair_command(alloc),
             Task::Apply => apply_command(alloc),
             Task::Revert => revert_command(alloc),
+            Task::Preview => preview_command(alloc),
         }
     }
 
@@ -327,6 +361,7 @@ impl Task {
             Task::Pair => "bmcnet pair",
             Task::Apply => "bmcnet apply",
             Task::Revert => "bmcnet revert",
+            Task::Preview => "bmcnet preview",
         }
     }
 }
@@ -343,7 +378,8 @@ const EXAMPLES: &str = "Examples:
   bmcnet undo undo.txt 9620 9621 1000
   bmcnet pair sample.toml examples/reply_lost/plan.toml 20
   bmcnet apply examples/clean/plan.toml 9620 9621
-  bmcnet revert examples/clean/plan.undo 9620 9621";
+  bmcnet revert examples/clean/plan.undo 9620 9621
+  bmcnet preview examples/clean/plan.toml 9620 9621";
 
 /// `bmcnet`, and what it can do.
 pub fn command<'a>(alloc: Global) -> Result<Command<'a>, AllocError>
@@ -356,5 +392,6 @@ pub fn command<'a>(alloc: Global) -> Result<Command<'a>, AllocError>
     let program = with_command(program, pair_command(alloc))?;
     let program = with_command(program, apply_command(alloc))?;
     let program = with_command(program, revert_command(alloc))?;
+    let program = with_command(program, preview_command(alloc))?;
     with_command(program, version_command(alloc, VERSION_EXAMPLES))
 }

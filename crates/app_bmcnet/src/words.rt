@@ -3,7 +3,7 @@ ghost use Rattle.std.specs.Prelude.{◌≡◌, IfOk, IfErr, IfSome, IfNone, map,
 ghost use Rattle.clap.specs.Words.{found_of, rows_of, subcommand_rows_of};
 ghost use Rattle.app_base.specs.Asked.{RefusesWords};
 ghost use Rattle.app_bmcnet.specs.Asked.{AsksBy, AsksFor, AsksPair, AsksRun, AsksServe, AsksUndo};
-ghost use Rattle.app_bmcnet.specs.Asked.{AsksApply, AsksRevert, IsFileOf, NamesFile, NamesPortOr, NamesReach};
+ghost use Rattle.app_bmcnet.specs.Asked.{AsksApply, AsksPreview, AsksRevert, IsFileOf, NamesFile, NamesPortOr, NamesReach};
 ghost use Rattle.app_bmcnet.specs.Asked.{NamesOption, NamesOr, NamesPort, NamesTurns, NamesWait, OptionsStand, StandBeside};
 
 use crate::number::{number_from, number_of, port_of};
@@ -11,6 +11,7 @@ use crate::tasks::{Task, command};
 use app_apply::{ApplyWords, Reach};
 use app_base::{Refusal, given, has_flag, lacking, named, refusal_by, refusal_of, word_of};
 use app_pair::{PairOptions, PairWords};
+use app_preview::PreviewWords;
 use app_revert::RevertWords;
 use app_run::{RunWords, UndoWords, WAIT_MS};
 use app_serve::ServeWords;
@@ -27,6 +28,7 @@ pub enum Words {
     Pair(PairWords),
     Apply(ApplyWords),
     Revert(RevertWords),
+    Preview(PreviewWords),
     Version,
 }
 
@@ -283,7 +285,7 @@ fn port_given(
     }
 }
 
-/// Where the controller is, and how long it is listened to, by the words behind `apply` or `revert`.
+/// Where the controller is, and how long it is listened to, by the words behind `apply`, `revert` or `preview`.
 fn reach(alloc: Global, matches: &ArgMatches, task: Task) -> Result<Reach, Refusal>
     ensures reach { IfOk result (NamesReach (rows_of (found_of matches.now))) }
     ensures refused { IfErr result (RefusesWords (NamesReach (rows_of (found_of matches.now)))) }
@@ -352,6 +354,18 @@ fn revert_words(alloc: Global, matches: &ArgMatches) -> Result<RevertWords, Refu
     })
 }
 
+/// What the words behind `preview` ask for.
+fn preview_words(alloc: Global, matches: &ArgMatches) -> Result<PreviewWords, Refusal>
+    ensures asked { IfOk result (AsksPreview (rows_of (found_of matches.now))) }
+    ensures refused { IfErr result (RefusesWords (AsksPreview (rows_of (found_of matches.now)))) }
+{
+    Ok(PreviewWords {
+        plan: named(alloc, matches, "PLAN")?,
+        json: has_flag(matches, "json"),
+        reach: reach(alloc, matches, Task::Preview)?,
+    })
+}
+
 /// What the words that were matched ask for.
 fn matched_words(alloc: Global, matches: &ArgMatches) -> Result<Words, Refusal>
     ensures asked { IfOk result (AsksBy (subcommand_rows_of matches.now)) }
@@ -374,6 +388,9 @@ fn matched_words(alloc: Global, matches: &ArgMatches) -> Result<Words, Refusal>
     }
     if let Some(revert) = matches.subcommand_matches("revert") {
         return Ok(Words::Revert(revert_words(alloc, revert)?));
+    }
+    if let Some(preview) = matches.subcommand_matches("preview") {
+        return Ok(Words::Preview(preview_words(alloc, preview)?));
     }
     let Some(_version) = matches.subcommand_matches("version") else {
         return Err(lacking(alloc));

@@ -1,3 +1,4 @@
 pub mod Steps
 pub mod BoardSteps
 pub mod Telling
+pub mod Looked

@@ -1,3 +1,4 @@
 pub mod Foreseeing
 pub mod Runs
 pub mod Outlooks
+pub mod Preview

@@ -85,7 +85,7 @@ fn meaning_at(
 }
 
 /// The record of the step of this place.
-fn key_at(steps: &Steps, place: usize) -> Key
+pub(crate) fn key_at(steps: &Steps, place: usize) -> Key
     requires { place < length steps.now }
     ensures { (op : AnyOp) → slice_get steps.now place ≡ Some op → result ≡ key_of op }
 {
