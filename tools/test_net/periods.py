@@ -17,6 +17,11 @@ LONG_WAIT = 600000
 # How often they listen, and a server.
 TURNS = 300
 SERVED_TURNS = 12000
+# How many histories are filled where there are many: a hundred thousand events and more. The program with the sanitizers takes seconds for each.
+FEW_PERIODS, MANY_PERIODS = 2, 25
+# How many requests are under way together on a bus, and a Get on SMBus whose reply is one packet (GetTID).
+AT_ONCE = 16
+TERMINUS = (SMBUS, (0x00, 0x02))
 
 
 def drive(asker, gets, count):
@@ -57,3 +62,21 @@ def loses_nothing(program, folder, board, plan, requests):
         expect("run", call(program, "run", *PATIENT, once, *server.ports, TURNS, undo), (0, "phase Done\n", ""))
         expect("undo", call(program, "undo", *PATIENT, undo, *server.ports, TURNS), (0, "phase Undone\n", ""))
         expect("serve", server.ended(), (0, f"served {CLOSED_AT - 2 + requests}\nrecords same\n", ""))
+
+
+def events_of(program):
+    """Returns how many events fill the histories of this program."""
+    return ROOM * (FEW_PERIODS if program.endswith(".unproved") else MANY_PERIODS)
+
+
+def many_periods(program, folder, board):
+    """A server is asked more than many histories have room for. Each request is answered as the first was, and is one event."""
+    count = events_of(program)
+    with Server(program, board, count + SERVED_TURNS, "--periods") as server:
+        with Asker(server.ports) as asker:
+            wanted = {bus: asker.get(bus, words) for bus, words in (POLICY, TERMINUS)}
+            while sum(asker.asked) < count:
+                on_ipmb = asker.ask_together(IPMB, [asker.ipmb(*POLICY[1]) for _ in range(AT_ONCE)])
+                on_smbus = asker.ask_together(SMBUS, [asker.smbus(*TERMINUS[1]) for _ in range(AT_ONCE)])
+                expect("the replies", (set(on_ipmb.values()), set(on_smbus.values())), ({wanted[IPMB]}, {wanted[SMBUS]}))
+        expect("serve", server.ended(), (0, f"served {sum(asker.asked)}\nrecords same\n", ""))

@@ -3,7 +3,7 @@ import re
 import time
 
 from . import servers
-from .periods import ROOM
+from .periods import ROOM, events_of
 from .plans import IPMB
 from .servers import Asker, Failed, Server, call, expect
 
@@ -17,8 +17,6 @@ ROOM_OVER = "bmcnet: room is over: 4096 events; serve --periods goes on\n"
 TICK, SECONDS = 0.1, 3
 # A reading of sensor 5 above its upper critical threshold, the one of which the log tells, and another one.
 HOT, COOL = 0x60, 0x2A
-# How many histories readings fill.
-FEW_PERIODS, MANY_PERIODS = 2, 25
 # When it's cool again, in milliseconds.
 COOL_AT = 1500
 # More turns than any of these servers makes by itself while it's tested, which empty datagrams use up.
@@ -61,9 +59,8 @@ def happens_in_time(program, folder, board):
 
 
 def goes_on(program, folder, board):
-    """More happens than one period has room for: the rest happens in the next ones, while a client asks. The proved program goes on through a hundred
-    thousand events; with the sanitizers a period takes seconds."""
-    ticks = (FEW_PERIODS if program.endswith(".unproved") else MANY_PERIODS) * ROOM
+    """More happens than one period has room for: the rest happens in the next ones, while a client asks."""
+    ticks = events_of(program)
     path = servers.write(f"{folder}/readings.txt", "0 tick\n" * ticks + f"0 scan 05 {HOT:02X}\n")
     with Server(program, board, TURNS, "--periods", "--readings", path) as server:
         with Asker(server.ports) as asker:

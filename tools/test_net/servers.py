@@ -193,23 +193,28 @@ class Asker:
         message = bytes([0x01, 0x80 | self.next_number(1, 32), kind, command]) + bytes(data)
         return frames.split(message, frames.CONTROLLER, self.source, frames.CONTROLLER_EID, self.eid, 1, 0)[0]
 
-    def heard(self, bus, number):
-        """Returns the reply of this number, the code and the data, or None where it stays quiet."""
+    def next_reply(self, bus):
+        """Returns the number of the next reply, and the code and the data, or None where it stays quiet."""
         whole = b""
         try:
             while True:
                 frame = self.links[bus].recv(2048)
                 if bus == 0:
                     reply = frames.read_ipmb(frame)
-                    if reply.number == number:
-                        return reply.data
-                    continue
+                    return reply.number, reply.data
                 packet = frames.read_packet(frame)
                 whole = (b"" if packet.start else whole) + packet.payload
-                if packet.end and whole[1] & 0x1F == number:
-                    return whole[4:]
+                if packet.end:
+                    return whole[1] & 0x1F, whole[4:]
         except (TimeoutError, ConnectionRefusedError):
             return None
+
+    def heard(self, bus, number):
+        """Returns the reply of this number, the code and the data, or None where it stays quiet."""
+        while (reply := self.next_reply(bus)) is not None:
+            if reply[0] == number:
+                return reply[1]
+        return None
 
     def ask(self, bus, frame):
         """Returns what the controller answers to a request, which is sent again where it stays quiet."""
@@ -219,6 +224,19 @@ class Asker:
             if reply is not None:
                 return reply
         raise Failed(f"no answer to {frame.hex()}")
+
+    def ask_together(self, bus, requests):
+        """Returns what the controller answers to requests that are under way together, by their numbers. What stays quiet is sent again."""
+        waiting, replies = {number_of(bus, frame): frame for frame in requests}, {}
+        for _ in range(int(CALL / QUIET)):
+            for frame in waiting.values():
+                self.links[bus].send(frame)
+            while waiting and (reply := self.next_reply(bus)) is not None:
+                if waiting.pop(reply[0], None) is not None:
+                    replies[reply[0]] = reply[1]
+            if not waiting:
+                return replies
+        raise Failed(f"no answers to {[frame.hex() for frame in waiting.values()]}")
 
     def get(self, bus, words):
         """Returns what a Get answers, whose code must be 00h."""
