@@ -1,1 +1,5 @@
 pub mod Backup
+pub mod Reading
+pub mod Plans
+pub mod Putting
+pub mod Show
