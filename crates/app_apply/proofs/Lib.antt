@@ -1,3 +1,4 @@
 mod Out
 mod Untold
 mod Begun
+pub mod Watching

@@ -5,6 +5,7 @@ ghost use Rattle.app_run.specs.Driven.{is_over as over_in};
 ghost use Rattle.app_apply.specs.Apply.{ApplyEnd, Begins, BeginsIn, Ends, GoesGreeted, KeepsList};
 ghost use Rattle.app_apply.specs.Apply.{IsUnmade, MayRun, NeverSettles, Settles};
 ghost use Rattle.app_apply.specs.Apply.{first_fault, ungreeted_by};
+ghost use Rattle.app_apply.specs.Kept.{KeepsWatch};
 ghost use Rattle.app_apply.specs.Ends.{AppliesTo, ApplyEndsOf, ApplyEndsOn, ApplyEndsOver};
 ghost use Rattle.app_apply.specs.Ends.{SaysOn, SaysWith, lacks_port, stream_for};
 
@@ -77,12 +78,7 @@ fn settle<F: WritesFiles, P: io::Write, R: Net>(
         watch.old.keeper.files.now watch.new.keeper.files.now) }
     ensures fault { OnErr result (IsUnmade (string_bytes watch.old.keeper.texts.now.last)) }
     ensures same { OnErr result (watch.new.keeper.files.now ≡ watch.old.keeper.files.now) }
-    ensures untold { watch.old.teller.progress.now.on ≡ false
-        → watch.new.teller.progress.now ≡ watch.old.teller.progress.now }
-    ensures same_words { watch.new.keeper.beside ≡ watch.old.keeper.beside }
-    ensures same_files { watch.new.keeper.files.ghost_name ≡ watch.old.keeper.files.ghost_name }
-    ensures same_line { watch.new.teller.progress.ghost_name
-        ≡ watch.old.teller.progress.ghost_name }
+    ensures watch { KeepsWatch watch.old watch.new }
 {
     match revive_last(alloc, &watch.keeper) {
         Ok(revived) => *manager = revived,
@@ -109,12 +105,7 @@ fn run_out<F: WritesFiles, P: io::Write, R: Net>(
     ensures refused { OnErr result (NeverSettles F.WritesFiles watch.old.keeper.beside.now
         reach.now.again manager.old (string_bytes watch.old.keeper.texts.now.last)
         watch.old.keeper.files.now watch.new.keeper.files.now) }
-    ensures untold { watch.old.teller.progress.now.on ≡ false
-        → watch.new.teller.progress.now ≡ watch.old.teller.progress.now }
-    ensures same_words { watch.new.keeper.beside ≡ watch.old.keeper.beside }
-    ensures same_files { watch.new.keeper.files.ghost_name ≡ watch.old.keeper.files.ghost_name }
-    ensures same_line { watch.new.teller.progress.ghost_name
-        ≡ watch.old.teller.progress.ghost_name }
+    ensures watch { KeepsWatch watch.old watch.new }
 {
     match call_on(rt, manager, Calling::Start, reach, watch) {
         None => Ok(None),
@@ -150,6 +141,7 @@ fn keep_list<F: WritesFiles>(
         (over_in phase) manager.now keeper.old.files.now answer keeper.new.files.now) }
     ensures memory { OnErr result ((over_in phase ≡ true)
         × (keeper.new.files.now ≡ keeper.old.files.now)) }
+    ensures same_words { keeper.new.beside ≡ keeper.old.beside }
     ensures same_files { keeper.new.files.ghost_name ≡ keeper.old.files.ghost_name }
 {
     if !is_over(phase) {
@@ -183,11 +175,7 @@ fn run_and_keep<F: WritesFiles, P: io::Write, R: Net>(
     ensures ends { Ends F.WritesFiles watch.old.keeper.beside.now reach.now.again
         manager.old manager.new (string_bytes watch.old.keeper.texts.now.last) result
         watch.old.keeper.files.now watch.new.keeper.files.now }
-    ensures untold { watch.old.teller.progress.now.on ≡ false
-        → watch.new.teller.progress.now ≡ watch.old.teller.progress.now }
-    ensures same_files { watch.new.keeper.files.ghost_name ≡ watch.old.keeper.files.ghost_name }
-    ensures same_line { watch.new.teller.progress.ghost_name
-        ≡ watch.old.teller.progress.ghost_name }
+    ensures watch { KeepsWatch watch.old watch.new }
 {
     let Some(ran) = run_out(rt, alloc, manager, reach, watch)? else {
         return Ok(Outcome::NoLink);

@@ -1,8 +1,8 @@
 //! A manager that is called over links of its own, while its journal is kept and the line of its progress is written.
-ghost use Rattle.std.specs.Prelude.{◌≡◌, IfNone, IfSome, false, string_bytes};
+ghost use Rattle.std.specs.Prelude.{◌≡◌, IfNone, IfSome, string_bytes};
 ghost use Rattle.wire_links.specs.Counted.{none_counted};
 ghost use Rattle.app_apply.specs.Driven.{call_for};
-ghost use Rattle.app_apply.specs.Kept.{KeepsWay};
+ghost use Rattle.app_apply.specs.Kept.{KeepsWatch, KeepsWay};
 
 use crate::driving::{Calling, call_out};
 use app_journal::WritesFiles;
@@ -50,12 +50,7 @@ fn call_over<F: WritesFiles, P: io::Write>(
         (string_bytes watch.old.keeper.texts.now.last)
         (string_bytes watch.new.keeper.texts.now.last)
         watch.old.keeper.files.now watch.new.keeper.files.now }
-    ensures untold { watch.old.teller.progress.now.on ≡ false
-        → watch.new.teller.progress.now ≡ watch.old.teller.progress.now }
-    ensures same_words { watch.new.keeper.beside ≡ watch.old.keeper.beside }
-    ensures same_files { watch.new.keeper.files.ghost_name ≡ watch.old.keeper.files.ghost_name }
-    ensures same_line { watch.new.teller.progress.ghost_name
-        ≡ watch.old.teller.progress.ghost_name }
+    ensures watch { KeepsWatch watch.old watch.new }
 {
     let BusLinks {
         mut ipmb,
@@ -84,12 +79,7 @@ pub fn call_on<F: WritesFiles, P: io::Write, R: Net>(
     ensures same_text { IfNone result (string_bytes watch.new.keeper.texts.now.last
         ≡ string_bytes watch.old.keeper.texts.now.last) }
     ensures same { IfNone result (watch.new.keeper.files.now ≡ watch.old.keeper.files.now) }
-    ensures untold { watch.old.teller.progress.now.on ≡ false
-        → watch.new.teller.progress.now ≡ watch.old.teller.progress.now }
-    ensures same_words { watch.new.keeper.beside ≡ watch.old.keeper.beside }
-    ensures same_files { watch.new.keeper.files.ghost_name ≡ watch.old.keeper.files.ghost_name }
-    ensures same_line { watch.new.teller.progress.ghost_name
-        ≡ watch.old.teller.progress.ghost_name }
+    ensures watch { KeepsWatch watch.old watch.new }
 {
     let ends = open_ends(rt, reach.ipmb_port, reach.smbus_or_none(), reach.wait_ms);
     let Some(ends) = ends else {

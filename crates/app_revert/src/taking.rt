@@ -1,6 +1,7 @@
 //! A manager that takes back what it did: its open request is settled, or else the controller is greeted, and each step is undone.
 ghost use Rattle.std.specs.Prelude.{◌≡◌, Ok, false, string_bytes};
 ghost use Rattle.app_run.specs.Driven.{is_over as over_in};
+ghost use Rattle.app_apply.specs.Kept.{KeepsWatch};
 ghost use Rattle.app_revert.specs.Revert.{GoesOn, IsEnd};
 ghost use Rattle.app_revert.specs.Revert.{MayUndo};
 ghost use Rattle.app_revert.specs.Revert.{TakesBack, TakesBackFrom, UndoesGreeted, UndoesOver};
@@ -39,12 +40,7 @@ fn undo_greeted<F: WritesFiles, P: io::Write, R: Net>(
         (string_bytes watch.old.keeper.texts.now.last)
         (string_bytes watch.new.keeper.texts.now.last)
         watch.old.keeper.files.now watch.new.keeper.files.now }
-    ensures untold { watch.old.teller.progress.now.on ≡ false
-        → watch.new.teller.progress.now ≡ watch.old.teller.progress.now }
-    ensures same_words { watch.new.keeper.beside ≡ watch.old.keeper.beside }
-    ensures same_files { watch.new.keeper.files.ghost_name ≡ watch.old.keeper.files.ghost_name }
-    ensures same_line { watch.new.teller.progress.ghost_name
-        ≡ watch.old.teller.progress.ghost_name }
+    ensures watch { KeepsWatch watch.old watch.new }
 {
     match call_on(rt, manager, Calling::Undo, reach, watch) {
         None => Outcome::NoLink,
@@ -65,12 +61,7 @@ fn greet_and_undo<F: WritesFiles, P: io::Write, R: Net>(
         (string_bytes watch.old.keeper.texts.now.last)
         (string_bytes watch.new.keeper.texts.now.last)
         watch.old.keeper.files.now watch.new.keeper.files.now }
-    ensures untold { watch.old.teller.progress.now.on ≡ false
-        → watch.new.teller.progress.now ≡ watch.old.teller.progress.now }
-    ensures same_words { watch.new.keeper.beside ≡ watch.old.keeper.beside }
-    ensures same_files { watch.new.keeper.files.ghost_name ≡ watch.old.keeper.files.ghost_name }
-    ensures same_line { watch.new.teller.progress.ghost_name
-        ≡ watch.old.teller.progress.ghost_name }
+    ensures watch { KeepsWatch watch.old watch.new }
 {
     let greeted = greet_first(
         rt,
@@ -99,12 +90,7 @@ fn undo_over<F: WritesFiles, P: io::Write, R: Net>(
         (string_bytes watch.old.keeper.texts.now.last)
         (string_bytes watch.new.keeper.texts.now.last)
         watch.old.keeper.files.now watch.new.keeper.files.now }
-    ensures untold { watch.old.teller.progress.now.on ≡ false
-        → watch.new.teller.progress.now ≡ watch.old.teller.progress.now }
-    ensures same_words { watch.new.keeper.beside ≡ watch.old.keeper.beside }
-    ensures same_files { watch.new.keeper.files.ghost_name ≡ watch.old.keeper.files.ghost_name }
-    ensures same_line { watch.new.teller.progress.ghost_name
-        ≡ watch.old.teller.progress.ghost_name }
+    ensures watch { KeepsWatch watch.old watch.new }
 {
     let greetings = Greetings::before_undo(greet, manager.undo_list());
     greet_and_undo(rt, manager, &greetings, reach, watch)
@@ -139,12 +125,7 @@ fn go_on_in<F: WritesFiles, P: io::Write, R: Net>(
         (string_bytes watch.old.keeper.texts.now.last)
         (string_bytes watch.new.keeper.texts.now.last)
         watch.old.keeper.files.now watch.new.keeper.files.now }
-    ensures untold { watch.old.teller.progress.now.on ≡ false
-        → watch.new.teller.progress.now ≡ watch.old.teller.progress.now }
-    ensures same_words { watch.new.keeper.beside ≡ watch.old.keeper.beside }
-    ensures same_files { watch.new.keeper.files.ghost_name ≡ watch.old.keeper.files.ghost_name }
-    ensures same_line { watch.new.teller.progress.ghost_name
-        ≡ watch.old.teller.progress.ghost_name }
+    ensures watch { KeepsWatch watch.old watch.new }
 {
     if !can_be_undone(&phase) {
         return ended_in(phase);
@@ -166,12 +147,7 @@ fn go_on<F: WritesFiles, P: io::Write, R: Net>(
         (string_bytes watch.old.keeper.texts.now.last)
         (string_bytes watch.new.keeper.texts.now.last)
         watch.old.keeper.files.now watch.new.keeper.files.now }
-    ensures untold { watch.old.teller.progress.now.on ≡ false
-        → watch.new.teller.progress.now ≡ watch.old.teller.progress.now }
-    ensures same_words { watch.new.keeper.beside ≡ watch.old.keeper.beside }
-    ensures same_files { watch.new.keeper.files.ghost_name ≡ watch.old.keeper.files.ghost_name }
-    ensures same_line { watch.new.teller.progress.ghost_name
-        ≡ watch.old.teller.progress.ghost_name }
+    ensures watch { KeepsWatch watch.old watch.new }
 {
     match end {
         Ok(phase) => go_on_in(rt, manager, greet, phase, reach, watch),
@@ -192,12 +168,7 @@ fn take_back<F: WritesFiles, P: io::Write, R: Net>(
         (string_bytes watch.old.keeper.texts.now.last)
         (string_bytes watch.new.keeper.texts.now.last)
         watch.old.keeper.files.now watch.new.keeper.files.now }
-    ensures untold { watch.old.teller.progress.now.on ≡ false
-        → watch.new.teller.progress.now ≡ watch.old.teller.progress.now }
-    ensures same_words { watch.new.keeper.beside ≡ watch.old.keeper.beside }
-    ensures same_files { watch.new.keeper.files.ghost_name ≡ watch.old.keeper.files.ghost_name }
-    ensures same_line { watch.new.teller.progress.ghost_name
-        ≡ watch.old.teller.progress.ghost_name }
+    ensures watch { KeepsWatch watch.old watch.new }
 {
     let greet = settles_none(manager);
     match call_on(rt, manager, Calling::Settle, reach, watch) {

@@ -23,6 +23,6 @@ returns-clause-ends g c =
       ran_so g.F.WritesFiles old.beside.now c.args.reach.now.again c.args.manager.now c.run_out.new.manager (string_bytes old.texts.now.last) (string_bytes mid.texts.now.last) old.files.now
           mid.files.now c.in_ok-ran.field-0 c.in-Some.ran c.in-Some.is c.in_ok-ran.ensures.runs,
       subst (λ beside. KeepsList g.F.WritesFiles beside.now (is_over c.in-Some.ran.phase) c.run_out.new.manager mid.files.now c.in_ok-last.last c.keep_list.new.keeper.files.now)
-          c.run_out.ensures.same_words c.in_ok-last.ensures.kept,
+          c.run_out.ensures.watch.words c.in_ok-last.ensures.kept,
       c.first_fault.ensures,
     )

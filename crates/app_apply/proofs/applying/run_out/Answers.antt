@@ -20,5 +20,5 @@ returns-in_ok-settle-in-Some-Err-clause-runs g c =
     c.in-Some-Err.field-0-0 c.phase.result _ (string_bytes c.args.watch.now.keeper.texts.now.last) (string_bytes mid.texts.now.last) (string_bytes new.texts.now.last)
     c.args.watch.now.keeper.files.now mid.files.now new.files.now c.in-Some-Err.field-0-is c.in-Some-Err.ensures.keeps
     (subst (λ beside. Settles g.F.WritesFiles beside.now c.args.reach.now.again c.settle.new.manager (string_bytes mid.texts.now.last) (string_bytes new.texts.now.last) mid.files.now new.files.now)
-    c.call_on.ensures.same_words c.in_ok-settle-in-Some-Err.ensures.settles)
+    c.call_on.ensures.watch.words c.in_ok-settle-in-Some-Err.ensures.settles)
     (λ s shows. c.phase.ensures lab_names s shows)

@@ -29,24 +29,14 @@ returns-clause-keeps g c before shows =
           (λ old m allowed new saw. record { keeps = saw.0; same = ap (λ beside. beside.now) saw.1 }) seen.looks c.args.watch.now c.call_out.new.watch seen.seen;
     }
 
-pub returns-clause-untold : goal.returns-clause-untold
-returns-clause-untold g c off =
+pub returns-clause-watch : goal.returns-clause-watch
+returns-clause-watch g c =
     let seen = c.call_out.ensures.seen in
-    untold_looks g.P.Write.contents _ _ seen.looks _ _ off
-    (seen_as _ (λ watch. watch.teller.course) (λ watch. watch.teller.progress.now) (λ course. LooksOn g.P.Write.contents course.kinds.now course.steps)
-    (λ old m allowed new saw. (saw.2, saw.3)) seen.looks c.args.watch.now c.call_out.new.watch seen.seen)
-
-pub returns-clause-same_words : goal.returns-clause-same_words
-returns-clause-same_words g c =
-    let seen = c.call_out.ensures.seen in
-    stays_same _ (λ watch. watch.keeper.beside) (λ old m allowed new saw. saw.1) seen.looks c.args.watch.now c.call_out.new.watch seen.seen
-
-pub returns-clause-same_files : goal.returns-clause-same_files
-returns-clause-same_files g c =
-    let seen = c.call_out.ensures.seen in
-    stays_same _ (λ watch. watch.keeper.files.ghost_name) (λ old m allowed new saw. saw.4) seen.looks c.args.watch.now c.call_out.new.watch seen.seen
-
-pub returns-clause-same_line : goal.returns-clause-same_line
-returns-clause-same_line g c =
-    let seen = c.call_out.ensures.seen in
-    stays_same _ (λ watch. watch.teller.progress.ghost_name) (λ old m allowed new saw. saw.5) seen.looks c.args.watch.now c.call_out.new.watch seen.seen
+    record {
+      told = λ off. untold_looks g.P.Write.contents _ _ seen.looks _ _ off
+          (seen_as _ (λ watch. watch.teller.course) (λ watch. watch.teller.progress.now) (λ course. LooksOn g.P.Write.contents course.kinds.now course.steps)
+          (λ old m allowed new saw. (saw.2, saw.3)) seen.looks c.args.watch.now c.call_out.new.watch seen.seen);
+      words = stays_same _ (λ watch. watch.keeper.beside) (λ old m allowed new saw. saw.1) seen.looks c.args.watch.now c.call_out.new.watch seen.seen;
+      files = stays_same _ (λ watch. watch.keeper.files.ghost_name) (λ old m allowed new saw. saw.4) seen.looks c.args.watch.now c.call_out.new.watch seen.seen;
+      line = stays_same _ (λ watch. watch.teller.progress.ghost_name) (λ old m allowed new saw. saw.5) seen.looks c.args.watch.now c.call_out.new.watch seen.seen;
+    }

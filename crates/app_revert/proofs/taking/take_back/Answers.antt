@@ -7,7 +7,7 @@ pub returns-in-Some-clause-takes_back : goal.returns-in-Some-clause-takes_back
 returns-in-Some-clause-takes_back g c =
     let goes = subst (λ (beside : UndoFiles). GoesOn g.F.WritesFiles beside c.settles_none-greet.result c.args.reach.now.again c.in-Some.end c.call_on.new.manager c.go_on.new.manager
     c.go_on.result (string_bytes c.call_on.new.watch.keeper.texts.now.last) (string_bytes c.go_on.new.watch.keeper.texts.now.last)
-    c.call_on.new.watch.keeper.files.now c.go_on.new.watch.keeper.files.now) (ap (λ b. b.now) c.in-Some.ensures.same_words) c.go_on.ensures.goes in
+    c.call_on.new.watch.keeper.files.now c.go_on.new.watch.keeper.files.now) (ap (λ b. b.now) c.call_on.ensures.watch.words) c.go_on.ensures.goes in
     inl (
       c.call_on.new.manager,
       c.in-Some.end,
