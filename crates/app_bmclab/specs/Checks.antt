@@ -14,11 +14,11 @@ use Rattle.text_check.specs.declared.text_form.TextForm.TheVariants as looks
 use Rattle.text_check.specs.Looks.{form_or}
 use Rattle.text_check.specs.Outcomes.{IsOutcomeBy, OutcomeOf, worst_of}
 use Rattle.bmc_ports.specs.declared.timetable.Timed.{Timed}
-use Rattle.app_serve.specs.ReadingsText.{IsFirstBad, IsTextOf}
+use Rattle.app_serve.specs.ReadingsText.{IsFirstBad, IsReadingsText}
 
 -- what comes of a text of readings
 abbrev pub IsReadingsOutcome : List ℕ → Outcome → Type 0
-IsReadingsOutcome text = OutcomeOf ((line : ℕ) × IsFirstBad text line) ((list : List Timed) × IsTextOf text list) false
+IsReadingsOutcome text = OutcomeOf ((line : ℕ) × IsFirstBad text line) ((list : List Timed) × IsReadingsText text list) false
 
 -- what comes of a text of this form
 abbrev pub IsTextOutcome : TextForm → List ℕ → Outcome → Type 0

@@ -37,11 +37,11 @@ pub record GoesOn (first : LookEnd) (begun : Session) (end : LookEnd) (new : Ses
   pub ended : (count ≡ begun.again) ⊎ (end ≢ Silent)
 
 -- the look is at this record
-abbrev pub IsAt : Key → Stage → Type 0
-IsAt key (Opened heeded of parts asked) = of ≡ key
-IsAt key (Found of) = of ≡ key
-IsAt key (Refused of code) = of ≡ key
-IsAt key AtStart = ⊥
+abbrev pub IsOfKey : Key → Stage → Type 0
+IsOfKey key (Opened heeded of parts asked) = of ≡ key
+IsOfKey key (Found of) = of ≡ key
+IsOfKey key (Refused of code) = of ≡ key
+IsOfKey key AtStart = ⊥
 
 -- the record was looked at
 pub record Looks (old : Session) (key : Key) (end : LookEnd) (new : Session) : Type 0 where
@@ -49,7 +49,7 @@ pub record Looks (old : Session) (key : Key) (end : LookEnd) (new : Session) : T
   pub begun : Session
   pub begins_get : CallsOnce (begins old key) old first begun
   pub goes_on : GoesOn first begun end new
-  pub at : IsAt key new.looker.stage
+  pub at : IsOfKey key new.looker.stage
 
 -- Or nothing was called: an answer to the look before is still awaited, whose last call had as many turns as it may have.
 abbrev pub LooksAt : (old : Session) → Key → (end : LookEnd) → (new : Session) → Type 0

@@ -70,12 +70,12 @@ status_of outlooks = status_if (list_any is_barred outlooks)
 -- ---- the end
 
 -- why not each record was looked at, as standard error says it; where memory was refused, nothing else is said
-abbrev pub SaysFault : LookFault → Saying
-SaysFault (look.Unopened (open_fault.Ungreeted why)) = SaysWith Unsettled
-SaysFault (look.Unopened open_fault.NoLink) = SaysWith Stopped
-SaysFault (look.Unopened open_fault.Memory) = PrintsNothing
-SaysFault (look.Stopped (stop.Silent place)) = SaysWith Unsettled
-SaysFault (look.Stopped stop.Memory) = PrintsNothing
+abbrev pub SaysLookFault : LookFault → Saying
+SaysLookFault (look.Unopened (open_fault.Ungreeted why)) = SaysWith Unsettled
+SaysLookFault (look.Unopened open_fault.NoLink) = SaysWith Stopped
+SaysLookFault (look.Unopened open_fault.Memory) = PrintsNothing
+SaysLookFault (look.Stopped (stop.Silent place)) = SaysWith Unsettled
+SaysLookFault (look.Stopped stop.Memory) = PrintsNothing
 
 module _ {Stdout Stderr : Type 0} (out : Stdout → Option (List ℕ)) (err : Stderr → Option (List ℕ)) where
   -- standard output has what each step would make of what the steps before it leave, and the status says whether each can be done; or memory was
@@ -89,7 +89,7 @@ module _ {Stdout Stderr : Type 0} (out : Stdout → Option (List ℕ)) (err : St
   abbrev pub PreviewsTo : Plan → PreviewWords → (old new : Console Stdout Stderr) → ℕ → Type 0
   PreviewsTo plan words old new result =
       ((found : List Found) × FindsOver (way_of words.reach plan.retries) (keys_of plan.steps) found × TellsOf plan.steps found old new result)
-      ⊎ (((why : LookFault) × FailsOver (way_of words.reach plan.retries) (keys_of plan.steps) why × RunEnds out err (SaysFault why) old new result)
+      ⊎ (((why : LookFault) × FailsOver (way_of words.reach plan.retries) (keys_of plan.steps) why × RunEnds out err (SaysLookFault why) old new result)
       ⊎ RunEnds out err PrintsNothing old new result)
 
   -- A plan that is taken is previewed, unless it needs a port that isn't known: then that is said.

@@ -3,7 +3,7 @@ ghost use Rattle.std.specs.Prelude.{◌≡◌, IfOk, length};
 ghost use Rattle.std.specs.List.{list_any};
 ghost use Rattle.app_base.specs.Ending.{RunEnds};
 ghost use Rattle.app_preview.specs.Preview.{PreviewEndsOf, PreviewEndsOn, PreviewEndsOver};
-ghost use Rattle.app_preview.specs.Preview.{PreviewsTo, SaysFault, TellsOf};
+ghost use Rattle.app_preview.specs.Preview.{PreviewsTo, SaysLookFault, TellsOf};
 ghost use Rattle.app_preview.specs.Preview.{is_barred, keys_of, status_of, way_of};
 
 use crate::foreseeing::key_at;
@@ -150,7 +150,7 @@ fn end_unopened<W: io::Write, E: io::Write>(
     reach: &Reach,
     console: &mut Console<W, E>,
 ) -> u8
-    ensures { RunEnds W.contents E.contents (SaysFault (LookFault.Unopened why))
+    ensures { RunEnds W.contents E.contents (SaysLookFault (LookFault.Unopened why))
         console.old console.new result }
 {
     match why {
@@ -174,7 +174,7 @@ fn end_untold<W: io::Write, E: io::Write>(
     reach: &Reach,
     console: &mut Console<W, E>,
 ) -> u8
-    ensures { RunEnds W.contents E.contents (SaysFault why) console.old console.new result }
+    ensures { RunEnds W.contents E.contents (SaysLookFault why) console.old console.new result }
 {
     match why {
         LookFault::Unopened(why) => end_unopened(alloc, why, reach, console),

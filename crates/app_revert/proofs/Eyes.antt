@@ -9,13 +9,13 @@ use Rattle.look_links.specs.declared.driver.LookEnd.{LookEnd}
 use Rattle.look_links.specs.declared.driver.LookEnd.TheVariants.{Shown, Refused, Silent}
 use Rattle.app_revert.specs.declared.looking.Eye.{Eye}
 use Rattle.app_revert.specs.declared.looking.Looked.{Looked}
-use Rattle.app_revert.specs.Looks.{LooksAt, LooksBy, LooksEach, LooksOn, LooksOnce, LooksOnceAt, begun_at, goes_on_at}
+use Rattle.app_revert.specs.Looks.{EyeLooksAt, LooksBy, LooksEach, LooksOn, LooksOnce, LooksOnceAt, begun_at, goes_on_at}
 
 -- ---- one record
 
 -- So many calls to go on are left. Whatever comes of the eye in those came of the first.
 pub record LooksFrom (agains : ℕ) (key : Key) (before : Eye) (more : ℕ) (end : LookEnd) (at : Eye) : Type 0 where
-  pub rest : (last : Eye) → LooksOn more end at last → LooksAt agains key before last
+  pub rest : (last : Eye) → LooksOn more end at last → EyeLooksAt agains key before last
 
 -- the Get was begun
 pub begins_look : (agains more : ℕ) (key : Key) (before at : Eye) (end : LookEnd) → more ≡ agains → LooksBy (begun_at key before) before end at
@@ -41,7 +41,7 @@ answered_on (suc more) Shown at other = refl
 answered_on (suc more) Refused at other = refl
 answered_on (suc more) Silent at other = absurd (other refl)
 
-pub answered : (agains more : ℕ) (key : Key) (before at : Eye) (end : LookEnd) → LooksFrom agains key before more end at → (end ≡ Silent → ⊥) → LooksAt agains key before at
+pub answered : (agains more : ℕ) (key : Key) (before at : Eye) (end : LookEnd) → LooksFrom agains key before more end at → (end ≡ Silent → ⊥) → EyeLooksAt agains key before at
 answered agains more key before at end from other = from.rest at (answered_on more end at other)
 
 -- ---- each record

@@ -90,8 +90,8 @@ LooksOn (suc more) Silent before after =
 LooksOn agains end before after = after ≡ before
 
 -- the Get of the record was begun, and went on so
-abbrev pub LooksAt : (agains : ℕ) → Key → (before after : Eye) → Type 0
-LooksAt agains key before after = (mid : Eye) × (end : LookEnd) × LooksBy (begun_at key before) before end mid × LooksOn agains end mid after
+abbrev pub EyeLooksAt : (agains : ℕ) → Key → (before after : Eye) → Type 0
+EyeLooksAt agains key before after = (mid : Eye) × (end : LookEnd) × LooksBy (begun_at key before) before end mid × LooksOn agains end mid after
 
 -- a record was named behind those before
 abbrev pub NamesIt : Key → Sight → (old new : Looked) → Type 0
@@ -120,7 +120,7 @@ IsAmong key requests = (op : Op) × Contains requests (set_whole op) × (key_of 
 abbrev pub LooksOnce : (agains : ℕ) → (earlier : List Asked) → Asked → (before : Eye) → (old : Looked) → (after : Eye) → (new : Looked) → Type 0
 LooksOnce agains earlier request before old after new =
     ((op : Op) × (sight : Sight) × (set_whole op ≡ request) × (old.unseen ≡ false) × (¬ IsAmong (key_of op) earlier)
-    × LooksAt agains (key_of op) before after × IsSight op after.looker sight × Tells (key_of op) sight old new)
+    × EyeLooksAt agains (key_of op) before after × IsSight op after.looker sight × Tells (key_of op) sight old new)
     ⊎ ((after ≡ before) × (new ≡ old)
     × (((op : Op) → set_whole op ≢ request) ⊎ ((old.unseen ≡ true) ⊎ ((op : Op) × (set_whole op ≡ request) × IsAmong (key_of op) earlier))))
 

@@ -5,7 +5,7 @@ ghost use Rattle.wire_links.specs.Counted.{none_counted};
 ghost use Rattle.record_base.specs.Keys.{same_key};
 ghost use Rattle.undo_plans.specs.Requests.{meant};
 ghost use Rattle.app_revert.specs.Looks.{IsAmong, IsBroughtBackBy, IsLeft, IsNewEye, IsOf};
-ghost use Rattle.app_revert.specs.Looks.{IsOfSome, IsSight, LooksAt, LooksBehind, LooksBy};
+ghost use Rattle.app_revert.specs.Looks.{IsOfSome, IsSight, EyeLooksAt, LooksBehind, LooksBy};
 ghost use Rattle.app_revert.specs.Looks.{LooksEach, LooksOnce, LooksOnceAt, LooksOver};
 ghost use Rattle.app_revert.specs.Looks.{ShowsSo, Tells, TellsNoAnswer, TellsNothing, begun_at, doubts, goes_on_at};
 ghost use Rattle.app_revert.specs.Looks.{leaves_alone, selects_none};
@@ -196,7 +196,7 @@ fn go_on_looking(eye: &mut Eye) -> LookEnd
 
 /// Has a looker look at this record. Where a request of that isn't heeded, it goes on, up to so many times.
 fn look_at(eye: &mut Eye, key: &Key, agains: u32)
-    ensures { LooksAt agains key.now eye.old eye.new }
+    ensures { EyeLooksAt agains key.now eye.old eye.new }
 {
     let mut end = begin_look(eye, key);
     for _ in 0..agains {

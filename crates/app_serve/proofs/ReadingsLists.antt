@@ -12,8 +12,8 @@ use Rattle.std.specs.Borrow.{Bor}
 use Rattle.bmc_ports.specs.declared.timetable.Timed.{Timed}
 use Rattle.text_schedule.specs.Text.{words_of}
 use Rattle.text_schedule.specs.Schedule.{is_skipped, spoken}
-use Rattle.app_serve.specs.ReadingsLine.{IsLineOf}
-use Rattle.app_serve.specs.ReadingsText.{NeverFalls, AreLinesOf, IsFirstBadOf}
+use Rattle.app_serve.specs.ReadingsLine.{IsReadingLine}
+use Rattle.app_serve.specs.ReadingsText.{NeverFalls, AreReadingLines, IsFirstBadOf}
 use Rattle.app_serve.proofs.ReadingsOnce.{one_timed}
 
 -- ---- lists
@@ -62,7 +62,7 @@ falls slice list next r same tells is order =
 -- ---- what lines tell
 
 -- lines say one list
-one_list : (lines : List (List ℕ)) (list other : List Timed) → AllZip IsLineOf lines list → AllZip IsLineOf lines other → list ≡ other
+one_list : (lines : List (List ℕ)) (list other : List Timed) → AllZip IsReadingLine lines list → AllZip IsReadingLine lines other → list ≡ other
 one_list [] [] [] told also = refl
 one_list [] [] (o ∷ other) told also = absurd also
 one_list [] (t ∷ list) other told also = absurd told
@@ -73,18 +73,18 @@ one_list (l ∷ lines) (t ∷ list) (o ∷ other) told also =
     let rest = one_list lines list other told.1 also.1 in
     cc (first, rest)
 
-pub one_told : (lines : List (List ℕ)) (list other : List Timed) → AreLinesOf lines list → AreLinesOf lines other → list ≡ other
+pub one_told : (lines : List (List ℕ)) (list other : List Timed) → AreReadingLines lines list → AreReadingLines lines other → list ≡ other
 one_told lines list other told also = one_list (spoken lines) list other told.each also.each
 
 -- where lines tell a list, the first of them tell one
-first_told : (lines : List (List ℕ)) (list : List Timed) (place : ℕ) → AreLinesOf lines list → (front : List Timed) × AreLinesOf (take place lines) front
+first_told : (lines : List (List ℕ)) (list : List Timed) (place : ℕ) → AreReadingLines lines list → (front : List Timed) × AreReadingLines (take place lines) front
 first_told lines list place told =
     let parts : spoken lines ≡ spoken (take place lines) ++ spoken (drop place lines) =
     ap spoken (sym (take-append-drop place lines)) ∙ filter-append (λ l. not (is_skipped l)) (take place lines) (drop place lines) in
-    let cut = first_part IsLineOf (spoken (take place lines)) (spoken (drop place lines)) list (subst (λ l. AllZip IsLineOf l list) parts told.each) in
+    let cut = first_part IsReadingLine (spoken (take place lines)) (spoken (drop place lines)) list (subst (λ l. AllZip IsReadingLine l list) parts told.each) in
     (cut.0, record { each = cut.3; order = front_order cut.0 cut.1 (subst NeverFalls cut.2 told.order) })
 
-pub told_or_bad : (lines : List (List ℕ)) (list : List Timed) (number : ℕ) → AreLinesOf lines list → ¬ IsFirstBadOf lines number
+pub told_or_bad : (lines : List (List ℕ)) (list : List Timed) (number : ℕ) → AreReadingLines lines list → ¬ IsFirstBadOf lines number
 told_or_bad lines list number told first = let front = first_told lines list (first.place + 1) told in first.bad front.0 front.1
 
 -- one line can't be the first bad one where a later one is
@@ -92,7 +92,7 @@ not_before : (lines : List (List ℕ)) (m n : ℕ) (early : IsFirstBadOf lines m
 not_before lines m n early late before =
     let front = first_told (take late.place lines) late.before (early.place + 1) late.good in
     let same : take (early.place + 1) (take late.place lines) ≡ take (early.place + 1) lines = take-take (early.place + 1) late.place lines (omega (arith, before)) in
-    early.bad front.0 (subst (λ l. AreLinesOf l front.0) same front.1)
+    early.bad front.0 (subst (λ l. AreReadingLines l front.0) same front.1)
 
 pub one_first : (lines : List (List ℕ)) (m n : ℕ) → IsFirstBadOf lines m → IsFirstBadOf lines n → m ≡ n
 one_first lines m n one two =
@@ -107,8 +107,8 @@ one_first lines m n one two =
 -- ---- the reader's loop, before its lines and at one that isn't skipped
 
 -- no lines tell no list
-pub none_told : (list : List Timed) → list ≡ [] → AreLinesOf [] list
-none_told list none = subst (λ (l : List Timed). AreLinesOf [] l) (sym none) (record { each = tt; order = λ i j d le within. absurd (omega (arith, within)) })
+pub none_told : (list : List Timed) → list ≡ [] → AreReadingLines [] list
+none_told list none = subst (λ (l : List Timed). AreReadingLines [] l) (sym none) (record { each = tt; order = λ i j d le within. absurd (omega (arith, within)) })
 
 module _ (lines : List (Bor (List ℕ))) (place : ℕ) (d : Bor (List ℕ)) (within : place < length lines) (spoke : is_skipped (get_or lines place d).now ≡ false) where
   abbrev line : List ℕ
@@ -122,44 +122,44 @@ module _ (lines : List (Bor (List ℕ))) (place : ℕ) (d : Bor (List ℕ)) (wit
       ap spoken (map_more (λ (x : Bor (List ℕ)). x.now) lines place d within) ∙ filter-append (λ l. not (is_skipped l)) (read (take place lines)) (line ∷ [])
       ∙ rw spoke refl
 
-  pub next_told : (list : List Timed) (timed : Timed) → AreLinesOf (read (take place lines)) list → IsLineOf line timed → NeverFalls (list ++ timed ∷ [])
-      → AreLinesOf (read (take (place + 1) lines)) (list ++ timed ∷ [])
+  pub next_told : (list : List Timed) (timed : Timed) → AreReadingLines (read (take place lines)) list → IsReadingLine line timed → NeverFalls (list ++ timed ∷ [])
+      → AreReadingLines (read (take (place + 1) lines)) (list ++ timed ∷ [])
   next_told list timed told says order = record {
-    each = rw spoken_more (all_zipped_more IsLineOf (spoken (read (take place lines))) list line timed told.each says);
+    each = rw spoken_more (all_zipped_more IsReadingLine (spoken (read (take place lines))) list line timed told.each says);
     order = order;
   }
 
   -- what the lines tell with this one is what they tell before it, and what it says
-  last_said : (list whole : List Timed) → AreLinesOf (read (take place lines)) list → AreLinesOf (read (take (place + 1) lines)) whole
-      → (timed : Timed) × IsLineOf line timed × NeverFalls (list ++ timed ∷ [])
+  last_said : (list whole : List Timed) → AreReadingLines (read (take place lines)) list → AreReadingLines (read (take (place + 1) lines)) whole
+      → (timed : Timed) × IsReadingLine line timed × NeverFalls (list ++ timed ∷ [])
   last_said list whole told also =
-      let cut = first_part IsLineOf (spoken (read (take place lines))) (line ∷ []) whole (subst (λ l. AllZip IsLineOf l whole) spoken_more also.each) in
+      let cut = first_part IsReadingLine (spoken (read (take place lines))) (line ∷ []) whole (subst (λ l. AllZip IsReadingLine l whole) spoken_more also.each) in
       let same : list ≡ cut.0 = one_list (spoken (read (take place lines))) list cut.0 told.each cut.3 in
       last_of cut.1 cut.4 (subst NeverFalls (cut.2 ∙ ap (λ l. l ++ cut.1) (sym same)) also.order)
     where
-      last_of : (back : List Timed) → AllZip IsLineOf (line ∷ []) back → NeverFalls (list ++ back) → (timed : Timed) × IsLineOf line timed × NeverFalls (list ++ timed ∷ [])
+      last_of : (back : List Timed) → AllZip IsReadingLine (line ∷ []) back → NeverFalls (list ++ back) → (timed : Timed) × IsReadingLine line timed × NeverFalls (list ++ timed ∷ [])
       last_of [] all order = absurd all
       last_of (timed ∷ []) all order = (timed, all.0, order)
       last_of (timed ∷ more ∷ back) all order = absurd all.1
 
-  bad_first : (list : List Timed) → AreLinesOf (read (take place lines)) list → ((timed : Timed) → IsLineOf line timed → ¬ NeverFalls (list ++ timed ∷ [])) → IsFirstBadOf (read lines) (place + 1)
+  bad_first : (list : List Timed) → AreReadingLines (read (take place lines)) list → ((timed : Timed) → IsReadingLine line timed → ¬ NeverFalls (list ++ timed ∷ [])) → IsFirstBadOf (read lines) (place + 1)
   bad_first list told none = record {
     place = place;
     counted = refl;
     there = omega (arith, within, length-map lines (λ (x : Bor (List ℕ)). x.now));
     before = list;
-    good = subst (λ l. AreLinesOf l list) (sym (take-map (λ (x : Bor (List ℕ)). x.now) place lines)) told;
+    good = subst (λ l. AreReadingLines l list) (sym (take-map (λ (x : Bor (List ℕ)). x.now) place lines)) told;
     bad = λ whole also. (
-        let last = last_said list whole told (subst (λ l. AreLinesOf l whole) (take-map (λ (x : Bor (List ℕ)). x.now) (place + 1) lines) also) in
+        let last = last_said list whole told (subst (λ l. AreReadingLines l whole) (take-map (λ (x : Bor (List ℕ)). x.now) (place + 1) lines) also) in
         none last.0 last.1 last.2
         );
   }
 
   -- it says nothing
-  pub silent_first : (list : List Timed) → AreLinesOf (read (take place lines)) list → ((timed : Timed) → ¬ IsLineOf line timed) → IsFirstBadOf (read lines) (place + 1)
+  pub silent_first : (list : List Timed) → AreReadingLines (read (take place lines)) list → ((timed : Timed) → ¬ IsReadingLine line timed) → IsFirstBadOf (read lines) (place + 1)
   silent_first list told none = bad_first list told (λ timed says order. none timed says)
 
   -- its time falls
-  pub falling_first : (list : List Timed) (timed : Timed) → AreLinesOf (read (take place lines)) list → IsLineOf line timed → ¬ NeverFalls (list ++ timed ∷ []) → IsFirstBadOf (read lines) (place + 1)
+  pub falling_first : (list : List Timed) (timed : Timed) → AreReadingLines (read (take place lines)) list → IsReadingLine line timed → ¬ NeverFalls (list ++ timed ∷ []) → IsFirstBadOf (read lines) (place + 1)
   falling_first list timed told says falls =
       bad_first list told (λ other also order. falls (subst (λ t. NeverFalls (list ++ t ∷ [])) (one_timed (words_of line) other timed also says) order))

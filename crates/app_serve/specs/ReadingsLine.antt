@@ -25,5 +25,5 @@ SayTimed words timed =
     (time : List ℕ) × (what : List (List ℕ)) × (words ≡ time ∷ what) × IsTime time timed.at_ms × AreWordsOf what timed.event
 
 -- the line says it: its words, with a space between two of them, do
-abbrev pub IsLineOf : List ℕ → Timed → Type 0
-IsLineOf line timed = SayTimed (words_of line) timed
+abbrev pub IsReadingLine : List ℕ → Timed → Type 0
+IsReadingLine line timed = SayTimed (words_of line) timed

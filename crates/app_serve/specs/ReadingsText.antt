@@ -6,7 +6,7 @@ use Rattle.std.specs.List.Sorted.{IsNonDecreasingBy}
 use Rattle.bmc_ports.specs.declared.timetable.Timed.{Timed}
 use Rattle.text_schedule.specs.Text.{lines_of}
 use Rattle.text_schedule.specs.Schedule.{spoken}
-use Rattle.app_serve.specs.ReadingsLine.{IsLineOf}
+use Rattle.app_serve.specs.ReadingsLine.{IsReadingLine}
 use Rattle.app_serve.specs.declared.readings_text.ReadingsFault.{ReadingsFault}
 use Rattle.app_serve.specs.declared.readings_text.ReadingsFault.TheVariants.{Memory, Line}
 
@@ -15,13 +15,13 @@ abbrev pub NeverFalls : List Timed → Type 0
 NeverFalls list = IsNonDecreasingBy (λ timed. timed.at_ms) list
 
 -- The lines say the list, one line each and in their order, but for those that are skipped. Its times don't fall.
-pub record AreLinesOf (lines : List (List ℕ)) (list : List Timed) : Type 0 where
-  pub each : AllZip IsLineOf (spoken lines) list
+pub record AreReadingLines (lines : List (List ℕ)) (list : List Timed) : Type 0 where
+  pub each : AllZip IsReadingLine (spoken lines) list
   pub order : NeverFalls list
 
 -- the text stands for the list: its lines tell it
-abbrev pub IsTextOf : List ℕ → List Timed → Type 0
-IsTextOf text list = AreLinesOf (lines_of text) list
+abbrev pub IsReadingsText : List ℕ → List Timed → Type 0
+IsReadingsText text list = AreReadingLines (lines_of text) list
 
 -- The line of this number, counted from 1, is the first bad one: those before it tell a list, and with it they tell none.
 pub record IsFirstBadOf (lines : List (List ℕ)) (number : ℕ) : Type 0 where
@@ -29,8 +29,8 @@ pub record IsFirstBadOf (lines : List (List ℕ)) (number : ℕ) : Type 0 where
   pub counted : number ≡ place + 1
   pub there : place < length lines
   pub before : List Timed
-  pub good : AreLinesOf (take place lines) before
-  pub bad : (list : List Timed) → ¬ AreLinesOf (take (place + 1) lines) list
+  pub good : AreReadingLines (take place lines) before
+  pub bad : (list : List Timed) → ¬ AreReadingLines (take (place + 1) lines) list
 
 -- the same of the lines of a text
 abbrev pub IsFirstBad : List ℕ → ℕ → Type 0
@@ -38,7 +38,7 @@ IsFirstBad text number = IsFirstBadOf (lines_of text) number
 
 -- the list is what the lines tell; else the first bad line is named, unless memory was refused
 abbrev pub LinesAreRead : {A : Type 0} → List (List ℕ) → Result (Vec Timed A) ReadingsFault → Type 0
-LinesAreRead lines (Ok list) = AreLinesOf lines list.items
+LinesAreRead lines (Ok list) = AreReadingLines lines list.items
 LinesAreRead lines (Err Memory) = Unit {0}
 LinesAreRead lines (Err (Line number)) = IsFirstBadOf lines number
 

@@ -9,7 +9,7 @@ use Rattle.text_lines.specs.Cuts.{ended}
 use Rattle.app_serve.specs.declared.readings_text.ReadingsFault.{ReadingsFault}
 use Rattle.app_serve.specs.declared.readings_text.ReadingsFault.TheVariants.{Memory, Line}
 use Rattle.app_serve.specs.ReadingsNames.{readings_fault_name}
-use Rattle.app_serve.specs.ReadingsText.{IsFirstBad, IsTextOf}
+use Rattle.app_serve.specs.ReadingsText.{IsFirstBad, IsReadingsText}
 use Rattle.bmc_ports.specs.declared.timetable.Timed.{Timed}
 use Rattle.app_base.specs.declared.console.Console.{Console}
 use Rattle.app_base.specs.declared.console.Stream.TheVariants.{Output, Error}
@@ -39,7 +39,7 @@ IsBoard text = (file : BoardFile) × ReadsText text (Ok file)
 -- a text of readings, where there is one, stands for this list
 abbrev pub StandsFor : Option (List ℕ) → Option (List Timed) → Type 0
 StandsFor None None = Unit {0}
-StandsFor (Some text) (Some list) = IsTextOf text list
+StandsFor (Some text) (Some list) = IsReadingsText text list
 StandsFor given list = ⊥
 
 -- it stands for a list, or there is none

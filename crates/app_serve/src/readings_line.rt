@@ -1,7 +1,7 @@
 //! The lines of a text of readings.
 ghost use Rattle.std.specs.Prelude.{◌∷◌, [], map, IfOk};
 ghost use Rattle.text_schedule.specs.Reads.{FindsOne};
-ghost use Rattle.app_serve.specs.ReadingsLine.{IsTime, AreWordsOf, SayTimed, IsLineOf};
+ghost use Rattle.app_serve.specs.ReadingsLine.{IsTime, AreWordsOf, SayTimed, IsReadingLine};
 
 use bmc_board::Bench;
 use bmc_ports::Timed;
@@ -87,7 +87,7 @@ fn timed(words: &[&str]) -> Option<Timed>
 
 /// What the line says.
 pub fn read_line(alloc: Global, line: &str) -> Result<Option<Timed>, AllocError>
-    ensures { IfOk result (λ found. FindsOne (IsLineOf line.now) found) }
+    ensures { IfOk result (λ found. FindsOne (IsReadingLine line.now) found) }
 {
     let words = words(alloc, line)?;
     Ok(timed(words.as_slice()))

@@ -18,35 +18,35 @@ use Rattle.record_kinds.specs.Series.{Series, Reads, sends, set_whole, next_afte
 use Rattle.bmc_board.specs.Replies.{done}
 use Rattle.bmc_board.specs.Row.{Row}
 use Rattle.bmc_board.specs.State.{State}
-use Rattle.plan_against.specs.Answers.{IsNext, AnswersSome, AnswersAll, CarriesOut, body_of, next_behind}
+use Rattle.plan_against.specs.Answers.{IsNextRequest, AnswersSome, AnswersAll, CarriesOutOp, body_of, next_behind}
 use Rattle.bmc_board.proofs.SeriesFacts.{sets_begin}
 use Rattle.plan_against.proofs.Parts.{last_alone, next_part}
 
 -- behind those that it answered, the next one
 one_more : (setup : BoardFile) (series : Series) (before bodies : List (List ℕ)) (at mid after : State) (asked : Asked) (body : List ℕ)
-    → AnswersSome setup series before bodies at mid → IsNext series (before ++ bodies) asked → Row setup mid asked (done body) after
+    → AnswersSome setup series before bodies at mid → IsNextRequest series (before ++ bodies) asked → Row setup mid asked (done body) after
     → AnswersSome setup series before (bodies ++ body ∷ []) at after
 one_more setup series before [] at mid after asked body same next row =
-    (asked, after, subst (λ (b : List (List ℕ)). IsNext series b asked) (append-nil before) next, subst (λ (s : State). Row setup s asked (done body) after) same row, refl)
+    (asked, after, subst (λ (b : List (List ℕ)). IsNextRequest series b asked) (append-nil before) next, subst (λ (s : State). Row setup s asked (done body) after) same row, refl)
 one_more setup series before (first ∷ bodies) at mid after asked body some next row = (
   some.0,
   some.1,
   some.2,
   some.3,
   one_more setup series (before ++ first ∷ []) bodies some.1 mid after asked body some.4
-      (subst (λ (b : List (List ℕ)). IsNext series b asked) (sym (append_assoc before (first ∷ []) bodies)) next) row,
+      (subst (λ (b : List (List ℕ)). IsNextRequest series b asked) (sym (append_assoc before (first ∷ []) bodies)) next) row,
 )
 
 -- it becomes what it is by a reply with 00h
 pub answers_more : (setup : BoardFile) (series : Series) (bodies : List (List ℕ)) (at mid after : State) (asked : Asked) (reply : Answered)
-    → AnswersSome setup series [] bodies at mid → IsNext series bodies asked → Row setup mid asked reply after → reply.code ≡ success
+    → AnswersSome setup series [] bodies at mid → IsNextRequest series bodies asked → Row setup mid asked reply after → reply.code ≡ success
     → AnswersSome setup series [] (bodies ++ reply.body ∷ []) at after
 answers_more setup series bodies at mid after asked reply some next row well =
     one_more setup series [] bodies at mid after asked reply.body some next
     (subst (λ (r : Answered). Row setup mid asked r after) (λ i. record { code = well i; body = reply.body }) row)
 
 -- the request behind some
-pub is_next : (series : Series) (bodies : List (List ℕ)) (body : List ℕ) (asked : Asked) → next_after series (bodies ++ body ∷ []) ≡ Some asked → IsNext series (bodies ++ body ∷ []) asked
+pub is_next : (series : Series) (bodies : List (List ℕ)) (body : List ℕ) (asked : Asked) → next_after series (bodies ++ body ∷ []) ≡ Some asked → IsNextRequest series (bodies ++ body ∷ []) asked
 is_next series [] body asked next = next
 is_next series (first ∷ bodies) body asked next = next
 
@@ -83,7 +83,7 @@ no_seventh key bodies asked many next =
 -- the replies so far, as a loop has them: so many, by which the board became what it is, and the request that is open
 abbrev pub GotSome : BoardFile → BoardFile → Key → List Answered → (n : ℕ) → (first mid : State) → Asked → Type 0
 GotSome own setup key replies n first mid asked =
-    (length replies ≡ n) × AnswersSome setup (Reads key) [] (map body_of replies) first mid × IsNext (Reads key) (map body_of replies) asked × (own ≡ setup)
+    (length replies ≡ n) × AnswersSome setup (Reads key) [] (map body_of replies) first mid × IsNextRequest (Reads key) (map body_of replies) asked × (own ≡ setup)
 
 long_more : (replies : List Answered) (body : List ℕ) (n : ℕ) → length replies ≡ n → length (map body_of replies ++ body ∷ []) ≡ n + 1
 long_more replies body n is = length-append (map body_of replies) (body ∷ []) ∙ ap (λ (m : ℕ). m + 1) (length-map replies body_of ∙ is)
@@ -111,12 +111,12 @@ module _ (own setup : BoardFile) (key : Key) (replies now : List Answered) (n : 
   got_more open_one is same = (
     ap (λ (l : List Answered). length l) is_now ∙ one_long_more replies reply n got.0,
     subst (λ (b : List (List ℕ)). AnswersSome setup (Reads key) [] b first after) (sym now_bodies) some,
-    subst (λ (b : List (List ℕ)). IsNext (Reads key) b open_one) (sym now_bodies) (is_next (Reads key) (map body_of replies) reply.body open_one (then_next ∙ is)),
+    subst (λ (b : List (List ℕ)). IsNextRequest (Reads key) b open_one) (sym now_bodies) (is_next (Reads key) (map body_of replies) reply.body open_one (then_next ∙ is)),
     same,
   )
 
 -- a request that is open behind some replies is the next one
-open_behind : (series : Series) (bodies : List (List ℕ)) (asked : Asked) → length bodies ≡ 6 → IsNext series bodies asked → next_after series bodies ≡ Some asked
+open_behind : (series : Series) (bodies : List (List ℕ)) (asked : Asked) → length bodies ≡ 6 → IsNextRequest series bodies asked → next_after series bodies ≡ Some asked
 open_behind series [] asked many next = absurd (omega (arith, many))
 open_behind series (body ∷ bodies) asked many next = next
 
@@ -145,7 +145,7 @@ no_more_sent (Pldm from kind command body) data_bytes few =
 -- the replies so far to an operation's Set
 abbrev pub SetSome : BoardFile → BoardFile → Op → (n : ℕ) → (first mid : State) → Asked → Type 0
 SetSome own setup op n first mid asked =
-    ((bodies : List (List ℕ)) × (length bodies ≡ n) × AnswersSome setup (sends op) [] bodies first mid × IsNext (sends op) bodies asked) × (own ≡ setup)
+    ((bodies : List (List ℕ)) × (length bodies ≡ n) × AnswersSome setup (sends op) [] bodies first mid × IsNextRequest (sends op) bodies asked) × (own ≡ setup)
 
 pub set_none : (own setup : BoardFile) (op : Op) (at : State) (asked : Asked) → own ≡ setup → asked ≡ set_asked op → SetSome own setup op 0 at at asked
 set_none own setup op at asked same is = (([], refl, refl, (sets_begin op).first ∙ sym is), same)
@@ -161,7 +161,7 @@ module _ (own setup : BoardFile) (op : Op) (n : ℕ) (first mid after : State) (
   set_then : next_after (sends op) (set.0.0 ++ reply.body ∷ []) ≡ next
   set_then = ap (request_at (set_whole op)) set_long ∙ sym is_next_one
 
-  pub set_all : next ≡ None → CarriesOut setup op first after
+  pub set_all : next ≡ None → CarriesOutOp setup op first after
   set_all none = (set.0.0 ++ reply.body ∷ [], answers_all setup (sends op) set.0.0 reply.body first after set_done (set_then ∙ none))
 
   pub set_more : (now : BoardFile) (open_one : Asked) → next ≡ Some open_one → now ≡ setup → SetSome now setup op (n + 1) first after open_one

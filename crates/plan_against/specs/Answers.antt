@@ -16,15 +16,15 @@ use Rattle.bmc_board.specs.Row.{Row}
 use Rattle.bmc_board.specs.State.{State}
 
 -- the request of the series behind replies with these data
-abbrev pub IsNext : Series → List (List ℕ) → Asked → Type 0
-IsNext series [] asked = first_of series ≡ asked
-IsNext series (body ∷ bodies) asked = next_after series (body ∷ bodies) ≡ Some asked
+abbrev pub IsNextRequest : Series → List (List ℕ) → Asked → Type 0
+IsNextRequest series [] asked = first_of series ≡ asked
+IsNextRequest series (body ∷ bodies) asked = next_after series (body ∷ bodies) ≡ Some asked
 
 -- behind replies with the data `before` the board answers requests of the series in order, each with 00h and these data
 abbrev pub AnswersSome : BoardFile → Series → (before bodies : List (List ℕ)) → State → State → Type 0
 AnswersSome setup series before [] at after = after ≡ at
 AnswersSome setup series before (body ∷ bodies) at after =
-    (asked : Asked) × (mid : State) × IsNext series before asked × Row setup at asked (done body) mid × AnswersSome setup series (before ++ body ∷ []) bodies mid after
+    (asked : Asked) × (mid : State) × IsNextRequest series before asked × Row setup at asked (done body) mid × AnswersSome setup series (before ++ body ∷ []) bodies mid after
 
 -- it answers all requests of the series so
 pub record AnswersAll (setup : BoardFile) (series : Series) (bodies : List (List ℕ)) (at after : State) : Type 0 where
@@ -38,7 +38,7 @@ pub record RefusesOne (setup : BoardFile) (series : Series) (code : ℕ) (at aft
   pub mid : State
   pub answered : AnswersSome setup series [] bodies at mid
   pub asked : Asked
-  pub next : IsNext series bodies asked
+  pub next : IsNextRequest series bodies asked
   pub refusal : Answered
   pub refused : Row setup mid asked refusal after
   pub coded : refusal.code ≡ code
@@ -65,8 +65,8 @@ abbrev pub RefusesGet : BoardFile → Key → (at : State) → (code : ℕ) → 
 RefusesGet setup key at code after = RefusesOne setup (Reads key) code at after
 
 -- it answers all requests that carry the operation out
-abbrev pub CarriesOut : BoardFile → Op → (at after : State) → Type 0
-CarriesOut setup op at after = (bodies : List (List ℕ)) × AnswersAll setup (sends op) bodies at after
+abbrev pub CarriesOutOp : BoardFile → Op → (at after : State) → Type 0
+CarriesOutOp setup op at after = (bodies : List (List ℕ)) × AnswersAll setup (sends op) bodies at after
 
 -- it refuses one of them with this code
 abbrev pub RefusesSet : BoardFile → Op → (at : State) → (code : ℕ) → (after : State) → Type 0

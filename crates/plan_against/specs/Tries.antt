@@ -6,7 +6,7 @@ use Rattle.record_kinds.specs.Limits.{key_of, inverse}
 use Rattle.bmc_board.specs.State.{State}
 use Rattle.plan_against.specs.declared.finding.Finding.{Finding}
 use Rattle.plan_against.specs.declared.finding.Finding.TheVariants.{GetRefused, NotRestorable, Refused, Done}
-use Rattle.plan_against.specs.Answers.{Shows, RefusesGet, CarriesOut, RefusesSet}
+use Rattle.plan_against.specs.Answers.{Shows, RefusesGet, CarriesOutOp, RefusesSet}
 
 -- A step meets this on a board, and leaves it so: its Get is refused; or no operation brings back what the Get shows, and there is no Set; or its Set
 -- is refused, or carried out.
@@ -16,7 +16,7 @@ Meets setup op at NotRestorable after = (shown : List ℕ) × Shows setup (key_o
 Meets setup op at (Refused code) after =
     (shown : List ℕ) × (mid : State) × Shows setup (key_of op) at shown mid × (inverse op shown ≢ None) × RefusesSet setup op mid code after
 Meets setup op at (Done shown) after =
-    (mid : State) × Shows setup (key_of op) at shown.items mid × (inverse op shown.items ≢ None) × CarriesOut setup op mid after
+    (mid : State) × Shows setup (key_of op) at shown.items mid × (inverse op shown.items ≢ None) × CarriesOutOp setup op mid after
 
 -- each step meets this in its turn, on what the steps before it left
 abbrev pub MeetInTurn : BoardFile → List Op → (at : State) → List Finding → (after : State) → Type 0

@@ -1,7 +1,7 @@
 //! What a board does with a step's Set.
 ghost use Rattle.std.specs.Prelude.{◌≡◌, IfOk, IfErr};
 ghost use Rattle.bmc_board.specs.State.{state_of};
-ghost use Rattle.plan_against.specs.Answers.{CarriesOut, RefusesSet};
+ghost use Rattle.plan_against.specs.Answers.{CarriesOutOp, RefusesSet};
 
 use bmc_board::{Board, Records};
 use record_base::{Op, RecordKind};
@@ -12,7 +12,7 @@ use undo_plans::MOST_REQUESTS;
 /// Has the board carry the operation out, or gives the code with which it refuses that.
 pub(crate) fn set(board: &mut Board<Records>, op: &Op<'_>) -> Result<(), Code>
     ensures done { IfOk result (λ _.
-        CarriesOut board.old.setup op.now (state_of board.old) (state_of board.new)) }
+        CarriesOutOp board.old.setup op.now (state_of board.old) (state_of board.new)) }
     ensures refused { IfErr result (λ code.
         RefusesSet board.old.setup op.now (state_of board.old) code (state_of board.new)) }
     ensures setup { board.new.setup ≡ board.old.setup }

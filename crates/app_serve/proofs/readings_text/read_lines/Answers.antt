@@ -1,7 +1,7 @@
 use Rattle.std.proofs.Common.{◌≡◌, ◌+◌, ◌++◌, ◌∷◌, ℕ, List, [], true, false, Bool, cond, not, is_ok, sym, ◌∙◌, ap, subst, map, take}
 use Rattle.std.specs.Borrow.{Bor}
 use Rattle.bmc_ports.specs.declared.timetable.Timed.{Timed}
-use Rattle.app_serve.specs.ReadingsText.{NeverFalls, AreLinesOf}
+use Rattle.app_serve.specs.ReadingsText.{NeverFalls, AreReadingLines}
 use Rattle.app_serve.proofs.ReadingsLists.{goes_on, falls, next_told, none_told, silent_first, falling_first}
 use Rattle.app_serve.proofs.readings_text.read_lines.Goals as goal
 
@@ -29,7 +29,7 @@ loop-place-preserved c =
     let right : is_ok c.push.result ≡ true = c.is_err.ensures.negation ∙ ap not c.if-is_err.false in
     let items : c.push.new.self.items ≡ c.loop-place.list.items ++ c.in-Some.timed ∷ [] =
     c.push.ensures.items ∙ ap (λ (b : Bool). cond b (c.loop-place.list.items ++ c.in-Some.timed ∷ []) c.loop-place.list.items) right in
-    subst (λ (l : List Timed). AreLinesOf (map (λ x. x.now) (take (c.loop-place.place + 1) c.args.lines.now)) l) (sym items)
+    subst (λ (l : List Timed). AreReadingLines (map (λ x. x.now) (take (c.loop-place.place + 1) c.args.lines.now)) l) (sym items)
     (next_told c.args.lines.now c.loop-place.place none c.loop-place-test.true (sym c.is_skipped.ensures ∙ c.if-is_skipped.false) c.loop-place.list.items c.in-Some.timed c.loop-place.invariant says
     (goes_on c.as_slice.result.now c.loop-place.list.items c.in-Some.timed c.comes_behind.result c.as_slice.ensures.value c.comes_behind.ensures c.if-not-comes_behind.false))
 

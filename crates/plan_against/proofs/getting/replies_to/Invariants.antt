@@ -1,7 +1,7 @@
 use Rattle.std.proofs.Common.{◌≡◌, [], length, map}
 use Rattle.bmc_board.specs.State.{state_of}
 use Rattle.record_kinds.specs.Series.{Reads}
-use Rattle.plan_against.specs.Answers.{AnswersSome, IsNext, body_of}
+use Rattle.plan_against.specs.Answers.{AnswersSome, IsNextRequest, body_of}
 use Rattle.plan_against.proofs.getting.replies_to.Given as goal
 
 -- the board answered so many requests of the Get, and the next one is open
@@ -9,5 +9,5 @@ abbrev pub invariant-loop-before : goal.invariant-loop-before
 invariant-loop-before l =
     (length l.replies.items ≡ l.before)
     × AnswersSome l.fn.board.setup (Reads l.key) [] (map body_of l.replies.items) (state_of l.fn.board) (state_of l.board)
-    × IsNext (Reads l.key) (map body_of l.replies.items) l.asked
+    × IsNextRequest (Reads l.key) (map body_of l.replies.items) l.asked
     × (l.board.setup ≡ l.fn.board.setup)
