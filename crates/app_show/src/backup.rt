@@ -7,6 +7,7 @@ use record_base::{Key, Op};
 use shown_after::{Unsaid, op_as_it_is};
 use std::alloc::{AllocError, Global};
 use std::mem::replace;
+use two_wire::Code;
 use undo_plans::{MOST_STEPS, Steps};
 
 /// Why there is no step for a record.
@@ -16,6 +17,10 @@ pub enum Why {
     Unsaid(Unsaid),
     /// The text of a plan can't say the operation that does.
     Unwritten,
+    /// Its Get was refused with this code, which doesn't say that there is no such record.
+    Refused(Code),
+    /// Its Get wasn't answered.
+    Unanswered,
 }
 
 /// A record for which there is no step.
@@ -28,9 +33,11 @@ pub struct Remark {
 /// Steps that set records to what their Gets show, in plans of as many as one may have, and remarks on the other records.
 #[derive(Drop)]
 pub struct Backup {
-    full: Vec<Steps>,
-    last: Steps,
-    remarks: Vec<Remark>,
+    /// The plans that are full.
+    pub(crate) full: Vec<Steps>,
+    /// The plan to which steps are added.
+    pub(crate) last: Steps,
+    pub(crate) remarks: Vec<Remark>,
 }
 
 impl Backup {
@@ -69,7 +76,7 @@ impl Backup {
     }
 
     /// Adds a remark.
-    fn remark(&mut self, key: &Key, why: Why) -> Result<(), AllocError>
+    pub(crate) fn remark(&mut self, key: &Key, why: Why) -> Result<(), AllocError>
         ensures added { OnOk result (AddsRemark key.now why self.old self.new) }
         ensures kept { OnErr result (Says self.old self.new) }
     {
