@@ -1,7 +1,11 @@
-//! Tests of what `bmcnet apply` and `bmcnet revert` say at their ends. They stand apart from the crate that they test, which would be proved
-//! once more with tests of its own.
+//! Tests of what `bmcnet apply` and `bmcnet revert` say at their ends, and with their options. They stand apart from the crates that they test, which
+//! would be proved once more with tests of their own.
 #![tactic(auto)]
 
+#[cfg(test)]
+mod foretold;
+#[cfg(test)]
+mod narrowed;
 #[cfg(test)]
 mod reverted;
 #[cfg(test)]

@@ -1,0 +1,492 @@
+//! `bmcnet apply` with its options: of a plan those steps alone that change something, and all of it or none.
+ghost use Rattle.std.specs.Prelude.{◌≡◌, ◌||◌, IfErr, IfOk, false, string_bytes};
+ghost use Rattle.app_base.specs.Ending.{RunEnds};
+ghost use Rattle.app_apply.specs.Ends.{SaysOn, stream_for};
+ghost use Rattle.app_apply.specs.Statuses.{status_of};
+ghost use Rattle.app_keep.specs.Looks.{FailsFor};
+ghost use Rattle.app_change.specs.Ends.{AppliesOrNone, ChangeEndsIn, ChangeEndsOf, ChangeEndsOn};
+ghost use Rattle.app_change.specs.Ends.{ChangeEndsOver, ChangesBy, ChangesFrom, ChangesKept, ChangesTo};
+ghost use Rattle.app_change.specs.Ends.{EndsUnlooked, GoesBack, IsBackOf, IsStatusBehind, LooksFirst, TellsFirst};
+ghost use Rattle.app_change.specs.Ends.{is_halted};
+ghost use Rattle.app_change.specs.Looks.{KeepsChanges, way_of};
+
+use crate::looking::{status_unlooked, way_of};
+use crate::narrowed_json::{left_out_json, unchanged_json, unlooked_json};
+use crate::narrowed_words::{left_out_text, unchanged_text, unlooked_text};
+use app_apply::applying::{apply_over, carry_out, lacks_port, say_on, stream_for, text_for};
+use app_apply::refusing::{say_refused, say_unread};
+use app_apply::sentences::port_text;
+use app_apply::{Applied, ApplyWords, Outcome, Reach, StrictFault, apply, strict_plan};
+use app_base::{Console, ReportFault, Status, TextFiles, end_run, text_of};
+use app_journal::WritesFiles;
+use app_keep::{Narrowed, keep_by_look};
+use app_look::LookFault;
+use app_revert::{RevertWords, revert};
+use app_run::Progress;
+use std::alloc::{AllocError, Global};
+use std::io;
+use std::net::Net;
+use undo_core::Phase;
+use undo_plans::Plan;
+
+/// What the words of `bmcnet apply` ask for, with its options.
+#[derive(Drop)]
+pub struct ChangeWords {
+    pub apply: ApplyWords,
+    /// Whether the controller is looked at first, and those steps alone are carried out that change something.
+    pub only_changes: bool,
+    /// Whether what was done is taken back at once where the plan halts.
+    pub all_or_none: bool,
+}
+
+/// The plan of the steps that are kept.
+#[derive(Drop)]
+struct KeptPlan {
+    plan: Plan,
+    /// The places of the other steps in the whole plan, counted from 0.
+    left_out: Vec<usize>,
+}
+
+// ---- all or none
+
+/// Whether the plan halted.
+fn is_halted(outcome: &Outcome) -> bool
+    ensures { result ≡ is_halted outcome.now }
+{
+    matches!(outcome, Outcome::Ended(Phase::Halted(_, _), _))
+}
+
+/// What takes back what these words left.
+fn words_back(alloc: Global, words: &ApplyWords) -> Result<RevertWords, AllocError>
+    ensures { IfOk result (IsBackOf words.now) }
+{
+    Ok(RevertWords {
+        file: String::from_str(alloc, words.file.as_str())?,
+        reach: words.reach,
+        json: words.json,
+    })
+}
+
+/// The status of a plan that halted, by that of what took it back.
+fn status_behind(reverted: u8) -> u8
+    ensures { IsStatusBehind reverted result }
+{
+    if reverted == u8::from(Status::Success) {
+        u8::from(Status::Halted)
+    } else {
+        reverted
+    }
+}
+
+/// Takes back what a plan left, where it halted. Else the call ends as it did.
+fn go_back<F: TextFiles + WritesFiles, W: io::Write, E: io::Write, P: io::Write, R: Net>(
+    rt: &R,
+    alloc: Global,
+    files: &mut F,
+    outcome: &Outcome,
+    back: &RevertWords,
+    first: u8,
+    progress: &mut Progress<P>,
+    console: &mut Console<W, E>,
+) -> u8
+    ensures ends { GoesBack W.contents E.contents F.TextFiles F.WritesFiles
+        (is_halted outcome.now) back.now first files.old files.new
+        console.old console.new result }
+    ensures untold { progress.old.on ≡ false → progress.new ≡ progress.old }
+{
+    if is_halted(outcome) {
+        let reverted = revert(rt, alloc, files, back, progress, console);
+        status_behind(reverted)
+    } else {
+        first
+    }
+}
+
+/// Says this where what came of a plan is said, and gives this status.
+fn say_for<W: io::Write, E: io::Write>(
+    text: Result<String, AllocError>,
+    json: bool,
+    status: Status,
+    console: &mut Console<W, E>,
+) -> u8
+    ensures { RunEnds W.contents E.contents (SaysOn (stream_for json) status)
+        console.old console.new result }
+{
+    say_on(text, stream_for(json), status, console)
+}
+
+/// Says what came of a plan.
+fn say_applied<W: io::Write, E: io::Write>(
+    alloc: Global,
+    words: &ApplyWords,
+    applied: &Applied,
+    console: &mut Console<W, E>,
+) -> u8
+    ensures { RunEnds W.contents E.contents (SaysOn (stream_for words.now.json)
+        (status_of applied.now.outcome)) console.old console.new result }
+{
+    let status = applied.outcome.status();
+    let text = text_for(alloc, words, applied);
+    say_for(text, words.json, status, console)
+}
+
+/// Runs a plan, says what came of it, and takes it back where it halted.
+fn apply_or_back<F: TextFiles + WritesFiles, W: io::Write, E: io::Write, P: io::Write, R: Net>(
+    rt: &R,
+    alloc: Global,
+    files: &mut F,
+    plan: Plan,
+    words: &ApplyWords,
+    back: &RevertWords,
+    progress: &mut Progress<P>,
+    console: &mut Console<W, E>,
+) -> u8
+    requires { IsBackOf words.now back.now }
+    ensures ends { AppliesOrNone W.contents E.contents F.TextFiles F.WritesFiles plan words.now
+        files.old files.new console.old console.new result }
+    ensures untold { progress.old.on ≡ false → progress.new ≡ progress.old }
+{
+    match carry_out(rt, alloc, files, plan, words, progress) {
+        Ok(applied) => {
+            let first = say_applied(alloc, words, &applied, console);
+            let outcome = &applied.outcome;
+            go_back(rt, alloc, files, outcome, back, first, progress, console)
+        }
+        Err(AllocError) => end_run(&Err(ReportFault::Memory), console),
+    }
+}
+
+/// The same, once it is known what would take the plan back.
+fn apply_or_none<F: TextFiles + WritesFiles, W: io::Write, E: io::Write, P: io::Write, R: Net>(
+    rt: &R,
+    alloc: Global,
+    files: &mut F,
+    plan: Plan,
+    words: &ApplyWords,
+    progress: &mut Progress<P>,
+    console: &mut Console<W, E>,
+) -> u8
+    ensures ends { AppliesOrNone W.contents E.contents F.TextFiles F.WritesFiles plan words.now
+        files.old files.new console.old console.new result }
+    ensures untold { progress.old.on ≡ false → progress.new ≡ progress.old }
+{
+    match words_back(alloc, words) {
+        Ok(back) => apply_or_back(rt, alloc, files, plan, words, &back, progress, console),
+        Err(AllocError) => {
+            drop(plan);
+            end_run(&Err(ReportFault::Memory), console)
+        }
+    }
+}
+
+/// Runs a plan, all of it or none where that is asked for.
+fn change_to<F: TextFiles + WritesFiles, W: io::Write, E: io::Write, P: io::Write, R: Net>(
+    rt: &R,
+    alloc: Global,
+    files: &mut F,
+    plan: Plan,
+    words: &ChangeWords,
+    progress: &mut Progress<P>,
+    console: &mut Console<W, E>,
+) -> u8
+    ensures ends { ChangesTo W.contents E.contents F.TextFiles F.WritesFiles plan words.now
+        files.old files.new console.old console.new result }
+    ensures untold { progress.old.on ≡ false → progress.new ≡ progress.old }
+{
+    if words.all_or_none {
+        apply_or_none(rt, alloc, files, plan, &words.apply, progress, console)
+    } else {
+        apply_over(rt, alloc, files, plan, &words.apply, progress, console)
+    }
+}
+
+// ---- only changes
+
+/// What is said of the steps that are left out.
+fn text_left_out(alloc: Global, json: bool, left: &[usize]) -> Result<String, AllocError> {
+    if json {
+        left_out_json(alloc, left)
+    } else {
+        left_out_text(alloc, left)
+    }
+}
+
+/// What is said where no step is kept.
+fn text_unchanged(alloc: Global, json: bool, steps: usize) -> Result<String, AllocError> {
+    if json {
+        unchanged_json(alloc, steps)
+    } else {
+        unchanged_text(alloc, steps)
+    }
+}
+
+/// Says which steps are left out, and runs the plan of the others. Where that can't be said nothing is done.
+fn change_others<F: TextFiles + WritesFiles, W: io::Write, E: io::Write, P: io::Write, R: Net>(
+    rt: &R,
+    alloc: Global,
+    files: &mut F,
+    kept: KeptPlan,
+    words: &ChangeWords,
+    progress: &mut Progress<P>,
+    console: &mut Console<W, E>,
+) -> u8
+    ensures ends { TellsFirst W.contents E.contents F.TextFiles F.WritesFiles kept.plan words.now
+        files.old files.new console.old console.new result }
+    ensures untold { progress.old.on ≡ false → progress.new ≡ progress.old }
+{
+    let KeptPlan { plan, left_out } = kept;
+    let json = words.apply.json;
+    let text = text_left_out(alloc, json, left_out.as_slice());
+    let first = say_for(text, json, Status::Success, console);
+    if first != u8::from(Status::Success) {
+        drop(plan);
+        return first;
+    }
+    change_to(rt, alloc, files, plan, words, progress, console)
+}
+
+/// Runs the plan of the kept steps, which are some, of so many steps.
+fn change_kept<F: TextFiles + WritesFiles, W: io::Write, E: io::Write, P: io::Write, R: Net>(
+    rt: &R,
+    alloc: Global,
+    files: &mut F,
+    kept: KeptPlan,
+    steps: usize,
+    words: &ChangeWords,
+    progress: &mut Progress<P>,
+    console: &mut Console<W, E>,
+) -> u8
+    ensures ends { ChangesKept W.contents E.contents F.TextFiles F.WritesFiles kept.plan steps
+        words.now files.old files.new console.old console.new result }
+    ensures untold { progress.old.on ≡ false → progress.new ≡ progress.old }
+{
+    if kept.plan.steps.len() == steps {
+        let KeptPlan { plan, .. } = kept;
+        return change_to(rt, alloc, files, plan, words, progress, console);
+    }
+    change_others(rt, alloc, files, kept, words, progress, console)
+}
+
+/// Runs the plan of the kept steps, of so many. Where there is none, that is said.
+fn change_by<F: TextFiles + WritesFiles, W: io::Write, E: io::Write, P: io::Write, R: Net>(
+    rt: &R,
+    alloc: Global,
+    files: &mut F,
+    kept: KeptPlan,
+    steps: usize,
+    words: &ChangeWords,
+    progress: &mut Progress<P>,
+    console: &mut Console<W, E>,
+) -> u8
+    ensures ends { ChangesBy W.contents E.contents F.TextFiles F.WritesFiles kept.plan steps
+        words.now files.old files.new console.old console.new result }
+    ensures untold { progress.old.on ≡ false → progress.new ≡ progress.old }
+{
+    if kept.plan.steps.len() == 0 {
+        drop(kept);
+        let text = text_unchanged(alloc, words.apply.json, steps);
+        return say_for(text, words.apply.json, Status::Success, console);
+    }
+    change_kept(rt, alloc, files, kept, steps, words, progress, console)
+}
+
+/// What is said where the look failed.
+fn text_unlooked(
+    alloc: Global,
+    plan: &Plan,
+    words: &ApplyWords,
+    why: &LookFault,
+) -> Result<String, AllocError> {
+    if words.json {
+        unlooked_json(alloc, plan, why)
+    } else {
+        unlooked_text(alloc, plan, &words.reach, why)
+    }
+}
+
+/// Says why the look failed.
+fn say_unlooked<W: io::Write, E: io::Write>(
+    alloc: Global,
+    plan: &Plan,
+    words: &ApplyWords,
+    why: &LookFault,
+    console: &mut Console<W, E>,
+) -> u8
+    ensures { EndsUnlooked W.contents E.contents words.now.json why.now
+        console.old console.new result }
+{
+    match status_unlooked(why) {
+        Some(status) => {
+            let text = text_unlooked(alloc, plan, words, why);
+            say_for(text, words.json, status, console)
+        }
+        None => end_run(&Err(ReportFault::Memory), console),
+    }
+}
+
+/// Looks at the controller, and keeps the steps that change something, with the plan's retries.
+fn keep_changes<R: Net>(
+    rt: &R,
+    alloc: Global,
+    plan: &Plan,
+    reach: &Reach,
+) -> Result<KeptPlan, LookFault>
+    ensures kept { IfOk result (λ kept. KeepsChanges (way_of plan.now reach.now) plan.now kept.plan) }
+    ensures fault { IfErr result (FailsFor (way_of plan.now reach.now) plan.now.steps) }
+{
+    let way = way_of(plan, reach);
+    match keep_by_look(rt, alloc, &way, &plan.steps) {
+        Ok(narrowed) => {
+            let Narrowed { kept, left_out } = narrowed;
+            let plan = Plan {
+                steps: kept,
+                retries: plan.retries,
+            };
+            Ok(KeptPlan { plan, left_out })
+        }
+        Err(why) => Err(why),
+    }
+}
+
+/// Looks at the controller first, and runs the plan of the steps that change something.
+fn look_first<F: TextFiles + WritesFiles, W: io::Write, E: io::Write, P: io::Write, R: Net>(
+    rt: &R,
+    alloc: Global,
+    files: &mut F,
+    plan: &Plan,
+    words: &ChangeWords,
+    progress: &mut Progress<P>,
+    console: &mut Console<W, E>,
+) -> u8
+    ensures ends { LooksFirst W.contents E.contents F.TextFiles F.WritesFiles plan.now words.now
+        files.old files.new console.old console.new result }
+    ensures untold { progress.old.on ≡ false → progress.new ≡ progress.old }
+{
+    match keep_changes(rt, alloc, plan, &words.apply.reach) {
+        Ok(kept) => {
+            let steps = plan.steps.len();
+            change_by(rt, alloc, files, kept, steps, words, progress, console)
+        }
+        Err(why) => say_unlooked(alloc, plan, &words.apply, &why, console),
+    }
+}
+
+// ---- with both options, or one
+
+/// Runs a plan by the options.
+fn change_from<F: TextFiles + WritesFiles, W: io::Write, E: io::Write, P: io::Write, R: Net>(
+    rt: &R,
+    alloc: Global,
+    files: &mut F,
+    plan: Plan,
+    words: &ChangeWords,
+    progress: &mut Progress<P>,
+    console: &mut Console<W, E>,
+) -> u8
+    ensures ends { ChangesFrom W.contents E.contents F.TextFiles F.WritesFiles plan words.now
+        files.old files.new console.old console.new result }
+    ensures untold { progress.old.on ≡ false → progress.new ≡ progress.old }
+{
+    if words.only_changes {
+        look_first(rt, alloc, files, &plan, words, progress, console)
+    } else {
+        change_to(rt, alloc, files, plan, words, progress, console)
+    }
+}
+
+/// Runs a plan that is taken, where the ports that it needs are known.
+fn change_over<F: TextFiles + WritesFiles, W: io::Write, E: io::Write, P: io::Write, R: Net>(
+    rt: &R,
+    alloc: Global,
+    files: &mut F,
+    plan: Plan,
+    words: &ChangeWords,
+    progress: &mut Progress<P>,
+    console: &mut Console<W, E>,
+) -> u8
+    ensures ends { ChangeEndsOver W.contents E.contents F.TextFiles F.WritesFiles plan words.now
+        files.old files.new console.old console.new result }
+    ensures untold { progress.old.on ≡ false → progress.new ≡ progress.old }
+{
+    if lacks_port(&plan, &words.apply.reach) {
+        drop(plan);
+        let why = port_text(alloc, "the plan");
+        return say_refused(alloc, words.apply.json, why, Status::RefusedWords, console);
+    }
+    change_from(rt, alloc, files, plan, words, progress, console)
+}
+
+/// Runs the plan of this text.
+fn change_on<F: TextFiles + WritesFiles, W: io::Write, E: io::Write, P: io::Write, R: Net>(
+    rt: &R,
+    alloc: Global,
+    files: &mut F,
+    text: &str,
+    words: &ChangeWords,
+    progress: &mut Progress<P>,
+    console: &mut Console<W, E>,
+) -> u8
+    ensures ends { ChangeEndsOn W.contents E.contents F.TextFiles F.WritesFiles
+        text.now words.now files.old files.new console.old console.new result }
+    ensures untold { progress.old.on ≡ false → progress.new ≡ progress.old }
+{
+    match strict_plan(alloc, words.apply.plan.as_str(), text) {
+        Ok(plan) => change_over(rt, alloc, files, plan, words, progress, console),
+        Err(StrictFault::Memory) => end_run(&Err(ReportFault::Memory), console),
+        Err(StrictFault::Refused(why)) => say_refused(
+            alloc,
+            words.apply.json,
+            Ok(why),
+            Status::RefusedFile,
+            console,
+        ),
+    }
+}
+
+/// Runs the plan of the file that the words name.
+fn change_in<F: TextFiles + WritesFiles, W: io::Write, E: io::Write, P: io::Write, R: Net>(
+    rt: &R,
+    alloc: Global,
+    files: &mut F,
+    words: &ChangeWords,
+    progress: &mut Progress<P>,
+    console: &mut Console<W, E>,
+) -> u8
+    ensures ends { ChangeEndsIn W.contents E.contents F.TextFiles F.WritesFiles
+        (string_bytes words.now.apply.plan) words.now files.old files.new
+        console.old console.new result }
+    ensures untold { progress.old.on ≡ false → progress.new ≡ progress.old }
+{
+    match text_of(&*files, words.apply.plan.as_str()) {
+        Ok(text) => change_on(rt, alloc, files, text.as_str(), words, progress, console),
+        Err(unread) => say_unread(alloc, words.apply.json, &unread, console),
+    }
+}
+
+/// Whether one of the options is given.
+fn has_option(words: &ChangeWords) -> bool
+    ensures { result ≡ (words.now.only_changes || words.now.all_or_none) }
+{
+    words.only_changes || words.all_or_none
+}
+
+/// Runs the plan of the file that the words name, by their options.
+pub fn change<F: TextFiles + WritesFiles, W: io::Write, E: io::Write, P: io::Write, R: Net>(
+    rt: &R,
+    alloc: Global,
+    files: &mut F,
+    words: &ChangeWords,
+    progress: &mut Progress<P>,
+    console: &mut Console<W, E>,
+) -> u8
+    ensures ends { ChangeEndsOf W.contents E.contents F.TextFiles F.WritesFiles
+        (string_bytes words.now.apply.plan) words.now files.old files.new
+        console.old console.new result }
+    ensures untold { progress.old.on ≡ false → progress.new ≡ progress.old }
+{
+    if has_option(words) {
+        change_in(rt, alloc, files, words, progress, console)
+    } else {
+        apply(rt, alloc, files, &words.apply, progress, console)
+    }
+}

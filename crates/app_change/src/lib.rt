@@ -1,0 +1,18 @@
+//! What `bmcnet apply` and `bmcnet revert` do with their options: of a plan those steps alone that change something, all of it or none, and what a
+//! file would take back, told from the file alone.
+#![tactic(auto)]
+
+pub mod changing;
+mod foretold_json;
+mod foretold_words;
+mod looking;
+mod narrowed_json;
+mod narrowed_words;
+pub mod taking_back;
+
+pub use changing::{ChangeWords, change};
+pub use foretold_json::foretell_json;
+pub use foretold_words::foretell_text;
+pub use narrowed_json::{left_out_json, unchanged_json, unlooked_json};
+pub use narrowed_words::{left_out_text, unchanged_text, unlooked_text};
+pub use taking_back::{BackWords, take_back};
