@@ -43,12 +43,13 @@ WORDS = {
         "undo": ({"--wait": None, "--greet": FLAG, "--strict": FLAG}, [("UNDO", UNDO), ("P0", None), ("P1", None), ("TURNS", None)]),
         "pair": ({"--strict": FLAG, "--list": FLAG}, [("BOARD", BOARD), ("PLAN", PLAN), ("TURNS", None)]),
         "apply": (
-            {"--undo": UNDO, "--replace": FLAG, "--wait": None, "--again": None, "--json": FLAG},
+            {"--undo": UNDO, "--replace": FLAG, "--only-changes": FLAG, "--all-or-none": FLAG, "--wait": None, "--again": None, "--json": FLAG},
             # A last word P1 may be left out, so it is none of these.
             [("PLAN", PLAN), ("P0", None)],
         ),
-        "revert": ({"--wait": None, "--again": None, "--json": FLAG}, [("FILE", UNDO), ("P0", None)]),
+        "revert": ({"--preview": FLAG, "--wait": None, "--again": None, "--json": FLAG}, [("FILE", UNDO), ("P0", None)]),
         "preview": ({"--wait": None, "--again": None, "--json": FLAG}, [("PLAN", PLAN), ("P0", None)]),
+        "show": ({"--wait": None, "--again": None, "--effecters": None, "--out": FILE, "--json": FLAG}, [("P0", None)]),
         "version": ({}, []),
     },
     "lan-bridge": {

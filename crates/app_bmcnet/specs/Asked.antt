@@ -9,10 +9,15 @@ use Rattle.app_run.specs.declared.undoing.UndoWords.{UndoWords}
 use Rattle.app_apply.specs.declared.applying.ApplyWords.{ApplyWords}
 use Rattle.app_apply.specs.declared.kept_calls.Reach.{Reach}
 use Rattle.app_revert.specs.declared.reverting.RevertWords.{RevertWords}
+use Rattle.app_change.specs.declared.changing.ChangeWords.{ChangeWords}
+use Rattle.app_change.specs.declared.taking_back.BackWords.{BackWords}
+use Rattle.app_show.specs.declared.keys.IdRange.{IdRange}
+use Rattle.app_show.specs.declared.showing.ShowWords.{ShowWords}
 use Rattle.app_pair.specs.declared.pairing.PairWords.{PairWords}
 use Rattle.app_preview.specs.declared.previewing.PreviewWords.{PreviewWords}
 use Rattle.app_bmcnet.specs.declared.words.Words.{Words}
-use Rattle.app_bmcnet.specs.declared.words.Words.TheVariants.{Serve, Run, Undo, Pair, Apply, Revert, Preview, Version}
+use Rattle.app_bmcnet.specs.declared.words.Words.TheVariants.{Serve, Run, Undo, Pair, Apply, Revert, Preview, Show, Version}
+use Rattle.app_bmcnet.specs.Ids.{NamesGiven}
 use Rattle.app_bmcnet.specs.Line.{program}
 
 -- the word of this name is this port
@@ -120,7 +125,7 @@ abbrev pub NamesFile : List Row → (plan file : List ℕ) → Type 0
 NamesFile rows plan file =
     (first_of (codes "undo") rows ≡ Some file) ⊎ ((first_of (codes "undo") rows ≡ None) × IsFileOf plan file)
 
--- what was matched behind `apply` asks for this
+-- what was matched behind `apply` asks for this, but for its options that change what is carried out
 pub record AsksApply (rows : List Row) (asked : ApplyWords) : Type 0 where
   pub plan : first_of (codes "PLAN") rows ≡ Some (string_bytes asked.plan)
   pub file : NamesFile rows (string_bytes asked.plan) (string_bytes asked.file)
@@ -128,15 +133,37 @@ pub record AsksApply (rows : List Row) (asked : ApplyWords) : Type 0 where
   pub reach : NamesReach rows asked.reach
   pub json : is_given (codes "json") rows ≡ asked.json
 
--- what was matched behind `revert` asks for this
+-- and with these
+pub record AsksChange (rows : List Row) (asked : ChangeWords) : Type 0 where
+  pub apply : AsksApply rows asked.apply
+  pub only_changes : is_given (codes "only-changes") rows ≡ asked.only_changes
+  pub all_or_none : is_given (codes "all-or-none") rows ≡ asked.all_or_none
+
+-- what was matched behind `revert` asks for this, but for whether that is only told
 pub record AsksRevert (rows : List Row) (asked : RevertWords) : Type 0 where
   pub file : first_of (codes "FILE") rows ≡ Some (string_bytes asked.file)
   pub reach : NamesReach rows asked.reach
   pub json : is_given (codes "json") rows ≡ asked.json
 
+-- and with that
+pub record AsksBack (rows : List Row) (asked : BackWords) : Type 0 where
+  pub revert : AsksRevert rows asked.revert
+  pub preview : is_given (codes "preview") rows ≡ asked.preview
+
 -- what was matched behind `preview` asks for this
 pub record AsksPreview (rows : List Row) (asked : PreviewWords) : Type 0 where
   pub plan : first_of (codes "PLAN") rows ≡ Some (string_bytes asked.plan)
+  pub json : is_given (codes "json") rows ≡ asked.json
+  pub reach : NamesReach rows asked.reach
+
+-- the option `--effecters` names these ids
+abbrev pub NamesIdRanges : List Row → List IdRange → Type 0
+NamesIdRanges rows ranges = NamesGiven (first_of (codes "effecters") rows) ranges
+
+-- what was matched behind `show` asks for this
+pub record AsksShow (rows : List Row) (asked : ShowWords) : Type 0 where
+  pub effecters : NamesIdRanges rows asked.effecters.items
+  pub out : option_map string_bytes asked.out ≡ first_of (codes "out") rows
   pub json : is_given (codes "json") rows ≡ asked.json
   pub reach : NamesReach rows asked.reach
 
@@ -146,9 +173,10 @@ AsksBy met (Serve asked) = (rows : List Row) × (met ≡ Some (codes "serve", ro
 AsksBy met (Run asked) = (rows : List Row) × (met ≡ Some (codes "run", rows)) × AsksRun rows asked
 AsksBy met (Undo asked) = (rows : List Row) × (met ≡ Some (codes "undo", rows)) × AsksUndo rows asked
 AsksBy met (Pair asked) = (rows : List Row) × (met ≡ Some (codes "pair", rows)) × AsksPair rows asked
-AsksBy met (Apply asked) = (rows : List Row) × (met ≡ Some (codes "apply", rows)) × AsksApply rows asked
-AsksBy met (Revert asked) = (rows : List Row) × (met ≡ Some (codes "revert", rows)) × AsksRevert rows asked
+AsksBy met (Apply asked) = (rows : List Row) × (met ≡ Some (codes "apply", rows)) × AsksChange rows asked
+AsksBy met (Revert asked) = (rows : List Row) × (met ≡ Some (codes "revert", rows)) × AsksBack rows asked
 AsksBy met (Preview asked) = (rows : List Row) × (met ≡ Some (codes "preview", rows)) × AsksPreview rows asked
+AsksBy met (Show asked) = (rows : List Row) × (met ≡ Some (codes "show", rows)) × AsksShow rows asked
 AsksBy met Version = (rows : List Row) × (met ≡ Some (codes "version", rows))
 
 -- the words, the program's own name first among them, are of its command line, and ask for this

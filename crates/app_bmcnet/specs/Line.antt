@@ -4,7 +4,7 @@ use Rattle.clap.specs.Words.{App, Rule, Text, new_app, new_rule, with_rule, with
 use Rattle.app_base.specs.Line.{flag_rule, needed_rule, needing_subcommand, option_rule}
 use Rattle.app_base.specs.Version.{version_app}
 use Rattle.app_bmcnet.specs.declared.tasks.Task.{Task}
-use Rattle.app_bmcnet.specs.declared.tasks.Task.TheVariants.{Serve, Run, Undo, Pair, Apply, Revert, Preview}
+use Rattle.app_bmcnet.specs.declared.tasks.Task.TheVariants.{Serve, Run, Undo, Pair, Apply, Revert, Preview, Show}
 
 -- a command of this name, with these options, and with words each of which must be there
 abbrev pub taking : (name : Text) → (options : List Rule) → (words : List Text) → App
@@ -31,18 +31,24 @@ undo_options = option_rule (codes "wait") ∷ flag_rule (codes "greet") ∷ flag
 abbrev pub pair_options : List Rule
 pair_options = flag_rule (codes "strict") ∷ flag_rule (codes "list") ∷ []
 
--- those of `apply`: `[--undo FILE] [--replace] [--wait MS] [--again N] [--json]`
+-- those of `apply`: `[--undo FILE] [--replace] [--only-changes] [--all-or-none] [--wait MS] [--again N] [--json]`
 abbrev pub apply_options : List Rule
 apply_options =
-    option_rule (codes "undo") ∷ flag_rule (codes "replace") ∷ option_rule (codes "wait") ∷ option_rule (codes "again") ∷ flag_rule (codes "json") ∷ []
+    option_rule (codes "undo") ∷ flag_rule (codes "replace") ∷ flag_rule (codes "only-changes") ∷ flag_rule (codes "all-or-none")
+    ∷ option_rule (codes "wait") ∷ option_rule (codes "again") ∷ flag_rule (codes "json") ∷ []
 
--- those of `revert`: `[--wait MS] [--again N] [--json]`
+-- those of `revert`: `[--preview] [--wait MS] [--again N] [--json]`
 abbrev pub revert_options : List Rule
-revert_options = option_rule (codes "wait") ∷ option_rule (codes "again") ∷ flag_rule (codes "json") ∷ []
+revert_options = flag_rule (codes "preview") ∷ option_rule (codes "wait") ∷ option_rule (codes "again") ∷ flag_rule (codes "json") ∷ []
 
 -- those of `preview`: `[--wait MS] [--again N] [--json]`
 abbrev pub preview_options : List Rule
 preview_options = option_rule (codes "wait") ∷ option_rule (codes "again") ∷ flag_rule (codes "json") ∷ []
+
+-- those of `show`: `[--wait MS] [--again N] [--effecters LIST] [--out NAME] [--json]`
+abbrev pub show_options : List Rule
+show_options =
+    option_rule (codes "wait") ∷ option_rule (codes "again") ∷ option_rule (codes "effecters") ∷ option_rule (codes "out") ∷ flag_rule (codes "json") ∷ []
 
 -- a word P1, which may be left out
 abbrev pub smbus_rule : Rule
@@ -53,7 +59,7 @@ abbrev pub with_smbus_port : App → App
 with_smbus_port app = with_rule app smbus_rule
 
 -- behind their options, `serve BOARD P0 P1 TURNS`, `run PLAN P0 P1 TURNS UNDO`, `undo UNDO P0 P1 TURNS`, `pair BOARD PLAN TURNS`, `apply PLAN P0
--- [P1]`, `revert FILE P0 [P1]` and `preview PLAN P0 [P1]`
+-- [P1]`, `revert FILE P0 [P1]`, `preview PLAN P0 [P1]` and `show P0 [P1]`
 abbrev pub app_named : Task → App
 app_named Serve = taking (codes "serve") serve_options (codes "BOARD" ∷ codes "P0" ∷ codes "P1" ∷ codes "TURNS" ∷ [])
 app_named Run = taking (codes "run") run_options (codes "PLAN" ∷ codes "P0" ∷ codes "P1" ∷ codes "TURNS" ∷ codes "UNDO" ∷ [])
@@ -62,6 +68,7 @@ app_named Pair = taking (codes "pair") pair_options (codes "BOARD" ∷ codes "PL
 app_named Apply = with_smbus_port (taking (codes "apply") apply_options (codes "PLAN" ∷ codes "P0" ∷ []))
 app_named Revert = with_smbus_port (taking (codes "revert") revert_options (codes "FILE" ∷ codes "P0" ∷ []))
 app_named Preview = with_smbus_port (taking (codes "preview") preview_options (codes "PLAN" ∷ codes "P0" ∷ []))
+app_named Show = with_smbus_port (taking (codes "show") show_options (codes "P0" ∷ []))
 
 -- `bmcnet`, and what it does with one side
 abbrev pub serves : App
@@ -75,6 +82,10 @@ pairs = with_subcommand (with_subcommand serves (app_named Undo).top) (app_named
 abbrev pub applies : App
 applies = with_subcommand (with_subcommand pairs (app_named Apply).top) (app_named Revert).top
 
+-- and what it does by looks alone
+abbrev pub looks : App
+looks = with_subcommand (with_subcommand applies (app_named Preview).top) (app_named Show).top
+
 -- `bmcnet`, and what it can do
 abbrev pub program : App
-program = with_subcommand (with_subcommand applies (app_named Preview).top) version_app.top
+program = with_subcommand looks version_app.top

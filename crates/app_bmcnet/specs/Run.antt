@@ -13,16 +13,17 @@ use Rattle.app_run.specs.Run.{RunEndsOf}
 use Rattle.app_run.specs.Undo.{UndoEndsOf}
 use Rattle.app_run.specs.declared.progress.Progress.{Progress}
 use Rattle.app_run.specs.Told.{TellsFile, TellsUndoOf}
-use Rattle.app_apply.specs.Ends.{ApplyEndsOf}
-use Rattle.app_revert.specs.Revert.{RevertEndsOf}
+use Rattle.app_change.specs.Ends.{ChangeEndsOf}
+use Rattle.app_change.specs.Back.{BackEndsOf}
+use Rattle.app_show.specs.Show.{ShowEndsOf}
 use Rattle.app_pair.specs.PairRun.{PrintsPairOfFiles, words_of}
 use Rattle.app_preview.specs.Preview.{PreviewEndsOf}
 use Rattle.app_bmcnet.specs.declared.words.Words.{Words}
-use Rattle.app_bmcnet.specs.declared.words.Words.TheVariants.{Serve, Run, Undo, Pair, Apply, Revert, Preview, Version}
+use Rattle.app_bmcnet.specs.declared.words.Words.TheVariants.{Serve, Run, Undo, Pair, Apply, Revert, Preview, Show, Version}
 use Rattle.app_bmcnet.specs.Asked.{AsksFor}
 
--- So a run ends that does what words ask for: as `serve`, `run`, `undo`, `pair`, `apply`, `revert` or `preview` does with the files that they name, or
--- by the version.
+-- So a run ends that does what words ask for: as `serve`, `run`, `undo`, `pair`, `apply`, `revert`, `preview` or `show` does with the files that they
+-- name, or by the version.
 abbrev pub EndsAsAsked : {Files Stdout Stderr : Type 0} → (out : Stdout → Option (List ℕ)) → (err : Stderr → Option (List ℕ)) → texts.Ghosts Files → Ghosts Files → Words → (before after : Files)
     → (old new : Console Stdout Stderr) → ℕ → Type 0
 EndsAsAsked out err read files (Serve asked) before after old new result =
@@ -34,11 +35,13 @@ EndsAsAsked out err read files (Undo asked) before after old new result =
 EndsAsAsked out err read files (Pair asked) before after old new result =
     (after ≡ before) × RunEnds out err (PrintsPairOfFiles (read.gives before) (words_of asked) asked.options) old new result
 EndsAsAsked out err read files (Apply asked) before after old new result =
-    ApplyEndsOf out err read files (string_bytes asked.plan) asked before after old new result
+    ChangeEndsOf out err read files (string_bytes asked.apply.plan) asked before after old new result
 EndsAsAsked out err read files (Revert asked) before after old new result =
-    RevertEndsOf out err read files (string_bytes asked.file) asked before after old new result
+    BackEndsOf out err read files (string_bytes asked.revert.file) asked before after old new result
 EndsAsAsked out err read files (Preview asked) before after old new result =
     (after ≡ before) × PreviewEndsOf out err (read.gives before) asked old new result
+EndsAsAsked out err read files (Show asked) before after old new result =
+    ShowEndsOf out err files asked before after old new result
 EndsAsAsked out err read files Version before after old new result =
     (after ≡ before) × RunEnds out err SaysVersion old new result
 

@@ -14,7 +14,14 @@ pub struct NetFiles<'a, R: Files + AllocGlobal> {
     /// How they are read.
     pub read: HostFiles<'a, R>,
     /// Those that the process holds.
-    pub held: Vec<File>,
+    pub held: Vec<HeldFile>,
+}
+
+/// A file that the process holds, by its path.
+#[derive(Drop)]
+pub struct HeldFile {
+    path: String,
+    file: File,
 }
 
 impl<R: Files + AllocGlobal> TextFiles for NetFiles<'_, R> {
@@ -75,6 +82,11 @@ fn lock_file<R: Files<File = File>>(rt: &R, path: &str) -> Result<File, HoldFaul
         Ok(()) => Ok(file),
         Err(_) => Err(HoldFault),
     }
+}
+
+/// Whether one of the files that are held has this path.
+fn is_held(held: &[HeldFile], path: &str) -> bool {
+    held.iter().any(|one| one.path.as_str() == path)
 }
 
 /// Writes the text to the FIFO or the device of this path.
@@ -173,9 +185,16 @@ impl<R: Files<File = File> + AllocGlobal> WritesFiles for NetFiles<'_, R> {
         written(remove_through(self.read.rt, word))
     }
 
+    // What the process holds already it goes on holding.
     fn hold(&mut self, word: &str) -> Result<(), HoldFault> {
+        if is_held(self.held.as_slice(), word) {
+            return Ok(());
+        }
+        let Ok(path) = String::from_str(self.read.rt.alloc(), word) else {
+            return Err(HoldFault);
+        };
         let file = lock_file(self.read.rt, word)?;
-        match self.held.push(file) {
+        match self.held.push(HeldFile { path, file }) {
             Ok(()) => Ok(()),
             Err(_) => Err(HoldFault),
         }

@@ -2,6 +2,7 @@
 #![tactic(auto)]
 
 pub mod file;
+mod ids;
 pub mod number;
 pub mod run;
 mod tasks;

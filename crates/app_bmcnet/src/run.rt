@@ -3,14 +3,14 @@ ghost use Rattle.std.specs.Prelude.{map, string_bytes};
 ghost use Rattle.app_bmcnet.specs.Run.{EndsAsAsked, LineEnds, LineTells, MayTellAsAsked};
 
 use crate::words::{Words, read};
-use app_apply::apply;
 use app_base::{Console, TextFiles, refuse, tell_version};
+use app_change::{change, take_back};
 use app_journal::WritesFiles;
 use app_pair::pair;
 use app_preview::preview;
-use app_revert::revert;
 use app_run::{Progress, run, undo};
 use app_serve::serve;
+use app_show::show;
 use std::alloc::Global;
 use std::io;
 use std::net::Net;
@@ -43,9 +43,10 @@ fn carry_out<
         Words::Run(words) => run(rt, alloc, files, words, progress, console),
         Words::Undo(words) => undo(rt, alloc, files, words, progress, console),
         Words::Pair(words) => pair(rt, alloc, &*files, words, console),
-        Words::Apply(words) => apply(rt, alloc, files, words, progress, console),
-        Words::Revert(words) => revert(rt, alloc, files, words, progress, console),
+        Words::Apply(words) => change(rt, alloc, files, words, progress, console),
+        Words::Revert(words) => take_back(rt, alloc, files, words, progress, console),
         Words::Preview(words) => preview(rt, alloc, &*files, words, console),
+        Words::Show(words) => show(rt, alloc, files, words, console),
         Words::Version => tell_version(console),
     }
 }

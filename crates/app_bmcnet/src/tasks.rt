@@ -18,6 +18,7 @@ pub enum Task {
     Apply,
     Revert,
     Preview,
+    Show,
 }
 
 const BOARD_HELP: &str = "The board file, as sample.toml";
@@ -221,6 +222,12 @@ const REACH_AGAIN_HELP: &str =
     "How often to begin anew with a request that no retry brought a reply to, as in --again 3; \
 0 where none is given: a decimal number from 0 to 4294967295";
 
+const ONLY_CHANGES_HELP: &str =
+    "Looks at the records first, and carries out those steps alone that change something, as in --only-changes";
+
+const ALL_OR_NONE_HELP: &str =
+    "Takes back at once what was done where the plan halts, as in --all-or-none";
+
 const JSON_HELP: &str =
     "Says what came of it as one object in a line of standard output, in place of the sentences, as in --json";
 
@@ -246,11 +253,14 @@ const APPLY_EXAMPLES: &str = "Examples:
   bmcnet apply examples/clean/plan.toml 9620 9621
   bmcnet apply --undo fans.undo examples/clean/plan.toml 9620 9621
   bmcnet apply --undo fans.undo --replace examples/clean/plan.toml 9620 9621
+  bmcnet apply --only-changes --all-or-none examples/clean/plan.toml 9620 9621
   bmcnet apply --wait 500 --again 3 --json examples/clean/plan.toml 9620 9621";
 
-const APPLY_ARGUMENTS: [Argument<'static>; 7] = [
+const APPLY_ARGUMENTS: [Argument<'static>; 9] = [
     Argument::Option("undo", "FILE", FILE_HELP),
     Argument::Flag("replace", FILE_REPLACE_HELP),
+    Argument::Flag("only-changes", ONLY_CHANGES_HELP),
+    Argument::Flag("all-or-none", ALL_OR_NONE_HELP),
     Argument::Option("wait", "MS", WAIT_HELP),
     Argument::Option("again", "N", REACH_AGAIN_HELP),
     Argument::Flag("json", JSON_HELP),
@@ -258,7 +268,7 @@ const APPLY_ARGUMENTS: [Argument<'static>; 7] = [
     Argument::Needed("P0", P0_HELP),
 ];
 
-/// `apply [--undo FILE] [--replace] [--wait MS] [--again N] [--json] PLAN P0 [P1]`.
+/// `apply [--undo FILE] [--replace] [--only-changes] [--all-or-none] [--wait MS] [--again N] [--json] PLAN P0 [P1]`.
 fn apply_command<'a>(alloc: Global) -> Result<Command<'a>, AllocError>
     ensures { IfOk result (IsCommand (app_named Task.Apply)) }
 {
@@ -278,11 +288,16 @@ const REVERT_ABOUT: &str =
 const REVERT_FILE_HELP: &str =
     "The file that apply kept, as fans.undo: a journal or an undo text. Meanwhile it is the journal of the way back";
 
+const REVERT_PREVIEW_HELP: &str =
+    "Tells from that file alone what would be taken back, and sends nothing, as in --preview";
+
 const REVERT_EXAMPLES: &str = "Examples:
   bmcnet revert examples/clean/plan.undo 9620 9621
+  bmcnet revert --preview examples/clean/plan.undo 9620
   bmcnet revert --wait 500 --again 3 --json fans.undo 9620";
 
-const REVERT_ARGUMENTS: [Argument<'static>; 5] = [
+const REVERT_ARGUMENTS: [Argument<'static>; 6] = [
+    Argument::Flag("preview", REVERT_PREVIEW_HELP),
     Argument::Option("wait", "MS", WAIT_HELP),
     Argument::Option("again", "N", REACH_AGAIN_HELP),
     Argument::Flag("json", JSON_HELP),
@@ -290,7 +305,7 @@ const REVERT_ARGUMENTS: [Argument<'static>; 5] = [
     Argument::Needed("P0", P0_HELP),
 ];
 
-/// `revert [--wait MS] [--again N] [--json] FILE P0 [P1]`.
+/// `revert [--preview] [--wait MS] [--again N] [--json] FILE P0 [P1]`.
 fn revert_command<'a>(alloc: Global) -> Result<Command<'a>, AllocError>
     ensures { IfOk result (IsCommand (app_named Task.Revert)) }
 {
@@ -336,6 +351,42 @@ fn preview_command<'a>(alloc: Global) -> Result<Command<'a>, AllocError>
     with_smbus_port(alloc, command)
 }
 
+const SHOW_ABOUT: &str =
+    "Reads a controller's records, and prints plans that set each to what it is: a backup. Nothing is set";
+
+const EFFECTERS_HELP: &str =
+    "The ids of the effecters that are read, as in --effecters 1,2,10-20; none where none are given: decimal numbers up to 65535";
+
+const OUT_HELP: &str =
+    "The name of the files that get the plans, as in --out backup: backup.toml, or backup-1.toml, backup-2.toml and so on \
+where there are several. None of them may be there. Without it standard output gets them";
+
+const SHOW_JSON_HELP: &str =
+    "Says what each record is set to as an object in a line, in place of the plans, as in --json; it goes without --out";
+
+const SHOW_EXAMPLES: &str = "Examples:
+  bmcnet show 9620
+  bmcnet show --out backup 9620 9621
+  bmcnet show --json 9620
+  bmcnet show --wait 500 --again 3 --effecters 1,2,10-20 --out backup 9620 9621";
+
+const SHOW_ARGUMENTS: [Argument<'static>; 6] = [
+    Argument::Option("wait", "MS", WAIT_HELP),
+    Argument::Option("again", "N", REACH_AGAIN_HELP),
+    Argument::Option("effecters", "LIST", EFFECTERS_HELP),
+    Argument::Option("out", "NAME", OUT_HELP),
+    Argument::Flag("json", SHOW_JSON_HELP),
+    Argument::Needed("P0", P0_HELP),
+];
+
+/// `show [--wait MS] [--again N] [--effecters LIST] [--out NAME] [--json] P0 [P1]`.
+fn show_command<'a>(alloc: Global) -> Result<Command<'a>, AllocError>
+    ensures { IfOk result (IsCommand (app_named Task.Show)) }
+{
+    let command = new_command(alloc, "show", SHOW_ABOUT, SHOW_EXAMPLES, &SHOW_ARGUMENTS)?;
+    with_smbus_port(alloc, command)
+}
+
 impl Task {
     /// The command that does it.
     pub fn command<'a>(self, alloc: Global) -> Result<Command<'a>, AllocError>
@@ -349,6 +400,7 @@ impl Task {
             Task::Apply => apply_command(alloc),
             Task::Revert => revert_command(alloc),
             Task::Preview => preview_command(alloc),
+            Task::Show => show_command(alloc),
         }
     }
 
@@ -362,6 +414,7 @@ impl Task {
             Task::Apply => "bmcnet apply",
             Task::Revert => "bmcnet revert",
             Task::Preview => "bmcnet preview",
+            Task::Show => "bmcnet show",
         }
     }
 }
@@ -379,7 +432,8 @@ const EXAMPLES: &str = "Examples:
   bmcnet pair sample.toml examples/reply_lost/plan.toml 20
   bmcnet apply examples/clean/plan.toml 9620 9621
   bmcnet revert examples/clean/plan.undo 9620 9621
-  bmcnet preview examples/clean/plan.toml 9620 9621";
+  bmcnet preview examples/clean/plan.toml 9620 9621
+  bmcnet show --out backup 9620 9621";
 
 /// `bmcnet`, and what it can do.
 pub fn command<'a>(alloc: Global) -> Result<Command<'a>, AllocError>
@@ -393,5 +447,6 @@ pub fn command<'a>(alloc: Global) -> Result<Command<'a>, AllocError>
     let program = with_command(program, apply_command(alloc))?;
     let program = with_command(program, revert_command(alloc))?;
     let program = with_command(program, preview_command(alloc))?;
+    let program = with_command(program, show_command(alloc))?;
     with_command(program, version_command(alloc, VERSION_EXAMPLES))
 }

@@ -3,18 +3,23 @@ ghost use Rattle.std.specs.Prelude.{◌≡◌, IfOk, IfErr, IfSome, IfNone, map,
 ghost use Rattle.clap.specs.Words.{found_of, rows_of, subcommand_rows_of};
 ghost use Rattle.app_base.specs.Asked.{RefusesWords};
 ghost use Rattle.app_bmcnet.specs.Asked.{AsksBy, AsksFor, AsksPair, AsksRun, AsksServe, AsksUndo};
-ghost use Rattle.app_bmcnet.specs.Asked.{AsksApply, AsksPreview, AsksRevert, IsFileOf, NamesFile, NamesPortOr, NamesReach};
+ghost use Rattle.app_bmcnet.specs.Asked.{AsksApply, AsksBack, AsksChange, AsksPreview, AsksRevert};
+ghost use Rattle.app_bmcnet.specs.Asked.{IsFileOf, NamesFile, NamesPortOr, NamesReach};
+ghost use Rattle.app_bmcnet.specs.Asked.{AsksShow, NamesIdRanges};
 ghost use Rattle.app_bmcnet.specs.Asked.{NamesOption, NamesOr, NamesPort, NamesTurns, NamesWait, OptionsStand, StandBeside};
 
+use crate::ids::id_ranges;
 use crate::number::{number_from, number_of, port_of};
 use crate::tasks::{Task, command};
 use app_apply::{ApplyWords, Reach};
 use app_base::{Refusal, given, has_flag, lacking, named, refusal_by, refusal_of, word_of};
+use app_change::{BackWords, ChangeWords};
 use app_pair::{PairOptions, PairWords};
 use app_preview::PreviewWords;
 use app_revert::RevertWords;
 use app_run::{RunWords, UndoWords, WAIT_MS};
 use app_serve::ServeWords;
+use app_show::{IdRange, ShowWords};
 use clap::ArgMatches;
 use clap::error::ErrorKind;
 use std::alloc::{AllocError, Global};
@@ -26,9 +31,10 @@ pub enum Words {
     Run(RunWords),
     Undo(UndoWords),
     Pair(PairWords),
-    Apply(ApplyWords),
-    Revert(RevertWords),
+    Apply(ChangeWords),
+    Revert(BackWords),
     Preview(PreviewWords),
+    Show(ShowWords),
     Version,
 }
 
@@ -285,7 +291,7 @@ fn port_given(
     }
 }
 
-/// Where the controller is, and how long it is listened to, by the words behind `apply`, `revert` or `preview`.
+/// Where the controller is, and how long it is listened to, by the words behind `apply`, `revert`, `preview` or `show`.
 fn reach(alloc: Global, matches: &ArgMatches, task: Task) -> Result<Reach, Refusal>
     ensures reach { IfOk result (NamesReach (rows_of (found_of matches.now))) }
     ensures refused { IfErr result (RefusesWords (NamesReach (rows_of (found_of matches.now)))) }
@@ -324,7 +330,7 @@ fn file_given(alloc: Global, matches: &ArgMatches, plan: &str) -> Result<String,
     }
 }
 
-/// What the words behind `apply` ask for.
+/// What the words behind `apply` ask for, but for its options that change what is carried out.
 fn apply_words(alloc: Global, matches: &ArgMatches) -> Result<ApplyWords, Refusal>
     ensures asked { IfOk result (AsksApply (rows_of (found_of matches.now))) }
     ensures refused { IfErr result (RefusesWords (AsksApply (rows_of (found_of matches.now)))) }
@@ -342,7 +348,19 @@ fn apply_words(alloc: Global, matches: &ArgMatches) -> Result<ApplyWords, Refusa
     })
 }
 
-/// What the words behind `revert` ask for.
+/// What the words behind `apply` ask for.
+fn change_words(alloc: Global, matches: &ArgMatches) -> Result<ChangeWords, Refusal>
+    ensures asked { IfOk result (AsksChange (rows_of (found_of matches.now))) }
+    ensures refused { IfErr result (RefusesWords (AsksChange (rows_of (found_of matches.now)))) }
+{
+    Ok(ChangeWords {
+        apply: apply_words(alloc, matches)?,
+        only_changes: has_flag(matches, "only-changes"),
+        all_or_none: has_flag(matches, "all-or-none"),
+    })
+}
+
+/// What the words behind `revert` ask for, but for whether that is only told.
 fn revert_words(alloc: Global, matches: &ArgMatches) -> Result<RevertWords, Refusal>
     ensures asked { IfOk result (AsksRevert (rows_of (found_of matches.now))) }
     ensures refused { IfErr result (RefusesWords (AsksRevert (rows_of (found_of matches.now)))) }
@@ -351,6 +369,17 @@ fn revert_words(alloc: Global, matches: &ArgMatches) -> Result<RevertWords, Refu
         file: named(alloc, matches, "FILE")?,
         reach: reach(alloc, matches, Task::Revert)?,
         json: has_flag(matches, "json"),
+    })
+}
+
+/// What the words behind `revert` ask for.
+fn back_words(alloc: Global, matches: &ArgMatches) -> Result<BackWords, Refusal>
+    ensures asked { IfOk result (AsksBack (rows_of (found_of matches.now))) }
+    ensures refused { IfErr result (RefusesWords (AsksBack (rows_of (found_of matches.now)))) }
+{
+    Ok(BackWords {
+        revert: revert_words(alloc, matches)?,
+        preview: has_flag(matches, "preview"),
     })
 }
 
@@ -363,6 +392,40 @@ fn preview_words(alloc: Global, matches: &ArgMatches) -> Result<PreviewWords, Re
         plan: named(alloc, matches, "PLAN")?,
         json: has_flag(matches, "json"),
         reach: reach(alloc, matches, Task::Preview)?,
+    })
+}
+
+/// The ids of effecters that the option `--effecters` names.
+fn effecters(alloc: Global, matches: &ArgMatches) -> Result<Vec<IdRange>, Refusal>
+    ensures ids { IfOk result (λ ids. NamesIdRanges (rows_of (found_of matches.now)) ids.items) }
+    ensures refused { IfErr result
+        (RefusesWords (NamesIdRanges (rows_of (found_of matches.now)))) }
+{
+    let Some(word) = word_of(matches, "effecters") else {
+        return Ok(Vec::new(alloc));
+    };
+    match id_ranges(alloc, word) {
+        Ok(Some(ids)) => Ok(ids),
+        Ok(None) => {
+            let message = format!(in alloc;
+                "invalid value '{word}' for '--effecters <LIST>': decimal numbers from 0 to 65535, as 1,2,10-20"
+            );
+            Err(value_refusal(alloc, Task::Show, message))
+        }
+        Err(AllocError) => Err(Refusal::Memory),
+    }
+}
+
+/// What the words behind `show` ask for.
+fn show_words(alloc: Global, matches: &ArgMatches) -> Result<ShowWords, Refusal>
+    ensures asked { IfOk result (AsksShow (rows_of (found_of matches.now))) }
+    ensures refused { IfErr result (RefusesWords (AsksShow (rows_of (found_of matches.now)))) }
+{
+    Ok(ShowWords {
+        effecters: effecters(alloc, matches)?,
+        out: given(alloc, matches, "out")?,
+        json: has_flag(matches, "json"),
+        reach: reach(alloc, matches, Task::Show)?,
     })
 }
 
@@ -384,13 +447,16 @@ fn matched_words(alloc: Global, matches: &ArgMatches) -> Result<Words, Refusal>
         return Ok(Words::Pair(pair_words(alloc, pair)?));
     }
     if let Some(apply) = matches.subcommand_matches("apply") {
-        return Ok(Words::Apply(apply_words(alloc, apply)?));
+        return Ok(Words::Apply(change_words(alloc, apply)?));
     }
     if let Some(revert) = matches.subcommand_matches("revert") {
-        return Ok(Words::Revert(revert_words(alloc, revert)?));
+        return Ok(Words::Revert(back_words(alloc, revert)?));
     }
     if let Some(preview) = matches.subcommand_matches("preview") {
         return Ok(Words::Preview(preview_words(alloc, preview)?));
+    }
+    if let Some(show) = matches.subcommand_matches("show") {
+        return Ok(Words::Show(show_words(alloc, show)?));
     }
     let Some(_version) = matches.subcommand_matches("version") else {
         return Err(lacking(alloc));

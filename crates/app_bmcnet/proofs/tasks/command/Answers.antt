@@ -3,7 +3,7 @@ use Rattle.std.proofs.lemmas.Result.{IfOk-weaker}
 use Rattle.clap.specs.Words.{App, with_subcommand}
 use Rattle.app_base.specs.Version.{version_app}
 use Rattle.app_bmcnet.specs.Line.{app_named}
-use Rattle.app_bmcnet.specs.declared.tasks.Task.TheVariants.{Serve, Run, Undo, Pair, Apply, Revert, Preview}
+use Rattle.app_bmcnet.specs.declared.tasks.Task.TheVariants.{Serve, Run, Undo, Pair, Apply, Revert, Preview, Show}
 use Rattle.app_bmcnet.proofs.tasks.command.Goals as goal
 
 pub returns : goal.returns
@@ -15,5 +15,6 @@ returns c =
     let apply = c.in_ok-program-6.ensures (app_named Apply) c.apply_command.ensures ∙ ap (λ (a : App). with_subcommand a (app_named Apply).top) pair in
     let revert = c.in_ok-program-7.ensures (app_named Revert) c.revert_command.ensures ∙ ap (λ (a : App). with_subcommand a (app_named Revert).top) apply in
     let preview = c.in_ok-program-8.ensures (app_named Preview) c.preview_command.ensures ∙ ap (λ (a : App). with_subcommand a (app_named Preview).top) revert in
-    IfOk-weaker c.with_command-8.result _ _
-    (λ command adds. adds version_app c.version_command.ensures ∙ ap (λ (a : App). with_subcommand a version_app.top) preview) c.with_command-8.ensures
+    let show = c.in_ok-program-9.ensures (app_named Show) c.show_command.ensures ∙ ap (λ (a : App). with_subcommand a (app_named Show).top) preview in
+    IfOk-weaker c.with_command-9.result _ _
+    (λ command adds. adds version_app c.version_command.ensures ∙ ap (λ (a : App). with_subcommand a version_app.top) show) c.with_command-9.ensures
