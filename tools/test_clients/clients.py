@@ -9,7 +9,7 @@ import time
 import program
 from lossy_link import LossyLink, Troubles
 
-from .page import code_in, rows_of, rows_of_front_page, squeezed
+from .page import code_in, rows_of, rows_of_plan, squeezed
 from .parts import SEARCHED
 from .programs import TOP, called, served, started
 
@@ -118,16 +118,16 @@ def test_rows(tests, heading, whole, room):
         tests.expect(is_right, f"{shlex.join(words)} ends with {status} and prints\n{text}\nwithout {lacking}")
 
 
-def test_front_page(tests, bmcnet, room):
-    """Runs and undoes the plan of README.md, and has ipmitool read what the page says before, between and behind."""
-    asked, rows = rows_of_front_page()
+def test_plan_seen(tests, bmcnet, room):
+    """Runs and undoes a plan, and has ipmitool read what the page says before, between and behind."""
+    asked, rows = rows_of_plan()
     with served(bmcnet, "sample.toml") as ports, bridge(ports[0]) as port:
-        own = {"./bmcnet": bmcnet, "4000": str(ports[0]), "4001": str(ports[1]), "undo.txt": f"{room}/front-page-undo.txt"}
+        own = {"./bmcnet": bmcnet, "4000": str(ports[0]), "4001": str(ports[1]), "undo.txt": f"{room}/plan-undo.txt"}
         for call, wanted in rows:
             status = called([own.get(word, word) for word in call], room)[0] if call else 0
             _, text = called(ipmitool_words(str(port), asked), room)
             tests.expect(status == 0 and squeezed(text) == wanted, f"behind {shlex.join(call)}, which ends with {status}, ipmitool prints {text}")
-    tests.expect(len({text for _, text in rows}) > 1 and rows[0][1] == rows[-1][1], "README.md shows nothing that changed and came back")
+    tests.expect(len({text for _, text in rows}) > 1 and rows[0][1] == rows[-1][1], "the page shows nothing that changed and came back")
 
 
 def test_once(tests, bmcnet, seed, room, words, client):
@@ -166,7 +166,7 @@ def test_clients(tests, bmcnet, seed, room):
     if not ipmitool:
         tests.tell("skipped", "the rows of FreeIPMI and pyipmi, which stand behind those of ipmitool")
         return
-    test_front_page(tests, bmcnet, room)
+    test_plan_seen(tests, bmcnet, room)
     with bridged(bmcnet, "sample.toml") as port:
         test_rows(tests, "ipmitool on the sample board", lambda words: ipmitool_words(port, words), room)
         test_at_once(tests, port, room, ipmitool_words)

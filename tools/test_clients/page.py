@@ -1,4 +1,4 @@
-"""What pages show: tables of commands and calls with what they print, of examples/clients.md and docs/CLIENTS.md; and README.md's of ipmitool."""
+"""What pages show: tables of commands and calls with what they print, of examples/clients.md and docs/CLIENTS.md."""
 import re
 import shlex
 
@@ -37,11 +37,10 @@ def squeezed(text):
     return re.sub(r"[\s|]+", " ", text).strip()
 
 
-def rows_of_front_page():
-    """Returns what ipmitool is asked on README.md, and the rows of that table: the call of this tree before it, if there is one, and what is printed."""
-    with open(f"{TOP}/README.md", encoding="utf-8") as file:
-        lines = file.read().splitlines()
+def rows_of_plan():
+    """Returns what ipmitool is asked beside a plan, and the rows of that table: the call of this tree before it, if there is one, and what is printed."""
+    lines = below("A plan that ipmitool sees").splitlines()
     first = next(place for place, line in enumerate(lines) if line.startswith("| | `ipmitool .. "))
     asked = shlex.split(code_in(lines[first])[0])[2:]
-    rows = [code_in(line) for line in lines[first + 2 : lines.index("", first)]]
+    rows = [code_in(line) for line in lines[first + 2 :] if line.startswith("| ")]
     return asked, [(shlex.split(row[0]) if len(row) > 1 else [], row[-1]) for row in rows]

@@ -1,9 +1,11 @@
-"""Plans on OpenIPMI's simulator, through clients/controller-bridge and a lossy link: run and undone, and applied and reverted."""
+"""Plans on OpenIPMI's simulator, through clients/controller-bridge and a lossy link: run and undone, applied and reverted, and its own records as a plan."""
 import contextlib
+import re
 import shlex
 import subprocess
 import tempfile
 import time
+import tomllib
 
 import program
 from lossy_link import LossyLink, Troubles
@@ -51,7 +53,11 @@ HALTED = "Halted 6 Refused D4"
 # How the calls that greet end of the same two plans, and how long a quiet turn of theirs is, in milliseconds.
 APPLIED = 0, "done: 6 steps; to take them back:"
 APPLIED_HALTED = 10, "halted at step 7 of 7: BMC global enables refused (D4h, insufficient privilege): nothing of it was set; steps 1 to 6 stand:"
-WAIT = "500"
+WAIT, LONG_WAIT = "500", "5000"
+# Each of some thousand Gets of a show is a session of ipmitool.
+LONGEST_SHOW = 600
+# Kinds of record of which the simulator shows some.
+SHOWN = {"thresholds", "hysteresis", "event-enable", "user-access", "user-name", "channel-access"}
 # What shows the six records: Get commands, each with the bytes of its reply that are configuration.
 SETTINGS = [
     ("0x04 0x27 5", slice(1, 7)),
@@ -136,6 +142,20 @@ def test_applied(tests, bmcnet, ask, port, plan, ends, room):
     tests.expect(before == after, f"the settings were {before} and are {after}")
 
 
+def test_shown(tests, bmcnet, port, room):
+    """Has the simulator's records as a plan, of which a preview says that it would change nothing."""
+    plan = f"{room}/shown.toml"
+    status, said = called([bmcnet, "show", "--wait", LONG_WAIT, "--out", plan, port], room, LONGEST_SHOW)
+    told = re.fullmatch(r"([0-9]+) records in 1 plan, [0-9]+ remarks?\n", said)
+    tests.expect(status == 0 and told, f"show ends with {status} and says {said!r}")
+    with open(plan, "rb") as file:
+        steps = tomllib.load(file)["step"]
+    kinds = {step["kind"] for step in steps}
+    tests.expect(kinds >= SHOWN and len(steps) == int(told[1]), f"{told[1]} records are shown, and the plan has {len(steps)} steps, of {kinds}")
+    last = f"0 steps would change something, {len(steps)} nothing, 0 can't be done; whether the controller takes a change isn't known before it is sent"
+    expect_said(tests, [bmcnet, "preview", "--wait", LONG_WAIT, plan, port], room, 0, last)
+
+
 def halting_plan(room):
     """Writes the plan with a last step that the simulator refuses."""
     halting = f"{room}/halting.toml"
@@ -154,6 +174,7 @@ def test_simulator(tests, bmcnet, seeds, room):
         with started(bridge, r"ipmb on [0-9.]+:([0-9]+)") as told:
             for seed in seeds:
                 test_over_link(tests, bmcnet, ask, plans, LossyLink(int(told[1]), seed, HARSH), room)
+            test_shown(tests, bmcnet, told[1], room)
         # No copy of a request comes late here, and the bridge forgets nobody.
         with started([*bridge[:3], "0", "--", *ask], r"ipmb on [0-9.]+:([0-9]+)") as told, LossyLink(int(told[1]), 0, LOSING) as link:
             for (plan, _), ends in zip(plans, (APPLIED, APPLIED_HALTED)):
