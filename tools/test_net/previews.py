@@ -45,11 +45,13 @@ TOLD = (
     "step 5: refused: sensor 77 thresholds can't be read (CBh, not present)\n"
     "step 6: can't be taken back: watchdog timer has a value that no request brings back\n"
     "step 7: power restore policy: previous -> always on\n"
-    "step 8: attribute 2: 30 -> 40\n"
+    'step 8: attribute 2 ("Delay"): 30 -> 40\n'
     "step 9: same: power restore policy: always on\n"
 )
-# Its greetings, and a Get for each step.
-ASKED = ON_IPMB + ON_SMBUS + len(STEPS)
+# For the names of sensors a reservation is asked for and the only record, and for those of attributes two tables of a part each.
+SENSOR_NAMES, ATTRIBUTE_NAMES = 2, 2
+# Its greetings, a Get for each step, and the names.
+ASKED = ON_IPMB + ON_SMBUS + len(STEPS) + SENSOR_NAMES + ATTRIBUTE_NAMES
 
 
 def tells_steps(program, folder, board):
@@ -69,7 +71,7 @@ def tells_what_goes(program, folder, board):
         ]:
             plan = servers.write(f"{folder}/plan.toml", text_of(steps, RETRIES))
             expect("preview", preview(program, server.ports[:1], plan), (0, told + last, ""))
-        expect_served(server, 2 * ON_IPMB + 3)
+        expect_served(server, 2 * (ON_IPMB + SENSOR_NAMES) + 3)
 
 
 def tells_objects(program, folder, board):
@@ -94,6 +96,40 @@ def tells_objects(program, folder, board):
         expect_served(server, ASKED)
 
 
+def sensor_record(number, kind, owner, sensor, code, name):
+    """Returns the digits of a sensor's record (IPMI 2.0, "Sensor Data Record Formats"): its id, the version 51h, its type, how many bytes follow, the
+    sensor's owner and logical unit, the sensor, and at its offset the id string behind its type and length."""
+    place = {0x01: 47, 0x02: 31, 0x03: 17}[kind]
+    body = bytes([owner, 0, sensor]).ljust(place - 5, b"\0") + bytes([code]) + name
+    return (number.to_bytes(2, "little") + bytes([0x51, kind, len(body)]) + body).hex()
+
+
+def names_sensors(program, folder, board):
+    """A sensor's name is its record's, in bytes or in six bits a character, with what isn't printable ASCII escaped. Records of another controller's sensors
+    name none, and behind the last name that is wanted no record is read."""
+    records = [
+        sensor_record(1, 0x01, 0x82, 5, 0xC5, b"other"),
+        sensor_record(2, 0x01, 0x20, 5, 0xCA, b"CPU 1 temp"),
+        # The standard's example of six bits a character.
+        sensor_record(3, 0x02, 0x20, 7, 0x84, bytes.fromhex("29DCA6")),
+        sensor_record(4, 0x03, 0x20, 77, 0xC3, b'C"\xe9'),
+        sensor_record(5, 0x01, 0x20, 9, 0xC4, b"last"),
+    ]
+    named = servers.write(f"{folder}/named.toml", servers.read(board).replace('sdr = ["010051C00100"]', "sdr = " + json.dumps(records)))
+    seven = Step('kind = "hysteresis"\nsensor = 7\npositive = 1\nnegative = 1\n', None)
+    plan = servers.write(f"{folder}/plan.toml", text_of([critical(0x5A), NOBODY, seven], RETRIES))
+    with Server(program, named, SERVED_TURNS) as server:
+        ended, out, err = preview(program, server.ports[:1], plan)
+        lines = out.split("\n")
+        expect("preview", (ended, err, lines[:2]), (10, "", [
+            'step 1: sensor 5 ("CPU 1 temp") upper critical: 95 (5Fh) -> 90 (5Ah)',
+            'step 2: refused: sensor 77 ("C\\x22\\xE9") thresholds can\'t be read (CBh, not present)',
+        ]))
+        expect("the third step", 'sensor 7 ("IPMI") ' in lines[2], True)
+        # A reservation, the beginnings of four records, and three names.
+        expect_served(server, ON_IPMB + 3 + 8)
+
+
 def sees_anew(program, folder, board):
     """A second preview shows what somebody set meanwhile, and no reply that the controller kept of the first."""
     plan = servers.write(f"{folder}/plan.toml", text_of([critical(0x5A)], RETRIES))
@@ -102,12 +138,12 @@ def sees_anew(program, folder, board):
             set_critical(asker, value)
             said = f"step 1: sensor 5 upper critical: {told}\n{counts(1, 0, 0)}"
             expect("preview", preview(program, server.ports[:1], plan), (0, said, ""))
-        expect_served(server, 3 * (ON_IPMB + 1) + sum(asker.asked))
+        expect_served(server, 3 * (ON_IPMB + 1 + SENSOR_NAMES) + sum(asker.asked))
 
 
 def steps_told(text):
-    """Returns the lines of the steps."""
-    return [line for line in text.split("\n") if line.startswith("step ")]
+    """Returns the lines of the steps, without the names of sensors and attributes."""
+    return [re.sub(r' \("[^"]*"\)', "", line) for line in text.split("\n") if line.startswith("step ")]
 
 
 def tells_what_is_done(program, folder, board, plan):
@@ -197,7 +233,7 @@ def is_busy(program, folder, board):
     told = f"step 1: sensor 5 upper critical: 95 (5Fh) -> 90 (5Ah)\n{counts(1, 0, 0)}"
     with Server(program, board, SERVED_TURNS) as server, Busy(server.ports[IPMB], RETRIES) as link:
         expect("preview of one that is busy at first", preview(program, [link.port], plan, wait=LINK_WAIT), (0, told, ""))
-        expect_served(server, ON_IPMB + 1)
+        expect_served(server, ON_IPMB + 1 + SENSOR_NAMES)
     with Server(program, board, SERVED_TURNS) as server:
         askers = [Asker(server.ports, 0x42 + 2 * place, 0x0C + place) for place in range(WINDOWS)]
         try:
@@ -285,6 +321,7 @@ def tests(board):
         ("a preview, step by step", tells_steps, (board,)),
         ("a preview of steps that go", tells_what_goes, (board,)),
         ("a preview as objects", tells_objects, (board,)),
+        ("a preview with names of sensors", names_sensors, (board,)),
         ("previews one after another", sees_anew, (board,)),
         *((f"a preview and an apply, many kinds {seed}", many_kinds, (board, seed)) for seed in range(3)),
         ("a preview and an apply, each kind", each_kind, ()),

@@ -3,3 +3,7 @@ mod Hearing
 mod Carried
 mod Spelling
 mod Telling
+mod Parts
+mod Answering
+mod Turns
+mod FindingLines

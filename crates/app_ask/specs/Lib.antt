@@ -4,3 +4,6 @@ pub mod Reply
 pub mod Heard
 pub mod Run
 pub mod Files
+pub mod Answers
+pub mod Tries
+pub mod FindingWords

@@ -11,7 +11,7 @@ use crate::check::{Cause, TellsCause, cause_words, shown_name, status_of, tell_l
 use app_base::{Console, Ending, Report, Status, Stream, TextFiles, UnreadFile};
 use cfg_records::BoardFile;
 use file_faults::{Sheet, Source};
-use plan_against::{Finding, push_findings, try_steps};
+use app_ask::{Finding, push_findings, try_steps};
 use plan_file::{PlanFault, read_plan};
 use std::alloc::{AllocError, Global};
 use std::io;

@@ -10,7 +10,7 @@ use app_play::{
     Inputs, PlayFiles, PlayOptions, PlayTexts, Shown, is_memory, play_of_files, read_inputs,
     show_asked, texts_of,
 };
-use play_words::{explanation, schedule_note};
+use lab_play::{explanation, schedule_note};
 use std::alloc::{AllocError, Global};
 use std::io;
 use text_check::{TextForm, form_or};

@@ -1,1 +1,4 @@
+pub mod OneMore
+pub mod KeptSteps
+pub mod Looked
 pub mod Kept

@@ -21,7 +21,7 @@ use Rattle.app_apply.specs.Ends.{AppliesTo, ApplyEndsOf, EndsBy, SaysOn, SaysUnr
 use Rattle.app_apply.specs.Strict.{IsStrictPlan, IsNoStrictPlan}
 use Rattle.app_revert.specs.declared.reverting.RevertWords.{RevertWords}
 use Rattle.app_revert.specs.Revert.{RevertEndsOf}
-use Rattle.app_keep.specs.Looks.{FailsFor}
+use Rattle.app_change.specs.KeepLook.{FailsFor}
 use Rattle.app_change.specs.declared.changing.ChangeWords.{ChangeWords}
 use Rattle.app_change.specs.Looks.{KeepsChanges, status_unlooked, way_of}
 

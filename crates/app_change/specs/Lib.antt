@@ -1,3 +1,6 @@
+pub mod Kept
+pub mod Runs
+pub mod KeepLook
 pub mod Looks
 pub mod Ends
 pub mod Back

@@ -18,9 +18,9 @@ use Rattle.app_look.specs.declared.session.Way.{Way}
 use Rattle.app_look.specs.Findings.{FindsOver}
 use Rattle.app_apply.specs.declared.kept_calls.Reach.{Reach}
 use Rattle.app_preview.specs.Runs.{Carries}
-use Rattle.app_keep.specs.Kept.{kept_of}
-use Rattle.app_keep.specs.Looks.{records_of}
-use Rattle.app_keep.specs.Runs.{AreFoundAt}
+use Rattle.app_change.specs.Kept.{kept_of}
+use Rattle.app_change.specs.KeepLook.{records_of}
+use Rattle.app_change.specs.Runs.{AreFoundAt}
 
 -- they are looked at as the plan is carried out: on these ports, and as patiently
 abbrev pub way_of : Plan → Reach → Way

@@ -3,13 +3,15 @@ ghost use Rattle.std.specs.Prelude.{◌≡◌, ◌||◌, IfErr, IfOk, false, str
 ghost use Rattle.app_base.specs.Ending.{RunEnds};
 ghost use Rattle.app_apply.specs.Ends.{SaysOn, stream_for};
 ghost use Rattle.app_apply.specs.Statuses.{status_of};
-ghost use Rattle.app_keep.specs.Looks.{FailsFor};
+ghost use Rattle.app_change.specs.KeepLook.{FailsFor};
 ghost use Rattle.app_change.specs.Ends.{AppliesOrNone, ChangeEndsIn, ChangeEndsOf, ChangeEndsOn};
 ghost use Rattle.app_change.specs.Ends.{ChangeEndsOver, ChangesBy, ChangesFrom, ChangesKept, ChangesTo};
 ghost use Rattle.app_change.specs.Ends.{EndsUnlooked, GoesBack, IsBackOf, IsStatusBehind, LooksFirst, TellsFirst};
 ghost use Rattle.app_change.specs.Ends.{is_halted};
 ghost use Rattle.app_change.specs.Looks.{KeepsChanges, way_of};
 
+use crate::keep_look::keep_by_look;
+use crate::keeping::Narrowed;
 use crate::looking::{status_unlooked, way_of};
 use crate::narrowed_json::{left_out_json, unchanged_json, unlooked_json};
 use crate::narrowed_words::{left_out_text, unchanged_text, unlooked_text};
@@ -19,7 +21,6 @@ use app_apply::sentences::port_text;
 use app_apply::{Applied, ApplyWords, Outcome, Reach, StrictFault, apply, strict_plan};
 use app_base::{Console, ReportFault, Status, TextFiles, end_run, text_of};
 use app_journal::WritesFiles;
-use app_keep::{Narrowed, keep_by_look};
 use app_look::LookFault;
 use app_revert::{RevertWords, revert};
 use app_run::Progress;
@@ -331,7 +332,8 @@ fn keep_changes<R: Net>(
     plan: &Plan,
     reach: &Reach,
 ) -> Result<KeptPlan, LookFault>
-    ensures kept { IfOk result (λ kept. KeepsChanges (way_of plan.now reach.now) plan.now kept.plan) }
+    ensures kept { IfOk result (λ kept.
+        KeepsChanges (way_of plan.now reach.now) plan.now kept.plan) }
     ensures fault { IfErr result (FailsFor (way_of plan.now reach.now) plan.now.steps) }
 {
     let way = way_of(plan, reach);

@@ -1,10 +1,13 @@
-//! What `bmcnet apply` and `bmcnet revert` do with their options: of a plan those steps alone that change something, all of it or none, and what a
-//! file would take back, told from the file alone.
+//! What `bmcnet apply` and `bmcnet revert` do with their options: of a plan those steps alone that change something, by a look at the controller's
+//! records, all of it or none, and what a file would take back, told from the file alone.
 #![tactic(auto)]
 
 pub mod changing;
 mod foretold_json;
 mod foretold_words;
+mod keep_look;
+mod keeping;
+pub mod laws;
 mod looking;
 mod narrowed_json;
 mod narrowed_words;
@@ -13,6 +16,8 @@ pub mod taking_back;
 pub use changing::{ChangeWords, change};
 pub use foretold_json::foretell_json;
 pub use foretold_words::foretell_text;
+pub use keep_look::keep_by_look;
+pub use keeping::{Narrowed, kept_steps};
 pub use narrowed_json::{left_out_json, unchanged_json, unlooked_json};
 pub use narrowed_words::{left_out_text, unchanged_text, unlooked_text};
 pub use taking_back::{BackWords, take_back};

@@ -6,6 +6,7 @@ use Rattle.two_wire.specs.declared.Bus.TheVariants.{Ipmb, Smbus}
 use Rattle.record_base.specs.declared.key.Key.{Key}
 use Rattle.undo_look.specs.declared.stage.Stage.{Stage}
 use Rattle.undo_look.specs.declared.stage.Stage.TheVariants as stage
+use Rattle.undo_look.specs.declared.target.Target.TheVariants.{Record}
 use Rattle.undo_look.specs.Looks.{IsSeen}
 use Rattle.look_links.specs.declared.driver.LookEnd.{LookEnd}
 use Rattle.look_links.specs.declared.driver.LookEnd.TheVariants.{Silent}
@@ -25,7 +26,7 @@ unseen (stage.Opened heeded of parts asked) shown is = refl
 unseen (stage.Found of) shown is = absurd is
 unseen (stage.Refused of code) shown is = absurd is
 
-ended_of : (key : Key) (old : Session) (first : LookEnd) (begun : Session) (end : LookEnd) (new : Session) (count : ℕ) → CallsOnce (begins old key) old first begun → CallsAgain count first begun end new
+ended_of : (key : Key) (old : Session) (first : LookEnd) (begun : Session) (end : LookEnd) (new : Session) (count : ℕ) → CallsOnce (begins old (Record key)) old first begun → CallsAgain count first begun end new
     → end ≡ end_at new.looker.stage
 ended_of key old first begun end new zero once calls = calls.0 ∙ once.over.ends ∙ ap (λ (s : Session). end_at s.looker.stage) (sym calls.1)
 ended_of key old first begun end new (suc count) once (mid, calls, last) = last.over.ends

@@ -8,6 +8,7 @@ use Rattle.undo_look.specs.declared.looker.Seen.{Seen}
 use Rattle.undo_look.specs.declared.looker.Seen.TheVariants as seen
 use Rattle.undo_look.specs.declared.stage.Stage.{Stage}
 use Rattle.undo_look.specs.declared.stage.Stage.TheVariants as stage
+use Rattle.undo_look.specs.declared.target.Target.TheVariants.{Record}
 use Rattle.undo_look.specs.Requests.{bus_of}
 use Rattle.look_links.specs.declared.driver.LookEnd.{LookEnd}
 use Rattle.look_links.specs.declared.driver.LookEnd.TheVariants.{Silent}
@@ -36,8 +37,8 @@ IsKeptOf (seen.Refused code) kept = kept ≡ came.Refused code
 
 -- this was found of a record by a look that came to this stage, where the data are those that it shows
 abbrev pub IsFound : Key → Stage → (shown : List ℕ) → Found → Type 0
-IsFound key (stage.Found of) shown found = (of ≡ key) × (found.key ≡ key) × ShowsData shown found.came
-IsFound key (stage.Refused of code) shown found = (of ≡ key) × (found.key ≡ key) × (found.came ≡ came.Refused code)
+IsFound key (stage.Found of) shown found = (of ≡ Record key) × (found.key ≡ key) × ShowsData shown found.came
+IsFound key (stage.Refused of code) shown found = (of ≡ Record key) × (found.key ≡ key) × (found.came ≡ came.Refused code)
 IsFound key _ shown found = ⊥
 
 -- a look came to that, or its Get wasn't answered
@@ -90,6 +91,12 @@ pub record FindsOver (way : Way) (keys : List Key) (found : List Found) : Type 0
   pub session : Session
   pub opened : OpensFor way keys session
   pub left : Session
+  pub finds : FindsEach keys found session left
+
+-- so, and the session is this then
+pub record StaysOver (way : Way) (keys : List Key) (found : List Found) (left : Session) : Type 0 where
+  pub session : Session
+  pub opened : OpensFor way keys session
   pub finds : FindsEach keys found session left
 
 -- or not each was

@@ -1,9 +1,12 @@
--- The looks of a session: what was called of its links, and which record was looked at.
+-- The looks of a session: what was called of its links, and what was looked at.
 use Rattle.std.specs.Prelude.{◌≡◌, ◌≢◌, ◌≤◌, ◌⊎◌, ℕ, zero, suc, None}
 use Rattle.wire_links.specs.contracts.udp_link.UdpLinkLink.TheImpl as udp
 use Rattle.record_base.specs.declared.key.Key.{Key}
 use Rattle.undo_look.specs.declared.stage.Stage.{Stage}
 use Rattle.undo_look.specs.declared.stage.Stage.TheVariants.{AtStart, Opened, Found, Refused}
+use Rattle.undo_look.specs.declared.target.Target.{Target}
+use Rattle.undo_look.specs.declared.target.TablePart.{TablePart}
+use Rattle.undo_look.specs.declared.target.Target.TheVariants.{Record, Table}
 use Rattle.undo_look.specs.Looks.{StepResult, again_at, awaited_on, begin_at, state_of}
 use Rattle.look_links.specs.declared.driver.LookEnd.{LookEnd}
 use Rattle.look_links.specs.declared.driver.LookEnd.TheVariants.{Silent}
@@ -16,9 +19,9 @@ pub record CallsOnce (step : StepResult) (old : Session) (end : LookEnd) (new : 
   pub over : LooksOver udp.ghosts udp.ghosts most_turns step old.ipmb old.smbus new.looker end new.ipmb new.smbus
   pub same_again : new.again ≡ old.again
 
--- the Get of a record is begun
-abbrev pub begins : Session → Key → StepResult
-begins old key = or_rests old.looker (begin_at (state_of old.looker) key old.looker.stage)
+-- a look is begun
+abbrev pub begins : Session → Target → StepResult
+begins old target = or_rests old.looker (begin_at (state_of old.looker) target old.looker.stage)
 
 -- the request that wasn't answered is sent again
 abbrev pub sends_again : Session → StepResult
@@ -29,30 +32,38 @@ abbrev pub CallsAgain : (count : ℕ) → (first : LookEnd) → (begun : Session
 CallsAgain zero first begun end new = (end ≡ first) × (new ≡ begun)
 CallsAgain (suc count) first begun end new = (mid : Session) × CallsAgain count first begun Silent mid × CallsOnce (sends_again mid) mid end new
 
--- as many calls did as the session makes, or fewer, and then the Get was answered or refused
+-- as many calls did as the session makes, or fewer, and then the look was answered or refused
 pub record GoesOn (first : LookEnd) (begun : Session) (end : LookEnd) (new : Session) : Type 0 where
   pub count : ℕ
   pub few : count ≤ begun.again
   pub calls : CallsAgain count first begun end new
   pub ended : (count ≡ begun.again) ⊎ (end ≢ Silent)
 
--- the look is at this record
-abbrev pub IsOfKey : Key → Stage → Type 0
-IsOfKey key (Opened heeded of parts asked) = of ≡ key
-IsOfKey key (Found of) = of ≡ key
-IsOfKey key (Refused of code) = of ≡ key
-IsOfKey key AtStart = ⊥
+-- the look is at this
+abbrev pub IsOfKey : Target → Stage → Type 0
+IsOfKey target (Opened heeded of parts asked) = of ≡ target
+IsOfKey target (Found of) = of ≡ target
+IsOfKey target (Refused of code) = of ≡ target
+IsOfKey target AtStart = ⊥
 
--- the record was looked at
-pub record Looks (old : Session) (key : Key) (end : LookEnd) (new : Session) : Type 0 where
+-- it was looked at
+pub record Looks (old : Session) (target : Target) (end : LookEnd) (new : Session) : Type 0 where
   pub first : LookEnd
   pub begun : Session
-  pub begins_get : CallsOnce (begins old key) old first begun
+  pub begins_get : CallsOnce (begins old target) old first begun
   pub goes_on : GoesOn first begun end new
-  pub at : IsOfKey key new.looker.stage
+  pub at : IsOfKey target new.looker.stage
 
 -- Or nothing was called: an answer to the look before is still awaited, whose last call had as many turns as it may have.
-abbrev pub LooksAt : (old : Session) → Key → (end : LookEnd) → (new : Session) → Type 0
-LooksAt old key end new =
-    ((awaited_on old.looker.stage ≡ None) × Looks old key end new)
+abbrev pub LooksTo : (old : Session) → Target → (end : LookEnd) → (new : Session) → Type 0
+LooksTo old target end new =
+    ((awaited_on old.looker.stage ≡ None) × Looks old target end new)
     ⊎ ((awaited_on old.looker.stage ≢ None) × (end ≡ Silent) × (new ≡ old))
+
+-- a record was looked at
+abbrev pub LooksAt : (old : Session) → Key → (end : LookEnd) → (new : Session) → Type 0
+LooksAt old key end new = LooksTo old (Record key) end new
+
+-- a part of one of the controller's tables was asked for
+abbrev pub AsksFor : (old : Session) → TablePart → (end : LookEnd) → (new : Session) → Type 0
+AsksFor old part end new = LooksTo old (Table part) end new

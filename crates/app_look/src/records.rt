@@ -2,7 +2,7 @@
 ghost use Rattle.std.specs.Prelude.{IfErr, IfOk};
 ghost use Rattle.look_links.specs.declared.driver.LookEnd.{LookEnd as AnyEnd};
 ghost use Rattle.app_look.specs.Findings.{FailsOver, Finds, FindsEach, FindsOver, IsKeptOf};
-ghost use Rattle.app_look.specs.Findings.{StopsAt};
+ghost use Rattle.app_look.specs.Findings.{StaysOver, StopsAt};
 ghost use Rattle.app_look.specs.Looking.{LooksAt};
 
 use crate::buses::looks_use;
@@ -93,6 +93,36 @@ pub fn look_at_each(
     Ok(found)
 }
 
+/// What was found of records, and the session that looked at them.
+#[derive(Drop)]
+pub struct Looked {
+    pub found: Vec<Found>,
+    pub session: Session,
+}
+
+/// Greets a controller on the buses on which the Gets of these records go, and looks at each of them. The session can go on.
+pub fn look_and_stay<R: Net>(
+    rt: &R,
+    alloc: Global,
+    way: &Way,
+    keys: &[Key],
+) -> Result<Looked, LookFault>
+    ensures found { IfOk result (λ looked.
+        StaysOver way.now keys.now looked.found.items looked.session) }
+    ensures fault { IfErr result (FailsOver way.now keys.now) }
+{
+    let ipmb = looks_use(keys, Bus::Ipmb);
+    let smbus = looks_use(keys, Bus::Smbus);
+    let mut session = match Session::open(rt, alloc, way, ipmb, smbus) {
+        Ok(session) => session,
+        Err(why) => return Err(LookFault::Unopened(why)),
+    };
+    match look_at_each(alloc, &mut session, keys) {
+        Ok(found) => Ok(Looked { found, session }),
+        Err(why) => Err(LookFault::Stopped(why)),
+    }
+}
+
 /// Greets a controller on the buses on which the Gets of these records go, and looks at each of them.
 pub fn look_over_udp<R: Net>(
     rt: &R,
@@ -103,14 +133,12 @@ pub fn look_over_udp<R: Net>(
     ensures found { IfOk result (λ found. FindsOver way.now keys.now found.items) }
     ensures fault { IfErr result (FailsOver way.now keys.now) }
 {
-    let ipmb = looks_use(keys, Bus::Ipmb);
-    let smbus = looks_use(keys, Bus::Smbus);
-    let mut session = match Session::open(rt, alloc, way, ipmb, smbus) {
-        Ok(session) => session,
-        Err(why) => return Err(LookFault::Unopened(why)),
-    };
-    match look_at_each(alloc, &mut session, keys) {
-        Ok(found) => Ok(found),
-        Err(why) => Err(LookFault::Stopped(why)),
+    match look_and_stay(rt, alloc, way, keys) {
+        Ok(looked) => {
+            let Looked { found, session } = looked;
+            drop(session);
+            Ok(found)
+        }
+        Err(why) => Err(why),
     }
 }

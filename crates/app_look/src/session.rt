@@ -5,7 +5,8 @@ ghost use Rattle.undo_look.specs.Looks.{IsSeen, opened_at, state_of};
 ghost use Rattle.app_run.specs.Greeted.{AreGreeted};
 ghost use Rattle.app_look.specs.Opened.{IsOpened, IsUnopened, first_numbers, greetings_of};
 ghost use Rattle.app_look.specs.Opened.{most_turns, number_on};
-ghost use Rattle.app_look.specs.Looking.{CallsOnce, GoesOn, LooksAt, begins, sends_again};
+ghost use Rattle.app_look.specs.Looking.{AsksFor, CallsOnce, GoesOn, LooksAt, LooksTo, begins};
+ghost use Rattle.app_look.specs.Looking.{sends_again};
 
 use app_run::{BusLinks, GreetFault, Greetings, Unanswered, greet_first, open_ends};
 use look_links::{LookEnd, drive_again, drive_look};
@@ -14,7 +15,7 @@ use record_base::Key;
 use std::alloc::{AllocError, Global};
 use std::net::Net;
 use two_wire::{Below, Retries};
-use undo_look::{Looker, Seen};
+use undo_look::{Looker, Seen, TablePart, Target};
 use undo_plans::NextNumbers;
 use wire_links::UdpLink;
 
@@ -136,13 +137,13 @@ impl Session {
         })
     }
 
-    /// Begins the Get of this record, and drives the look.
-    fn begin(&mut self, key: &Key) -> LookEnd
-        ensures { CallsOnce (begins self.old key.now) self.old result self.new }
+    /// Begins a look at this, and drives it.
+    fn begin(&mut self, target: &Target) -> LookEnd
+        ensures { CallsOnce (begins self.old target.now) self.old result self.new }
     {
         drive_look(
             &mut self.looker,
-            key,
+            target,
             &mut self.ipmb,
             &mut self.smbus,
             MOST_TURNS,
@@ -176,18 +177,32 @@ impl Session {
         end
     }
 
-    /// Looks at this record. While an answer to the look before is still awaited nothing is sent, and the look ends as silent.
-    pub fn look(&mut self, key: &Key) -> LookEnd
-        ensures { LooksAt self.old key.now result self.new }
+    /// Looks at this. While an answer to the look before is still awaited nothing is sent, and the look ends as silent.
+    fn look_to(&mut self, target: &Target) -> LookEnd
+        ensures { LooksTo self.old target.now result self.new }
     {
         let None = self.looker.awaits() else {
             return LookEnd::Silent;
         };
-        let first = self.begin(key);
+        let first = self.begin(target);
         self.go_on(first)
     }
 
-    /// What the last look came to, unless its Get wasn't answered.
+    /// Looks at this record. While an answer to the look before is still awaited nothing is sent, and the look ends as silent.
+    pub fn look(&mut self, key: &Key) -> LookEnd
+        ensures { LooksAt self.old key.now result self.new }
+    {
+        self.look_to(&Target::Record(*key))
+    }
+
+    /// Asks for this part of one of the controller's tables, likewise.
+    pub fn ask(&mut self, part: &TablePart) -> LookEnd
+        ensures { AsksFor self.old part.now result self.new }
+    {
+        self.look_to(&Target::Table(*part))
+    }
+
+    /// What the last look came to, unless one of its requests wasn't answered.
     pub fn seen(&self) -> Option<Seen<'_>>
         ensures { IsSeen self.now.looker.stage self.now.looker.shown result }
     {

@@ -8,7 +8,8 @@ use Rattle.record_kinds.specs.Limits.{key_of}
 use Rattle.app_look.specs.declared.records.Found.{Found}
 use Rattle.app_look.specs.declared.session.Session.{Session}
 use Rattle.app_look.specs.declared.session.Way.{Way}
-use Rattle.app_look.specs.Findings.{FindsEach, FindsOver}
+use Rattle.app_look.specs.Findings.{FindsEach}
+use Rattle.app_look.specs.Reading.{FindsAndNames}
 use Rattle.app_preview.specs.Preview.{keys_of}
 use Rattle.app_preview.proofs.Steps.{one_at}
 
@@ -29,6 +30,6 @@ found_each [] (one ∷ found) old new none = absurd none
 found_each (key ∷ keys) [] old new none = absurd none
 
 -- so it is of each step
-pub one_for_each : (way : Way) (steps : List Op) (keys : List Key) (found : List Found) → keys ≡ keys_of steps → FindsOver way keys found → length found ≡ length steps
+pub one_for_each : (way : Way) (steps : List Op) (keys : List Key) (found : List Found) → keys ≡ keys_of steps → FindsAndNames way keys found → length found ≡ length steps
 one_for_each way steps keys found are finds =
-    found_each keys found finds.session finds.left finds.finds ∙ ap (λ (ks : List Key). length ks) are ∙ length-map steps key_of
+    found_each keys found finds.1.session finds.0 finds.1.finds ∙ ap (λ (ks : List Key). length ks) are ∙ length-map steps key_of

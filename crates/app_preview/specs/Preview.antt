@@ -24,7 +24,8 @@ use Rattle.app_look.specs.declared.records.LookFault.TheVariants as look
 use Rattle.app_look.specs.declared.records.StopFault.TheVariants as stop
 use Rattle.app_look.specs.declared.session.OpenFault.TheVariants as open_fault
 use Rattle.app_look.specs.declared.session.Way.{Way}
-use Rattle.app_look.specs.Findings.{FailsOver, FindsOver}
+use Rattle.app_look.specs.Findings.{FailsOver}
+use Rattle.app_look.specs.Reading.{FindsAndNames}
 use Rattle.app_preview.specs.declared.outlooks.Outlook.{Outlook}
 use Rattle.app_preview.specs.declared.outlooks.Outlook.TheVariants as outlook
 use Rattle.app_preview.specs.declared.previewing.PreviewWords.{PreviewWords}
@@ -85,10 +86,11 @@ module _ {Stdout Stderr : Type 0} (out : Stdout → Option (List ℕ)) (err : St
       ((outlooks : List Outlook) × AreOutlooks steps found outlooks × RunEnds out err (SaysOn Output (status_of outlooks)) old new result)
       ⊎ RunEnds out err PrintsNothing old new result
 
-  -- The controller was greeted on the buses of the steps, and the record of each was looked at, and that is told. Or not each was, and that is said.
+  -- The controller was greeted on the buses of the steps, and the record of each was looked at, and that is told, with names of sensors and
+  -- attributes, for which parts of the controller's own tables alone were asked for. Or not each was looked at, and that is said.
   abbrev pub PreviewsTo : Plan → PreviewWords → (old new : Console Stdout Stderr) → ℕ → Type 0
   PreviewsTo plan words old new result =
-      ((found : List Found) × FindsOver (way_of words.reach plan.retries) (keys_of plan.steps) found × TellsOf plan.steps found old new result)
+      ((found : List Found) × FindsAndNames (way_of words.reach plan.retries) (keys_of plan.steps) found × TellsOf plan.steps found old new result)
       ⊎ (((why : LookFault) × FailsOver (way_of words.reach plan.retries) (keys_of plan.steps) why × RunEnds out err (SaysLookFault why) old new result)
       ⊎ RunEnds out err PrintsNothing old new result)
 

@@ -3,9 +3,10 @@ use crate::foreseeing::Foreseen;
 use crate::outlooks::Outlook;
 use crate::previewing::is_barred;
 use app_apply::sentences::push_code;
+use app_look::Names;
 use record_base::{Asked, Op, RecordKind};
 use record_kinds::Limits;
-use record_words::{RecordName, Way, op_in_words};
+use record_words::{RecordName, Way, op_in_words, push_named};
 use shown_after::Meaning;
 use std::alloc::{AllocError, Global};
 use two_wire::Bus;
@@ -45,36 +46,73 @@ pub(crate) fn push_change<'a>(
     write!(text, "{}", op_in_words(Way::There, op, back.as_ref()))
 }
 
+/// Adds the name of a step's record, with that of its sensor or attribute.
+fn push_record(
+    alloc: Global,
+    text: &mut String,
+    op: &Op<'_>,
+    names: &Names,
+) -> Result<(), AllocError> {
+    let key = Limits::key(op);
+    let said = format!(in alloc; "{}", RecordName(key))?;
+    push_named(alloc, text, &key, names.of(&key), said.as_str())
+}
+
 /// Adds what a step leaves as it is.
 pub(crate) fn push_same(text: &mut String, op: &Op<'_>) -> Result<(), AllocError> {
     write!(text, "{}", op_in_words(Way::There, op, None))
 }
 
+/// Adds what is said of a step's record, with the name of its sensor or attribute.
+fn push_said(
+    alloc: Global,
+    text: &mut String,
+    op: &Op<'_>,
+    names: &Names,
+    said: &str,
+) -> Result<(), AllocError> {
+    let key = Limits::key(op);
+    push_named(alloc, text, &key, names.of(&key), said)
+}
+
 /// Adds what a step would make of what the steps before it leave.
-fn push_foreseen(text: &mut String, op: &Op<'_>, foreseen: &Foreseen) -> Result<(), AllocError> {
+fn push_foreseen(
+    alloc: Global,
+    text: &mut String,
+    op: &Op<'_>,
+    foreseen: &Foreseen,
+    names: &Names,
+) -> Result<(), AllocError> {
+    let mut said = String::new(alloc);
     match foreseen.meaning {
-        Meaning::Changes => push_change(text, op, foreseen.before.as_slice()),
+        Meaning::Changes => push_change(&mut said, op, foreseen.before.as_slice())?,
         Meaning::Same => {
             text.push_str("same: ")?;
-            push_same(text, op)
+            push_same(&mut said, op)?;
         }
         Meaning::NotRestorable => {
-            let name = RecordName(Limits::key(op));
-            write!(
-                text,
-                "can't be taken back: {name} has a value that no request brings back"
-            )
+            text.push_str("can't be taken back: ")?;
+            push_record(alloc, text, op, names)?;
+            return text.push_str(" has a value that no request brings back");
         }
     }
+    push_said(alloc, text, op, names, said.as_str())
 }
 
 /// Adds what is told of a step.
-fn push_outlook(text: &mut String, op: &Op<'_>, outlook: &Outlook) -> Result<(), AllocError> {
+fn push_outlook(
+    alloc: Global,
+    text: &mut String,
+    op: &Op<'_>,
+    outlook: &Outlook,
+    names: &Names,
+) -> Result<(), AllocError> {
     match outlook {
-        Outlook::Foreseen(foreseen) => push_foreseen(text, op, foreseen),
+        Outlook::Foreseen(foreseen) => push_foreseen(alloc, text, op, foreseen, names),
         Outlook::Refused(code) => {
-            let name = RecordName(Limits::key(op));
-            write!(text, "refused: {name} can't be read ")?;
+            text.push_str("refused: ")?;
+            push_record(alloc, text, op, names)?;
+            text.push_str(" can't be read ")?;
             push_code(text, bus_of_get(op), *code)
         }
     }
@@ -82,14 +120,16 @@ fn push_outlook(text: &mut String, op: &Op<'_>, outlook: &Outlook) -> Result<(),
 
 /// Adds the line of a step: which it is, and what is told of it.
 fn push_line(
+    alloc: Global,
     text: &mut String,
     place: usize,
     op: &Op<'_>,
     outlook: &Outlook,
+    names: &Names,
 ) -> Result<(), AllocError> {
     let number = place as u128 + 1;
     write!(text, "step {number}: ")?;
-    push_outlook(text, op, outlook)?;
+    push_outlook(alloc, text, op, outlook, names)?;
     text.push_str("\n")
 }
 
@@ -105,18 +145,19 @@ fn push_counts(text: &mut String, outlooks: &[Outlook]) -> Result<(), AllocError
     )
 }
 
-/// What is said of the steps of a plan: a line of each, and one of all.
+/// What is said of the steps of a plan: a line of each, with the names of sensors and attributes that are known, and one of all.
 pub fn outlooks_text(
     alloc: Global,
     steps: &Steps,
     outlooks: &[Outlook],
+    names: &Names,
 ) -> Result<String, AllocError> {
     let mut text = String::new(alloc);
     for place in 0..outlooks.len() {
         let (Some(op), Some(outlook)) = (steps.get(place), outlooks.get(place)) else {
             return Ok(text);
         };
-        push_line(&mut text, place, &op, outlook)?;
+        push_line(alloc, &mut text, place, &op, outlook, names)?;
     }
     push_counts(&mut text, outlooks)?;
     Ok(text)

@@ -15,7 +15,7 @@ use app_apply::refusing::{say_refused, say_unread};
 use app_apply::sentences::{port_text, push_unanswered};
 use app_apply::{Reach, StrictFault, strict_plan};
 use app_base::{Console, ReportFault, Status, Stream, TextFiles, end_run, text_of};
-use app_look::{Found, LookFault, OpenFault, StopFault, Way, look_over_udp};
+use app_look::{LookFault, NamedRecords, Names, OpenFault, StopFault, Way, look_and_name};
 use app_run::Unanswered;
 use record_base::{Key, RecordKind};
 use record_kinds::Limits;
@@ -95,12 +95,13 @@ fn text_for(
     alloc: Global,
     steps: &Steps,
     outlooks: &[Outlook],
+    names: &Names,
     json: bool,
 ) -> Result<String, AllocError> {
     if json {
         outlooks_json(alloc, steps, outlooks)
     } else {
-        outlooks_text(alloc, steps, outlooks)
+        outlooks_text(alloc, steps, outlooks, names)
     }
 }
 
@@ -108,18 +109,19 @@ fn text_for(
 fn tell_of<W: io::Write, E: io::Write>(
     alloc: Global,
     steps: &Steps,
-    found: &[Found],
+    named: &NamedRecords,
     json: bool,
     console: &mut Console<W, E>,
 ) -> u8
-    requires { length found.now ≡ length steps.now }
-    ensures { TellsOf W.contents E.contents steps.now found.now console.old console.new result }
+    requires { length named.now.found.items ≡ length steps.now }
+    ensures { TellsOf W.contents E.contents steps.now named.now.found.items
+        console.old console.new result }
 {
-    let Ok(outlooks) = foresee_all(alloc, steps, found) else {
+    let Ok(outlooks) = foresee_all(alloc, steps, named.found.as_slice()) else {
         return end_run(&Err(ReportFault::Memory), console);
     };
     let status = status_of(outlooks.as_slice());
-    let text = text_for(alloc, steps, outlooks.as_slice(), json);
+    let text = text_for(alloc, steps, outlooks.as_slice(), &named.names, json);
     say_on(text, Stream::Output, status, console)
 }
 
@@ -200,8 +202,8 @@ fn preview_over<W: io::Write, E: io::Write, R: Net>(
         return end_run(&Err(ReportFault::Memory), console);
     };
     let way = way_of(&words.reach, plan.retries);
-    match look_over_udp(rt, alloc, &way, keys.as_slice()) {
-        Ok(found) => tell_of(alloc, &plan.steps, found.as_slice(), words.json, console),
+    match look_and_name(rt, alloc, &way, keys.as_slice()) {
+        Ok(named) => tell_of(alloc, &plan.steps, &named, words.json, console),
         Err(why) => end_untold(alloc, &plan.steps, why, &words.reach, console),
     }
 }

@@ -19,6 +19,7 @@ use Rattle.undo_core.specs.Journals.{kept_by}
 use Rattle.undo_look.specs.declared.looker.Looker.{Looker}
 use Rattle.undo_look.specs.declared.stage.Stage.{Stage}
 use Rattle.undo_look.specs.declared.stage.Stage.TheVariants as stage
+use Rattle.undo_look.specs.declared.target.Target.TheVariants.{Record}
 use Rattle.undo_look.specs.Looks.{StepResult, again_at, begin_at, opened_at, state_of}
 use Rattle.look_links.specs.declared.driver.LookEnd.{LookEnd}
 use Rattle.look_links.specs.declared.driver.LookEnd.TheVariants.{Silent}
@@ -78,7 +79,7 @@ LooksBy step before end after =
 
 -- the Get of the record is begun, and goes on whose request isn't heeded
 abbrev pub begun_at : Key → Eye → StepResult
-begun_at key eye = driven.or_rests eye.looker (begin_at (state_of eye.looker) key eye.looker.stage)
+begun_at key eye = driven.or_rests eye.looker (begin_at (state_of eye.looker) (Record key) eye.looker.stage)
 
 abbrev pub goes_on_at : Eye → StepResult
 goes_on_at eye = driven.or_rests eye.looker (again_at (state_of eye.looker) eye.looker.stage)

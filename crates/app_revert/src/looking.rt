@@ -21,7 +21,7 @@ use std::alloc::{AllocError, Global};
 use std::net::Net;
 use two_wire::Retries;
 use undo_core::Manager;
-use undo_look::{Looker, Seen};
+use undo_look::{Looker, Seen, Target};
 use undo_plans::{Requests, UndoList, UndoRequest};
 
 /// How often a look sends a request again.
@@ -179,7 +179,7 @@ fn begin_look(eye: &mut Eye, key: &Key) -> LookEnd
     let ends = &mut eye.ends;
     drive_look(
         &mut eye.looker,
-        key,
+        &Target::Record(*key),
         &mut ends.ipmb,
         &mut ends.smbus,
         MOST_TURNS,

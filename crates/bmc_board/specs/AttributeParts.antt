@@ -7,7 +7,7 @@ use Rattle.record_base.specs.declared.live.Live.{Live as LivePart}
 use Rattle.record_base.specs.declared.message.Answered.{Answered}
 use Rattle.bios_attr.specs.BiosAttribute.{get_next_part}
 use Rattle.bios_attr.specs.EntryParts.{before_part}
-use Rattle.attribute_parts.specs.Stagings.{StagedParts, without}
+use Rattle.board_records.specs.Stagings.{StagedParts, without}
 use Rattle.record_kinds.specs.declared.limits.Limits.{Limits}
 use Rattle.record_kinds.specs.Limits.{view}
 pub use Rattle.board_records.specs.SetParts.{named_in, limits_named}

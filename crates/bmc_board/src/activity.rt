@@ -2,7 +2,7 @@
 ghost use Rattle.std.specs.Prelude.{◌≡◌, IfOk};
 ghost use Rattle.bmc_board.specs.State.{opening};
 
-use attribute_parts::Stagings;
+use board_records::Stagings;
 use cfg_records::{BoardFile, Live};
 use sel_log::Sel;
 use sensor_recs::{Readings, Sdr};

@@ -13,8 +13,8 @@ use Rattle.record_kinds.specs.declared.limits.Limits.{Limits}
 use Rattle.record_kinds.specs.Limits.{key_of, limits_at, sets, view}
 use Rattle.record_kinds.specs.Series.{first_shown}
 use Rattle.bios_attr.specs.EntryParts.{before_part}
-use Rattle.attribute_parts.specs.declared.set_part.SetPart.TheVariants.{End}
-use Rattle.attribute_parts.specs.Stagings.{end_outcome}
+use Rattle.board_records.specs.declared.set_part.SetPart.TheVariants.{End}
+use Rattle.board_records.specs.Stagings.{end_outcome}
 use Rattle.bmc_board.specs.Request.{Request}
 use Rattle.bmc_board.specs.Request.{Get, Set, SetStores, PartOfSet, LaterPart}
 use Rattle.bmc_board.specs.Request.{asked_by}

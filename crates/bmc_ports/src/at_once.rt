@@ -79,24 +79,7 @@ where
     )
 }
 
-/// Runs two works at once, the first in a thread of its own. Where no thread can be started, neither runs.
-fn run_at_once<V, W, R>(
-    rt: &R,
-    first: V,
-    second: W,
-) -> Result<PairReturn<V::Given, W::Given>, NoThread>
-where
-    V: Work + Send + Drop,
-    V::Given: Send + Drop,
-    W: Work + Drop,
-    W::Given: Drop,
-    R: Threads + Wait + Sync,
-    ensures { BothGive (V.gives first) (W.gives second) result }
-{
-    run_apart(rt, first, move || second.run())
-}
-
-/// Runs two workers at once, and says once both ended.
+/// Runs two workers at once, the first in a thread of its own, and says once both ended. Where no thread can be started, neither runs.
 fn run_workers<V, W, R>(
     rt: &R,
     first: V,
@@ -111,7 +94,7 @@ where
     R: Threads + Wait + Sync,
     ensures { BothGive (V.gives first) (W.gives second) result }
 {
-    let both = run_at_once(rt, first, second);
+    let both = run_apart(rt, first, move || second.run());
     over.store(true, Ordering::SeqCst);
     both
 }

@@ -1,0 +1,4 @@
+pub mod Line
+pub mod Ids
+pub mod Asked
+pub mod Run

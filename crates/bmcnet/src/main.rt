@@ -1,8 +1,19 @@
-//! The program `bmcnet`: words in, datagrams and lines out.
+//! The program `bmcnet`: words in, datagrams and lines out. Its parts are the words of its command line, the files of the host that it reads and
+//! writes, and what it does with both.
 #![tactic(auto)]
 
+mod file;
+mod ids;
+mod number;
+mod run;
+mod tasks;
+mod terminal;
+mod words;
+
+use crate::file::NetFiles;
+use crate::run::run_line;
+use crate::terminal::line_on;
 use app_base::{Console, HostFiles, refuse, words_of_process};
-use app_bmcnet::{NetFiles, line_on, run_line};
 use std::process::ExitCode;
 
 fn main(rt: HostRuntime) -> ExitCode {

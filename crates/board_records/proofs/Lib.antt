@@ -1,2 +1,4 @@
 pub mod LimitsOf
 pub mod Written
+pub mod KeptStagings
+pub mod Apart

@@ -8,7 +8,7 @@ use Rattle.record_base.specs.declared.live.Live.{Live as LivePart}
 use Rattle.record_base.specs.declared.message.Answered.{Answered}
 use Rattle.cfg_records.specs.Records.{Records}
 use Rattle.cfg_records.specs.declared.board_file.BoardFile.{BoardFile}
-use Rattle.attribute_parts.specs.Stagings.{StagedParts}
+use Rattle.board_records.specs.Stagings.{StagedParts}
 use Rattle.record_kinds.specs.Limits.{key_of}
 use Rattle.board_records.specs.Sets.{outcome_among, set_given, records_set, live_set, both_answered, both_set}
 use Rattle.board_records.specs.SetParts.{SettableEntry, SetGiven, whole_given}

@@ -1,3 +1,7 @@
+pub mod PartData
+pub mod Entries
+pub mod Stagings
+pub mod StagingsLaws
 pub mod Replies
 pub mod Gives
 pub mod Sets

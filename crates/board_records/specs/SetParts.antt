@@ -14,9 +14,9 @@ use Rattle.record_base.specs.declared.op.Op.TheVariants as of_kind
 use Rattle.cfg_records.specs.Records.{Records}
 use Rattle.cfg_records.specs.declared.board_file.BoardFile.{BoardFile}
 use Rattle.bios_attr.specs.declared.bios_attribute.AttributeLimits.{AttributeLimits}
-use Rattle.attribute_parts.specs.declared.set_part.SetPart.{SetPart}
-use Rattle.attribute_parts.specs.declared.set_part.SetPart.TheVariants.{Start, Middle, End}
-use Rattle.attribute_parts.specs.Stagings.{StagedParts, without, after_part, start_outcome, add_outcome, end_outcome}
+use Rattle.board_records.specs.declared.set_part.SetPart.{SetPart}
+use Rattle.board_records.specs.declared.set_part.SetPart.TheVariants.{Start, Middle, End}
+use Rattle.board_records.specs.Stagings.{StagedParts, without, after_part, start_outcome, add_outcome, end_outcome}
 use Rattle.record_kinds.specs.Boards.{attribute_at}
 use Rattle.board_records.specs.Replies.{done, refused}
 use Rattle.board_records.specs.Sets.{outcome_among, set_given, records_set, live_set}

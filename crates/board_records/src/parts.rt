@@ -2,13 +2,15 @@
 ghost use Rattle.std.specs.Prelude.{◌≡◌, ◌+◌, ◌≤◌, ◌++◌, length};
 ghost use Rattle.std.specs.Int.{w32, to_le_bytes};
 ghost use Rattle.two_wire.specs.Sizes.{most_pldm_reply_data};
-ghost use Rattle.attribute_parts.specs.Stagings.{after_part, add_outcome};
+ghost use Rattle.board_records.specs.Stagings.{after_part, add_outcome};
 ghost use Rattle.record_kinds.specs.Sound.{AreSoundRecords};
 ghost use Rattle.board_records.specs.Gives.{AppendsReply};
 ghost use Rattle.board_records.specs.SetParts.{named_in, limits_named, started, staged_answer, is_last};
 
+use crate::entry::Entry;
 use crate::kept::KeptRecords;
-use attribute_parts::{Entry, SetPart, Stagings};
+use crate::set_part::SetPart;
+use crate::stagings::Stagings;
 use bios_attr::AttributeLimits;
 use cfg_records::{Live, Op, Store, byte_at};
 use record_base::SetBiosAttribute;

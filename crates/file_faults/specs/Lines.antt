@@ -5,7 +5,7 @@ use Rattle.text_fields.specs.declared.field.Field.TheVariants as field
 use Rattle.text_fields.specs.declared.lan_field.LanField.TheVariants as lan
 use Rattle.text_fields.specs.Words.{word}
 use Rattle.std.specs.Borrow.{Bor}
-use Rattle.text_places.specs.Places.{StandsIn, HeadStandsIn}
+use Rattle.file_faults.specs.Places.{StandsIn, HeadStandsIn}
 use Rattle.file_faults.specs.declared.group.Group.{Group}
 use Rattle.file_faults.specs.declared.group.Group.TheVariants as group
 

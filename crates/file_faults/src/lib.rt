@@ -1,15 +1,19 @@
 //! The faults of a file that is TOML, of each of its tables the first, and what is told of them: where a fault is, what stands there, and what would
-//! be right.
+//! be right. The line of a fault is that of its key, or of its item's head.
 #![tactic(auto)]
 
+mod expression;
 mod faults;
 mod group;
+mod place;
 mod rows;
+mod search;
 mod sheet;
 mod source;
 mod step_telling;
 mod steps;
 mod telling;
+mod value;
 
 pub use faults::{Placed, TableFault, board_faults, plan_faults};
 pub use group::{Group, known_rows};

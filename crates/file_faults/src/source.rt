@@ -3,11 +3,12 @@ ghost use Rattle.std.specs.Prelude.{◌≡◌, IfOk, IfSome};
 ghost use Rattle.file_faults.specs.Lines.{array_of, IsLineIn, IsLineOf};
 
 use crate::group::Group;
+use crate::place::{Found, Wanted};
+use crate::search::place_of;
 use file_words::push_line;
 use std::alloc::{AllocError, Global};
 use text_fields::tree::in_field;
 use text_fields::{Field, LanField};
-use text_places::{Found, Wanted, place_of};
 use toml::Table;
 
 /// A file: its name, as it is shown, and its text.

@@ -1,7 +1,9 @@
 //! What is told of a table's fault: where it is, what stands there, and what would be right.
 use crate::faults::{Placed, TableFault};
 use crate::group::Group;
+use crate::place::{Found, Wanted};
 use crate::rows::rows_in;
+use crate::search::place_of;
 use crate::sheet::Sheet;
 use crate::source::{Source, Spot};
 use crate::step_telling::push_step;
@@ -12,7 +14,6 @@ use std::alloc::{AllocError, Global};
 use text_fields::range::record;
 use text_fields::tree::{in_field, members_in, members_of};
 use text_fields::{Field, FieldFault, Row, Shape};
-use text_places::{Found, Wanted, place_of};
 use toml::{Table, Value};
 
 /// The row of the field, if there is one.

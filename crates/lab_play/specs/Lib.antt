@@ -4,3 +4,4 @@ pub mod Ends
 pub mod Noted
 pub mod Restarts
 pub mod Restarting
+pub mod Halts

@@ -15,6 +15,8 @@ use Rattle.model_bus.specs.Bytes.{is_busy_code}
 use Rattle.undo_look.specs.declared.looker.Looker.{Looker}
 use Rattle.undo_look.specs.declared.stage.Stage.{Stage}
 use Rattle.undo_look.specs.declared.stage.Stage.TheVariants.{AtStart, Opened, Found, Refused}
+use Rattle.undo_look.specs.declared.target.Target.{Target}
+use Rattle.undo_look.specs.declared.target.Target.TheVariants.{Record}
 use Rattle.undo_look.specs.Requests.{bus_of, get_at, next_behind}
 use Rattle.undo_look.specs.OpenGet.{IsOpenGet}
 use Rattle.undo_look.specs.Replies.{stage_with}
@@ -23,7 +25,7 @@ use Rattle.look_links.specs.Driven.{IsOn, or_rests, quieted_at}
 
 -- ---- the request behind a reply is on the same bus
 
-gets_on : (of : Key) (parts : ℕ) (asked : Asked) (handle : ℕ) → of ≡ key.BiosAttribute handle → get_at of parts ≡ Some asked → bus_of asked ≡ Smbus
+gets_on : (of : Key) (parts : ℕ) (asked : Asked) (handle : ℕ) → of ≡ key.BiosAttribute handle → get_at (Record of) parts ≡ Some asked → bus_of asked ≡ Smbus
 gets_on (key.BiosAttribute other) zero asked handle same is = ap bus_of (sym (same_Some (get_asked (key.BiosAttribute other)) asked is))
 gets_on (key.BiosAttribute other) (suc parts) asked handle same is = ap bus_of (sym (same_Some (get_part other (part_length * suc parts)) asked is))
 gets_on _ parts asked handle same is = cc same
@@ -32,19 +34,19 @@ no_next : (b : Bool) (other : Asked) → (if b then None else None) ≡ Some oth
 no_next true other is = cc is
 no_next false other is = cc is
 
-next_on : (of : Key) (count : ℕ) (body : List ℕ) (asked other : Asked) (parts : ℕ) → get_at of parts ≡ Some asked → next_behind of count body ≡ Some other → bus_of other ≡ bus_of asked
-next_on (key.BiosAttribute handle) count body asked other parts is next = by (part_goes_on count body) next where
+next_on : (of : Target) (count : ℕ) (body : List ℕ) (asked other : Asked) (parts : ℕ) → get_at of parts ≡ Some asked → next_behind of count body ≡ Some other → bus_of other ≡ bus_of asked
+next_on (Record (key.BiosAttribute handle)) count body asked other parts is next = by (part_goes_on count body) next where
   by : (b : Bool) → (if b then Some (get_part handle (part_length * count)) else None) ≡ Some other → bus_of other ≡ bus_of asked
   by true same = ap bus_of (sym (same_Some (get_part handle (part_length * count)) other same)) ∙ sym (gets_on (key.BiosAttribute handle) parts asked handle refl is)
   by false same = let both : None ≡ Some other = same in cc both
 next_on _ count body asked other parts is next = absurd (no_next (part_goes_on count body) other next)
 
-with_on : (on : Bus) (of : Key) (parts : ℕ) (asked : Asked) (body : List ℕ) (next : Option Asked) → next_behind of (parts + 1) body ≡ next → get_at of parts ≡ Some asked → bus_of asked ≡ on
+with_on : (on : Bus) (of : Target) (parts : ℕ) (asked : Asked) (body : List ℕ) (next : Option Asked) → next_behind of (parts + 1) body ≡ next → get_at of parts ≡ Some asked → bus_of asked ≡ on
     → IsOn on (stage_with of parts next)
 with_on on of parts asked body (Some other) next is here = next_on of (parts + 1) body asked other parts is next ∙ here
 with_on on of parts asked body None next is here = tt
 
-told_on : (on : Bus) (of : Key) (parts : ℕ) (asked : Asked) (answered : Answered) (done : Bool) → get_at of parts ≡ Some asked → bus_of asked ≡ on
+told_on : (on : Bus) (of : Target) (parts : ℕ) (asked : Asked) (answered : Answered) (done : Bool) → get_at of parts ≡ Some asked → bus_of asked ≡ on
     → IsOn on (if done then stage_with of parts (next_behind of (parts + 1) answered.body) else Refused of answered.code)
 told_on on of parts asked answered true is here = with_on on of parts asked answered.body (next_behind of (parts + 1) answered.body) refl is here
 told_on on of parts asked answered false is here = tt

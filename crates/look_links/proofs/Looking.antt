@@ -10,7 +10,6 @@ use Rattle.wire_links.specs.declared.link.Heard.TheVariants.{Frame, Quiet}
 use Rattle.wire_links.specs.declared.link.LinkFault.{LinkFault}
 use Rattle.wire_links.specs.declared.link.Link.{Ghosts}
 use Rattle.wire_links.specs.Trace.{Gives, Takes}
-use Rattle.record_base.specs.declared.key.Key.{Key}
 use Rattle.record_base.specs.declared.message.Asked.{Asked}
 use Rattle.undo_plans.specs.declared.names.Names.{Names}
 use Rattle.undo_plans.specs.declared.undo_list.NextNumbers.{NextNumbers}
@@ -18,6 +17,7 @@ use Rattle.undo_look.specs.declared.looker.Looker.{Looker}
 use Rattle.undo_look.specs.declared.looker.WrongPhase.{WrongPhase}
 use Rattle.undo_look.specs.declared.stage.Stage.{Stage}
 use Rattle.undo_look.specs.declared.stage.Stage.TheVariants.{AtStart, Opened, Found, Refused}
+use Rattle.undo_look.specs.declared.target.Target.{Target}
 use Rattle.undo_look.specs.OpenGet.{IsOpenGet}
 use Rattle.undo_look.specs.Looks.{HearsFrame, IsCalled, IsOpenFrame, IsSent, IsStepResult, LookState, StepResult, asks, awaited_on, open_on, quiet_at, rests, state_of}
 use Rattle.look_links.proofs.Buses.{heard_on, quiet_on}
@@ -88,7 +88,7 @@ abbrev pub sendings_left : Option (List ℕ) → Looker → ℕ
 sendings_left None looker = 0
 sendings_left (Some frame) looker = suc (looker.retries - looker.resent)
 
-fewer_by : (looker new : Looker) (frame : List ℕ) (of : Key) (parts : ℕ) (asked : Asked) (test : Bool) → nat_lt looker.resent looker.retries ≡ test
+fewer_by : (looker new : Looker) (frame : List ℕ) (of : Target) (parts : ℕ) (asked : Asked) (test : Bool) → nat_lt looker.resent looker.retries ≡ test
     → IsStepResult new (Some frame) (if test then asks (record (state_of looker) { resent = looker.resent + 1 })
     else rests (record (state_of looker) { stage = Opened false of parts asked }))
     → suc (new.retries - new.resent) < suc (looker.retries - looker.resent)

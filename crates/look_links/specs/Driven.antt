@@ -45,10 +45,10 @@ Hears on (Err fault) before after = IsToldQuiet before after
 
 -- its open request, if it has one, goes on this bus
 abbrev pub IsOn : (on : Bus) → Stage → Type 0
-IsOn on (Opened heeded key parts asked) = bus_of asked ≡ on
+IsOn on (Opened heeded target parts asked) = bus_of asked ≡ on
 IsOn on AtStart = Unit {0}
-IsOn on (Found key) = Unit {0}
-IsOn on (Refused key code) = Unit {0}
+IsOn on (Found target) = Unit {0}
+IsOn on (Refused target code) = Unit {0}
 
 -- what it gave is a frame of its open request, on this bus
 abbrev pub IsGivenOn : (on : Bus) → Stage → Option (List ℕ) → Type 0
@@ -113,9 +113,9 @@ module _ {L : Type 0} (of : Ghosts L) (on : Bus) where
 
 -- how a look ended
 abbrev pub end_at : Stage → LookEnd
-end_at (Found key) = ends.Shown
-end_at (Refused key code) = ends.Refused
-end_at (Opened heeded key parts asked) = ends.Silent
+end_at (Found target) = ends.Shown
+end_at (Refused target code) = ends.Refused
+end_at (Opened heeded target parts asked) = ends.Silent
 end_at AtStart = ends.Silent
 
 module _ {A B : Type 0} (one : Ghosts A) (two : Ghosts B) (turns : ℕ) (before : Looking) (ipmb : A) (smbus : B) (after : Looker) (ipmb_left : A) (smbus_left : B) where

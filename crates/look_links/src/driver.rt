@@ -7,19 +7,18 @@ ghost use Rattle.wire_links.specs.Trace.{Gives};
 ghost use Rattle.undo_look.specs.Looks.{IsStepResult, again_at, awaited_on, begin_at, open_on, state_of};
 ghost use Rattle.look_links.specs.Driven.{Drives, DrivenOn, Hears, IsGivenOn, IsOn, LooksOver, TurnsMade, end_at, moment, or_rests, quieted_at, state};
 
-use record_base::Key;
 use two_wire::{Bus, Frame};
-use undo_look::{Looker, Seen, WrongPhase};
+use undo_look::{Looker, Seen, Target, WrongPhase};
 use wire_links::{Heard, Link};
 
 /// How a look ended.
 #[derive(Clone, Copy, Debug, PartialEq, Eq)]
 pub enum LookEnd {
-    /// The Get was answered: the looker has what it shows.
+    /// The requests were answered: the looker has what the replies show.
     Shown,
-    /// The Get was refused: the looker has the code.
+    /// A request was refused: the looker has the code.
     Refused,
-    /// A request of the Get wasn't answered.
+    /// A request wasn't answered.
     Silent,
 }
 
@@ -36,12 +35,12 @@ impl LookEnd {
     }
 }
 
-/// Begins the Get of this record. While an answer is awaited, the looker goes on as it is.
-fn begin(looker: &mut Looker, key: &Key) -> Option<Frame>
+/// Begins a look at this. While an answer is awaited, the looker goes on as it is.
+fn begin(looker: &mut Looker, target: &Target) -> Option<Frame>
     ensures { IsStepResult looker.new result
-        (or_rests looker.old (begin_at (state_of looker.old) key.now looker.old.stage)) }
+        (or_rests looker.old (begin_at (state_of looker.old) target.now looker.old.stage)) }
 {
-    match looker.begin(key) {
+    match looker.begin(target) {
         Ok(sent) => sent,
         Err(WrongPhase) => None,
     }
@@ -153,23 +152,22 @@ fn drive<A: Link, B: Link>(
     }
 }
 
-/// Has a looker look at this record: begins its Get, sends each frame that the looker gives over the link of its request, and hears that
-/// link, until the Get was answered or refused, or a request isn't heeded any more, or the link's `next` was called as often as there are
-/// turns.
+/// Has a looker look at this: sends its first request, and each frame that the looker gives, over the link of the request, and hears that
+/// link, until the look came to its end, or a request isn't heeded any more, or the link's `next` was called as often as there are turns.
 ///
 /// Where nothing comes, and where the link fails, the looker is told that no answer came.
 pub fn drive_look<A: Link, B: Link>(
     looker: &mut Looker,
-    key: &Key,
+    target: &Target,
     ipmb: &mut A,
     smbus: &mut B,
     turns: u32,
 ) -> LookEnd
     ensures { LooksOver A.Link B.Link turns
-        (or_rests looker.old (begin_at (state_of looker.old) key.now looker.old.stage))
+        (or_rests looker.old (begin_at (state_of looker.old) target.now looker.old.stage))
         ipmb.old smbus.old looker.new result ipmb.new smbus.new }
 {
-    let first = begin(looker, key);
+    let first = begin(looker, target);
     drive(looker, first, ipmb, smbus, turns);
     LookEnd::of(&*looker)
 }

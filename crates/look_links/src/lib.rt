@@ -1,5 +1,5 @@
-//! A looker that is driven over links: what it gives is sent, and what comes is heard, until a record's Get was answered or refused, or a
-//! request of it wasn't answered.
+//! A looker that is driven over links: what it gives is sent, and what comes is heard, until a look was answered or refused, or a request of
+//! it wasn't answered.
 #![tactic(auto)]
 
 mod driver;

@@ -18,8 +18,8 @@ use Rattle.record_base.specs.BiosAttributeLaws.{few_sent, sent_whole, same_setti
 use Rattle.pldm_base.specs.Parts.{part_length, part_bytes, most_whole}
 use Rattle.bios_attr.specs.BiosAttribute.{SetsAttribute, is_settable, op_entry}
 use Rattle.bios_attr.specs.declared.bios_attribute.AttributeLimits.{AttributeLimits}
-use Rattle.attribute_parts.specs.Entries.{text_length, whole_length, op_of, begins_string, allows_length, first_fault, middle_fault, last_fault}
-use Rattle.attribute_parts.specs.Stagings.{StagedParts, most_stagings, without, with_staged, room_fault}
+use Rattle.board_records.specs.Entries.{text_length, whole_length, op_of, begins_string, allows_length, first_fault, middle_fault, last_fault}
+use Rattle.board_records.specs.Stagings.{StagedParts, most_stagings, without, with_staged, room_fault}
 
 -- ---- values of so many bytes are texts
 

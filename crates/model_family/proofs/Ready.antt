@@ -18,8 +18,8 @@ use Rattle.cfg_records.specs.declared.board_file.BoardFile.{BoardFile}
 use Rattle.pldm_base.specs.Parts.{part_length, part_bytes, goes_whole}
 use Rattle.bios_attr.specs.BiosAttribute.{op_entry}
 use Rattle.bios_attr.specs.EntryParts.{bios, set_current_value, set_part, is_in_parts, request_at, get_part, goes_on, last_of, alone_at, part_at}
-use Rattle.attribute_parts.specs.declared.set_part.SetPart.TheVariants.{Start, Middle, End}
-use Rattle.attribute_parts.specs.Stagings.{StagedParts, most_stagings, without, start_outcome, add_outcome, end_outcome}
+use Rattle.board_records.specs.declared.set_part.SetPart.TheVariants.{Start, Middle, End}
+use Rattle.board_records.specs.Stagings.{StagedParts, most_stagings, without, start_outcome, add_outcome, end_outcome}
 use Rattle.record_kinds.specs.declared.limits.Limits.{Limits}
 use Rattle.record_kinds.specs.Limits.{key_of, get_asked, limits_at}
 use Rattle.record_kinds.specs.Series.{Series, Reads, Sends, sends, set_whole, next_after}

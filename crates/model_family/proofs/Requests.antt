@@ -18,8 +18,8 @@ use Rattle.record_base.specs.AttributeValue.{number_of}
 use Rattle.cfg_records.specs.declared.board_file.BoardFile.{BoardFile}
 use Rattle.pldm_base.specs.Parts.{part_length, part_bytes, is_last, most_whole}
 use Rattle.bios_attr.specs.EntryParts.{bios, set_current_value, set_part, get_part}
-use Rattle.attribute_parts.specs.declared.set_part.SetPart.{SetPart}
-use Rattle.attribute_parts.specs.declared.set_part.SetPart.TheVariants.{Start, Middle, End}
+use Rattle.board_records.specs.declared.set_part.SetPart.{SetPart}
+use Rattle.board_records.specs.declared.set_part.SetPart.TheVariants.{Start, Middle, End}
 use Rattle.record_kinds.specs.Limits.{get_asked}
 use Rattle.record_kinds.specs.Series.{set_whole}
 use Rattle.bmc_board.specs.Request.{Request as BoardRequest}

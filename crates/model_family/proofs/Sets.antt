@@ -24,10 +24,10 @@ use Rattle.pldm_base.specs.Parts.{part_length, part_bytes, most_whole, goes_whol
 use Rattle.bios_attr.specs.BiosAttribute.{attribute_body, op_entry}
 use Rattle.bios_attr.specs.declared.bios_attribute.AttributeLimits.{AttributeLimits}
 use Rattle.bios_attr.specs.EntryParts.{bios, set_current_value, set_part, part_at, is_in_parts, entry_of, first_request, request_at, alone_at}
-use Rattle.attribute_parts.specs.declared.set_part.SetPart.TheVariants.{Start, Middle, End}
-use Rattle.attribute_parts.specs.Entries.{middle_fault, last_fault, op_of}
-use Rattle.attribute_parts.specs.Stagings.{StagedParts, most_stagings, staged_by, without, or_else, start_fault, later_fault, unless, joined, start_outcome, add_outcome, end_outcome}
-use Rattle.attribute_parts.proofs.Apart.{own_last}
+use Rattle.board_records.specs.declared.set_part.SetPart.TheVariants.{Start, Middle, End}
+use Rattle.board_records.specs.Entries.{middle_fault, last_fault, op_of}
+use Rattle.board_records.specs.Stagings.{StagedParts, most_stagings, staged_by, without, or_else, start_fault, later_fault, unless, joined, start_outcome, add_outcome, end_outcome}
+use Rattle.board_records.proofs.Apart.{own_last}
 use Rattle.record_kinds.specs.Boards.{attribute_at}
 use Rattle.record_kinds.specs.declared.limits.Limits.{Limits}
 use Rattle.record_kinds.specs.declared.limits.Limits.TheVariants as limits

@@ -9,7 +9,7 @@ use Rattle.cfg_records.specs.declared.board_file.BoardFile.{BoardFile}
 use Rattle.cfg_records.specs.Records.{Records, with_record}
 use Rattle.pldm_base.specs.Parts.{part_length}
 use Rattle.bios_attr.specs.EntryParts.{entry_of}
-use Rattle.attribute_parts.specs.Stagings.{StagedParts, most_stagings, staged_by, without}
+use Rattle.board_records.specs.Stagings.{StagedParts, most_stagings, staged_by, without}
 use Rattle.record_kinds.specs.declared.limits.Limits.{Limits}
 use Rattle.record_kinds.specs.Series.{Series, Reads, Sends}
 use Rattle.record_kinds.specs.Limits.{key_of, restorable, valid, sets, view, conf, limits_at}

@@ -7,6 +7,7 @@ pub mod EffecterFields
 pub mod FieldWords
 pub mod Meanings
 pub mod NameWords
+pub mod NamedWords
 pub mod NumberWords
 pub mod OpWords
 pub mod PartWords

@@ -37,7 +37,7 @@ impl fmt::Display for Escaped {
 
 /// The bytes of a text, shown between quotes as printable ASCII.
 #[derive(Clone, Copy)]
-pub(crate) struct Quoted<'a>(pub(crate) &'a [u8]);
+pub struct Quoted<'a>(pub &'a [u8]);
 
 impl fmt::Display for Quoted<'_> {
     ghost output = { λ it. Some (quoted it.0.now) };

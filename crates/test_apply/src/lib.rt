@@ -5,6 +5,8 @@
 #[cfg(test)]
 mod foretold;
 #[cfg(test)]
+mod kept;
+#[cfg(test)]
 mod narrowed;
 #[cfg(test)]
 mod reverted;

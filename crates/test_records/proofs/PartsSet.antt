@@ -13,7 +13,7 @@ use Rattle.record_base.specs.BiosAttribute.{setting}
 use Rattle.cfg_records.specs.declared.board_file.BoardFile.{BoardFile}
 use Rattle.cfg_records.specs.Records.{Records}
 use Rattle.bios_attr.specs.declared.bios_attribute.AttributeLimits.{AttributeLimits}
-use Rattle.attribute_parts.specs.Stagings.{StagedParts, start_outcome}
+use Rattle.board_records.specs.Stagings.{StagedParts, start_outcome}
 use Rattle.record_kinds.specs.declared.limits.Limits.{Limits}
 use Rattle.record_kinds.specs.declared.limits.Limits.TheVariants as limits
 use Rattle.record_kinds.specs.Limits.{limits_at}

@@ -10,10 +10,10 @@ use Rattle.record_base.specs.declared.live.Live.{Live as LivePart}
 use Rattle.record_base.specs.Attribute.{range_of}
 use Rattle.cfg_records.specs.declared.board_file.BoardFile.{BoardFile}
 use Rattle.cfg_records.specs.Records.{Records, with_record}
-use Rattle.attribute_parts.specs.declared.set_part.SetPart.{SetPart}
-use Rattle.attribute_parts.specs.declared.set_part.SetPart.TheVariants.{Start, Middle, End}
-use Rattle.attribute_parts.specs.SetParts.{part_in}
-use Rattle.attribute_parts.specs.Stagings.{StagedParts}
+use Rattle.board_records.specs.declared.set_part.SetPart.{SetPart}
+use Rattle.board_records.specs.declared.set_part.SetPart.TheVariants.{Start, Middle, End}
+use Rattle.board_records.specs.PartData.{part_in}
+use Rattle.board_records.specs.Stagings.{StagedParts}
 use Rattle.record_kinds.specs.Boards.{attribute_at}
 use Rattle.board_records.specs.Replies.{done, refused}
 use Rattle.board_records.specs.Keeps.{settable}

@@ -10,6 +10,7 @@ mod effecters;
 mod lan;
 mod log;
 mod long_strings;
+mod names;
 mod parts;
 mod records;
 mod sel;

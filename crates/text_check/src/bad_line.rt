@@ -10,7 +10,7 @@ use file_words::{
 use std::alloc::{AllocError, Global};
 use text_schedule::lines;
 use undo_plans::MOST_STEPS;
-use undo_version::{first_version, head_lines};
+use text_undo::{first_version, head_lines};
 
 /// A line of a text.
 #[derive(Clone, Copy)]

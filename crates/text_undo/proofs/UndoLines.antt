@@ -20,9 +20,9 @@ use Rattle.two_wire.specs.declared.Bus.TheVariants.{Ipmb, Smbus}
 use Rattle.undo_plans.specs.Fitting.{most_of}
 use Rattle.undo_plans.specs.declared.names.Names.{Names}
 use Rattle.undo_plans.specs.declared.undo_list.NextNumbers.{NextNumbers}
-use Rattle.undo_version.specs.declared.version.Version.{Version}
-use Rattle.undo_version.specs.declared.version.Version.TheVariants.{One, Two}
-use Rattle.undo_version.specs.Versions.{version_line}
+use Rattle.text_undo.specs.declared.version.Version.{Version}
+use Rattle.text_undo.specs.declared.version.Version.TheVariants.{One, Two}
+use Rattle.text_undo.specs.Versions.{version_line}
 use Rattle.text_undo.specs.UndoText.{numbers_line, IsNumbersLine, IsPair, IsNamesLine, name_of, bus_of, bytes_of, line_of, IsPlain, LineFits, IsRequestLine, BeginsWith, IsGood}
 
 -- ---- what lacks a mark

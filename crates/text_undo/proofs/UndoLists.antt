@@ -13,9 +13,9 @@ use Rattle.undo_plans.specs.declared.undo_list.NextNumbers.{NextNumbers}
 use Rattle.undo_plans.specs.declared.undo_list.UndoList.{UndoList}
 use Rattle.text_undo.specs.declared.text.UndoFault.{UndoFault}
 use Rattle.text_undo.specs.declared.text.UndoFault.TheVariants as fault
-use Rattle.undo_version.specs.declared.version.Version.{Version}
-use Rattle.undo_version.specs.declared.version.Version.TheVariants.{One, Two}
-use Rattle.undo_version.specs.Versions.{version_line, head_length}
+use Rattle.text_undo.specs.declared.version.Version.{Version}
+use Rattle.text_undo.specs.declared.version.Version.TheVariants.{One, Two}
+use Rattle.text_undo.specs.Versions.{version_line, head_length}
 use Rattle.text_undo.specs.UndoText.{version_of, numbers_line, IsNumbersLine, IsNamesLine, AreNamesLines, IsRequestLine, IsPlain, BeginsWith, IsGood, AllGood, IsFirstBadFrom, IsFirstBad, AreLinesOf, IsTextOf, AreAlike, line_of}
 use Rattle.text_undo.proofs.NamesLines.{one_names}
 use Rattle.text_undo.proofs.UndoLines.{version_lacks, one_version, good_lacks, one_numbers, one_request}

@@ -15,9 +15,9 @@ use Rattle.undo_plans.specs.Steps.{most_steps}
 use Rattle.undo_plans.specs.declared.names.Names.{Names}
 use Rattle.undo_plans.specs.declared.undo_list.NextNumbers.{NextNumbers}
 use Rattle.undo_plans.specs.declared.undo_list.UndoList.{UndoList}
-use Rattle.undo_version.specs.declared.version.Version.{Version}
-use Rattle.undo_version.specs.declared.version.Version.TheVariants.{One, Two}
-use Rattle.undo_version.specs.Versions.{version_line, head_length}
+use Rattle.text_undo.specs.declared.version.Version.{Version}
+use Rattle.text_undo.specs.declared.version.Version.TheVariants.{One, Two}
+use Rattle.text_undo.specs.Versions.{version_line, head_length}
 
 -- ---- the lines
 

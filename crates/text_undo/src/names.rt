@@ -4,14 +4,14 @@ ghost use Rattle.std.specs.List.{flat_map};
 ghost use Rattle.hex.specs.Hex.{decode_of};
 ghost use Rattle.text_lines.specs.Cuts.{space, ended};
 ghost use Rattle.undo_plans.specs.declared.names.Names.{Names as AnyNames};
-ghost use Rattle.undo_version.specs.declared.version.Version.TheVariants.{Two};
+ghost use Rattle.text_undo.specs.declared.version.Version.TheVariants.{Two};
 ghost use Rattle.text_undo.specs.UndoText.{IsPair, AreEven, IsNamesLine, AreNamesLines, BeginsWith, version_of, pair_of, names_line, names_lines};
 
+use crate::version::Version;
 use std::alloc::{AllocError, Global};
 use text_lines::{behind, byte, first_line, first_word};
 use two_wire::Address;
 use undo_plans::Names;
-use undo_version::Version;
 
 /// The line of the names, up to the first address.
 const NAMES_IPMB: &str = "names ipmb ";

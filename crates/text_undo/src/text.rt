@@ -3,15 +3,15 @@ ghost use Rattle.std.specs.Prelude.{◌≡◌, ◌⊎◌, ◌≤◌, ◌+◌, �
 ghost use Rattle.std.specs.List.{All, AllZip, flat_map};
 ghost use Rattle.text_lines.specs.Cuts.{ended};
 ghost use Rattle.undo_plans.specs.Steps.{most_steps};
-ghost use Rattle.undo_version.specs.Versions.{version_line, head_length};
+ghost use Rattle.text_undo.specs.Versions.{version_line, head_length};
 ghost use Rattle.text_undo.specs.UndoText.{IsPlain, IsRequestLine, AreLinesOf, IsTextOf, IsFirstBad, IsFirstBadFrom, version_of, line_of, text_of};
 
 use crate::line::{add_first, first_numbers, push_request};
 use crate::names::{push_names_line, version_names};
+use crate::version::{Version, first_version, head_lines};
 use std::alloc::{AllocError, Global};
 use std::fmt;
 use undo_plans::{MOST_STEPS, Names, Requests, UndoList};
-use undo_version::{Version, first_version, head_lines};
 
 /// Why a text is no undo text.
 #[derive(Clone, Copy, Debug, PartialEq, Eq)]

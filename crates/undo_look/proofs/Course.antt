@@ -16,6 +16,9 @@ use Rattle.model_bus.specs.Answered.{Answered}
 use Rattle.model_bus.specs.Bytes.{is_busy_code}
 use Rattle.undo_look.specs.declared.stage.Stage.{Stage}
 use Rattle.undo_look.specs.declared.stage.Stage.TheVariants.{AtStart, Opened, Found, Refused}
+use Rattle.undo_look.specs.declared.target.Target.{Target}
+use Rattle.undo_look.specs.declared.target.Target.TheVariants.{Record, Table}
+use Rattle.undo_look.specs.Targets.{first_asked}
 use Rattle.undo_look.specs.Requests.{bus_of, next_behind}
 use Rattle.undo_look.specs.Replies.{ended_with, joined_with, shown_with, stage_with}
 use Rattle.undo_look.specs.Looks.{LookState, StepResult, again_at, asks, begin_at, enters, goes_on, quiet_at, rests, sends_again, takes_at}
@@ -41,12 +44,12 @@ none_either true = refl
 none_either false = refl
 
 -- the request behind them
-next_is : (of : Key) (before : List (List ℕ)) (body : List ℕ) → next_after (Reads of) (before ++ body ∷ []) ≡ next_behind of (length before + 1) body
+next_is : (of : Key) (before : List (List ℕ)) (body : List ℕ) → next_after (Reads of) (before ++ body ∷ []) ≡ next_behind (Record of) (length before + 1) body
 next_is (key.BiosAttribute handle) before body =
     λ i. if part_goes_on (one_more before body i) (last_is before body i) then Some (get_part handle (part_length * one_more before body i)) else None
 next_is _ before body = sym (none_either (part_goes_on (length before + 1) body))
 
-behind : (of : Key) (before : List (List ℕ)) (body : List ℕ) (asked : Asked) → next_after (Reads of) (before ++ body ∷ []) ≡ Some asked → IsBehind of (before ++ body ∷ []) asked
+behind : (of : Key) (before : List (List ℕ)) (body : List ℕ) (asked : Asked) → next_after (Reads of) (before ++ body ∷ []) ≡ Some asked → IsBehind (Record of) (before ++ body ∷ []) asked
 behind of [] body asked is = is
 behind of (first ∷ before) body asked is = is
 
@@ -88,7 +91,7 @@ several _ first before body = refl
 
 -- the data once the last came
 all_shown : (of : Key) (shown : List ℕ) (before : List (List ℕ)) (body : List ℕ) → AreJoined shown before
-    → ended_with of (length before) shown body ≡ shown_by of (before ++ body ∷ [])
+    → ended_with (Record of) (length before) shown body ≡ shown_by of (before ++ body ∷ [])
 all_shown of shown [] body any = refl
 all_shown of shown (first ∷ before) body is =
     (λ i. if not_zero (length before) i then shown_by of (body ∷ []) else (if ends (length (first ∷ before) + 1) body then shown ++ entry_in body else []))
@@ -97,26 +100,37 @@ all_shown of shown (first ∷ before) body is =
 
 -- ---- a reply
 
--- the looker is where the replies with this one lead
-after_part : (of : Key) (shown : List ℕ) (before : List (List ℕ)) (body : List ℕ) (next : Option Asked) → next_behind of (length before + 1) body ≡ next → AreJoined shown before
-    → IsAfter (shown_with of (length before) shown body next) (before ++ body ∷ []) (stage_with of (length before) next)
-after_part of shown before body (Some asked) is so = (one_more before body, behind of before body asked (next_is of before body ∙ is), more_joined shown before body so)
-after_part of shown before body None is so = (next_is of before body ∙ is, all_shown of shown before body so)
+-- the record's Get is where the replies with this one lead
+after_get : (of : Key) (shown : List ℕ) (before : List (List ℕ)) (body : List ℕ) (next : Option Asked) → next_behind (Record of) (length before + 1) body ≡ next → AreJoined shown before
+    → IsAfter (shown_with (Record of) (length before) shown body next) (before ++ body ∷ []) (stage_with (Record of) (length before) next)
+after_get of shown before body (Some asked) is so = (one_more before body, behind of before body asked (next_is of before body ∙ is), more_joined shown before body so)
+after_get of shown before body None is so = (next_is of before body ∙ is, all_shown of shown before body so)
 
-after_told : (of : Key) (shown : List ℕ) (bodies : List (List ℕ)) (parts : ℕ) (answered : Answered) (done : Bool) → length bodies ≡ parts → AreJoined shown bodies
+-- and so is any look
+after_part : (of : Target) (asked : Asked) (shown : List ℕ) (before : List (List ℕ)) (body : List ℕ) (next : Option Asked) → IsBehind of before asked
+    → next_behind of (length before + 1) body ≡ next → AreJoined shown before
+    → IsAfter (shown_with of (length before) shown body next) (before ++ body ∷ []) (stage_with of (length before) next)
+after_part (Record of) asked shown before body next behind_is is so = after_get of shown before body next is so
+after_part (Table part) asked shown [] body (Some other) behind_is is so =
+    let both : None ≡ Some other = sym (none_either (part_goes_on 1 body)) ∙ is in cc both
+after_part (Table part) asked shown [] body None behind_is is so = refl
+after_part (Table part) asked shown (first ∷ before) body next behind_is is so = absurd behind_is
+
+after_told : (of : Target) (asked : Asked) (shown : List ℕ) (bodies : List (List ℕ)) (parts : ℕ) (answered : Answered) (done : Bool) → IsBehind of bodies asked → length bodies ≡ parts
+    → AreJoined shown bodies
     → IsAfter (if done then shown_with of parts shown answered.body (next_behind of (parts + 1) answered.body) else shown) (if done then bodies ++ answered.body ∷ [] else bodies)
     (if done then stage_with of parts (next_behind of (parts + 1) answered.body) else Refused of answered.code)
-after_told of shown bodies parts answered true many so =
+after_told of asked shown bodies parts answered true behind_is many so =
     subst (λ (n : ℕ). IsAfter (shown_with of n shown answered.body (next_behind of (n + 1) answered.body)) (bodies ++ answered.body ∷ []) (stage_with of n (next_behind of (n + 1) answered.body))) many
-    (after_part of shown bodies answered.body (next_behind of (length bodies + 1) answered.body) refl so)
-after_told of shown bodies parts answered false many so = tt
+    (after_part of asked shown bodies answered.body (next_behind of (length bodies + 1) answered.body) behind_is refl so)
+after_told of asked shown bodies parts answered false behind_is many so = tt
 
 module _ (s : LookState) (bodies : List (List ℕ)) (answered : Answered) where
-  taken : (of : Key) (parts : ℕ) (asked : Asked) (busy : Bool) → HasCome s bodies → IsAfter s.shown bodies (Opened true of parts asked)
+  taken : (of : Target) (parts : ℕ) (asked : Asked) (busy : Bool) → HasCome s bodies → IsAfter s.shown bodies (Opened true of parts asked)
       → HasCome (if busy then rests s else goes_on s of parts (bus_of asked) answered).state
       (if busy then bodies else (if answered.code == 0 then bodies ++ answered.body ∷ [] else bodies))
   taken of parts asked true came so = came
-  taken of parts asked false came so = after_told of s.shown bodies parts answered (answered.code == 0) so.0 so.2
+  taken of parts asked false came so = after_told of asked s.shown bodies parts answered (answered.code == 0) so.1 so.0 so.2
 
   takes_stage : (stage : Stage) → s.stage ≡ stage → HasCome s bodies → HasCome (takes_at s answered stage).state (bodies_with stage answered bodies)
   takes_stage AtStart is came = came
@@ -127,15 +141,19 @@ module _ (s : LookState) (bodies : List (List ℕ)) (answered : Answered) where
 
 -- ---- the calls
 
-begun : (s : LookState) (of : Key) (step : StepResult) (stage : Stage) → begin_at s of stage ≡ Some step → HasCome step.state []
+first_behind : (of : Target) → IsBehind of [] (first_asked of)
+first_behind (Record of) = refl
+first_behind (Table part) = refl
+
+begun : (s : LookState) (of : Target) (step : StepResult) (stage : Stage) → begin_at s of stage ≡ Some step → HasCome step.state []
 begun s of step (Opened true other parts asked) is = let both : None ≡ Some step = is in cc both
-begun s of step (Opened false other parts asked) is = subst (λ (x : StepResult). HasCome x.state []) (same_Some _ step is) (refl, refl, tt)
-begun s of step AtStart is = subst (λ (x : StepResult). HasCome x.state []) (same_Some _ step is) (refl, refl, tt)
-begun s of step (Found other) is = subst (λ (x : StepResult). HasCome x.state []) (same_Some _ step is) (refl, refl, tt)
-begun s of step (Refused other code) is = subst (λ (x : StepResult). HasCome x.state []) (same_Some _ step is) (refl, refl, tt)
+begun s of step (Opened false other parts asked) is = subst (λ (x : StepResult). HasCome x.state []) (same_Some _ step is) (refl, first_behind of, tt)
+begun s of step AtStart is = subst (λ (x : StepResult). HasCome x.state []) (same_Some _ step is) (refl, first_behind of, tt)
+begun s of step (Found other) is = subst (λ (x : StepResult). HasCome x.state []) (same_Some _ step is) (refl, first_behind of, tt)
+begun s of step (Refused other code) is = subst (λ (x : StepResult). HasCome x.state []) (same_Some _ step is) (refl, first_behind of, tt)
 
 module _ (s : LookState) (bodies : List (List ℕ)) (step : StepResult) where
-  sent_again : (of : Key) (parts : ℕ) (asked : Asked) (less : Bool) → HasCome s bodies → IsAfter s.shown bodies (Opened true of parts asked)
+  sent_again : (of : Target) (parts : ℕ) (asked : Asked) (less : Bool) → HasCome s bodies → IsAfter s.shown bodies (Opened true of parts asked)
       → HasCome (if less then asks (record s { resent = s.resent + 1 }) else rests (record s { stage = Opened false of parts asked })).state bodies
   sent_again of parts asked true came so = came
   sent_again of parts asked false came so = so

@@ -1,3 +1,4 @@
+pub mod Targets
 pub mod Requests
 pub mod Replies
 pub mod OpenGet

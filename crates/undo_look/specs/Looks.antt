@@ -9,9 +9,7 @@ use Rattle.mctp_net.specs.declared.message.Message.{Message}
 use Rattle.mctp_net.specs.Grammar.{IsPacket}
 use Rattle.mctp_net.specs.Assembly.{Assemblies, MakesWhole, after as joined_after, nothing}
 use Rattle.mctp_net.specs.Places.{seen}
-use Rattle.record_base.specs.declared.key.Key.{Key}
 use Rattle.record_base.specs.declared.message.Asked.{Asked}
-use Rattle.record_kinds.specs.Limits.{get_asked}
 use Rattle.undo_plans.specs.declared.names.Names.{Names}
 use Rattle.undo_plans.specs.declared.undo_list.NextNumbers.{NextNumbers}
 use Rattle.model_bus.specs.Answered.{Answered}
@@ -23,6 +21,8 @@ use Rattle.undo_look.specs.declared.looker.Seen.TheVariants as seen_as
 use Rattle.undo_look.specs.declared.looker.WrongPhase.{WrongPhase}
 use Rattle.undo_look.specs.declared.stage.Stage.{Stage}
 use Rattle.undo_look.specs.declared.stage.Stage.TheVariants.{AtStart, Opened, Found, Refused}
+use Rattle.undo_look.specs.declared.target.Target.{Target}
+use Rattle.undo_look.specs.Targets.{first_asked}
 use Rattle.undo_look.specs.Requests.{IsLookFrame, bus_of, get_at, is_answer_to, is_from_controller, is_part, numbers_after, reply_of}
 use Rattle.undo_look.specs.Replies.{shown_behind, stage_behind}
 
@@ -37,7 +37,7 @@ pub record LookState : Type 0 where
   pub resent : ℕ
   -- the packets that wait
   pub joined : Assemblies
-  -- the data that the replies to the Get show so far
+  -- the data that the replies show so far
   pub shown : List ℕ
 
 abbrev pub state_of : Looker → LookState
@@ -59,29 +59,29 @@ opened_at names next retries = record { names = names; retries = retries; next =
 
 -- a request is open, also one that isn't heeded
 abbrev pub is_open : Stage → Bool
-is_open (Opened heeded key parts asked) = true
+is_open (Opened heeded target parts asked) = true
 is_open _ = false
 
 abbrev pub open_on : Stage → Option Bus
-open_on (Opened heeded key parts asked) = Some (bus_of asked)
+open_on (Opened heeded target parts asked) = Some (bus_of asked)
 open_on _ = None
 
 -- the open request, where it is heeded
 abbrev pub heeded_in : Stage → Option Asked
-heeded_in (Opened true key parts asked) = Some asked
+heeded_in (Opened true target parts asked) = Some asked
 heeded_in _ = None
 
 -- an answer is awaited on this bus
 abbrev pub awaited_on : Stage → Option Bus
-awaited_on (Opened true key parts asked) = Some (bus_of asked)
+awaited_on (Opened true target parts asked) = Some (bus_of asked)
 awaited_on _ = None
 
 -- what the last look came to, unless its request is open
 abbrev pub IsSeen : Stage → (shown : List ℕ) → Option Seen → Type 0
-IsSeen (Found key) shown (Some (seen_as.Shown bytes)) = bytes.now ≡ shown
-IsSeen (Refused key code) shown (Some (seen_as.Refused told)) = told ≡ code
+IsSeen (Found target) shown (Some (seen_as.Shown bytes)) = bytes.now ≡ shown
+IsSeen (Refused target code) shown (Some (seen_as.Refused told)) = told ≡ code
 IsSeen AtStart shown None = Unit {0}
-IsSeen (Opened heeded key parts asked) shown None = Unit {0}
+IsSeen (Opened heeded target parts asked) shown None = Unit {0}
 IsSeen _ shown _ = ⊥
 
 -- ---- what a call does
@@ -103,9 +103,9 @@ asks s = record { state = s; sends = true }
 abbrev pub enters : LookState → Stage → StepResult
 enters s stage = record { state = record s { stage = stage; resent = 0 }; sends = is_open stage }
 
--- the frame is that of the open request, which is one of its record's Get
+-- the frame is that of the open request, which is one of its look
 abbrev pub IsOpenFrame : Names → NextNumbers → Stage → (frame : List ℕ) → Type 0
-IsOpenFrame names next (Opened heeded key parts asked) frame = (get_at key parts ≡ Some asked) × IsLookFrame names next asked frame
+IsOpenFrame names next (Opened heeded target parts asked) frame = (get_at target parts ≡ Some asked) × IsLookFrame names next asked frame
 IsOpenFrame names next _ frame = ⊥
 
 -- it sends that frame, or nothing
@@ -131,38 +131,38 @@ abbrev pub skipped : NextNumbers → Option Bus → NextNumbers
 skipped next None = next
 skipped next (Some bus) = numbers_after next bus
 
--- the record's Get is begun, unless an answer is awaited
-abbrev pub begin_at : LookState → Key → Stage → Option StepResult
-begin_at s key (Opened true other parts asked) = None
-begin_at s key stage =
-    Some (enters (record s { next = skipped s.next (open_on stage); joined = nothing; shown = [] }) (Opened true key 0 (get_asked key)))
+-- the first request is sent, unless an answer is awaited
+abbrev pub begin_at : LookState → Target → Stage → Option StepResult
+begin_at s target (Opened true other parts asked) = None
+begin_at s target stage =
+    Some (enters (record s { next = skipped s.next (open_on stage); joined = nothing; shown = [] }) (Opened true target 0 (first_asked target)))
 
 -- no answer came: the request is sent again, or isn't heeded where that was done as often as it may be
-abbrev pub sends_again : LookState → Key → (parts : ℕ) → Asked → StepResult
-sends_again s key parts asked =
+abbrev pub sends_again : LookState → Target → (parts : ℕ) → Asked → StepResult
+sends_again s target parts asked =
     if nat_lt s.resent s.retries
     then asks (record s { resent = s.resent + 1 })
-    else rests (record s { stage = Opened false key parts asked })
+    else rests (record s { stage = Opened false target parts asked })
 
 abbrev pub quiet_at : LookState → Stage → Option StepResult
-quiet_at s (Opened true key parts asked) = Some (sends_again s key parts asked)
+quiet_at s (Opened true target parts asked) = Some (sends_again s target parts asked)
 quiet_at s _ = None
 
 -- the request that wasn't heeded is heeded again, and sent
 abbrev pub again_at : LookState → Stage → Option StepResult
-again_at s (Opened false key parts asked) = Some (enters s (Opened true key parts asked))
+again_at s (Opened false target parts asked) = Some (enters s (Opened true target parts asked))
 again_at s _ = None
 
 -- ---- what a reply to the open request does
 
 -- the reply is taken, and its number is over
-abbrev pub goes_on : LookState → Key → (parts : ℕ) → Bus → Answered → StepResult
-goes_on s key parts bus answered =
-    enters (record s { next = numbers_after s.next bus; shown = shown_behind key parts s.shown answered }) (stage_behind key parts answered)
+abbrev pub goes_on : LookState → Target → (parts : ℕ) → Bus → Answered → StepResult
+goes_on s target parts bus answered =
+    enters (record s { next = numbers_after s.next bus; shown = shown_behind target parts s.shown answered }) (stage_behind target parts answered)
 
 -- the codes of a busy controller count as no reply
 abbrev pub takes_at : LookState → Answered → Stage → StepResult
-takes_at s answered (Opened true key parts asked) = if is_busy_code answered.code then rests s else goes_on s key parts (bus_of asked) answered
+takes_at s answered (Opened true target parts asked) = if is_busy_code answered.code then rests s else goes_on s target parts (bus_of asked) answered
 takes_at s answered _ = rests s
 
 -- ---- what is heard

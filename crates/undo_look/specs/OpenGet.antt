@@ -7,21 +7,21 @@ use Rattle.undo_look.specs.Requests.{get_at}
 use Rattle.undo_look.specs.declared.stage.Stage.{Stage}
 use Rattle.undo_look.specs.declared.stage.Stage.TheVariants.{AtStart, Opened, Found, Refused}
 
--- the open request is the one of its place among those of its record's Get
+-- the open request is the one of its place among those of its look
 abbrev pub IsOpenGet : Stage → Type 0
-IsOpenGet (Opened heeded key parts asked) = get_at key parts ≡ Some asked
+IsOpenGet (Opened heeded target parts asked) = get_at target parts ≡ Some asked
 IsOpenGet _ = Unit {0}
 
 -- that holds in one way at most
 pub IsOpenGet-prop : (stage : Stage) → IsProp (IsOpenGet stage)
 IsOpenGet-prop AtStart = hlevel props
-IsOpenGet-prop (Opened heeded key parts asked) = hlevel props
-IsOpenGet-prop (Found key) = hlevel props
-IsOpenGet-prop (Refused key code) = hlevel props
+IsOpenGet-prop (Opened heeded target parts asked) = hlevel props
+IsOpenGet-prop (Found target) = hlevel props
+IsOpenGet-prop (Refused target code) = hlevel props
 
--- how many replies came to the open Get
+-- how many replies came to the open look
 abbrev pub parts_at : Stage → ℕ
-parts_at (Opened heeded key parts asked) = parts
+parts_at (Opened heeded target parts asked) = parts
 parts_at _ = 0
 
 -- how many bytes the data of so many replies have at most

@@ -13,34 +13,33 @@ use Rattle.pldm_base.specs.Parts.{part_length}
 use Rattle.pldm_base.specs.declared.message.Header.{Header}
 use Rattle.pldm_base.specs.declared.message.PldmReply.{PldmReply}
 use Rattle.pldm_base.specs.Message.{reply_in}
-use Rattle.record_base.specs.declared.key.Key.{Key}
 use Rattle.record_base.specs.declared.message.Asked.{Asked}
 use Rattle.record_base.specs.declared.message.Asked.TheVariants.{Ipmi, Pldm}
-use Rattle.record_kinds.specs.Limits.{get_asked}
-use Rattle.record_kinds.specs.Series.{get_next}
 use Rattle.bios_attr.specs.EntryParts.{goes_on}
 use Rattle.undo_plans.specs.declared.names.Names.{Names}
 use Rattle.undo_plans.specs.declared.undo_list.NextNumbers.{NextNumbers}
 use Rattle.model_bus.specs.Answered.{Answered}
 use Rattle.model_bus.specs.Bytes.{pldm_message_type, pldm_request}
+use Rattle.undo_look.specs.declared.target.Target.{Target}
+use Rattle.undo_look.specs.Targets.{first_asked, next_at}
 
 -- ---- the requests
 
--- the request of this place, counted from 0, among those of a record's Get: the first asks for the record, and each behind it for a part
-abbrev pub get_at : Key → (part : ℕ) → Option Asked
-get_at key zero = Some (get_asked key)
-get_at key (suc part) = get_next key (part_length * suc part)
+-- the request of this place, counted from 0, among those of a look: the first asks for what is looked at, and each behind it for a part
+abbrev pub get_at : Target → (part : ℕ) → Option Asked
+get_at target zero = Some (first_asked target)
+get_at target (suc part) = next_at target (part_length * suc part)
 
--- the request for the next part of a record, behind so many replies to its Get of which this is the last
-abbrev pub next_behind : Key → (count : ℕ) → List ℕ → Option Asked
-next_behind key count body = if goes_on count body then get_next key (part_length * count) else None
+-- the request for the next part, behind so many replies of which this is the last
+abbrev pub next_behind : Target → (count : ℕ) → List ℕ → Option Asked
+next_behind target count body = if goes_on count body then next_at target (part_length * count) else None
 
 -- the bus on which a request goes
 abbrev pub bus_of : Asked → Bus
 bus_of (Ipmi from net_fn lun command body) = Ipmb
 bus_of (Pldm from kind command body) = Smbus
 
--- how many data a Get over PLDM has at most: a transfer handle, a flag and an attribute's handle (DSP0247)
+-- how many data a request over PLDM has at most: a transfer handle, a flag and an attribute's handle (DSP0247)
 abbrev pub most_get_data : ℕ
 most_get_data = 7
 

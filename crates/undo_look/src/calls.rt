@@ -4,16 +4,15 @@ ghost use Rattle.undo_look.specs.Looks.{IsCalled, again_at, begin_at, quiet_at, 
 use crate::looker::{Looker, WrongPhase};
 use crate::requests::numbers_after;
 use crate::stage::Stage;
-use record_base::{Key, RecordKind};
-use record_kinds::Limits;
+use crate::target::Target;
 use two_wire::Frame;
 
 impl Looker {
-    /// Begins the Get of this record, behind a look that came to its end, or whose open request isn't heeded: that is given up, and its
-    /// number isn't used again.
-    pub fn begin(&mut self, key: &Key) -> Result<Option<Frame>, WrongPhase>
+    /// Begins a look at this, behind a look that came to its end, or whose open request isn't heeded: that is given up, and its number
+    /// isn't used again.
+    pub fn begin(&mut self, target: &Target) -> Result<Option<Frame>, WrongPhase>
         ensures { IsCalled self.old self.new result
-            (begin_at (state_of self.old) key.now self.old.stage) }
+            (begin_at (state_of self.old) target.now self.old.stage) }
     {
         if self.awaits().is_some() {
             return Err(WrongPhase);
@@ -25,9 +24,9 @@ impl Looker {
         self.shown.clear();
         self.stage = Stage::Opened {
             heeded: true,
-            key: *key,
+            target: *target,
             parts: 0,
-            asked: Limits::get_asked(key),
+            asked: target.first_asked(),
         };
         self.resent = 0;
         Ok(self.open_frame())

@@ -1,4 +1,4 @@
-//! The data that the replies to a Get show so far.
+//! The data that the replies of a look show so far.
 ghost use Rattle.std.specs.Prelude.{◌≡◌, ◌+◌, ◌*◌, ◌≤◌, ◌<◌, ◌++◌, [], length, IfOk};
 ghost use Rattle.pldm_base.specs.Parts.{part_length};
 ghost use Rattle.bios_attr.specs.EntryParts.{before_part, most_entry, entry_in};
@@ -6,17 +6,16 @@ ghost use Rattle.undo_plans.specs.Fitting.{most_requests};
 ghost use Rattle.undo_look.specs.Replies.{ended_with, joined_with};
 ghost use Rattle.undo_look.specs.OpenGet.{most_joined};
 
+use crate::target::Target;
 use bios_attr::bios_attribute::START_AND_END;
 use bios_attr::entry_parts::{BEFORE_PART, MOST_ENTRY, ends, entry_in};
-use record_base::Key;
 use std::alloc::{AllocError, Global};
 use std::marker::Model;
-use undo_plans::shown_alone;
 
-/// How many bytes the data have that show the longest entry. Any other Get shows fewer.
+/// How many bytes the data have that show the longest entry. Any other look shows fewer.
 const MOST_SHOWN: usize = BEFORE_PART + MOST_ENTRY;
 
-/// The data that the replies to a Get show so far. Their memory is taken once.
+/// The data that the replies of a look show so far. Their memory is taken once.
 pub struct ShownData {
     bytes: Vec<u8>,
 }
@@ -96,15 +95,15 @@ impl ShownData {
         self.add(body);
     }
 
-    /// Takes the last reply to the record's Get, which came after so many others. Where it doesn't show the last part, there are no data.
-    pub(crate) fn end(&mut self, key: &Key, parts: u8, body: &[u8])
+    /// Takes the last reply of the look, which came after so many others. Where it doesn't show the last part, there are no data.
+    pub(crate) fn end(&mut self, target: &Target, parts: u8, body: &[u8])
         requires most { parts < most_requests }
         requires few { length self.old ≤ most_joined parts }
         requires short { length body.now ≤ before_part + most_entry }
-        ensures { self.new ≡ ended_with key.now parts self.old body.now }
+        ensures { self.new ≡ ended_with target.now parts self.old body.now }
     {
         if parts == 0 {
-            self.set(shown_alone(key, body));
+            self.set(target.shown_alone(body));
         } else if ends(parts + 1, body) {
             self.add(body);
         } else {

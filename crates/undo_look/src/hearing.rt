@@ -27,7 +27,7 @@ pub(crate) struct Reply<'a> {
 }
 
 impl Looker {
-    /// Hears the bytes of a frame. Where they answer the open request, the next of the Get is begun, or the look came to its end.
+    /// Hears the bytes of a frame. Where they answer the open request, the next is sent, or the look came to its end.
     pub fn on_frame(&mut self, bus: Bus, bytes: &[u8]) -> Option<Frame>
         ensures { HearsFrame bus bytes.now self.old self.new result }
     {
@@ -103,16 +103,16 @@ impl Looker {
         }
         let Stage::Opened {
             heeded: true,
-            key,
+            target,
             parts,
             asked,
         } = &self.stage
         else {
             return None;
         };
-        let (key, parts) = (*key, *parts);
+        let (target, parts) = (*target, *parts);
         let next = numbers_after(self.next, bus_of(asked));
-        self.stage = stage_behind(&mut self.shown, &key, parts, reply);
+        self.stage = stage_behind(&mut self.shown, &target, parts, reply);
         self.next = next;
         self.resent = 0;
         self.open_frame()

@@ -1,4 +1,5 @@
-//! A look at a controller's records, one after another: the requests of each record's Get, sent until they are answered, and nothing else.
+//! A look at a controller's records and at parts of its own tables, one after another: the requests of each record's Get, and those for the
+//! parts, sent until they are answered, and nothing else.
 #![tactic(auto)]
 
 mod calls;
@@ -10,6 +11,8 @@ mod replies;
 mod requests;
 mod showing;
 mod stage;
+mod target;
 
 pub use looker::{Looker, Seen, WrongPhase};
 pub use stage::Stage;
+pub use target::{TablePart, Target};

@@ -16,14 +16,14 @@ pub struct WrongPhase;
 /// What a look came to.
 #[derive(Clone, Copy)]
 pub enum Seen<'a> {
-    /// These data are what the replies to the Get show.
+    /// These data are what the replies show.
     Shown(&'a [u8]),
-    /// The Get was refused with this code.
+    /// A request was refused with this code.
     Refused(Code),
 }
 
-/// What looks at the records of one controller, one after another. Its requests are those of Gets, each under the next number of its bus,
-/// and one is open at a time. All its memory is taken when it is made.
+/// What looks at the records of one controller and at parts of its tables, one after another. Its requests are those of Gets and for the
+/// parts, each under the next number of its bus, and one is open at a time. All its memory is taken when it is made.
 pub struct Looker {
     pub(crate) names: Names,
     pub(crate) retries: Retries,

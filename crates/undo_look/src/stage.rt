@@ -4,7 +4,8 @@ ghost use Rattle.std.specs.Option.{option_map};
 ghost use Rattle.undo_look.specs.Looks.{awaited_on, heeded_in, open_on};
 
 use crate::requests::bus_of;
-use record_base::{Asked, Key};
+use crate::target::Target;
+use record_base::Asked;
 use two_wire::{Bus, Code};
 
 /// How far a looker is.
@@ -12,17 +13,17 @@ use two_wire::{Bus, Code};
 pub enum Stage {
     /// Nothing was sent.
     AtStart,
-    /// A request of this record's Get is open, behind so many that were answered. Where it isn't heeded, no reply to it is taken.
+    /// A request for this is open, behind so many that were answered. Where it isn't heeded, no reply to it is taken.
     Opened {
         heeded: bool,
-        key: Key,
+        target: Target,
         parts: u8,
         asked: Asked,
     },
-    /// The Get of this record was answered.
-    Found(Key),
-    /// The Get of this record was refused.
-    Refused(Key, Code),
+    /// The requests for this were answered.
+    Found(Target),
+    /// A request for this was refused.
+    Refused(Target, Code),
 }
 
 impl Stage {

@@ -1,10 +1,11 @@
 //! A looker against the frames of a controller.
 use super::scene::names;
+use bios_attr::BiosTable;
 use record_base::Key;
 use std::alloc::Global;
 use std::process::Abort;
 use two_wire::{Below, Bus, Frame};
-use undo_look::{Looker, Seen, WrongPhase};
+use undo_look::{Looker, Seen, TablePart, Target, WrongPhase};
 use undo_plans::NextNumbers;
 
 /// Get Sensor Thresholds of sensor 5, under sequence number 0.
@@ -63,6 +64,38 @@ const SECOND_REPLY: [&str; 4] = [
 const THIRD_REPLY: [&str; 1] = [
     "2C0F2421010B0AC20102030800000000000461616161616161616161616161616161616161616173",
 ];
+
+/// Reserve SDR Repository under sequence number 0, and its reply: the reservation 0001h.
+const RESERVE: [u8; 7] = [0x20, 0x28, 0xB8, 0x2C, 0x00, 0x22, 0xB2];
+
+const RESERVED: [u8; 10] = [0x2C, 0x2C, 0xA8, 0x20, 0x00, 0x22, 0x00, 0x01, 0x00, 0xBD];
+
+/// Get SDR under sequence number 1, for eight bytes of the first record. Its replies: they, behind the id 0002h of the record that follows; and
+/// that the reservation was canceled.
+const GET_RECORD: [u8; 13] = [
+    0x20, 0x28, 0xB8, 0x2C, 0x04, 0x23, 0x01, 0x00, 0x00, 0x00, 0x00, 0x08, 0xA4,
+];
+
+const RECORD_SHOWN: [u8; 18] = [
+    0x2C, 0x2C, 0xA8, 0x20, 0x04, 0x23, 0x00, 0x02, 0x00, 0x01, 0x00, 0x51, 0x01, 0x2C, 0x20, 0x00,
+    0x05, 0x13,
+];
+
+const CANCELED: [u8; 8] = [0x2C, 0x2C, 0xA8, 0x20, 0x04, 0x23, 0xC5, 0xF4];
+
+/// GetBIOSTable of the table of attributes, under instance 0, and for the part behind 192 bytes, under instance 1.
+const FIRST_OF_TABLE: [u8; 19] = [
+    0x20, 0x0F, 0x0F, 0x2D, 0x01, 0x0A, 0x0B, 0xC8, 0x01, 0x80, 0x03, 0x01, 0x00, 0x00, 0x00, 0x00,
+    0x01, 0x01, 0x52,
+];
+
+const NEXT_OF_TABLE: [u8; 19] = [
+    0x20, 0x0F, 0x0F, 0x2D, 0x01, 0x0A, 0x0B, 0xC9, 0x01, 0x81, 0x03, 0x01, 0xC0, 0x00, 0x00, 0x00,
+    0x00, 0x01, 0xBB,
+];
+
+/// The packet of a reply to the first: a part of eight bytes, the last.
+const TABLE_REPLY: [&str; 1] = ["2C0F1721010B0AC00100030100000000000509000203004142438F"];
 
 /// What an attribute's entry has before its text: the attribute, the type of a string, and its length, 400.
 const ENTRY_HEAD: [u8; 5] = [0x01, 0x00, 0x01, 0x90, 0x01];
@@ -127,10 +160,13 @@ fn thresholds_are_looked_at(rt: HostRuntime) {
     let mut look = looker(&rt, rt.alloc());
     expect(&rt, look.open_bus().is_none());
     expect(&rt, look.seen().is_none());
-    let asked = look.begin(&Key::Thresholds(5));
+    let asked = look.begin(&Target::Record(Key::Thresholds(5)));
     expect(&rt, is_sent(asked, THRESHOLDS.as_slice()));
     expect(&rt, look.awaits() == Some(Bus::Ipmb));
-    expect(&rt, look.begin(&Key::Hysteresis(5)).is_err());
+    expect(
+        &rt,
+        look.begin(&Target::Record(Key::Hysteresis(5))).is_err(),
+    );
     expect(&rt, look.on_frame(Bus::Ipmb, &BUSY).is_none());
     expect(&rt, look.on_frame(Bus::Ipmb, &OTHER_NUMBER).is_none());
     expect(&rt, look.on_frame(Bus::Smbus, &THRESHOLDS_SHOWN).is_none());
@@ -149,7 +185,7 @@ fn thresholds_are_looked_at(rt: HostRuntime) {
 fn silent_record_is_given_up(rt: HostRuntime) {
     let mut look = looker(&rt, rt.alloc());
     expect(&rt, look.quiet().is_err());
-    expect(&rt, look.begin(&Key::Thresholds(5)).is_ok());
+    expect(&rt, look.begin(&Target::Record(Key::Thresholds(5))).is_ok());
     expect(&rt, look.again().is_err());
     expect(&rt, is_sent(look.quiet(), THRESHOLDS.as_slice()));
     expect(&rt, matches!(look.quiet(), Ok(None)));
@@ -159,7 +195,7 @@ fn silent_record_is_given_up(rt: HostRuntime) {
     expect(&rt, is_sent(look.again(), THRESHOLDS.as_slice()));
     expect(&rt, is_sent(look.quiet(), THRESHOLDS.as_slice()));
     expect(&rt, matches!(look.quiet(), Ok(None)));
-    let asked = look.begin(&Key::Hysteresis(5));
+    let asked = look.begin(&Target::Record(Key::Hysteresis(5)));
     expect(&rt, is_sent(asked, HYSTERESIS.as_slice()));
 }
 
@@ -167,11 +203,11 @@ fn silent_record_is_given_up(rt: HostRuntime) {
 #[test]
 fn refusal_is_told(rt: HostRuntime) {
     let mut look = looker(&rt, rt.alloc());
-    expect(&rt, look.begin(&Key::Thresholds(5)).is_ok());
+    expect(&rt, look.begin(&Target::Record(Key::Thresholds(5))).is_ok());
     expect(&rt, look.on_frame(Bus::Ipmb, &THRESHOLDS_SHOWN).is_none());
-    expect(&rt, look.begin(&Key::Thresholds(5)).is_ok());
+    expect(&rt, look.begin(&Target::Record(Key::Thresholds(5))).is_ok());
     expect(&rt, look.on_frame(Bus::Ipmb, &OTHER_NUMBER).is_none());
-    let asked = look.begin(&Key::Hysteresis(5));
+    let asked = look.begin(&Target::Record(Key::Hysteresis(5)));
     expect(&rt, is_sent(asked, HYSTERESIS_AGAIN.as_slice()));
     expect(&rt, look.on_frame(Bus::Ipmb, &HYSTERESIS_REFUSED).is_none());
     expect(&rt, is_refused(&look, 0xCB));
@@ -193,7 +229,7 @@ fn heard(rt: &impl Abort, alloc: Global, look: &mut Looker, packets: &[&str]) ->
 fn long_entry_is_looked_at_in_parts(rt: HostRuntime) {
     let alloc = rt.alloc();
     let mut look = looker(&rt, alloc);
-    let asked = look.begin(&Key::BiosAttribute(1));
+    let asked = look.begin(&Target::Record(Key::BiosAttribute(1)));
     expect(&rt, is_sent(asked, ATTRIBUTE.as_slice()));
     expect(&rt, look.open_bus() == Some(Bus::Smbus));
     let second = heard(&rt, alloc, &mut look, &FIRST_REPLY);
@@ -205,4 +241,77 @@ fn long_entry_is_looked_at_in_parts(rt: HostRuntime) {
     whole[4] = 0x05;
     whole[5..].copy_from_slice(&entry());
     expect(&rt, is_shown(&look, &whole));
+}
+
+/// The repository of sensor data records is reserved, and a part of a record is asked for under that: a look shows what the reply has, and tells
+/// a reservation that was canceled.
+#[test]
+fn part_of_a_sensor_data_record_is_asked_for(rt: HostRuntime) {
+    let mut look = looker(&rt, rt.alloc());
+    let asked = look.begin(&Target::Table(TablePart::Reservation));
+    expect(&rt, is_sent(asked, RESERVE.as_slice()));
+    expect(&rt, look.awaits() == Some(Bus::Ipmb));
+    expect(&rt, look.on_frame(Bus::Ipmb, &RESERVED).is_none());
+    expect(&rt, is_shown(&look, &[0x01, 0x00]));
+    let part = TablePart::SensorRecord {
+        reservation: 1,
+        id: 0,
+        offset: 0,
+        count: 8,
+    };
+    let asked = look.begin(&Target::Table(part));
+    expect(&rt, is_sent(asked, GET_RECORD.as_slice()));
+    expect(&rt, look.on_frame(Bus::Ipmb, &RECORD_SHOWN).is_none());
+    expect(
+        &rt,
+        is_shown(
+            &look,
+            &[0x02, 0x00, 0x01, 0x00, 0x51, 0x01, 0x2C, 0x20, 0x00, 0x05],
+        ),
+    );
+}
+
+/// That a reservation was canceled is told by its code.
+#[test]
+fn canceled_reservation_is_told(rt: HostRuntime) {
+    let mut look = looker(&rt, rt.alloc());
+    expect(
+        &rt,
+        look.begin(&Target::Table(TablePart::Reservation)).is_ok(),
+    );
+    expect(&rt, look.on_frame(Bus::Ipmb, &RESERVED).is_none());
+    let part = TablePart::SensorRecord {
+        reservation: 1,
+        id: 0,
+        offset: 0,
+        count: 8,
+    };
+    expect(&rt, look.begin(&Target::Table(part)).is_ok());
+    expect(&rt, look.on_frame(Bus::Ipmb, &CANCELED).is_none());
+    expect(&rt, is_refused(&look, 0xC5));
+}
+
+/// The first part of a table of attributes is asked for by the handle 0, and a later one by its own. A look shows the whole of a reply's data.
+#[test]
+fn parts_of_a_table_are_asked_for(rt: HostRuntime) {
+    let alloc = rt.alloc();
+    let mut look = looker(&rt, alloc);
+    let first = TablePart::Bios {
+        table: BiosTable::Attributes,
+        transfer: 0,
+    };
+    let asked = look.begin(&Target::Table(first));
+    expect(&rt, is_sent(asked, FIRST_OF_TABLE.as_slice()));
+    expect(&rt, look.open_bus() == Some(Bus::Smbus));
+    expect(&rt, heard(&rt, alloc, &mut look, &TABLE_REPLY).is_none());
+    expect(
+        &rt,
+        is_shown(&look, &[0, 0, 0, 0, 0x05, 9, 0, 2, 3, 0, 0x41, 0x42, 0x43]),
+    );
+    let later = TablePart::Bios {
+        table: BiosTable::Attributes,
+        transfer: 192,
+    };
+    let asked = look.begin(&Target::Table(later));
+    expect(&rt, is_sent(asked, NEXT_OF_TABLE.as_slice()));
 }

@@ -1,7 +1,7 @@
 //! Strings that are set in parts, over PLDM.
 use super::attribute::asset;
 use super::{expect, expect_bytes, expect_equal, expect_told};
-use attribute_parts::{Entry, SetPart, Stagings, part_in};
+use board_records::{Entry, SetPart, Stagings, part_in};
 use record_base::TextLengths;
 use std::alloc::Global;
 use std::process::Abort;

@@ -1,7 +1,7 @@
 use Rattle.std.proofs.Common.{refl, subst}
 use Rattle.undo_plans.specs.declared.plan.Plan.{Plan}
 use Rattle.app_look.specs.declared.session.Way.{Way}
-use Rattle.app_keep.specs.Looks.{FailsFor, KeptByLook}
+use Rattle.app_change.specs.KeepLook.{FailsFor, KeptByLook}
 use Rattle.app_change.specs.Looks.{way_of}
 use Rattle.app_change.proofs.Kept.{keeps_changes}
 use Rattle.app_change.proofs.changing.keep_changes.Goals as goal

@@ -2,7 +2,7 @@ use Rattle.std.proofs.Common.{◌≡◌, ◌+◌, ◌<◌, ◌++◌, ◌==◌, �
 use Rattle.std.proofs.lemmas.Bool.{eqb-true}
 use Rattle.std.proofs.lemmas.List.{length-append}
 use Rattle.record_base.specs.declared.message.Asked.{Asked}
-use Rattle.undo_version.specs.Versions.{head_length}
+use Rattle.text_undo.specs.Versions.{head_length}
 use Rattle.text_undo.specs.UndoText.{AreLinesOf}
 use Rattle.text_undo.proofs.UndoLists.{Begun, begun_more, begun_bad, no_request, past, not_empty}
 use Rattle.text_undo.proofs.text.read_requests.Goals as goal

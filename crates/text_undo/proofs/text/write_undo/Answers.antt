@@ -4,7 +4,7 @@ use Rattle.std.specs.Fmt.{decimal}
 use Rattle.std.proofs.lemmas.Grind.{flat_map-append}
 use Rattle.std.proofs.lemmas.List.{length-map, length-reverse}
 use Rattle.text_lines.specs.Cuts.{ended}
-use Rattle.undo_version.specs.Versions.{version_line}
+use Rattle.text_undo.specs.Versions.{version_line}
 use Rattle.text_undo.specs.UndoText.{version_of, numbers_line, names_lines, line_of, text_of}
 use Rattle.text_undo.proofs.text.write_undo.Goals as goal
 use Rattle.text_undo.proofs.text.write_undo.Goals.{In_ok-push_requests}

@@ -1,4 +1,0 @@
-pub mod Line
-pub mod Ids
-pub mod Asked
-pub mod Run

@@ -1,3 +1,0 @@
-pub mod OneMore
-pub mod KeptSteps
-pub mod Looked

@@ -1,6 +1,0 @@
-use Rattle.std.proofs.Common.{◌∙◌, length, ap}
-use Rattle.app_keep.proofs.Looked.{found_long}
-use Rattle.app_keep.proofs.looking.keep_by_look.Goals as goal
-
-pub kept_steps-requires : goal.kept_steps-requires
-kept_steps-requires g c = ap length c.as_slice.ensures.value ∙ found_long c.args.way.now c.args.steps.now c.in-Ok.found.items c.in-Ok.ensures.found

@@ -1,3 +1,0 @@
-pub mod Kept
-pub mod Runs
-pub mod Looks

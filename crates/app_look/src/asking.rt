@@ -1,0 +1,47 @@
+//! A request for a part of a table, and what it came to.
+ghost use Rattle.std.specs.Prelude.{◌≡◌, take};
+ghost use Rattle.look_links.specs.declared.driver.LookEnd.{LookEnd as AnyEnd};
+ghost use Rattle.app_look.specs.Looking.{AsksFor};
+ghost use Rattle.app_look.specs.Asking.{IsTold, most_reply};
+
+use crate::session::Session;
+use two_wire::{Bytes, Code};
+use undo_look::{Seen, TablePart};
+
+/// How many bytes of a reply are kept: no reply on IPMB has more.
+const MOST_REPLY: usize = 24;
+
+/// The data of a reply.
+pub(crate) type Reply = Bytes<{ MOST_REPLY }>;
+
+/// What a request came to.
+#[derive(Drop)]
+pub(crate) enum Told {
+    /// The reply has these data.
+    Shown(Reply),
+    /// It was refused with this code.
+    Refused(Code),
+    /// It wasn't answered.
+    Silent,
+}
+
+/// The first bytes of a reply's data.
+fn beginning(bytes: &[u8]) -> Reply
+    ensures { result ≡ take most_reply bytes.now }
+{
+    let count = bytes.len().min(MOST_REPLY);
+    Reply::from_slice(&bytes[..count])
+}
+
+/// Asks for a part of a table.
+pub(crate) fn ask_once(session: &mut Session, part: &TablePart) -> Told
+    ensures asked { (end : AnyEnd) × AsksFor session.old part.now end session.new }
+    ensures told { IsTold session.new result }
+{
+    session.ask(part);
+    match session.seen() {
+        Some(Seen::Shown(bytes)) => Told::Shown(beginning(bytes)),
+        Some(Seen::Refused(code)) => Told::Refused(code),
+        None => Told::Silent,
+    }
+}

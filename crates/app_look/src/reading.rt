@@ -1,0 +1,52 @@
+//! The names of records, read behind a look at them.
+ghost use Rattle.std.specs.Prelude.{IfErr, IfOk};
+ghost use Rattle.app_look.specs.Findings.{FailsOver};
+ghost use Rattle.app_look.specs.Asking.{AsksTables};
+ghost use Rattle.app_look.specs.Reading.{FindsAndNames};
+
+use crate::attributes::read_attributes;
+use crate::names::Names;
+use crate::records::{Found, LookFault, Looked, look_and_stay};
+use crate::sensors::read_sensors;
+use crate::session::{Session, Way};
+use record_base::Key;
+use std::alloc::{AllocError, Global};
+use std::net::Net;
+
+/// What was found of records, and the names of their sensors and attributes.
+#[derive(Drop)]
+pub struct NamedRecords {
+    pub found: Vec<Found>,
+    pub names: Names,
+}
+
+/// Reads the names of the sensors and attributes of these records.
+pub fn read_names(alloc: Global, session: &mut Session, keys: &[Key]) -> Result<Names, AllocError>
+    ensures { AsksTables session.old session.new }
+{
+    let mut names = Names::wanted(alloc, keys)?;
+    read_sensors(session, &mut names);
+    read_attributes(alloc, session, &mut names)?;
+    Ok(names)
+}
+
+/// Greets a controller on the buses on which the Gets of these records go, looks at each of them, and reads the names of their sensors and
+/// attributes behind that. Where there are none, that is no fault.
+pub fn look_and_name<R: Net>(
+    rt: &R,
+    alloc: Global,
+    way: &Way,
+    keys: &[Key],
+) -> Result<NamedRecords, LookFault>
+    ensures found { IfOk result (λ named. FindsAndNames way.now keys.now named.found.items) }
+    ensures fault { IfErr result (FailsOver way.now keys.now) }
+{
+    let Looked { found, mut session } = look_and_stay(rt, alloc, way, keys)?;
+    match read_names(alloc, &mut session, keys) {
+        Ok(names) => Ok(NamedRecords { found, names }),
+        Err(AllocError) => Ok(NamedRecords {
+            found,
+            names: Names::new(alloc),
+        }),
+    }
+}

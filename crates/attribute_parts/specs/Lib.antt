@@ -1,4 +1,0 @@
-pub mod SetParts
-pub mod Entries
-pub mod Stagings
-pub mod StagingsLaws

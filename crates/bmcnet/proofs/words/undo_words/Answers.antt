@@ -1,0 +1,34 @@
+use Rattle.std.proofs.Common.{sym, string_bytes}
+use Rattle.app_base.proofs.Readings.{refuses_on}
+use Rattle.bmcnet.proofs.words.undo_words.Goals as goal
+
+pub returns-in_err-named-clause-refused : goal.returns-in_err-named-clause-refused
+returns-in_err-named-clause-refused c =
+    refuses_on _ _ _ _ c.from_residual.ensures.1 (λ asked asks. (string_bytes asked.undo, asks.undo)) c.in_err-named.ensures.refused
+
+pub returns-in_err-port-clause-refused : goal.returns-in_err-port-clause-refused
+returns-in_err-port-clause-refused c =
+    refuses_on _ _ _ _ c.from_residual-in_err-port.ensures.1 (λ asked asks. (asked.ipmb_port, asks.ipmb)) c.in_err-port.ensures.refused
+
+pub returns-in_err-port-2-clause-refused : goal.returns-in_err-port-2-clause-refused
+returns-in_err-port-2-clause-refused c =
+    refuses_on _ _ _ _ c.from_residual-in_err-port-2.ensures.1 (λ asked asks. (asked.smbus_port, asks.smbus)) c.in_err-port-2.ensures.refused
+
+pub returns-in_err-turns-clause-refused : goal.returns-in_err-turns-clause-refused
+returns-in_err-turns-clause-refused c =
+    refuses_on _ _ _ _ c.from_residual-in_err-turns.ensures.1 (λ asked asks. (asked.turns, asks.turns)) c.in_err-turns.ensures.refused
+
+pub returns-in_err-wait-clause-refused : goal.returns-in_err-wait-clause-refused
+returns-in_err-wait-clause-refused c =
+    refuses_on _ _ _ _ c.from_residual-in_err-wait.ensures.1 (λ asked asks. (asked.wait_ms, asks.wait)) c.in_err-wait.ensures.refused
+
+pub returns-clause-asked : goal.returns-clause-asked
+returns-clause-asked c = record {
+  undo = c.in_ok-named.ensures.word;
+  ipmb = c.in_ok-port.ensures.port;
+  smbus = c.in_ok-port-2.ensures.port;
+  turns = c.in_ok-turns.ensures.turns;
+  wait = c.in_ok-wait.ensures.wait;
+  greet = sym c.has_flag.ensures;
+  strict = sym c.has_flag-2.ensures;
+}

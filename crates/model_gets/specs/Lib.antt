@@ -1,0 +1,2 @@
+pub mod GreetingRequests
+pub mod LookRequests

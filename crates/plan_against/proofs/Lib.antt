@@ -1,4 +1,0 @@
-mod Parts
-mod Answering
-mod Turns
-mod FindingLines

@@ -1,3 +1,0 @@
-pub mod Answers
-pub mod Tries
-pub mod FindingWords
