@@ -56,7 +56,7 @@ class Edit:
 
 def module_of(file):
     path = file.removeprefix("src/").removesuffix(".rt").removesuffix("/mod")
-    return "" if path == "lib" else path.replace("/", "::")
+    return "" if path in ("lib", "main") else path.replace("/", "::")
 
 
 def text_of(path):
@@ -137,7 +137,8 @@ def words_for(top, name):
     if not all(is_fresh(f"{top}/crates/{it}", it) for it in below):
         return None
     of_kit = [it for it in kit_libraries(top, name) if it not in listed]
-    words = ["--crate-name", name, "src/lib.rt"]
+    root = "src/main.rt" if os.path.isfile(f"{top}/crates/{name}/src/main.rt") else "src/lib.rt"
+    words = ["--crate-name", name, root]
     for it in ["std", *of_kit]:
         words += ["--extern", f"{it}={KIT}/rlibs/{it}.rlib"]
     words += ["-L", f"dependency={KIT}/rlibs"]

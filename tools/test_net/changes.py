@@ -10,6 +10,7 @@ from .controllers import GET_THRESHOLDS, SET_THRESHOLDS, SOME_WAIT, Mute, Silent
 from .greetings import ATTRIBUTE, NOBODY, ON_IPMB, ON_SMBUS, POLICY, critical, critical_now, requests_at
 from .kills import Applied, moment
 from .plans import IPMB, text_of
+from .previews import ATTRIBUTE_NAMES
 from .servers import HOST, Asker, Server, expect
 
 # What sensor 5 of the sample board begins with, and what a plan gives it.
@@ -55,8 +56,8 @@ def applied_again(program, folder, board):
         expect("the new FILE", [name for name in os.listdir(folder) if name.startswith("fresh")], [])
         found = apply(program, server.ports, plan, "--only-changes", "--json")
         expect("its object", objects_of("a fourth, with --json", found, 0), [{"outcome": "nothing to change", "steps": 2}])
-        # The first greets twice, gets each record twice and sets it once, and each other greets once and gets each record once.
-        carried = 5 * (ON_IPMB + ON_SMBUS) + 2 * 3 + 3 * 2
+        # The first greets twice, gets each record twice and sets it once, and each other greets once and gets each record once; each reads two tables.
+        carried = 5 * (ON_IPMB + ON_SMBUS) + 2 * 3 + 3 * 2 + 4 * ATTRIBUTE_NAMES
         expect("serve", server.ended(), (0, f"served {carried}\nrecords changed 2\n", ""))
 
 

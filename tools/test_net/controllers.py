@@ -17,7 +17,7 @@ from .servers import Asker, Failed, Server, call, expect, number_of
 # What a link does to datagrams, of a hundred, and how many tries of a request meet with it: a revert sends a request four times at most.
 ON_THE_WAY = Troubles(lose=8, repeat=10, hold=10, most_tries=2)
 # How long one quiet turn lasts over such a link, in milliseconds, and how often a request has all its retries again.
-LINK_WAIT, AGAIN = 200, 2
+LINK_WAIT, AGAIN = 500, 2
 # The same where some replies don't come and others have to, however busy the machine is.
 SOME_WAIT = 300
 # How long a slow controller takes for a request, in seconds; a quiet turn of those who wait for it, and of those whose four tries end before.

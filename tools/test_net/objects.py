@@ -8,11 +8,14 @@ from .at_once import FEW_FILES, waiting
 from .controllers import GET_THRESHOLDS, SET_THRESHOLDS, SOME_WAIT, TWELVE, WATCHDOG, Mute, Silent
 from .greetings import ATTRIBUTE, NOBODY, POLICY, WINDOWS, critical, set_critical
 from .plans import IPMB, text_of
+from .previews import sensor_record
 from .servers import Asker, Server, call, expect
 
 DID_POLICY, DID_CRITICAL = "power restore policy: previous -> always on", "sensor 5 upper critical: 95 (5Fh) -> 90 (5Ah)"
 DID_HYSTERESIS = "sensor 5 positive-going hysteresis: 2 (02h) -> 4 (04h); negative-going hysteresis: 2 (02h) -> 4 (04h)"
 THRESHOLDS = "sensor 5 thresholds"
+# The option by which a plan is looked at first, and each step of these plans is kept.
+LOOKS = "--only-changes"
 
 
 def expect_object(what, found, status, **wanted):
@@ -78,6 +81,28 @@ def of_ends(program, folder, board):
         aside.apply("what is put aside", ipmb, 0, "--replace", outcome="done", stands=1, did=[DID_POLICY], aside=word, has_next=True, wait=LONG_WAIT)
         expect("what was put aside", servers.read(word), "no journal\n")
         aside.revert("its revert", ipmb, 0, "undone", 1, stands=0, looked=True, wait=LONG_WAIT)
+        expect("serve", server.ended()[1].split("\n")[1:], ["records same", ""])
+
+
+def of_names(program, folder, board):
+    """A plan halts behind a look at a sensor that a record of the board names: the object has that name, and so has the sentence. One that is done has none."""
+    records = [sensor_record(1, 0x01, 0x20, 5, 0xCA, b"CPU 1 temp")]
+    named = servers.write(f"{folder}/named.toml", servers.read(board).replace('sdr = ["010051C00100"]', "sdr = " + json.dumps(records)))
+    with Server(program, named, SERVED_TURNS) as server:
+        ipmb = server.ports[IPMB]
+        halted = Trial(program, folder, TWELVE, "halted")
+        stop = {"step": 3, "record": THRESHOLDS, "name": "CPU 1 temp", "why": "set refused", "code": 0xCC, "meaning": "invalid data field"}
+        two = [DID_POLICY, DID_HYSTERESIS]
+        halted.apply("a Set that is refused", ipmb, 10, LOOKS, outcome="halted", stands=2, did=two, stop=stop, has_next=True, wait=LONG_WAIT)
+        halted.revert("its revert", ipmb, 0, "undone", 2, stands=0, looked=True, wait=LONG_WAIT)
+        why = 'sensor 5 ("CPU 1 temp") thresholds refused (CCh, invalid data field): nothing of it was set'
+        said = f"halted at step 3 of 12: {why}; steps 1 and 2 stand: bmcnet revert {halted.file} {ipmb}"
+        status, out, err = apply(program, [ipmb], halted.plan, LOOKS)
+        expect("the sentence", (status, out, err.split("\n")[2:]), (10, "", [said, ""]))
+        halted.revert("the revert of that", ipmb, 0, "undone", 2, stands=0, looked=True, wait=LONG_WAIT)
+        done = Trial(program, folder, [critical(0x5A)], "done")
+        done.apply("a plan that is done", ipmb, 0, LOOKS, outcome="done", stands=1, did=[DID_CRITICAL], has_next=True, wait=LONG_WAIT)
+        done.revert("its revert", ipmb, 0, "undone", 1, stands=0, looked=True, wait=LONG_WAIT)
         expect("serve", server.ended()[1].split("\n")[1:], ["records same", ""])
 
 
@@ -185,6 +210,7 @@ def tests(board):
     """Returns the tests of this file: the name, the function and its words."""
     return [
         ("the objects of ends", of_ends, (board,)),
+        ("the object of a step that a record of the board names", of_names, (board,)),
         ("the objects of a Get without an answer", of_silence, (board, GET_THRESHOLDS, "get unanswered", "get", 1)),
         ("the objects of a Set without an answer", of_silence, (board, SET_THRESHOLDS, "set unanswered", "set", 2)),
         ("the objects of reverts", of_reverts, (board,)),

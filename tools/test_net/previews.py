@@ -86,7 +86,7 @@ def tells_objects(program, folder, board):
         {"step": 5, "record": "sensor 77 thresholds", "outlook": "get refused", "code": 0xCB, "meaning": "not present"},
         {"step": 6, "record": "watchdog timer", "outlook": "not restorable"},
         {"step": 7, "record": policy, "outlook": "changes", "does": "power restore policy: previous -> always on"},
-        {"step": 8, "record": "attribute 2", "outlook": "changes", "does": "attribute 2: 30 -> 40"},
+        {"step": 8, "record": "attribute 2", "name": "Delay", "outlook": "changes", "does": "attribute 2: 30 -> 40"},
         {"step": 9, "record": policy, "outlook": "same", "does": "power restore policy: always on"},
     ]
     with Server(program, board, SERVED_TURNS) as server:

@@ -323,9 +323,12 @@ def two_plans(program, folder):
         expect("steps", [len(steps_in(servers.read(plan))) for plan in plans], [MOST_STEPS, records - MOST_STEPS])
         for plan in plans:
             changes_nothing(program, server.ports, plan)
+        expect("serve", server.ended()[1].split("\n")[1], "records same")
+    # One history has no room for a third show.
+    with Server(program, board, SERVED_TURNS) as server:
         status, out, err = show(program, server.ports, "--effecters", "0-31,100-131")
         expect("both on standard output", (status, out, err), (0, "".join(map(servers.read, plans)), said(records, 2, 1)))
-        expect("serve", server.ended()[1].split("\n")[1], "records same")
+        expect("serve again", server.ended()[1].split("\n")[1], "records same")
 
 
 class Falls(Link):

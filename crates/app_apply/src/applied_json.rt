@@ -2,13 +2,16 @@
 use crate::applied_words::push_did;
 use crate::applying::{Applied, ApplyWords};
 use crate::kept_calls::Reach;
-use crate::objects::object_line;
+use crate::objects::{name_of, object_line};
 use crate::outcome::Outcome;
 use crate::sentences::{bus_of_op, push_record, push_revert};
 use app_journal::Standing;
 use code_words::code_row;
+use record_base::RecordKind;
+use record_kinds::Limits;
 use serde::Serialize;
 use std::alloc::{AllocError, Global};
+use table_names::Names;
 use two_wire::Code;
 use undo_core::{Manager, Phase, Why};
 use undo_journal::{KeptStage, KeptTask};
@@ -21,6 +24,9 @@ struct StopObject {
     /// The record that it changes.
     #[serde(skip_serializing_if = "Option::is_none")]
     record: Option<String>,
+    /// The name of the record's sensor or attribute, where that is known.
+    #[serde(skip_serializing_if = "Option::is_none")]
+    name: Option<String>,
     /// What came of it.
     why: &'static str,
     /// The code by which a request of it was refused.
@@ -173,6 +179,19 @@ fn record_at(alloc: Global, manager: &Manager, step: usize) -> Result<Option<Str
     }
 }
 
+/// The name of that record's sensor or attribute, where it is among these names.
+fn name_at(
+    alloc: Global,
+    manager: &Manager,
+    step: usize,
+    names: &Names,
+) -> Result<Option<String>, AllocError> {
+    match manager.journal().steps.get(step) {
+        Some(op) => name_of(alloc, names, &Limits::key(&op)),
+        None => Ok(None),
+    }
+}
+
 /// What the standard calls the code by which a request of the step of this place was refused.
 fn meaning_at(manager: &Manager, step: usize, code: Option<u8>) -> Option<&'static str> {
     let (Some(op), Some(code)) = (manager.journal().steps.get(step), code) else {
@@ -190,14 +209,17 @@ fn stop_at(
     manager: &Manager,
     step: usize,
     cause: &Cause,
+    names: &Names,
 ) -> Result<StopObject, AllocError> {
     let record = record_at(alloc, manager, step)?;
+    let name = name_at(alloc, manager, step, names)?;
     let code = cause_code(cause).map(Code::value);
     let meaning = meaning_at(manager, step, code);
     let why = cause_words(cause);
     Ok(StopObject {
         step: step as u128 + 1,
         record,
+        name,
         why,
         code,
         meaning,
@@ -209,9 +231,10 @@ fn stop_object(
     alloc: Global,
     manager: &Manager,
     outcome: &Outcome,
+    names: &Names,
 ) -> Result<Option<StopObject>, AllocError> {
     match stop_of(manager, outcome) {
-        Some((step, cause)) => Ok(Some(stop_at(alloc, manager, step, &cause)?)),
+        Some((step, cause)) => Ok(Some(stop_at(alloc, manager, step, &cause, names)?)),
         None => Ok(None),
     }
 }
@@ -264,13 +287,14 @@ fn object_of<'a>(
     alloc: Global,
     words: &'a ApplyWords,
     applied: &'a Applied,
+    names: &Names,
 ) -> Result<ApplyObject<'a>, AllocError> {
     let (manager, outcome) = (&applied.manager, &applied.outcome);
     let file = words.file.as_str();
     let steps = manager.journal().steps.len();
     let stands = manager.undo_list().requests.len();
     let did = all_did(alloc, manager)?;
-    let stop = stop_object(alloc, manager, outcome)?;
+    let stop = stop_object(alloc, manager, outcome, names)?;
     let next = next_call(alloc, outcome, stands, file, &words.reach)?;
     let (word, bus) = (outcome_word(outcome), bus_word(outcome));
     let kept = is_kept(outcome);
@@ -292,14 +316,15 @@ fn object_of<'a>(
 /// What is said of a plan, as an object in a line. Its members: `outcome`, which is `done`, `halted`, `unsettled`, `nothing`, `held`, `occupied`,
 /// `unmade`, `no answer`, `busy` or `no socket`; `bus`, of a greeting that wasn't answered; `steps`, how many the plan has; `stands`, how many were
 /// done; `did`, a text for each of these; `stop`, where the plan halted or has no answer; `file` and whether it was `kept`; `aside`, the new word of
-/// what it had; and `next`, the call to make. Those of `stop`: `step`, from 1, `record`, `why`, which is `set refused`, `get refused`, `not
-/// restorable`, `stopped`, `get unanswered`, `set unanswered` or `undo unanswered`, `code` and its `meaning`. `bus`, `stop`, `aside`, `next`,
-/// `record`, `code` and `meaning` are left out where there is nothing to say.
+/// what it had; and `next`, the call to make. Those of `stop`: `step`, from 1, `record`, the `name` of its sensor or attribute, `why`, which is `set
+/// refused`, `get refused`, `not restorable`, `stopped`, `get unanswered`, `set unanswered` or `undo unanswered`, `code` and its `meaning`. `bus`,
+/// `stop`, `aside`, `next`, `record`, `name`, `code` and `meaning` are left out where there is nothing to say.
 pub fn apply_json(
     alloc: Global,
     words: &ApplyWords,
     applied: &Applied,
+    names: &Names,
 ) -> Result<String, AllocError> {
-    let object = object_of(alloc, words, applied)?;
+    let object = object_of(alloc, words, applied, names)?;
     object_line(alloc, &object)
 }

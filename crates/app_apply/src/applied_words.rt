@@ -7,38 +7,64 @@ use crate::sentences::{
     push_unsettled,
 };
 use app_journal::Standing;
-use record_base::Op;
-use record_words::{Way, op_in_words, undone_op};
+use record_base::{Op, RecordKind};
+use record_kinds::Limits;
+use record_words::{Way, op_in_words, push_named, undone_op};
 use std::alloc::{AllocError, Global};
+use table_names::Names;
+use two_wire::Bus;
 use undo_core::{Manager, Phase, Why};
 use undo_plans::UndoRequest;
 
-/// Adds why the plan halted at a step.
-fn push_why(text: &mut String, op: &Op<'_>, why: Why) -> Result<(), AllocError> {
-    let bus = bus_of_op(op);
+/// Adds the record that a step changes, with the name of its sensor or attribute where that is known.
+fn push_named_record(
+    alloc: Global,
+    text: &mut String,
+    op: &Op<'_>,
+    names: &Names,
+) -> Result<(), AllocError> {
+    let key = Limits::key(op);
+    let mut record = String::new(alloc);
+    push_record(&mut record, op)?;
+    push_named(alloc, text, &key, names.of(&key), record.as_str())
+}
+
+/// Adds why the plan halted at a step whose record is called so.
+fn push_why(text: &mut String, bus: Bus, record: &str, why: Why) -> Result<(), AllocError> {
     match why {
         Why::Refused(code) => {
-            push_record(text, op)?;
-            text.push_str(" refused ")?;
+            write!(text, "{record} refused ")?;
             push_code(text, bus, code)?;
             text.push_str(": nothing of it was set")
         }
         Why::GetRefused(code) => {
-            push_record(text, op)?;
-            text.push_str(" can't be read ")?;
+            write!(text, "{record} can't be read ")?;
             push_code(text, bus, code)?;
             text.push_str(": nothing of it was set")
         }
-        Why::NotRestorable => {
-            push_record(text, op)?;
-            text.push_str(" has a value that no request brings back: nothing of it was set")
-        }
-        Why::Stop => {
-            text.push_str("nothing of ")?;
-            push_record(text, op)?;
-            text.push_str(" was set")
-        }
+        Why::NotRestorable => write!(
+            text,
+            "{record} has a value that no request brings back: nothing of it was set"
+        ),
+        Why::Stop => write!(text, "nothing of {record} was set"),
     }
+}
+
+/// Adds at which of so many steps the plan halted, and why.
+fn push_stop(
+    alloc: Global,
+    text: &mut String,
+    op: &Op<'_>,
+    step: usize,
+    steps: usize,
+    why: Why,
+    names: &Names,
+) -> Result<(), AllocError> {
+    let number = step as u128 + 1;
+    let mut record = String::new(alloc);
+    push_named_record(alloc, &mut record, op, names)?;
+    write!(text, "halted at step {number} of {steps}: ")?;
+    push_why(text, bus_of_op(op), record.as_str(), why)
 }
 
 /// Adds which steps stand, and the call that takes them back, where there are some.
@@ -53,27 +79,21 @@ fn push_next(text: &mut String, done: usize, file: &str, reach: &Reach) -> Resul
     text.push_str("\n")
 }
 
-/// Adds that the plan halted at the step of this place.
+/// Adds that the plan halted at the step of this place, whose record is said with its name.
 fn push_halted(
+    alloc: Global,
     text: &mut String,
     manager: &Manager,
     step: usize,
     why: Why,
-    file: &str,
-    reach: &Reach,
+    names: &Names,
 ) -> Result<(), AllocError> {
     let journal = manager.journal();
     let steps = journal.steps.len();
-    let done = manager.undo_list().requests.len();
     match journal.steps.get(step) {
-        Some(op) => {
-            let number = step as u128 + 1;
-            write!(text, "halted at step {number} of {steps}: ")?;
-            push_why(text, &op, why)?;
-        }
-        None => write!(text, "halted behind the last of {steps} steps")?,
+        Some(op) => push_stop(alloc, text, &op, step, steps, why, names),
+        None => write!(text, "halted behind the last of {steps} steps"),
     }
-    push_next(text, done, file, reach)
 }
 
 /// Adds that the plan is done.
@@ -111,16 +131,21 @@ fn push_occupied(
 
 /// Adds what is so where the plan's manager is in this phase.
 fn push_phase(
+    alloc: Global,
     text: &mut String,
     manager: &Manager,
     phase: Phase,
-    file: &str,
-    reach: &Reach,
+    words: &ApplyWords,
+    names: &Names,
 ) -> Result<(), AllocError> {
+    let (file, reach) = (words.file.as_str(), &words.reach);
     match phase {
         Phase::Fresh => text.push_str("nothing was set\n"),
         Phase::Done => push_done(text, manager.journal().steps.len(), file, reach),
-        Phase::Halted(step, why) => push_halted(text, manager, step, why, file, reach),
+        Phase::Halted(step, why) => {
+            push_halted(alloc, text, manager, step, why, names)?;
+            push_next(text, manager.undo_list().requests.len(), file, reach)
+        }
         _ => push_unsettled(text, manager, file, reach),
     }
 }
@@ -190,34 +215,36 @@ fn push_unkept(text: &mut String, file: &str) -> Result<(), AllocError> {
 
 /// Adds what came of a plan.
 fn push_outcome(
+    alloc: Global,
     text: &mut String,
+    words: &ApplyWords,
     applied: &Applied,
-    file: &str,
-    reach: &Reach,
+    names: &Names,
 ) -> Result<(), AllocError> {
+    let file = words.file.as_str();
     match applied.outcome {
         Outcome::Ended(phase, kept) => {
             push_steps(text, &applied.manager)?;
             if kept.is_err() {
                 push_unkept(text, file)?;
             }
-            push_phase(text, &applied.manager, phase, file, reach)
+            push_phase(alloc, text, &applied.manager, phase, words, names)
         }
-        outcome => push_unbegun(text, outcome, file, reach),
+        outcome => push_unbegun(text, outcome, file, &words.reach),
     }
 }
 
-/// What is said of a plan.
+/// What is said of a plan. Where it halted, the record of that step is said with its name, if that is among these names.
 pub fn apply_text(
     alloc: Global,
     words: &ApplyWords,
     applied: &Applied,
+    names: &Names,
 ) -> Result<String, AllocError> {
     let mut text = String::new(alloc);
-    let file = words.file.as_str();
     if let Some(name) = &applied.aside {
         writeln!(text, "put aside: {}", name.as_str())?;
     }
-    push_outcome(&mut text, applied, file, &words.reach)?;
+    push_outcome(alloc, &mut text, words, applied, names)?;
     Ok(text)
 }

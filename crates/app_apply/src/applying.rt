@@ -1,11 +1,10 @@
-//! `bmcnet apply`: a plan is run on a controller, and FILE has at each moment what takes it back.
+//! A plan is run on a controller, and FILE has at each moment what takes it back.
 ghost use Rattle.std.specs.Prelude.{◌≡◌, IfOk, OnErr, false, true, string_bytes};
 ghost use Rattle.app_base.specs.Ending.{RunEnds};
 ghost use Rattle.app_run.specs.Driven.{is_over as over_in};
 ghost use Rattle.app_apply.specs.Apply.{ApplyEnd, Begins, BeginsIn, Ends, GoesGreeted, KeepsList};
 ghost use Rattle.app_apply.specs.Apply.{IsUnmade, MayRun, NeverSettles, Settles};
 ghost use Rattle.app_apply.specs.Apply.{first_fault, ungreeted_by};
-ghost use Rattle.app_apply.specs.Ends.{AppliesTo, ApplyEndsOf, ApplyEndsOn, ApplyEndsOver};
 ghost use Rattle.app_apply.specs.Ends.{SaysOn, SaysWith, lacks_port, stream_for};
 
 use crate::applied_json::apply_json;
@@ -14,10 +13,7 @@ use crate::driving::Calling;
 use crate::guarding::{Guard, Guarded, take_file};
 use crate::kept_calls::{MOST_TURNS, Reach, call_on};
 use crate::outcome::Outcome;
-use crate::refusing::{say_refused, say_unread};
-use crate::sentences::port_text;
-use crate::strict::{StrictFault, strict_plan};
-use app_base::{Console, Report, ReportFault, Status, Stream, TextFiles, end_run, text_of};
+use app_base::{Console, Report, ReportFault, Status, Stream, TextFiles, end_run};
 use app_journal::{JournalKeeper, UndoFiles, WriteFault, WritesFiles};
 use app_run::{
     GreetFault, PlanOutline, Progress, ProgressWriter, Ready, RunWatch, greet_first, make_ready,
@@ -27,6 +23,7 @@ use bmc_ports::KeptBack;
 use std::alloc::{AllocError, Global};
 use std::io;
 use std::net::Net;
+use table_names::Names;
 use two_wire::Bus;
 use undo_core::{Manager, Phase};
 use undo_plans::Plan;
@@ -401,40 +398,17 @@ pub fn stream_for(json: bool) -> Stream
     if json { Stream::Output } else { Stream::Error }
 }
 
-/// What is said of a plan: an object, or else a sentence.
+/// What is said of a plan, as far as these names are known: an object, or else a sentence.
 pub fn text_for(
     alloc: Global,
     words: &ApplyWords,
     applied: &Applied,
+    names: &Names,
 ) -> Result<String, AllocError> {
     if words.json {
-        apply_json(alloc, words, applied)
+        apply_json(alloc, words, applied, names)
     } else {
-        apply_text(alloc, words, applied)
-    }
-}
-
-/// Runs the plan, and says what came of it.
-pub fn apply_over<F: TextFiles + WritesFiles, W: io::Write, E: io::Write, P: io::Write, R: Net>(
-    rt: &R,
-    alloc: Global,
-    files: &mut F,
-    plan: Plan,
-    words: &ApplyWords,
-    progress: &mut Progress<P>,
-    console: &mut Console<W, E>,
-) -> u8
-    ensures ends { AppliesTo W.contents E.contents F.TextFiles F.WritesFiles plan words.now
-        files.old files.new console.old console.new result }
-    ensures untold { progress.old.on ≡ false → progress.new ≡ progress.old }
-{
-    match carry_out(rt, alloc, files, plan, words, progress) {
-        Ok(applied) => {
-            let status = applied.outcome.status();
-            let text = text_for(alloc, words, &applied);
-            say_on(text, stream_for(words.json), status, console)
-        }
-        Err(AllocError) => end_run(&Err(ReportFault::Memory), console),
+        apply_text(alloc, words, applied, names)
     }
 }
 
@@ -443,69 +417,4 @@ pub fn lacks_port(plan: &Plan, reach: &Reach) -> bool
     ensures { result ≡ lacks_port plan.now reach.now }
 {
     reach.smbus_port.is_none() && steps_use(&plan.steps, Bus::Smbus)
-}
-
-/// Runs a plan that is taken, where the ports that it needs are known.
-fn apply_plan<F: TextFiles + WritesFiles, W: io::Write, E: io::Write, P: io::Write, R: Net>(
-    rt: &R,
-    alloc: Global,
-    files: &mut F,
-    plan: Plan,
-    words: &ApplyWords,
-    progress: &mut Progress<P>,
-    console: &mut Console<W, E>,
-) -> u8
-    ensures ends { ApplyEndsOver W.contents E.contents F.TextFiles F.WritesFiles plan words.now
-        files.old files.new console.old console.new result }
-    ensures untold { progress.old.on ≡ false → progress.new ≡ progress.old }
-{
-    if lacks_port(&plan, &words.reach) {
-        drop(plan);
-        let why = port_text(alloc, "the plan");
-        return say_refused(alloc, words.json, why, Status::RefusedWords, console);
-    }
-    apply_over(rt, alloc, files, plan, words, progress, console)
-}
-
-/// Runs the plan of this text.
-fn apply_on<F: TextFiles + WritesFiles, W: io::Write, E: io::Write, P: io::Write, R: Net>(
-    rt: &R,
-    alloc: Global,
-    files: &mut F,
-    text: &str,
-    words: &ApplyWords,
-    progress: &mut Progress<P>,
-    console: &mut Console<W, E>,
-) -> u8
-    ensures ends { ApplyEndsOn W.contents E.contents F.TextFiles F.WritesFiles
-        text.now words.now files.old files.new console.old console.new result }
-    ensures untold { progress.old.on ≡ false → progress.new ≡ progress.old }
-{
-    match strict_plan(alloc, words.plan.as_str(), text) {
-        Ok(plan) => apply_plan(rt, alloc, files, plan, words, progress, console),
-        Err(StrictFault::Memory) => end_run(&Err(ReportFault::Memory), console),
-        Err(StrictFault::Refused(why)) => {
-            say_refused(alloc, words.json, Ok(why), Status::RefusedFile, console)
-        }
-    }
-}
-
-/// Runs the plan of the file that the words name.
-pub fn apply<F: TextFiles + WritesFiles, W: io::Write, E: io::Write, P: io::Write, R: Net>(
-    rt: &R,
-    alloc: Global,
-    files: &mut F,
-    words: &ApplyWords,
-    progress: &mut Progress<P>,
-    console: &mut Console<W, E>,
-) -> u8
-    ensures ends { ApplyEndsOf W.contents E.contents F.TextFiles F.WritesFiles
-        (string_bytes words.now.plan) words.now files.old files.new
-        console.old console.new result }
-    ensures untold { progress.old.on ≡ false → progress.new ≡ progress.old }
-{
-    match text_of(&*files, words.plan.as_str()) {
-        Ok(text) => apply_on(rt, alloc, files, text.as_str(), words, progress, console),
-        Err(unread) => say_unread(alloc, words.json, &unread, console),
-    }
 }

@@ -16,7 +16,7 @@ mod strict;
 
 pub use applied_json::apply_json;
 pub use applied_words::apply_text;
-pub use applying::{Applied, ApplyWords, apply};
+pub use applying::{Applied, ApplyWords};
 pub use driving::Calling;
 pub use kept_calls::{MOST_TURNS, Reach, call_on};
 pub use outcome::Outcome;

@@ -1,6 +1,8 @@
 //! What is said with `--json`: one object in a line.
+use record_base::Key;
 use serde::Serialize;
 use std::alloc::{AllocError, Global};
+use table_names::Names;
 
 /// Why a call is refused.
 #[derive(Drop, Serialize)]
@@ -17,6 +19,18 @@ pub fn object_line<T: Serialize>(alloc: Global, object: &T) -> Result<String, Al
     };
     text.push_str("\n")?;
     Ok(text)
+}
+
+/// The name of the record's sensor or attribute, where it is among these names. Each of its bytes is a character of Latin 1.
+pub fn name_of(alloc: Global, names: &Names, key: &Key) -> Result<Option<String>, AllocError> {
+    let Some(name) = names.of(key) else {
+        return Ok(None);
+    };
+    let mut text = String::new(alloc);
+    for byte in name {
+        text.push(char::from(*byte))?;
+    }
+    Ok(Some(text))
 }
 
 /// The lines of a text.

@@ -7,7 +7,8 @@ use Rattle.record_kinds.specs.Limits.{key_of}
 use Rattle.app_look.specs.declared.records.Found.{Found}
 use Rattle.app_look.specs.declared.session.Session.{Session}
 use Rattle.app_look.specs.declared.session.Way.{Way}
-use Rattle.app_look.specs.Findings.{FindsEach, FindsOver}
+use Rattle.app_look.specs.Findings.{FindsEach}
+use Rattle.app_look.specs.Reading.{FindsAndNames}
 use Rattle.app_change.specs.KeepLook.{records_of}
 
 finds_long : (keys : List Key) (found : List Found) (old new : Session) → FindsEach keys found old new → length found ≡ length keys
@@ -16,5 +17,5 @@ finds_long [] (of ∷ found) old new finds = absurd finds
 finds_long (key ∷ keys) [] old new finds = absurd finds
 finds_long (key ∷ keys) (of ∷ found) old new finds = ap suc (finds_long keys found finds.0 new finds.2)
 
-pub found_long : (way : Way) (steps : List Op) (found : List Found) → FindsOver way (records_of steps) found → length found ≡ length steps
-found_long way steps found over = finds_long (map key_of steps) found over.session over.left over.finds ∙ length-map steps key_of
+pub found_long : (way : Way) (steps : List Op) (found : List Found) → FindsAndNames way (records_of steps) found → length found ≡ length steps
+found_long way steps found over = finds_long (map key_of steps) found over.1.session over.0 over.1.finds ∙ length-map steps key_of

@@ -1,5 +1,5 @@
--- How a run of `bmcnet apply` ends, with its options: what it leaves of the files, and its status.
-use Rattle.std.specs.Prelude.{◌≡◌, ◌≢◌, ◌⊎◌, ◌||◌, ℕ, Bool, true, false, List, length, Option, Some, None, Result, Ok, Err, string_bytes}
+-- How a run of `bmcnet apply` ends: what it leaves of the files, and its status.
+use Rattle.std.specs.Prelude.{◌≡◌, ◌≢◌, ◌⊎◌, ℕ, Bool, true, false, List, length, Option, Some, None, Result, Ok, Err, string_bytes}
 use Rattle.std.specs.declared.alloc.AllocError.{AllocError}
 use Rattle.undo_plans.specs.declared.plan.Plan.{Plan}
 use Rattle.model_undo.specs.declared.phase.Phase.TheVariants as phase
@@ -17,15 +17,13 @@ use Rattle.app_apply.specs.declared.applying.ApplyWords.{ApplyWords}
 use Rattle.app_apply.specs.declared.outcome.Outcome.{Outcome}
 use Rattle.app_apply.specs.declared.outcome.Outcome.TheVariants.{Ended}
 use Rattle.app_apply.specs.Apply.{ApplyEnd}
-use Rattle.app_apply.specs.Ends.{AppliesTo, ApplyEndsOf, EndsBy, SaysOn, SaysUnreadOn, lacks_port, stream_for}
+use Rattle.app_apply.specs.Ends.{EndsBy, SaysOn, SaysUnreadOn, lacks_port, stream_for}
 use Rattle.app_apply.specs.Strict.{IsStrictPlan, IsNoStrictPlan}
 use Rattle.app_revert.specs.declared.reverting.RevertWords.{RevertWords}
 use Rattle.app_revert.specs.Revert.{RevertEndsOf}
 use Rattle.app_change.specs.KeepLook.{FailsFor}
 use Rattle.app_change.specs.declared.changing.ChangeWords.{ChangeWords}
 use Rattle.app_change.specs.Looks.{KeepsChanges, status_unlooked, way_of}
-
--- ---- all or none
 
 -- the plan halted
 abbrev pub is_halted : Outcome → Bool
@@ -35,6 +33,8 @@ is_halted _ = false
 abbrev pub has_halted : {Refused : Type 0} → Result Applied Refused → Bool
 has_halted (Ok applied) = is_halted applied.outcome
 has_halted (Err refused) = false
+
+-- ---- all or none
 
 -- what these words ask for takes back what those left, on the same controller
 pub record IsBackOf (words : ApplyWords) (back : RevertWords) : Type 0 where
@@ -55,6 +55,14 @@ module _ {Stdout Stderr : Type 0} (out : Stdout → Option (List ℕ)) (err : St
       ⊎ ((status_unlooked why ≡ None) × RunEnds out err PrintsNothing old new result)
 
 module _ {Files Stdout Stderr : Type 0} (out : Stdout → Option (List ℕ)) (err : Stderr → Option (List ℕ)) (read : texts.Ghosts Files) (files : written.Ghosts Files) where
+  -- a plan is run, and then it is said what came of it
+  abbrev pub AppliesTo : Plan → ApplyWords → (halted : Bool) → (before after : Files) → (old new : Console Stdout Stderr) → ℕ → Type 0
+  AppliesTo plan words halted before after old new result =
+      (came : Result Applied AllocError) × (halted ≡ has_halted came) × ApplyEnd read files plan words came before after
+      × EndsBy out err words.json came old new result
+
+  -- ---- all or none
+
   -- what a plan left is taken back, as a revert of FILE does it
   abbrev pub RevertsAtOnce : RevertWords → (before after : Files) → (old new : Console Stdout Stderr) → ℕ → Type 0
   RevertsAtOnce back before after old new result =
@@ -65,17 +73,16 @@ module _ {Files Stdout Stderr : Type 0} (out : Stdout → Option (List ℕ)) (er
   GoesBack halted back first before after old new result =
       ((halted ≡ false) × (after ≡ before) × (new ≡ old) × (result ≡ first)) ⊎ ((halted ≡ true) × RevertsAtOnce back before after old new result)
 
-  -- a plan is run, what came of that is said, and where it halted it is taken back
+  -- a plan is run so, and taken back where it halted; or memory was refused for what would take it back, and nothing is done
   abbrev pub AppliesOrNone : Plan → ApplyWords → (before after : Files) → (old new : Console Stdout Stderr) → ℕ → Type 0
   AppliesOrNone plan words before after old new result =
-      (came : Result Applied AllocError) × (mid : Files) × (said : Console Stdout Stderr) × (first : ℕ) × (back : RevertWords)
-      × ApplyEnd read files plan words came before mid × EndsBy out err words.json came old said first
-      × IsBackOf words back × GoesBack (has_halted came) back first mid after said new result
+      (halted : Bool) × (mid : Files) × (said : Console Stdout Stderr) × (first : ℕ) × (back : RevertWords)
+      × AppliesTo plan words halted before mid old said first × IsBackOf words back × GoesBack halted back first mid after said new result
 
   abbrev pub ChangesTo : Plan → ChangeWords → (before after : Files) → (old new : Console Stdout Stderr) → ℕ → Type 0
   ChangesTo plan words before after old new result =
       ((words.all_or_none ≡ true) × AppliesOrNone plan words.apply before after old new result)
-      ⊎ ((words.all_or_none ≡ false) × AppliesTo out err read files plan words.apply before after old new result)
+      ⊎ ((words.all_or_none ≡ false) × ((halted : Bool) × AppliesTo plan words.apply halted before after old new result))
 
   -- ---- only changes
 
@@ -105,7 +112,7 @@ module _ {Files Stdout Stderr : Type 0} (out : Stdout → Option (List ℕ)) (er
       ⊎ ((why : LookFault) × FailsFor (way_of plan words.apply.reach) plan.steps why × (after ≡ before)
       × EndsUnlooked out err words.apply.json why old new result)
 
-  -- ---- with both options, or one
+  -- ---- a plan's file
 
   abbrev pub ChangesFrom : Plan → ChangeWords → (before after : Files) → (old new : Console Stdout Stderr) → ℕ → Type 0
   ChangesFrom plan words before after old new result =
@@ -124,14 +131,8 @@ module _ {Files Stdout Stderr : Type 0} (out : Stdout → Option (List ℕ)) (er
       ((plan : Plan) × IsStrictPlan text plan × ChangeEndsOver plan words before after old new result)
       ⊎ ((after ≡ before) × ((IsNoStrictPlan text × RunEnds out err (SaysOn (stream_for words.apply.json) RefusedFile) old new result) ⊎ RunEnds out err PrintsNothing old new result))
 
-  -- so a run of a plan's file ends that has an option
-  abbrev pub ChangeEndsIn : (word : List ℕ) → ChangeWords → (before after : Files) → (old new : Console Stdout Stderr) → ℕ → Type 0
-  ChangeEndsIn word words before after old new result =
-      ((text : List ℕ) × read.gives before word (Ok text) × ChangeEndsOn text words before after old new result)
-      ⊎ ((after ≡ before) × RunEnds out err (SaysUnreadOn words.apply.json (read.gives before) word) old new result)
-
-  -- and one that has none ends as `apply` does
+  -- so a run of a plan's file ends
   abbrev pub ChangeEndsOf : (word : List ℕ) → ChangeWords → (before after : Files) → (old new : Console Stdout Stderr) → ℕ → Type 0
   ChangeEndsOf word words before after old new result =
-      (((words.only_changes || words.all_or_none) ≡ true) × ChangeEndsIn word words before after old new result)
-      ⊎ (((words.only_changes || words.all_or_none) ≡ false) × ApplyEndsOf out err read files word words.apply before after old new result)
+      ((text : List ℕ) × read.gives before word (Ok text) × ChangeEndsOn text words before after old new result)
+      ⊎ ((after ≡ before) × RunEnds out err (SaysUnreadOn words.apply.json (read.gives before) word) old new result)

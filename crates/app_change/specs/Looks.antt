@@ -15,7 +15,7 @@ use Rattle.app_look.specs.declared.records.LookFault.TheVariants as look
 use Rattle.app_look.specs.declared.records.StopFault.TheVariants as stop
 use Rattle.app_look.specs.declared.session.OpenFault.TheVariants as open_fault
 use Rattle.app_look.specs.declared.session.Way.{Way}
-use Rattle.app_look.specs.Findings.{FindsOver}
+use Rattle.app_look.specs.Reading.{FindsAndNames}
 use Rattle.app_apply.specs.declared.kept_calls.Reach.{Reach}
 use Rattle.app_preview.specs.Runs.{Carries}
 use Rattle.app_change.specs.Kept.{kept_of}
@@ -37,7 +37,7 @@ LeadAlike steps kept found = (limits : Limits) (key : Key) (old new : List ℕ) 
 -- it, and are tried as often.
 pub record KeepsChanges (way : Way) (plan kept : Plan) : Type 0 where
   pub found : List Found
-  pub finds : FindsOver way (records_of plan.steps) found
+  pub finds : FindsAndNames way (records_of plan.steps) found
   pub steps : kept.steps ≡ kept_of plan.steps found
   pub alike : LeadAlike plan.steps kept.steps found
   pub retries : kept.retries ≡ plan.retries

@@ -1,24 +1,25 @@
-//! `bmcnet apply` with its options: of a plan those steps alone that change something, and all of it or none.
-ghost use Rattle.std.specs.Prelude.{◌≡◌, ◌||◌, IfErr, IfOk, false, string_bytes};
+//! `bmcnet apply`: a plan's file is read, refused or run, and what came of it is said. With its options of a plan those steps alone are run that
+//! change something, and all of it or none.
+ghost use Rattle.std.specs.Prelude.{◌≡◌, IfErr, IfOk, false, string_bytes};
 ghost use Rattle.app_base.specs.Ending.{RunEnds};
 ghost use Rattle.app_apply.specs.Ends.{SaysOn, stream_for};
 ghost use Rattle.app_apply.specs.Statuses.{status_of};
 ghost use Rattle.app_change.specs.KeepLook.{FailsFor};
-ghost use Rattle.app_change.specs.Ends.{AppliesOrNone, ChangeEndsIn, ChangeEndsOf, ChangeEndsOn};
+ghost use Rattle.app_change.specs.Ends.{AppliesOrNone, AppliesTo, ChangeEndsOf, ChangeEndsOn};
 ghost use Rattle.app_change.specs.Ends.{ChangeEndsOver, ChangesBy, ChangesFrom, ChangesKept, ChangesTo};
 ghost use Rattle.app_change.specs.Ends.{EndsUnlooked, GoesBack, IsBackOf, IsStatusBehind, LooksFirst, TellsFirst};
 ghost use Rattle.app_change.specs.Ends.{is_halted};
 ghost use Rattle.app_change.specs.Looks.{KeepsChanges, way_of};
 
-use crate::keep_look::keep_by_look;
+use crate::keep_look::{NamedSteps, keep_by_look};
 use crate::keeping::Narrowed;
 use crate::looking::{status_unlooked, way_of};
 use crate::narrowed_json::{left_out_json, unchanged_json, unlooked_json};
 use crate::narrowed_words::{left_out_text, unchanged_text, unlooked_text};
-use app_apply::applying::{apply_over, carry_out, lacks_port, say_on, stream_for, text_for};
+use app_apply::applying::{carry_out, lacks_port, say_on, stream_for, text_for};
 use app_apply::refusing::{say_refused, say_unread};
 use app_apply::sentences::port_text;
-use app_apply::{Applied, ApplyWords, Outcome, Reach, StrictFault, apply, strict_plan};
+use app_apply::{Applied, ApplyWords, Outcome, Reach, StrictFault, strict_plan};
 use app_base::{Console, ReportFault, Status, TextFiles, end_run, text_of};
 use app_journal::WritesFiles;
 use app_look::LookFault;
@@ -27,6 +28,7 @@ use app_run::Progress;
 use std::alloc::{AllocError, Global};
 use std::io;
 use std::net::Net;
+use table_names::Names;
 use undo_core::Phase;
 use undo_plans::Plan;
 
@@ -40,15 +42,60 @@ pub struct ChangeWords {
     pub all_or_none: bool,
 }
 
+/// A plan, and the names of its sensors and attributes, as far as a look before it told them.
+#[derive(Drop)]
+struct NamedPlan {
+    plan: Plan,
+    names: Names,
+}
+
 /// The plan of the steps that are kept.
 #[derive(Drop)]
 struct KeptPlan {
-    plan: Plan,
+    named: NamedPlan,
     /// The places of the other steps in the whole plan, counted from 0.
     left_out: Vec<usize>,
 }
 
-// ---- all or none
+/// What was said of a plan.
+#[derive(Clone, Copy)]
+struct Told {
+    /// The status of that.
+    status: u8,
+    /// Whether the plan halted.
+    halted: bool,
+}
+
+// ---- a plan
+
+/// Says this where what came of a plan is said, and gives this status.
+fn say_for<W: io::Write, E: io::Write>(
+    text: Result<String, AllocError>,
+    json: bool,
+    status: Status,
+    console: &mut Console<W, E>,
+) -> u8
+    ensures { RunEnds W.contents E.contents (SaysOn (stream_for json) status)
+        console.old console.new result }
+{
+    say_on(text, stream_for(json), status, console)
+}
+
+/// Says what came of a plan, as far as these names are known.
+fn say_applied<W: io::Write, E: io::Write>(
+    alloc: Global,
+    words: &ApplyWords,
+    applied: &Applied,
+    names: &Names,
+    console: &mut Console<W, E>,
+) -> u8
+    ensures { RunEnds W.contents E.contents (SaysOn (stream_for words.now.json)
+        (status_of applied.now.outcome)) console.old console.new result }
+{
+    let status = applied.outcome.status();
+    let text = text_for(alloc, words, applied, names);
+    say_for(text, words.json, status, console)
+}
 
 /// Whether the plan halted.
 fn is_halted(outcome: &Outcome) -> bool
@@ -56,6 +103,36 @@ fn is_halted(outcome: &Outcome) -> bool
 {
     matches!(outcome, Outcome::Ended(Phase::Halted(_, _), _))
 }
+
+/// Runs a plan, and says what came of it.
+fn apply_over<F: TextFiles + WritesFiles, W: io::Write, E: io::Write, P: io::Write, R: Net>(
+    rt: &R,
+    alloc: Global,
+    files: &mut F,
+    named: NamedPlan,
+    words: &ApplyWords,
+    progress: &mut Progress<P>,
+    console: &mut Console<W, E>,
+) -> Told
+    ensures ends { AppliesTo W.contents E.contents F.TextFiles F.WritesFiles named.plan words.now
+        result.halted files.old files.new console.old console.new result.status }
+    ensures untold { progress.old.on ≡ false → progress.new ≡ progress.old }
+{
+    let NamedPlan { plan, names } = named;
+    match carry_out(rt, alloc, files, plan, words, progress) {
+        Ok(applied) => {
+            let status = say_applied(alloc, words, &applied, &names, console);
+            let halted = is_halted(&applied.outcome);
+            Told { status, halted }
+        }
+        Err(AllocError) => Told {
+            status: end_run(&Err(ReportFault::Memory), console),
+            halted: false,
+        },
+    }
+}
+
+// ---- all or none
 
 /// What takes back what these words left.
 fn words_back(alloc: Global, words: &ApplyWords) -> Result<RevertWords, AllocError>
@@ -84,97 +161,45 @@ fn go_back<F: TextFiles + WritesFiles, W: io::Write, E: io::Write, P: io::Write,
     rt: &R,
     alloc: Global,
     files: &mut F,
-    outcome: &Outcome,
+    told: Told,
     back: &RevertWords,
-    first: u8,
     progress: &mut Progress<P>,
     console: &mut Console<W, E>,
 ) -> u8
     ensures ends { GoesBack W.contents E.contents F.TextFiles F.WritesFiles
-        (is_halted outcome.now) back.now first files.old files.new
+        told.halted back.now told.status files.old files.new
         console.old console.new result }
     ensures untold { progress.old.on ≡ false → progress.new ≡ progress.old }
 {
-    if is_halted(outcome) {
+    if told.halted {
         let reverted = revert(rt, alloc, files, back, progress, console);
         status_behind(reverted)
     } else {
-        first
+        told.status
     }
 }
 
-/// Says this where what came of a plan is said, and gives this status.
-fn say_for<W: io::Write, E: io::Write>(
-    text: Result<String, AllocError>,
-    json: bool,
-    status: Status,
-    console: &mut Console<W, E>,
-) -> u8
-    ensures { RunEnds W.contents E.contents (SaysOn (stream_for json) status)
-        console.old console.new result }
-{
-    say_on(text, stream_for(json), status, console)
-}
-
-/// Says what came of a plan.
-fn say_applied<W: io::Write, E: io::Write>(
-    alloc: Global,
-    words: &ApplyWords,
-    applied: &Applied,
-    console: &mut Console<W, E>,
-) -> u8
-    ensures { RunEnds W.contents E.contents (SaysOn (stream_for words.now.json)
-        (status_of applied.now.outcome)) console.old console.new result }
-{
-    let status = applied.outcome.status();
-    let text = text_for(alloc, words, applied);
-    say_for(text, words.json, status, console)
-}
-
-/// Runs a plan, says what came of it, and takes it back where it halted.
-fn apply_or_back<F: TextFiles + WritesFiles, W: io::Write, E: io::Write, P: io::Write, R: Net>(
-    rt: &R,
-    alloc: Global,
-    files: &mut F,
-    plan: Plan,
-    words: &ApplyWords,
-    back: &RevertWords,
-    progress: &mut Progress<P>,
-    console: &mut Console<W, E>,
-) -> u8
-    requires { IsBackOf words.now back.now }
-    ensures ends { AppliesOrNone W.contents E.contents F.TextFiles F.WritesFiles plan words.now
-        files.old files.new console.old console.new result }
-    ensures untold { progress.old.on ≡ false → progress.new ≡ progress.old }
-{
-    match carry_out(rt, alloc, files, plan, words, progress) {
-        Ok(applied) => {
-            let first = say_applied(alloc, words, &applied, console);
-            let outcome = &applied.outcome;
-            go_back(rt, alloc, files, outcome, back, first, progress, console)
-        }
-        Err(AllocError) => end_run(&Err(ReportFault::Memory), console),
-    }
-}
-
-/// The same, once it is known what would take the plan back.
+/// Runs a plan, says what came of it, and takes it back where it halted. What would take it back is known before.
 fn apply_or_none<F: TextFiles + WritesFiles, W: io::Write, E: io::Write, P: io::Write, R: Net>(
     rt: &R,
     alloc: Global,
     files: &mut F,
-    plan: Plan,
+    named: NamedPlan,
     words: &ApplyWords,
     progress: &mut Progress<P>,
     console: &mut Console<W, E>,
 ) -> u8
-    ensures ends { AppliesOrNone W.contents E.contents F.TextFiles F.WritesFiles plan words.now
+    ensures ends { AppliesOrNone W.contents E.contents F.TextFiles F.WritesFiles named.plan words.now
         files.old files.new console.old console.new result }
     ensures untold { progress.old.on ≡ false → progress.new ≡ progress.old }
 {
     match words_back(alloc, words) {
-        Ok(back) => apply_or_back(rt, alloc, files, plan, words, &back, progress, console),
+        Ok(back) => {
+            let told = apply_over(rt, alloc, files, named, words, progress, console);
+            go_back(rt, alloc, files, told, &back, progress, console)
+        }
         Err(AllocError) => {
-            drop(plan);
+            drop(named);
             end_run(&Err(ReportFault::Memory), console)
         }
     }
@@ -185,19 +210,19 @@ fn change_to<F: TextFiles + WritesFiles, W: io::Write, E: io::Write, P: io::Writ
     rt: &R,
     alloc: Global,
     files: &mut F,
-    plan: Plan,
+    named: NamedPlan,
     words: &ChangeWords,
     progress: &mut Progress<P>,
     console: &mut Console<W, E>,
 ) -> u8
-    ensures ends { ChangesTo W.contents E.contents F.TextFiles F.WritesFiles plan words.now
+    ensures ends { ChangesTo W.contents E.contents F.TextFiles F.WritesFiles named.plan words.now
         files.old files.new console.old console.new result }
     ensures untold { progress.old.on ≡ false → progress.new ≡ progress.old }
 {
     if words.all_or_none {
-        apply_or_none(rt, alloc, files, plan, &words.apply, progress, console)
+        apply_or_none(rt, alloc, files, named, &words.apply, progress, console)
     } else {
-        apply_over(rt, alloc, files, plan, &words.apply, progress, console)
+        apply_over(rt, alloc, files, named, &words.apply, progress, console).status
     }
 }
 
@@ -231,19 +256,19 @@ fn change_others<F: TextFiles + WritesFiles, W: io::Write, E: io::Write, P: io::
     progress: &mut Progress<P>,
     console: &mut Console<W, E>,
 ) -> u8
-    ensures ends { TellsFirst W.contents E.contents F.TextFiles F.WritesFiles kept.plan words.now
+    ensures ends { TellsFirst W.contents E.contents F.TextFiles F.WritesFiles kept.named.plan words.now
         files.old files.new console.old console.new result }
     ensures untold { progress.old.on ≡ false → progress.new ≡ progress.old }
 {
-    let KeptPlan { plan, left_out } = kept;
+    let KeptPlan { named, left_out } = kept;
     let json = words.apply.json;
     let text = text_left_out(alloc, json, left_out.as_slice());
     let first = say_for(text, json, Status::Success, console);
     if first != u8::from(Status::Success) {
-        drop(plan);
+        drop(named);
         return first;
     }
-    change_to(rt, alloc, files, plan, words, progress, console)
+    change_to(rt, alloc, files, named, words, progress, console)
 }
 
 /// Runs the plan of the kept steps, which are some, of so many steps.
@@ -257,13 +282,13 @@ fn change_kept<F: TextFiles + WritesFiles, W: io::Write, E: io::Write, P: io::Wr
     progress: &mut Progress<P>,
     console: &mut Console<W, E>,
 ) -> u8
-    ensures ends { ChangesKept W.contents E.contents F.TextFiles F.WritesFiles kept.plan steps
+    ensures ends { ChangesKept W.contents E.contents F.TextFiles F.WritesFiles kept.named.plan steps
         words.now files.old files.new console.old console.new result }
     ensures untold { progress.old.on ≡ false → progress.new ≡ progress.old }
 {
-    if kept.plan.steps.len() == steps {
-        let KeptPlan { plan, .. } = kept;
-        return change_to(rt, alloc, files, plan, words, progress, console);
+    if kept.named.plan.steps.len() == steps {
+        let KeptPlan { named, .. } = kept;
+        return change_to(rt, alloc, files, named, words, progress, console);
     }
     change_others(rt, alloc, files, kept, words, progress, console)
 }
@@ -279,11 +304,11 @@ fn change_by<F: TextFiles + WritesFiles, W: io::Write, E: io::Write, P: io::Writ
     progress: &mut Progress<P>,
     console: &mut Console<W, E>,
 ) -> u8
-    ensures ends { ChangesBy W.contents E.contents F.TextFiles F.WritesFiles kept.plan steps
+    ensures ends { ChangesBy W.contents E.contents F.TextFiles F.WritesFiles kept.named.plan steps
         words.now files.old files.new console.old console.new result }
     ensures untold { progress.old.on ≡ false → progress.new ≡ progress.old }
 {
-    if kept.plan.steps.len() == 0 {
+    if kept.named.plan.steps.len() == 0 {
         drop(kept);
         let text = text_unchanged(alloc, words.apply.json, steps);
         return say_for(text, words.apply.json, Status::Success, console);
@@ -333,18 +358,20 @@ fn keep_changes<R: Net>(
     reach: &Reach,
 ) -> Result<KeptPlan, LookFault>
     ensures kept { IfOk result (λ kept.
-        KeepsChanges (way_of plan.now reach.now) plan.now kept.plan) }
+        KeepsChanges (way_of plan.now reach.now) plan.now kept.named.plan) }
     ensures fault { IfErr result (FailsFor (way_of plan.now reach.now) plan.now.steps) }
 {
     let way = way_of(plan, reach);
     match keep_by_look(rt, alloc, &way, &plan.steps) {
-        Ok(narrowed) => {
+        Ok(steps) => {
+            let NamedSteps { narrowed, names } = steps;
             let Narrowed { kept, left_out } = narrowed;
             let plan = Plan {
                 steps: kept,
                 retries: plan.retries,
             };
-            Ok(KeptPlan { plan, left_out })
+            let named = NamedPlan { plan, names };
+            Ok(KeptPlan { named, left_out })
         }
         Err(why) => Err(why),
     }
@@ -373,7 +400,7 @@ fn look_first<F: TextFiles + WritesFiles, W: io::Write, E: io::Write, P: io::Wri
     }
 }
 
-// ---- with both options, or one
+// ---- a plan's file
 
 /// Runs a plan by the options.
 fn change_from<F: TextFiles + WritesFiles, W: io::Write, E: io::Write, P: io::Write, R: Net>(
@@ -392,7 +419,9 @@ fn change_from<F: TextFiles + WritesFiles, W: io::Write, E: io::Write, P: io::Wr
     if words.only_changes {
         look_first(rt, alloc, files, &plan, words, progress, console)
     } else {
-        change_to(rt, alloc, files, plan, words, progress, console)
+        let names = Names::new(alloc);
+        let named = NamedPlan { plan, names };
+        change_to(rt, alloc, files, named, words, progress, console)
     }
 }
 
@@ -445,33 +474,6 @@ fn change_on<F: TextFiles + WritesFiles, W: io::Write, E: io::Write, P: io::Writ
     }
 }
 
-/// Runs the plan of the file that the words name.
-fn change_in<F: TextFiles + WritesFiles, W: io::Write, E: io::Write, P: io::Write, R: Net>(
-    rt: &R,
-    alloc: Global,
-    files: &mut F,
-    words: &ChangeWords,
-    progress: &mut Progress<P>,
-    console: &mut Console<W, E>,
-) -> u8
-    ensures ends { ChangeEndsIn W.contents E.contents F.TextFiles F.WritesFiles
-        (string_bytes words.now.apply.plan) words.now files.old files.new
-        console.old console.new result }
-    ensures untold { progress.old.on ≡ false → progress.new ≡ progress.old }
-{
-    match text_of(&*files, words.apply.plan.as_str()) {
-        Ok(text) => change_on(rt, alloc, files, text.as_str(), words, progress, console),
-        Err(unread) => say_unread(alloc, words.apply.json, &unread, console),
-    }
-}
-
-/// Whether one of the options is given.
-fn has_option(words: &ChangeWords) -> bool
-    ensures { result ≡ (words.now.only_changes || words.now.all_or_none) }
-{
-    words.only_changes || words.all_or_none
-}
-
 /// Runs the plan of the file that the words name, by their options.
 pub fn change<F: TextFiles + WritesFiles, W: io::Write, E: io::Write, P: io::Write, R: Net>(
     rt: &R,
@@ -486,9 +488,8 @@ pub fn change<F: TextFiles + WritesFiles, W: io::Write, E: io::Write, P: io::Wri
         console.old console.new result }
     ensures untold { progress.old.on ≡ false → progress.new ≡ progress.old }
 {
-    if has_option(words) {
-        change_in(rt, alloc, files, words, progress, console)
-    } else {
-        apply(rt, alloc, files, &words.apply, progress, console)
+    match text_of(&*files, words.apply.plan.as_str()) {
+        Ok(text) => change_on(rt, alloc, files, text.as_str(), words, progress, console),
+        Err(unread) => say_unread(alloc, words.apply.json, &unread, console),
     }
 }

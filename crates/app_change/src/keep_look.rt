@@ -2,16 +2,24 @@
 ghost use Rattle.std.specs.Prelude.{◌≡◌, ◌<◌, IfErr, IfOk, Some, length, map, slice_get};
 ghost use Rattle.record_base.specs.declared.op.Op.{Op as AnyOp};
 ghost use Rattle.record_kinds.specs.Limits.{key_of};
-ghost use Rattle.app_look.specs.Findings.{FindsOver};
+ghost use Rattle.app_look.specs.Reading.{FindsAndNames};
 ghost use Rattle.app_change.specs.KeepLook.{FailsFor, KeptByLook, records_of};
 
 use crate::keeping::{Narrowed, kept_steps};
-use app_look::{Found, LookFault, OpenFault, Way, look_over_udp};
+use app_look::{LookFault, NamedRecords, OpenFault, Way, look_and_name};
 use record_base::{Key, RecordKind};
 use record_kinds::Limits;
 use std::alloc::{AllocError, Global};
 use std::net::Net;
+use table_names::Names;
 use undo_plans::Steps;
+
+/// The steps that a look keeps, and the names of sensors and attributes that it told.
+#[derive(Drop)]
+pub struct NamedSteps {
+    pub narrowed: Narrowed,
+    pub names: Names,
+}
 
 /// The record of the step of this place.
 fn key_at(steps: &Steps, place: usize) -> Key
@@ -34,14 +42,14 @@ fn keys_of(alloc: Global, steps: &Steps) -> Result<Vec<Key>, AllocError>
     Ok(keys)
 }
 
-/// Greets the controller, and looks at the record of each step.
-fn look<R: Net>(rt: &R, alloc: Global, way: &Way, steps: &Steps) -> Result<Vec<Found>, LookFault>
-    ensures found { IfOk result (λ found.
-        FindsOver way.now (records_of steps.now) found.items) }
+/// Greets the controller, looks at the record of each step, and reads the names of sensors and attributes.
+fn look<R: Net>(rt: &R, alloc: Global, way: &Way, steps: &Steps) -> Result<NamedRecords, LookFault>
+    ensures found { IfOk result (λ named.
+        FindsAndNames way.now (records_of steps.now) named.found.items) }
     ensures fault { IfErr result (FailsFor way.now steps.now) }
 {
     match keys_of(alloc, steps) {
-        Ok(keys) => look_over_udp(rt, alloc, way, keys.as_slice()),
+        Ok(keys) => look_and_name(rt, alloc, way, keys.as_slice()),
         Err(AllocError) => Err(LookFault::Unopened(OpenFault::Memory)),
     }
 }
@@ -52,15 +60,18 @@ pub fn keep_by_look<R: Net>(
     alloc: Global,
     way: &Way,
     steps: &Steps,
-) -> Result<Narrowed, LookFault>
-    ensures kept { IfOk result (λ narrowed. KeptByLook way.now steps.now narrowed.kept) }
+) -> Result<NamedSteps, LookFault>
+    ensures kept { IfOk result (λ told. KeptByLook way.now steps.now told.narrowed.kept) }
     ensures fault { IfErr result (FailsFor way.now steps.now) }
 {
     match look(rt, alloc, way, steps) {
-        Ok(found) => match kept_steps(alloc, steps, found.as_slice()) {
-            Ok(narrowed) => Ok(narrowed),
-            Err(AllocError) => Err(LookFault::Unopened(OpenFault::Memory)),
-        },
+        Ok(named) => {
+            let NamedRecords { found, names } = named;
+            match kept_steps(alloc, steps, found.as_slice()) {
+                Ok(narrowed) => Ok(NamedSteps { narrowed, names }),
+                Err(AllocError) => Err(LookFault::Unopened(OpenFault::Memory)),
+            }
+        }
         Err(why) => Err(why),
     }
 }

@@ -1,5 +1,5 @@
-//! What `bmcnet apply` and `bmcnet revert` do with their options: of a plan those steps alone that change something, by a look at the controller's
-//! records, all of it or none, and what a file would take back, told from the file alone.
+//! What `bmcnet apply` does: a plan, all of it or none, or those of its steps alone that change something, by a look at the controller's records.
+//! And what `bmcnet revert` does with its option: what a file would take back, told from the file alone.
 #![tactic(auto)]
 
 pub mod changing;
@@ -16,7 +16,7 @@ pub mod taking_back;
 pub use changing::{ChangeWords, change};
 pub use foretold_json::foretell_json;
 pub use foretold_words::foretell_text;
-pub use keep_look::keep_by_look;
+pub use keep_look::{NamedSteps, keep_by_look};
 pub use keeping::{Narrowed, kept_steps};
 pub use narrowed_json::{left_out_json, unchanged_json, unlooked_json};
 pub use narrowed_words::{left_out_text, unchanged_text, unlooked_text};

@@ -1,11 +1,12 @@
 -- Requests for parts of a controller's own tables, one after another.
-use Rattle.std.specs.Prelude.{◌≡◌, ℕ, ◌+◌, ◌-◌, ◌*◌, ◌==◌, ◌||◌, ◌&&◌, not, min, List, [], ◌∷◌, take, if◌then◌else◌}
+use Rattle.std.specs.Prelude.{◌≡◌, ℕ, ◌+◌, ◌-◌, ◌*◌, ◌==◌, ◌||◌, ◌&&◌, not, min, List, [], ◌∷◌, take, Option, Some, None, if◌then◌else◌}
 use Rattle.pldm_base.specs.Parts.{flag_byte}
 use Rattle.pldm_base.specs.declared.table.TransferFlag.TheVariants.{Start, Middle, End, StartAndEnd}
 use Rattle.record_base.specs.Requests.{byte_at}
 use Rattle.bios_attr.specs.EntryParts.{transfer_handle}
-use Rattle.undo_look.specs.declared.stage.Stage.{Stage}
-use Rattle.undo_look.specs.declared.stage.Stage.TheVariants as stage
+use Rattle.undo_look.specs.declared.looker.Seen.{Seen}
+use Rattle.undo_look.specs.declared.looker.Seen.TheVariants as seen
+use Rattle.undo_look.specs.Looks.{IsSeen}
 use Rattle.undo_look.specs.declared.target.TablePart.{TablePart}
 use Rattle.look_links.specs.declared.driver.LookEnd.{LookEnd}
 use Rattle.app_look.specs.declared.session.Session.{Session}
@@ -18,13 +19,18 @@ use Rattle.app_look.specs.declared.attributes.Behind.TheVariants.{Part, Whole, U
 -- ---- what is asked for
 
 -- these parts were asked for, one after another
-abbrev pub AsksEach : List TablePart → (old new : Session) → Type 0
-AsksEach [] old new = new ≡ old
-AsksEach (part ∷ parts) old new = (mid : Session) × (end : LookEnd) × AsksFor old part end mid × AsksEach parts mid new
+abbrev pub AsksParts : List TablePart → (old new : Session) → Type 0
+AsksParts [] old new = new ≡ old
+AsksParts (part ∷ parts) old new = (mid : Session) × (end : LookEnd) × AsksFor old part end mid × AsksParts parts mid new
 
 -- parts of tables were, and nothing else
-abbrev pub AsksTables : (old new : Session) → Type 0
-AsksTables old new = (parts : List TablePart) × AsksEach parts old new
+pub record AsksTables (old new : Session) : Type 0 where
+  pub parts : List TablePart
+  pub each : AsksParts parts old new
+
+-- this part was
+abbrev pub AsksPart : TablePart → (old new : Session) → Type 0
+AsksPart part old new = (end : LookEnd) × AsksFor old part end new
 
 -- ---- what comes of it
 
@@ -32,16 +38,16 @@ AsksTables old new = (parts : List TablePart) × AsksEach parts old new
 abbrev pub most_reply : ℕ
 most_reply = 24
 
--- what a look that came to this stage told, where the data are those that it shows
-abbrev pub ToldAt : Stage → (shown : List ℕ) → Told → Type 0
-ToldAt (stage.Found target) shown (told.Shown reply) = reply ≡ take most_reply shown
-ToldAt (stage.Refused target code) shown (told.Refused told) = told ≡ code
-ToldAt (stage.Opened heeded target parts asked) shown told.Silent = Unit {0}
-ToldAt stage.AtStart shown told.Silent = Unit {0}
-ToldAt _ shown _ = ⊥
+-- what a look came to is told, and of what it shows so much
+abbrev pub TellsSeen : Option Seen → Told → Type 0
+TellsSeen (Some (seen.Shown bytes)) (told.Shown reply) = reply ≡ take most_reply bytes.now
+TellsSeen (Some (seen.Refused code)) (told.Refused byte) = byte ≡ code
+TellsSeen None told.Silent = Unit {0}
+TellsSeen _ _ = ⊥
 
+-- this is told of the session's last look
 abbrev pub IsTold : Session → Told → Type 0
-IsTold session told = ToldAt session.looker.stage session.looker.shown told
+IsTold session told = (came : Option Seen) × IsSeen session.looker.stage session.looker.shown came × TellsSeen came told
 
 -- the number of two bytes, the low byte first
 abbrev pub word_at : List ℕ → ℕ → ℕ

@@ -7,7 +7,7 @@ use Rattle.undo_look.specs.declared.stage.Stage.TheVariants.{AtStart, Opened, Fo
 use Rattle.undo_look.specs.declared.target.Target.{Target}
 use Rattle.undo_look.specs.declared.target.TablePart.{TablePart}
 use Rattle.undo_look.specs.declared.target.Target.TheVariants.{Record, Table}
-use Rattle.undo_look.specs.Looks.{StepResult, again_at, awaited_on, begin_at, state_of}
+use Rattle.undo_look.specs.Looks.{StepResult, again_at, awaited_on, begin_at, open_on, state_of}
 use Rattle.look_links.specs.declared.driver.LookEnd.{LookEnd}
 use Rattle.look_links.specs.declared.driver.LookEnd.TheVariants.{Silent}
 use Rattle.look_links.specs.Driven.{LooksOver, or_rests}
@@ -64,6 +64,8 @@ LooksTo old target end new =
 abbrev pub LooksAt : (old : Session) → Key → (end : LookEnd) → (new : Session) → Type 0
 LooksAt old key end new = LooksTo old (Record key) end new
 
--- a part of one of the controller's tables was asked for
+-- A part of one of the controller's tables was asked for. Or nothing was called: the request before that wasn't answered.
 abbrev pub AsksFor : (old : Session) → TablePart → (end : LookEnd) → (new : Session) → Type 0
-AsksFor old part end new = LooksTo old (Table part) end new
+AsksFor old part end new =
+    ((open_on old.looker.stage ≡ None) × LooksTo old (Table part) end new)
+    ⊎ ((open_on old.looker.stage ≢ None) × (end ≡ Silent) × (new ≡ old))

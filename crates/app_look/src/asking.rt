@@ -1,11 +1,9 @@
 //! A request for a part of a table, and what it came to.
-ghost use Rattle.std.specs.Prelude.{◌≡◌, take};
-ghost use Rattle.look_links.specs.declared.driver.LookEnd.{LookEnd as AnyEnd};
-ghost use Rattle.app_look.specs.Looking.{AsksFor};
-ghost use Rattle.app_look.specs.Asking.{IsTold, most_reply};
+ghost use Rattle.std.specs.Prelude.{◌≡◌, Some, take};
+ghost use Rattle.app_look.specs.Asking.{AsksPart, AsksTables, IsTold, TellsSeen, most_reply};
 
 use crate::session::Session;
-use two_wire::{Bytes, Code};
+use two_wire::Bytes;
 use undo_look::{Seen, TablePart};
 
 /// How many bytes of a reply are kept: no reply on IPMB has more.
@@ -20,7 +18,7 @@ pub(crate) enum Told {
     /// The reply has these data.
     Shown(Reply),
     /// It was refused with this code.
-    Refused(Code),
+    Refused(u8),
     /// It wasn't answered.
     Silent,
 }
@@ -33,15 +31,25 @@ fn beginning(bytes: &[u8]) -> Reply
     Reply::from_slice(&bytes[..count])
 }
 
+/// What is told of this.
+fn told_of(seen: Seen<'_>) -> Told
+    ensures { TellsSeen (Some seen.entry) result }
+{
+    match seen {
+        Seen::Shown(bytes) => Told::Shown(beginning(bytes)),
+        Seen::Refused(code) => Told::Refused(code.value()),
+    }
+}
+
 /// Asks for a part of a table.
 pub(crate) fn ask_once(session: &mut Session, part: &TablePart) -> Told
-    ensures asked { (end : AnyEnd) × AsksFor session.old part.now end session.new }
+    ensures asked { AsksPart part.now session.old session.new }
+    ensures tables { AsksTables session.old session.new }
     ensures told { IsTold session.new result }
 {
     session.ask(part);
     match session.seen() {
-        Some(Seen::Shown(bytes)) => Told::Shown(beginning(bytes)),
-        Some(Seen::Refused(code)) => Told::Refused(code),
+        Some(seen) => told_of(seen),
         None => Told::Silent,
     }
 }

@@ -2,7 +2,6 @@
 ghost use Rattle.std.specs.Prelude.{◌≡◌};
 ghost use Rattle.app_look.specs.Asking.{AsksTables, behind_part};
 
-use crate::names::Names;
 use crate::session::Session;
 use bios_attr::BiosTable;
 use bios_attr::bios_attribute::transfer_handle;
@@ -10,6 +9,7 @@ use bios_attr::entry_parts::entry_in;
 use pldm_base::TransferFlag;
 use record_base::byte_at;
 use std::alloc::{AllocError, Global};
+use table_names::Names;
 use undo_look::{Seen, TablePart};
 
 /// How many parts of a table are read at most.

@@ -5,13 +5,11 @@
 mod asking;
 mod attributes;
 mod buses;
-mod names;
 mod reading;
 mod records;
 mod sensors;
 mod session;
 
-pub use names::Names;
 pub use reading::{NamedRecords, look_and_name, read_names};
 pub use records::{
     Came, Found, LookFault, Looked, StopFault, look_and_stay, look_at_each, look_over_udp,

@@ -5,13 +5,13 @@ ghost use Rattle.app_look.specs.Asking.{AsksTables};
 ghost use Rattle.app_look.specs.Reading.{FindsAndNames};
 
 use crate::attributes::read_attributes;
-use crate::names::Names;
 use crate::records::{Found, LookFault, Looked, look_and_stay};
 use crate::sensors::read_sensors;
 use crate::session::{Session, Way};
 use record_base::Key;
 use std::alloc::{AllocError, Global};
 use std::net::Net;
+use table_names::Names;
 
 /// What was found of records, and the names of their sensors and attributes.
 #[derive(Drop)]
@@ -20,7 +20,7 @@ pub struct NamedRecords {
     pub names: Names,
 }
 
-/// Reads the names of the sensors and attributes of these records.
+/// Reads the names of the sensors and attributes of these records, until a request isn't answered.
 pub fn read_names(alloc: Global, session: &mut Session, keys: &[Key]) -> Result<Names, AllocError>
     ensures { AsksTables session.old session.new }
 {

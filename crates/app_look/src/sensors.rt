@@ -3,10 +3,9 @@ ghost use Rattle.std.specs.Prelude.{◌≡◌, ◌≤◌, drop};
 ghost use Rattle.app_look.specs.Asking.{AsksTables, name_count, word_at};
 
 use crate::asking::{Reply, Told, ask_once};
-use crate::names::Names;
 use crate::session::Session;
 use record_base::byte_at;
-use table_names::{IdString, SensorHead, id_string, sensor_head};
+use table_names::{IdString, Names, SensorHead, id_string, sensor_head};
 use two_wire::code;
 use undo_look::TablePart;
 
@@ -90,7 +89,7 @@ fn part_of_record(
         };
         match ask_once(session, &part) {
             Told::Shown(reply) => return Ok(reply),
-            Told::Refused(why) if why == code::RESERVATION_CANCELED => {
+            Told::Refused(why) if why == code::RESERVATION_CANCELED.value() => {
                 walk.reservation = reserve(session)?;
             }
             Told::Refused(_) | Told::Silent => return Err(Ended),

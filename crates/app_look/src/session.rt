@@ -195,10 +195,14 @@ impl Session {
         self.look_to(&Target::Record(*key))
     }
 
-    /// Asks for this part of one of the controller's tables, likewise.
+    /// Asks for this part of one of the controller's tables. Where the request before that wasn't answered nothing is sent, and this one ends as
+    /// silent: a controller that has gone away is waited for once.
     pub fn ask(&mut self, part: &TablePart) -> LookEnd
         ensures { AsksFor self.old part.now result self.new }
     {
+        let None = self.looker.open_bus() else {
+            return LookEnd::Silent;
+        };
         self.look_to(&Target::Table(*part))
     }
 

@@ -2,12 +2,13 @@
 use crate::outlook_text::{bus_of_get, push_change, push_same};
 use crate::outlooks::Outlook;
 use code_words::code_row;
-use record_base::{Op, RecordKind};
+use record_base::{Key, Op, RecordKind};
 use record_kinds::Limits;
 use record_words::RecordName;
 use serde::Serialize;
 use shown_after::Meaning;
 use std::alloc::{AllocError, Global};
+use table_names::Names;
 use undo_plans::Steps;
 
 /// What is told of a step. A member of which there is nothing to say is left out.
@@ -17,6 +18,9 @@ struct OutlookObject {
     step: u128,
     /// The record that it is on.
     record: String,
+    /// The name of that record's sensor or attribute.
+    #[serde(skip_serializing_if = "Option::is_none")]
+    name: Option<String>,
     /// What it would make of that, in a word.
     outlook: &'static str,
     /// What it would do.
@@ -75,19 +79,35 @@ fn meaning_of(op: &Op<'_>, code: Option<u8>) -> Option<&'static str> {
     }
 }
 
+/// The name of a record's sensor or attribute, where it is known. Each of its bytes is a character of Latin-1.
+fn name_of(alloc: Global, key: &Key, names: &Names) -> Result<Option<String>, AllocError> {
+    let Some(bytes) = names.of(key) else {
+        return Ok(None);
+    };
+    let mut name = String::new(alloc);
+    for byte in bytes {
+        name.push(*byte as char)?;
+    }
+    Ok(Some(name))
+}
+
 /// The object of a step.
 fn object_of(
     alloc: Global,
     place: usize,
     op: &Op<'_>,
     outlook: &Outlook,
+    names: &Names,
 ) -> Result<OutlookObject, AllocError> {
-    let record = format!(in alloc; "{}", RecordName(Limits::key(op)))?;
+    let key = Limits::key(op);
+    let record = format!(in alloc; "{}", RecordName(key))?;
+    let name = name_of(alloc, &key, names)?;
     let does = does_of(alloc, op, outlook)?;
     let code = code_of(outlook);
     Ok(OutlookObject {
         step: place as u128 + 1,
         record,
+        name,
         outlook: outlook_word(outlook),
         does,
         code,
@@ -102,8 +122,9 @@ fn push_object(
     place: usize,
     op: &Op<'_>,
     outlook: &Outlook,
+    names: &Names,
 ) -> Result<(), AllocError> {
-    let object = object_of(alloc, place, op, outlook)?;
+    let object = object_of(alloc, place, op, outlook, names)?;
     let Ok(line) = serde_json::to_string(alloc, &object) else {
         return Err(AllocError);
     };
@@ -111,20 +132,21 @@ fn push_object(
     text.push_str("\n")
 }
 
-/// What is said of the steps of a plan, as an object in a line of each. Its members: `step`, from 1; `record`; `outlook`, which is `changes`, `same`,
-/// `not restorable` or `get refused`; `does`, what the step would do, where it is `changes` or `same`; and, of a Get that was refused, its `code` and
-/// the `meaning` of that.
+/// What is said of the steps of a plan, as an object in a line of each. Its members: `step`, from 1; `record`; `name`, that of the record's sensor or
+/// attribute, where it is known; `outlook`, which is `changes`, `same`, `not restorable` or `get refused`; `does`, what the step would do, where it is
+/// `changes` or `same`; and, of a Get that was refused, its `code` and the `meaning` of that.
 pub fn outlooks_json(
     alloc: Global,
     steps: &Steps,
     outlooks: &[Outlook],
+    names: &Names,
 ) -> Result<String, AllocError> {
     let mut text = String::new(alloc);
     for place in 0..outlooks.len() {
         let (Some(op), Some(outlook)) = (steps.get(place), outlooks.get(place)) else {
             return Ok(text);
         };
-        push_object(alloc, &mut text, place, &op, outlook)?;
+        push_object(alloc, &mut text, place, &op, outlook, names)?;
     }
     Ok(text)
 }

@@ -3,12 +3,12 @@ use crate::foreseeing::Foreseen;
 use crate::outlooks::Outlook;
 use crate::previewing::is_barred;
 use app_apply::sentences::push_code;
-use app_look::Names;
 use record_base::{Asked, Op, RecordKind};
 use record_kinds::Limits;
 use record_words::{RecordName, Way, op_in_words, push_named};
 use shown_after::Meaning;
 use std::alloc::{AllocError, Global};
+use table_names::Names;
 use two_wire::Bus;
 use undo_plans::Steps;
 
@@ -85,7 +85,7 @@ fn push_foreseen(
 ) -> Result<(), AllocError> {
     let mut said = String::new(alloc);
     match foreseen.meaning {
-        Meaning::Changes => push_change(&mut said, op, foreseen.before.as_slice())?,
+        Meaning::Changes => push_change(&mut said, &*op, foreseen.before.as_slice())?,
         Meaning::Same => {
             text.push_str("same: ")?;
             push_same(&mut said, op)?;

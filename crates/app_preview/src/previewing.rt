@@ -15,7 +15,7 @@ use app_apply::refusing::{say_refused, say_unread};
 use app_apply::sentences::{port_text, push_unanswered};
 use app_apply::{Reach, StrictFault, strict_plan};
 use app_base::{Console, ReportFault, Status, Stream, TextFiles, end_run, text_of};
-use app_look::{LookFault, NamedRecords, Names, OpenFault, StopFault, Way, look_and_name};
+use app_look::{LookFault, NamedRecords, OpenFault, StopFault, Way, look_and_name};
 use app_run::Unanswered;
 use record_base::{Key, RecordKind};
 use record_kinds::Limits;
@@ -24,6 +24,7 @@ use shown_after::Meaning;
 use std::alloc::{AllocError, Global};
 use std::io;
 use std::net::Net;
+use table_names::Names;
 use two_wire::Retries;
 use undo_plans::{Plan, Steps};
 
@@ -99,7 +100,7 @@ fn text_for(
     json: bool,
 ) -> Result<String, AllocError> {
     if json {
-        outlooks_json(alloc, steps, outlooks)
+        outlooks_json(alloc, steps, outlooks, names)
     } else {
         outlooks_text(alloc, steps, outlooks, names)
     }

@@ -1,1 +1,2 @@
+pub mod BoardNames
 pub mod Changes

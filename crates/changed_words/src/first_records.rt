@@ -4,19 +4,22 @@ ghost use Rattle.std.specs.List.{flat_map};
 ghost use Rattle.text_lines.specs.Cuts.{ended};
 ghost use Rattle.cfg_records.specs.declared.board_file.BoardFile.{BoardFile as AnyFile};
 ghost use Rattle.cfg_records.specs.Changed.{is_value};
-ghost use Rattle.changed_words.specs.Changes.{AreFirstOf, change_line, changed_lines, held, lines_over, type_at, type_of, types_of};
+ghost use Rattle.record_words.specs.OpWords.{words_of};
+ghost use Rattle.changed_words.specs.Changes.{AreFirstOf, change_line, change_told, changed_lines, held, lines_over, type_at, type_of, types_of};
 
+use crate::board_names::BoardNames;
 use cfg_records::{BoardFile, Key, StartValue, Store};
 use record_base::AtOnce;
-use record_words::change_in_words;
+use record_words::{InWords, change_in_words, push_named};
 use std::alloc::{AllocError, Global};
 
-/// The records of a board as they begin, in its order, and the types of its attributes.
+/// The records of a board as they begin, in its order, the types of its attributes, and the names of its sensors and attributes.
 #[derive(Drop)]
 pub(crate) struct FirstRecords {
     start: Vec<(Key, StartValue)>,
     /// Of each attribute its handle and its type.
     types: Vec<(u16, u8)>,
+    names: BoardNames,
 }
 
 /// Of each attribute of the board its handle and its type.
@@ -77,33 +80,65 @@ fn held<'a, S: Store>(store: &'a S, key: &Key) -> &'a [u8]
     }
 }
 
-/// Adds the line of a record: what it began with, and what the store has.
-fn push_change<S: Store>(
+/// What is told of a record: what it began with, and what the store has.
+fn told_change<'a, S: Store>(
+    types: &[(u16, u8)],
+    store: &'a S,
+    first: &'a (Key, StartValue),
+) -> InWords<'a>
+    ensures { words_of result ≡ change_told types.now (S.records store.now) first.now }
+{
+    let (key, old) = first;
+    change_in_words(key, type_at(types, key), old.as_slice(), held(store, key))
+}
+
+/// Adds what is told of a record, with the name of its sensor or attribute.
+fn push_told<S: Store>(
     text: &mut String,
     types: &[(u16, u8)],
+    names: &BoardNames,
     store: &S,
     first: &(Key, StartValue),
 ) -> Result<(), AllocError>
     ensures { OnOk result (string_bytes text.new ≡ string_bytes text.old
-        ++ ended (change_line types.now (S.records store.now) first.now)) }
+        ++ change_line types.now names.now (S.records store.now) first.now) }
 {
-    let (key, old) = first;
-    let line = change_in_words(key, type_at(types, key), old.as_slice(), held(store, key));
-    writeln!(text, "{line}")
+    let alloc = *text.allocator();
+    let change = told_change(types, store, first);
+    let told = format!(in alloc; "{change}")?;
+    let key = &first.0;
+    push_named(alloc, text, key, names.name_of(key), told.as_str())
+}
+
+/// Adds the line of a record.
+fn push_change<S: Store>(
+    text: &mut String,
+    types: &[(u16, u8)],
+    names: &BoardNames,
+    store: &S,
+    first: &(Key, StartValue),
+) -> Result<(), AllocError>
+    ensures { OnOk result (string_bytes text.new ≡ string_bytes text.old
+        ++ ended (change_line types.now names.now (S.records store.now) first.now)) }
+{
+    push_told(text, types, names, store, first)?;
+    text.push_str("\n")
 }
 
 /// Adds that line, where the store has another value.
 fn push_changed<S: Store>(
     text: &mut String,
     types: &[(u16, u8)],
+    names: &BoardNames,
     store: &S,
     first: &(Key, StartValue),
 ) -> Result<(), AllocError>
     ensures { OnOk result (string_bytes text.new ≡ string_bytes text.old
-        ++ flat_map ended (lines_over types.now (S.records store.now) (first.now ∷ []))) }
+        ++ flat_map ended
+        (lines_over types.now names.now (S.records store.now) (first.now ∷ []))) }
 {
     if is_changed(store, first) {
-        push_change(text, types, store, first)
+        push_change(text, types, names, store, first)
     } else {
         Ok(())
     }
@@ -113,14 +148,15 @@ fn push_changed<S: Store>(
 fn push_each<S: Store>(
     text: &mut String,
     types: &[(u16, u8)],
+    names: &BoardNames,
     store: &S,
     start: &[(Key, StartValue)],
 ) -> Result<(), AllocError>
     ensures { OnOk result (string_bytes text.new ≡ string_bytes text.old
-        ++ flat_map ended (lines_over types.now (S.records store.now) start.now)) }
+        ++ flat_map ended (lines_over types.now names.now (S.records store.now) start.now)) }
 {
     for first in start {
-        push_changed(text, types, store, first)?;
+        push_changed(text, types, names, store, first)?;
     }
     Ok(())
 }
@@ -132,7 +168,12 @@ impl FirstRecords {
     {
         let start = file.records(alloc)?;
         let types = types_of(alloc, file)?.items;
-        Ok(FirstRecords { start, types })
+        let names = BoardNames::of(alloc, file)?;
+        Ok(FirstRecords {
+            start,
+            types,
+            names,
+        })
     }
 
     /// Adds a line for each record that has another value in the store: what it began with, and what it has. The lines come in the board's order.
@@ -145,6 +186,7 @@ impl FirstRecords {
             → OnOk result (string_bytes text.new ≡ string_bytes text.old
             ++ flat_map ended (changed_lines file (S.records store.now))) }
     {
-        push_each(text, self.types.as_slice(), store, self.start.as_slice())
+        let types = self.types.as_slice();
+        push_each(text, types, &self.names, store, self.start.as_slice())
     }
 }

@@ -18,7 +18,7 @@ pub fn push_named(
     said: &str,
 ) -> Result<(), AllocError>
     ensures { OnOk result ((shown : List ℕ)
-        × IsNamed key.now (option_map (λ name. name.now) name) said.now shown
+        × IsNamed key.now (option_map (λ name. name.now) name.entry) said.now shown
         × (string_bytes text.new ≡ string_bytes text.old ++ shown)) }
 {
     let Some(name) = name else {

@@ -1,2 +1,4 @@
 pub mod Body
 pub mod Packed
+pub mod Wanted
+pub mod Naming

@@ -1,3 +1,4 @@
 pub mod Entries
 pub mod Attributes
 pub mod Sensors
+pub mod Names

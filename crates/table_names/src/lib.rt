@@ -3,7 +3,9 @@
 
 mod attributes;
 mod entries;
+mod names;
 mod sensors;
 
 pub use attributes::attribute_name;
+pub use names::{Names, attribute_of, sensor_of};
 pub use sensors::{IdString, SensorHead, id_string, sensor_head};

@@ -23,6 +23,9 @@ const PACKED: u8 = 2;
 
 const IN_BYTES: u8 = 3;
 
+/// What six bits count to.
+const SIX_BITS: u16 = 64;
+
 /// The first character that six bits say, a space.
 const FIRST_PACKED: u8 = 0x20;
 
@@ -75,7 +78,7 @@ fn bits_before(place: usize) -> u16
 {
     match place % 4 {
         0 => 1,
-        1 => 64,
+        1 => SIX_BITS,
         2 => 16,
         _ => 4,
     }
@@ -88,7 +91,7 @@ fn packed_at(bytes: &[u8], place: usize) -> u8
 {
     let first = 3 * place / 4;
     let pair = u16::from(byte_at(bytes, first)) + 256 * u16::from(byte_at(bytes, first + 1));
-    (pair / bits_before(place) % 64) as u8 + FIRST_PACKED
+    (pair / bits_before(place) % SIX_BITS) as u8 + FIRST_PACKED
 }
 
 /// So many characters of six bits.

@@ -2,8 +2,10 @@
 use app_apply::{Applied, ApplyWords, Outcome, Reach, apply_json, apply_text};
 use app_journal::{Standing, WriteFault, revive_text};
 use app_run::Unanswered;
+use record_base::Key;
 use std::alloc::Global;
 use std::process::Abort;
+use table_names::{Names, id_string};
 use two_wire::Bus;
 use undo_core::Manager;
 
@@ -45,13 +47,36 @@ fn words_of(rt: &impl Abort, alloc: Global) -> ApplyWords {
     }
 }
 
-/// This is said of a plan that came to this.
-fn expect_said(rt: &impl Abort, alloc: Global, applied: Applied, sentence: &str, object: &str) {
+/// The id string of sensor 6, its type and length first: eight bytes of ASCII and Latin 1 are `CPU "1"`.
+const ID_STRING: [u8; 9] = [0xC8, b'C', b'P', b'U', b' ', b'"', b'1', b'"', 0xB0];
+
+/// The name of sensor 6 is known.
+fn one_name(rt: &impl Abort, alloc: Global) -> Names {
+    let keys = [Key::Thresholds(6)];
+    let mut names = Names::wanted(alloc, &keys).expect(rt, "memory");
+    names.name_sensor(6, id_string(&ID_STRING));
+    names
+}
+
+/// This is said of a plan that came to this, as far as these names are known.
+fn expect_named(
+    rt: &impl Abort,
+    alloc: Global,
+    applied: Applied,
+    names: Names,
+    sentence: &str,
+    object: &str,
+) {
     let words = words_of(rt, alloc);
-    let said = apply_text(alloc, &words, &applied).expect(rt, "memory");
-    let line = apply_json(alloc, &words, &applied).expect(rt, "memory");
+    let said = apply_text(alloc, &words, &applied, &names).expect(rt, "memory");
+    let line = apply_json(alloc, &words, &applied, &names).expect(rt, "memory");
     assert_eq!(rt; said.as_str(), sentence);
     assert_eq!(rt; line.as_str(), object);
+}
+
+/// This is said of a plan that came to this.
+fn expect_said(rt: &impl Abort, alloc: Global, applied: Applied, sentence: &str, object: &str) {
+    expect_named(rt, alloc, applied, Names::new(alloc), sentence, object);
 }
 
 /// The same of one whose manager ended as its journal says.
@@ -118,6 +143,31 @@ fn a_plan_that_halted_says_where_and_what_stands(rt: HostRuntime) {
 halted at step 2 of 2: sensor 6 thresholds refused (CCh, invalid data field): nothing of it was set; step 1 stands: bmcnet revert plan.undo 9620 9621
 ",
         "{\"outcome\":\"halted\",\"steps\":2,\"stands\":1,\"did\":[\"sensor 5 upper critical: 95 (5Fh) -> 90 (5Ah)\"],\"stop\":{\"step\":2,\"record\":\"sensor 6 thresholds\",\"why\":\"set refused\",\"code\":204,\"meaning\":\"invalid data field\"},\"file\":\"plan.undo\",\"kept\":true,\"next\":\"bmcnet revert plan.undo 9620 9621\"}\n",
+    );
+}
+
+/// A sentence is printable ASCII: a quote of a name and each other byte is `\x` and its two digits, and B0h is a degree sign. In an object that is
+/// a character of its text.
+#[test]
+fn a_plan_that_halted_names_the_sensor(rt: HostRuntime) {
+    let alloc = rt.alloc();
+    let stage = "stage set-refused 1 204\ngo\ncounts 4 0\n";
+    let manager = manager_of(&rt, alloc, FIRST_DONE, stage);
+    let outcome = Outcome::Ended(manager.phase(), Ok(()));
+    let applied = Applied {
+        manager,
+        outcome,
+        aside: None,
+    };
+    expect_named(
+        &rt,
+        alloc,
+        applied,
+        one_name(&rt, alloc),
+        "step 1: sensor 5 upper critical: 95 (5Fh) -> 90 (5Ah)
+halted at step 2 of 2: sensor 6 (\"CPU \\x221\\x22\\xB0\") thresholds refused (CCh, invalid data field): nothing of it was set; step 1 stands: bmcnet revert plan.undo 9620 9621
+",
+        "{\"outcome\":\"halted\",\"steps\":2,\"stands\":1,\"did\":[\"sensor 5 upper critical: 95 (5Fh) -> 90 (5Ah)\"],\"stop\":{\"step\":2,\"record\":\"sensor 6 thresholds\",\"name\":\"CPU \\\"1\\\"\u{B0}\",\"why\":\"set refused\",\"code\":204,\"meaning\":\"invalid data field\"},\"file\":\"plan.undo\",\"kept\":true,\"next\":\"bmcnet revert plan.undo 9620 9621\"}\n",
     );
 }
 

@@ -11,6 +11,7 @@ mod foreseen;
 mod journal;
 mod lan;
 mod lines;
+mod named_steps;
 mod numeric;
 mod order;
 mod plan;

@@ -9,8 +9,8 @@ use file_words::{
 };
 use std::alloc::{AllocError, Global};
 use text_schedule::lines;
-use undo_plans::MOST_STEPS;
 use text_undo::{first_version, head_lines};
+use undo_plans::MOST_STEPS;
 
 /// A line of a text.
 #[derive(Clone, Copy)]

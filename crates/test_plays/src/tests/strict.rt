@@ -84,7 +84,7 @@ schedule
 bmclab play --strict board.toml plan.toml schedule.txt -> 13 out: phase Undone / .. / records changed 1
 bmclab play --strict --chart board.toml plan.toml schedule.txt -> 13 out: event ..Undone
 bmclab play --list --premises board.toml plan.toml schedule.txt -> 0 out
-  phase Undone / .. / records changed 1 / attribute 0: \"rack-1\" -> \"{50*b}{150*y}\" / premise broken 35
+  phase Undone / .. / records changed 1 / attribute 0 (\"Label\"): \"rack-1\" -> \"{50*b}{150*y}\" / premise broken 35
 ";
 
 /// The list of the records that changed.
@@ -102,10 +102,46 @@ bmclab play --list board.toml plan.toml schedule.txt -> 0 out
   sensor 5 positive-going hysteresis: 2 (02h) -> 4 (04h)
   sensor 5 assertion events: 0200h -> 0280h
   power restore policy: previous -> always on
-  attribute 2: 30 -> 40
+  attribute 2 (\"Delay\"): 30 -> 40
 schedule: start / to-bmc 0 / to-mgr 1 / to-bmc 2
 bmclab play --list --frames board.toml plan.toml schedule.txt -> 0 out
   phase Setting 0 / frames 4 / undo 0 / records changed 1 / sensor 5 assertion events: 0200h -> 0280h / frame 0 mgr ipmb 2010D02C002905A6 / ..
+
+# The sensor's record is a compact one, and its id string has ten bytes of ASCII (IPMI 2.0, type/length byte CAh).
+story a sensor's name stands behind its number
+board sample
+swap sdr = [\"010051C00100\"] => sdr = [\"01005102252000050000000000000000000000000000000000000000000000CA496E6C65742054656D70\"]
+plan
+  [[step]] / kind = \"hysteresis\" / sensor = 5 / positive = 4 / negative = 2
+schedule
+  start
+  2 x to-bmc {0+2} / to-mgr {1+2}
+bmclab play --list board.toml plan.toml schedule.txt -> 0 out
+  phase Done / frames 4 / undo 1 / .. / records changed 1 / sensor 5 (\"Inlet Temp\") positive-going hysteresis: 2 (02h) -> 4 (04h)
+
+# IPMI 2.0: `IPMI` is 29h DCh A6h in characters of six bits.
+story a name in characters of six bits is told
+board sample
+swap sdr = [\"010051C00100\"] => sdr = [\"010051021E20000500000000000000000000000000000000000000000000008429DCA6\"]
+plan
+  [[step]] / kind = \"hysteresis\" / sensor = 5 / positive = 4 / negative = 2
+schedule
+  start
+  2 x to-bmc {0+2} / to-mgr {1+2}
+bmclab play --list board.toml plan.toml schedule.txt -> 0 out
+  phase Done / frames 4 / undo 1 / .. / records changed 1 / sensor 5 (\"IPMI\") positive-going hysteresis: 2 (02h) -> 4 (04h)
+
+# The id string of the first record is in BCD plus, which isn't told.
+story the first record of a sensor alone names it
+board sample
+swap sdr = [\"010051C00100\"] => sdr = [\"010051021C20000500000000000000000000000000000000000000000000004212\", \"02005102252000050000000000000000000000000000000000000000000000CA496E6C65742054656D70\"]
+plan
+  [[step]] / kind = \"hysteresis\" / sensor = 5 / positive = 4 / negative = 2
+schedule
+  start
+  2 x to-bmc {0+2} / to-mgr {1+2}
+bmclab play --list board.toml plan.toml schedule.txt -> 0 out
+  phase Done / frames 4 / undo 1 / .. / records changed 1 / sensor 5 positive-going hysteresis: 2 (02h) -> 4 (04h)
 
 story no record that changed has none
 board sample

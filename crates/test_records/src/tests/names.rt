@@ -1,8 +1,9 @@
 //! Names that sensor data records and tables of attributes give.
 use super::expect;
+use record_base::Key;
 use std::alloc::Global;
 use std::process::Abort;
-use table_names::{SensorHead, attribute_name, id_string, sensor_head};
+use table_names::{Names, SensorHead, attribute_name, id_string, sensor_head};
 
 /// The beginnings of records (IPMI 2.0): id 0001h, version 51h, the type, the size, the owner, its logical unit and the sensor.
 const FULL: [u8; 8] = [0x01, 0x00, 0x51, 0x01, 0x33, 0x20, 0x00, 0x05];
@@ -20,6 +21,9 @@ const OTHER_UNIT: [u8; 8] = [0x01, 0x00, 0x51, 0x01, 0x33, 0x20, 0x01, 0x05];
 
 /// A string table: 0000h is `Boot`, and 0001h is `Mode`.
 const STRINGS: &str = "00000400426F6F74010004004D6F6465FA374726";
+
+/// The same without its last four bytes, the CRC-32.
+const CUT_STRINGS: &str = "00000400426F6F74010004004D6F6465";
 
 /// An attribute table: the integer 0002h has the name 0001h, from 0 to 300 by tens, at first 30. The same with the name 0007h.
 const ATTRIBUTES: &str =
@@ -94,8 +98,51 @@ fn attributes_are_named(rt: HostRuntime) {
     expect(&rt, other.is_none(), "no such attribute");
     let missing = attribute_name(unnamed.as_slice(), strings.as_slice(), 2);
     expect(&rt, missing.is_none(), "no such string");
-    let cut = attribute_name(attributes.as_slice(), &strings[..16], 2);
+    let short = table(&rt, alloc, CUT_STRINGS);
+    let cut = attribute_name(attributes.as_slice(), short.as_slice(), 2);
     expect(&rt, cut.is_none(), "no whole table");
     let turned = attribute_name(strings.as_slice(), attributes.as_slice(), 2);
     expect(&rt, turned.is_none(), "the tables change places");
+}
+
+/// Whether the record has this name.
+fn is_named(names: &Names, key: &Key, name: &[u8]) -> bool {
+    match names.of(key) {
+        Some(told) => told == name,
+        None => false,
+    }
+}
+
+/// The records of sensor 5 have its name, and that of an attribute has the attribute's. No other record has a name.
+#[test]
+fn records_are_named(rt: HostRuntime) {
+    let alloc = rt.alloc();
+    let keys = [
+        Key::Thresholds(5),
+        Key::BiosAttribute(2),
+        Key::Hysteresis(5),
+        Key::PowerPolicy,
+        Key::Hysteresis(6),
+    ];
+    let mut names = Names::wanted(alloc, &keys).expect(&rt, "memory");
+    expect(&rt, names.wants_attributes(), "attributes are wanted");
+    expect(&rt, !names.wants_sensor(7), "no record is of sensor 7");
+    names.name_sensor(5, id_string(&[0xC3, 0x43, 0x50, 0x55]));
+    expect(&rt, !names.wants_sensor(5), "sensor 5 was read");
+    expect(&rt, names.wants_sensors(), "sensor 6 wasn't");
+    names.name_sensor(6, None);
+    expect(&rt, !names.wants_sensors(), "each was read");
+    let strings = table(&rt, alloc, STRINGS);
+    let attributes = table(&rt, alloc, ATTRIBUTES);
+    let done = names.name_attributes(alloc, attributes.as_slice(), strings.as_slice());
+    done.expect(&rt, "memory");
+    expect(
+        &rt,
+        is_named(&names, &Key::EventEnable(5), b"CPU"),
+        "sensor 5",
+    );
+    let mode = is_named(&names, &Key::BiosAttribute(2), b"Mode");
+    expect(&rt, mode, "attribute 2");
+    expect(&rt, names.of(&Key::Thresholds(6)).is_none(), "sensor 6");
+    expect(&rt, names.of(&Key::PowerPolicy).is_none(), "policy");
 }

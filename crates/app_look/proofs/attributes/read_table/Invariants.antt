@@ -1,0 +1,6 @@
+use Rattle.app_look.specs.Asking.{AsksTables}
+use Rattle.app_look.proofs.attributes.read_table.Given as goal
+
+-- parts of tables alone were asked for
+abbrev pub invariant-loop : goal.invariant-loop
+invariant-loop l = AsksTables l.fn.session l.session
